@@ -1,0 +1,9 @@
+//! The plain data of the tool, and the definitions that its contracts cite.
+#![tactic(auto)]
+
+pub mod list;
+pub mod value;
+
+/// Want of memory.
+#[derive(Clone, Copy, Debug, PartialEq, Eq)]
+pub struct Memory;

@@ -1,0 +1,66 @@
+//! A list of the project's own, which contracts see as a list.
+
+ghost use Rattle.std.specs.Prelude.{◌≡◌, ◌++◌, ◌∷◌, [], ◌<◌, length, OnOk, OnErr, IfOk, slice_get};
+
+use crate::Memory;
+use std::alloc::Global;
+use std::marker::Model;
+
+/// A list of values inside a public type.
+#[derive(Drop)]
+pub struct List<T> {
+    items: Vec<T>,
+}
+
+impl<T> Model for List<T> {
+    ghost use Rattle.std.specs.Prelude.{List as Seq};
+
+    ghost Value = { Seq T };
+
+    ghost view = { λ l. l.items.items };
+}
+
+impl<T> List<T> {
+    /// The list of a vector's items.
+    pub fn of(items: Vec<T>) -> List<T>
+        ensures { result ≡ items.items }
+    {
+        List { items }
+    }
+
+    /// The empty list.
+    pub fn new(alloc: Global) -> List<T>
+        ensures { result ≡ [] }
+    {
+        List {
+            items: Vec::new(alloc),
+        }
+    }
+
+    /// How many there are.
+    pub fn len(&self) -> usize
+        ensures { result ≡ length self.now }
+    {
+        self.items.len()
+    }
+
+    /// The items, lent.
+    pub fn as_slice(&self) -> &[T]
+        ensures { result.now ≡ self.now }
+    {
+        self.items.as_slice()
+    }
+
+    /// Adds one at the end. After `Memory` nothing has changed.
+    pub fn push(&mut self, item: T) -> Result<(), Memory>
+    where
+        T: Drop,
+        ensures ok { OnOk result (self.new ≡ self.old ++ item ∷ []) }
+        ensures err { OnErr result (self.new ≡ self.old) }
+    {
+        match self.items.push(item) {
+            Ok(()) => Ok(()),
+            Err(_) => Err(Memory),
+        }
+    }
+}
