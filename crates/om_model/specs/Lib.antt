@@ -1,0 +1,12 @@
+pub mod Bytes
+pub mod Graph
+pub mod Code
+pub mod Words
+pub mod Header
+pub mod Token
+pub mod Tree
+pub mod Spelled
+pub mod Raw
+pub mod Step
+pub mod Front
+pub mod Judgement

@@ -1,7 +1,10 @@
 //! The plain data of the tool, and the definitions that its contracts cite.
 #![tactic(auto)]
 
+pub mod code;
+pub mod header;
 pub mod list;
+pub mod refusal;
 pub mod value;
 
 /// Want of memory.
