@@ -5,3 +5,6 @@ pub mod SpellKinds
 pub mod SpellFields
 pub mod SpellFacts
 pub mod SpellTokens
+pub mod SpellHeaders
+pub mod SpellValues
+pub mod SpellTrees
