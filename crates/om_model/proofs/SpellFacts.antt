@@ -52,9 +52,11 @@ pub record TokenFacts (c : Context) (kind : CodeKind) (rest : List ℕ) : Type 0
 pub room_from_none : (c : Context) (need n : ℕ) → overlong c need n ≡ None → need ≤ left_after c n
 room_from_none c need n e = ltb-false (left_after c n) need (none_fails_if (ltb (left_after c n) need) (Overlong (place c) need (left_after c n)) e)
 
+-- and the other way round
 pub none_from_room : (c : Context) (need n : ℕ) → need ≤ left_after c n → overlong c need n ≡ None
 none_from_room c need n h = fails_if_none (ltb (left_after c n) need) (Overlong (place c) need (left_after c n)) (le-ltb (left_after c n) need h)
 
+-- where the steps on the variable bytes pass these are there
 variable_from_steps : (c : Context) (kind : CodeKind) (custom : Option CustomKind) (rest : List ℕ) → AllStepsPass (variable_steps c kind custom rest) → VariableFits c kind custom rest
 variable_from_steps c kinds.Custom (Some customs.Native) rest p =
     let kind = slice_index rest 3 in
@@ -62,6 +64,7 @@ variable_from_steps c kinds.Custom (Some customs.Native) rest p =
     (room_from_none c 1 4 p.0, pos_of_ne-zero some, room_from_none c (native_bytes kind) 5 p.1.1.0)
 variable_from_steps c kind custom rest p = room_from_none c (variable_bytes kind rest) (1 + fixed_bytes kind) p.0
 
+-- and the other way round
 steps_from_variable : (c : Context) (kind : CodeKind) (custom : Option CustomKind) (rest : List ℕ) → VariableFits c kind custom rest → AllStepsPass (variable_steps c kind custom rest)
 steps_from_variable c kinds.Custom (Some customs.Native) rest f =
     let kind = slice_index rest 3 in
@@ -72,27 +75,33 @@ steps_from_variable c kind custom rest f = (none_from_room c (variable_bytes kin
 zero_from_test : (n : ℕ) → eqb n 0 ≡ false → 0 < n
 zero_from_test n e = pos_of_ne-zero (eqb-false n 0 e)
 
+-- and the other way round
 test_from_positive : (n : ℕ) → 0 < n → eqb n 0 ≡ false
 test_from_positive n h = ne_eqb n 0 (λ e. omega arith)
 
+-- a custom that is known, with its data
 known_data : (c : Context) (known : Option CustomKind) (rest : List ℕ) → is_none known ≡ false → VariableFits c kinds.Custom known rest → IsKnownData known (slice_index rest 3)
 known_data c None rest e f = absurd (cc)
 known_data c (Some customs.Int32) rest e f = tt
 known_data c (Some customs.Int64) rest e f = tt
 known_data c (Some customs.Native) rest e f = f.1
 
+-- data of a known identifier
 data_known : (known : Option CustomKind) (kind : ℕ) → IsKnownData known kind → is_none known ≡ false
 data_known None kind d = absurd d
 data_known (Some custom) kind d = refl
 
+-- an integer of eight bytes that is not refused
 wide_integer : (width : ℕ) (small : Bool) → (eqb width 8 && not small) ≡ false → width ≡ 8 → small ≡ true
 wide_integer width true e w = refl
 wide_integer width false e w = absurd (let t : eqb width 8 ≡ true = eq-eqb width 8 w in cc (rw t at e))
 
+-- and the other way round
 integer_wide : (width : ℕ) (small : Bool) → (width ≡ 8 → small ≡ true) → (eqb width 8 && not small) ≡ false
 integer_wide width true f = and_right (eqb width 8) false refl
 integer_wide width false f = and_left (eqb width 8) true (ne_eqb width 8 (λ e. false≢true (f e)))
 
+-- fields that are not refused are sound
 fields_from_none : (c : Context) (code : ℕ) (kind : CodeKind) (rest : List ℕ) → field_refusal c code kind rest ≡ None → VariableFits c kind (custom_of (take 3 rest)) rest → AreSoundFields kind rest (objects c.before) c.head.objects
 fields_from_none c code (kinds.SmallBlock tag size) rest e f = tt
 fields_from_none c code (kinds.SmallInt n) rest e f = tt
@@ -114,6 +123,7 @@ fields_from_none c code (kinds.Doubles width little) rest e f =
 fields_from_none c code kinds.Custom rest e f =
     known_data c (custom_of (take 3 rest)) rest (none_fails_if (is_none (custom_of (take 3 rest))) (OtherCustom (place c) code) e) f
 
+-- and sound fields are not refused
 none_from_fields : (c : Context) (code : ℕ) (kind : CodeKind) (rest : List ℕ) → AreSoundFields kind rest (objects c.before) c.head.objects → field_refusal c code kind rest ≡ None
 none_from_fields c code (kinds.SmallBlock tag size) rest s = refl
 none_from_fields c code (kinds.SmallInt n) rest s = refl
@@ -140,6 +150,7 @@ spared : (big differ : Bool) → (not big && differ) ≡ false → big ≡ false
 spared true differ e b = absurd (cc)
 spared false differ e b = e
 
+-- and the other way round
 test_spared : (big differ : Bool) → (big ≡ false → differ ≡ false) → (not big && differ) ≡ false
 test_spared true differ f = refl
 test_spared false differ f = f refl
@@ -152,32 +163,40 @@ zero_or_same n m e =
       | inr z ↦ inr (eqb-true n m (not-false (eqb n m) (rw (ne_eqb n 0 z) at e)))
     ]
 
+-- and the other way round
 test_zero_or_same : (n m : ℕ) → (n ≡ 0) ⊎ (n ≡ m) → (not (eqb n 0) && nat_ne n m) ≡ false
 test_zero_or_same n m (inl z) = and_left (not (eqb n 0)) (nat_ne n m) (not_from_true (eqb n 0) (eq-eqb n 0 z))
 test_zero_or_same n m (inr e) = and_right (not (eqb n 0)) (nat_ne n m) (not_from_true (eqb n m) (eq-eqb n m e))
 
+-- numbers that do not differ
 same_from_ne : (n m : ℕ) → nat_ne n m ≡ false → n ≡ m
 same_from_ne n m e = eqb-true n m (not-false (eqb n m) e)
 
+-- and the other way round
 ne_from_same : (n m : ℕ) → n ≡ m → nat_ne n m ≡ false
 ne_from_same n m e = not_from_true (eqb n m) (eq-eqb n m e)
 
+-- a sum of words on 32 bits that is not refused
 words32_test : (differ : ℕ → ℕ → Bool) (p : ℕ) (head : Head) (all : List (Option Measure)) → words32_refusal differ p head all ≡ None → head.big ≡ false → differ head.w32 (all_words32 all) ≡ false
 words32_test differ p head all e =
     spared head.big (differ head.w32 (all_words32 all)) (none_fails_if (not head.big && differ head.w32 (all_words32 all)) (SizeMismatch p W32 head.w32 (all_words32 all)) e)
 
+-- and the other way round
 words32_none : (differ : ℕ → ℕ → Bool) (p : ℕ) (head : Head) (all : List (Option Measure)) → (head.big ≡ false → differ head.w32 (all_words32 all) ≡ false) → words32_refusal differ p head all ≡ None
 words32_none differ p head all f =
     fails_if_none (not head.big && differ head.w32 (all_words32 all)) (SizeMismatch p W32 head.w32 (all_words32 all)) (test_spared head.big (differ head.w32 (all_words32 all)) f)
 
+-- a sum of words on 64 bits that is not refused
 words64_test : (differ : ℕ → ℕ → Bool) (p : ℕ) (head : Head) (all : List (Option Measure)) → words64_refusal differ p head all ≡ None → differ head.w64 (all_words64 all) ≡ false
 words64_test differ p head all e = none_fails_if (differ head.w64 (all_words64 all)) (SizeMismatch p W64 head.w64 (all_words64 all)) e
 
+-- and the other way round
 words64_none : (differ : ℕ → ℕ → Bool) (p : ℕ) (head : Head) (all : List (Option Measure)) → differ head.w64 (all_words64 all) ≡ false → words64_refusal differ p head all ≡ None
 words64_none differ p head all e = fails_if_none (differ head.w64 (all_words64 all)) (SizeMismatch p W64 head.w64 (all_words64 all)) e
 
 -- ---- the steps of the end
 
+-- where the steps of the end pass the header states what was read
 end_from_steps : (c : Context) (n : ℕ) (all : List (Option Measure)) → AllStepsPass (end_steps c n all) → EndFacts c n all
 end_from_steps c n all p =
     let p' = place c + n in
@@ -190,6 +209,7 @@ end_from_steps c n all p =
       count = zero_or_same c.head.objects (objects all) (none_fails_if count (CountMismatch p' c.head.objects (objects all)) p.1.1.1.0);
     }
 
+-- and the other way round
 steps_from_end : (c : Context) (n : ℕ) (all : List (Option Measure)) → EndFacts c n all → AllStepsPass (end_steps c n all)
 steps_from_end c n all f =
     let p' = place c + n in
@@ -217,6 +237,7 @@ last_steps c kind rest =
     ∷ step sized (words64_refusal ltb (place c) c.head all)
     ∷ (cond (eqb (pending all) 0) (end_steps c n all) [])
 
+-- where the steps of a token pass its facts hold
 pub facts_from_steps : (c : Context) (code : ℕ) (kind : CodeKind) (rest : List ℕ) → AllStepsPass (steps_behind c code kind rest) → TokenFacts c kind rest
 facts_from_steps c code kind rest p =
     let n = token_length kind rest in
@@ -233,6 +254,7 @@ facts_from_steps c code kind rest p =
       end = λ e. end_from_steps c n all (AllStepsPass-when (eqb (pending all) 0) (end_steps c n all) parts.1.1.1.1 (eq-eqb (pending all) 0 e));
     }
 
+-- and the other way round
 pub steps_from_facts : (c : Context) (code : ℕ) (kind : CodeKind) (rest : List ℕ) → TokenFacts c kind rest → AllStepsPass (steps_behind c code kind rest)
 steps_from_facts c code kind rest f =
     let n = token_length kind rest in
@@ -256,29 +278,35 @@ steps_from_facts c code kind rest f =
 
 -- ---- a whole token decides them all
 
+-- the fields are among the fixed bytes
 field-le-fixed : (kind : CodeKind) → field_bytes kind ≤ fixed_bytes kind
 field-le-fixed (kinds.Int width) = cond_both (eqb width 8) 8 0 (λ n. n ≤ width) (λ e. omega (arith, eqb-true width 8 e)) (λ _. omega arith)
 field-le-fixed _ = omega arith
 
+-- the kind byte is among a custom's data
 kind_bytes-le : (custom : Option CustomKind) (kind : ℕ) → kind_bytes custom ≤ custom_bytes custom kind
 kind_bytes-le None kind = omega arith
 kind_bytes-le (Some customs.Int32) kind = omega arith
 kind_bytes-le (Some customs.Int64) kind = omega arith
 kind_bytes-le (Some customs.Native) kind = omega arith
 
+-- the size is known within the token
 sizing-le : (kind : CodeKind) (rest : List ℕ) → sizing_bytes kind rest ≤ fixed_bytes kind + variable_bytes kind rest
 sizing-le kinds.Custom rest = omega (arith, kind_bytes-le (custom_of (take 3 rest)) (slice_index rest 3))
 sizing-le kind rest = omega (arith, field-le-fixed kind)
 
+-- the steps on the variable bytes are decided within the token
 variable_steps_end : (n : ℕ) (c : Context) (kind : CodeKind) (custom : Option CustomKind) (rest : List ℕ) → custom ≡ custom_of (take 3 rest) → n ≡ token_length kind rest → AllEndWithin n (variable_steps c kind custom rest)
 variable_steps_end n c kinds.Custom (Some customs.Native) rest e h =
     let long : 5 ≤ n = omega (arith, rw (← e) at h) in
     (omega arith, (long, (long, tt)))
 variable_steps_end n c kind custom rest e h = (omega (arith, field-le-fixed kind), tt)
 
+-- those of the end too
 end_steps_end : (c : Context) (n : ℕ) (all : List (Option Measure)) → AllEndWithin n (end_steps c n all)
 end_steps_end c n all = (le_refl n, (le_refl n, (le_refl n, (le_refl n, tt))))
 
+-- all of them
 steps_end : (c : Context) (code : ℕ) (kind : CodeKind) (rest : List ℕ) → AllEndWithin (token_length kind rest) (steps_behind c code kind rest)
 steps_end c code kind rest =
     let n = token_length kind rest in
@@ -298,5 +326,6 @@ pub facts_from_none : (c : Context) (code : ℕ) (kind : CodeKind) (rest : List 
 facts_from_none c code kind rest n e p =
     facts_from_steps c code kind rest (steps_pass (token_length kind rest) (steps_behind c code kind rest) (steps_end c code kind rest) (subst (λ m. first_refusal m (steps_behind c code kind rest) ≡ None) e p))
 
+-- and where the facts hold no step is refused
 pub none_from_facts : (c : Context) (code : ℕ) (kind : CodeKind) (rest : List ℕ) (n : ℕ) → TokenFacts c kind rest → first_refusal n (steps_behind c code kind rest) ≡ None
 none_from_facts c code kind rest n f = no_refusal n (steps_behind c code kind rest) (steps_from_facts c code kind rest f)

@@ -48,17 +48,21 @@ pub record IsTokenThere (t : Token) (n stated : ℕ) : Type 0 where
 
 -- ---- from bytes to tokens
 
+-- the test for 63 bits
 pub IsInteger-is_integer : (z : ℤ) → is_integer z ≡ true → IsInteger z
 IsInteger-is_integer (pos n) e = ltb-true n (2 ^ 62) e
 IsInteger-is_integer (negsuc n) e = ltb-true n (2 ^ 62) e
 
+-- a block or an atom may stand anywhere
 block_there : (tag size n stated : ℕ) → tag ≤ 243 → IsTokenThere (block_or_atom tag size) n stated
 block_there tag zero n stated h = record { is_token = h; refers_back = tt; table = λ _. tt }
 block_there tag (suc size) n stated h = record { is_token = (h, omega arith); refers_back = tt; table = λ _. tt }
 
+-- an integer of fewer than eight bytes is one of 63 bits
 small_integer : (k width : ℕ) (rest : List ℕ) → width ≡ k → k < 8 → length rest ≡ width → AreBytes rest → IsInteger (signed rest)
 small_integer k width rest e h l a = IsSigned-signed_at 62 rest (omega arith) a
 
+-- an integer of one of the widths, where one of eight bytes passes the test
 width_integer : (width : ℕ) (rest : List ℕ) → IsWidth width → length rest ≡ width → AreBytes rest → (width ≡ 8 → is_integer (signed (take 8 rest)) ≡ true) → IsInteger (signed rest)
 width_integer width rest (inl e) l a f = small_integer 1 width rest e (omega arith) l a
 width_integer width rest (inr (inl e)) l a f = small_integer 2 width rest e (omega arith) l a
@@ -101,6 +105,7 @@ native_cases kind h =
       ]
     ]
 
+-- a `Nativeint`
 native_there : (kind : ℕ) (content rest : List ℕ) (n stated : ℕ) → rest ≡ 95 ∷ 110 ∷ 0 ∷ kind ∷ content → AreBytes content → length content ≡ native_bytes kind → 0 < native_bytes kind → SpellsSome kinds.Custom rest n stated
 native_there kind content rest n stated e a l s =
     elim (native_cases kind s) [
@@ -118,6 +123,7 @@ native_there kind content rest n stated e a l s =
           )
     ]
 
+-- a custom, by what its identifier names
 custom_there : (known : Option CustomKind) (rest : List ℕ) (n stated : ℕ) → custom_of (take 3 rest) ≡ known → AreBytes rest → length rest ≡ 3 + custom_bytes known (slice_index rest 3) → IsKnownData known (slice_index rest 3) → SpellsSome kinds.Custom rest n stated
 custom_there None rest n stated e a l s = absurd s
 custom_there (Some customs.Int32) rest n stated e a l s =
@@ -167,14 +173,17 @@ spelled_of kinds.Custom rest n stated k a l s = custom_there (custom_of (take 3 
 
 -- ---- from tokens to fields
 
+-- the test for 63 bits, the other way round
 is_integer-IsInteger : (z : ℤ) → IsInteger z → is_integer z ≡ true
 is_integer-IsInteger (pos n) e = lt-ltb n (2 ^ 62) e
 is_integer-IsInteger (negsuc n) e = lt-ltb n (2 ^ 62) e
 
+-- the tag of a block or an atom
 tag_of_block : (tag size : ℕ) → IsToken (block_or_atom tag size) → tag ≤ 243
 tag_of_block tag zero t = t
 tag_of_block tag (suc n) t = t.0
 
+-- a spelled custom is known, and has its data
 custom_sound : (rest : List ℕ) (t : Token) → SpellsCustom rest t → IsKnownData (custom_of (take 3 rest)) (slice_index rest 3)
 custom_sound rest t (inl s) = rw (s.1, custom_of_int32) tt
 custom_sound rest t (inr (inl s)) = rw (s.1, custom_of_int64) tt

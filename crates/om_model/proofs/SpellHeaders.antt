@@ -19,6 +19,7 @@ pub record HeaderFacts (limit : ℕ) (header : List ℕ) : Type 0 where
 
 -- ---- the magic number
 
+-- a magic number that is not refused
 magic_from_none : (m : ℕ) → magic_refusal m ≡ None → (m ≡ small_magic) ⊎ (m ≡ big_magic)
 magic_from_none m e =
     elim (cases_Bool (eqb m compressed_magic)) [
@@ -31,6 +32,7 @@ magic_from_none m e =
           ]
     ]
 
+-- and the other way round
 none_from_magic : (m : ℕ) → (m ≡ small_magic) ⊎ (m ≡ big_magic) → magic_refusal m ≡ None
 none_from_magic m (inl e) = rw e refl
 none_from_magic m (inr e) = rw e refl
@@ -46,13 +48,16 @@ steps_of limit m n head =
     ∷ step n (fails_if (eqb head.length 0) (Overlong n 1 0))
     ∷ []
 
+-- a header's steps are those
 steps_are : (limit : ℕ) (header : List ℕ) → header_steps limit header ≡ steps_of limit (magic header) (header_length header) (head_of header)
 unfolding header_steps
 steps_are limit header = refl
 
+-- each header has the bytes of its magic number
 four-le : (header : List ℕ) → 4 ≤ header_length header
 four-le header = cond_both (eqb (magic header) big_magic) 32 20 (λ n. 4 ≤ n) (λ _. omega arith) (λ _. omega arith)
 
+-- where the steps of a whole header pass its facts hold
 facts_of_steps : (limit : ℕ) (header : List ℕ) → length header ≡ header_length header → AllStepsPass (steps_of limit (magic header) (header_length header) (head_of header)) → HeaderFacts limit header
 facts_of_steps limit header e p =
     let head = head_of header in
@@ -64,6 +69,7 @@ facts_of_steps limit header e p =
       some = pos_of_ne-zero (eqb-false head.length 0 (none_fails_if (eqb head.length 0) (Overlong n 1 0) p.1.1.1.0));
     }
 
+-- and the other way round
 steps_of_facts : (limit : ℕ) (header : List ℕ) → HeaderFacts limit header → AllStepsPass (steps_of limit (magic header) (header_length header) (head_of header))
 steps_of_facts limit header f =
     let head = head_of header in

@@ -31,97 +31,27 @@ abbrev pub IsKindOrFault : Result CodeKind CodeFault → Type 0
 IsKindOrFault (Ok kind) = IsKind kind
 IsKindOrFault (Err fault) = Unit {0}
 
+-- a kind from a list, or the fault behind it
 kind_at : (xs : List (Result CodeKind CodeFault)) (code : ℕ) → AllByRecursion IsKindOrFault xs → IsKindOrFault (get_or xs code (Err BadCode))
 kind_at [] code p = tt
 kind_at (x ∷ xs) zero p = p.0
 kind_at (x ∷ xs) (suc code) p = kind_at xs code p.1
 
-one : IsWidth 1
-one = inl refl
+is_one : IsWidth 1
+is_one = inl refl
 
-two : IsWidth 2
-two = inr (inl refl)
+is_two : IsWidth 2
+is_two = inr (inl refl)
 
-four : IsWidth 4
-four = inr (inr (inl refl))
+is_four : IsWidth 4
+is_four = inr (inr (inl refl))
 
-eight : IsWidth 8
-eight = inr (inr (inr refl))
+is_eight : IsWidth 8
+is_eight = inr (inr (inr refl))
 
+-- the kinds of the codes below 32
 large_kinds_are : AllByRecursion IsKindOrFault large_kinds
-large_kinds_are = (
-  one,
-  (
-    two,
-    (
-      four,
-      (
-        eight,
-        (
-          one,
-          (
-            two,
-            (
-              four,
-              (
-                four,
-                (
-                  four,
-                  (
-                    one,
-                    (
-                      four,
-                      (
-                        tt,
-                        (
-                          tt,
-                          (
-                            one,
-                            (
-                              one,
-                              (
-                                four,
-                                (
-                                  tt,
-                                  (
-                                    tt,
-                                    (
-                                      tt,
-                                      (
-                                        eight,
-                                        (
-                                          eight,
-                                          (
-                                            eight,
-                                            (
-                                              eight,
-                                              (
-                                                eight,
-                                                (tt, (tt, tt)),
-                                              ),
-                                            ),
-                                          ),
-                                        ),
-                                      ),
-                                    ),
-                                  ),
-                                ),
-                              ),
-                            ),
-                          ),
-                        ),
-                      ),
-                    ),
-                  ),
-                ),
-              ),
-            ),
-          ),
-        ),
-      ),
-    ),
-  ),
-)
+large_kinds_are = assumption (is_one, is_two, is_four, is_eight)
 
 -- each code's kind
 pub IsKind-kind_of : (code : ℕ) → IsKindOrFault (kind_of code)
@@ -138,11 +68,13 @@ custom_letter customs.Int32 = 105
 custom_letter customs.Int64 = 106
 custom_letter customs.Native = 110
 
+-- which of three tests is the kind's
 pick : Bool → Bool → Bool → CustomKind → Bool
 pick p q r customs.Int32 = p
 pick p q r customs.Int64 = q
 pick p q r customs.Native = r
 
+-- the tests that passed where a kind was found
 choice : (x y p q r : Bool) (kind : CustomKind) → cond (x && y) (cond p (Some customs.Int32) (cond q (Some customs.Int64) (cond r (Some customs.Native) None))) None ≡ Some kind → (x ≡ true) × (y ≡ true) × (pick p q r kind ≡ true)
 unfolding pick
 choice false y p q r kind e = absurd (cc)
@@ -158,6 +90,7 @@ choice true true false false true customs.Int64 e = absurd (cc)
 choice true true false false true customs.Native e = (refl, refl, refl)
 choice true true false false false kind e = absurd (cc)
 
+-- the test that passed names the middle byte
 picked : (b : ℕ) (kind : CustomKind) → pick (eqb b 105) (eqb b 106) (eqb b 110) kind ≡ true → b ≡ custom_letter kind
 unfolding pick
 picked b customs.Int32 e = eqb-true b 105 e

@@ -54,6 +54,7 @@ block_or_atom_measure : (tag size : ℕ) → block_measure size ≡ measure_of (
 block_or_atom_measure tag zero = refl
 block_or_atom_measure tag (suc n) = refl
 
+-- a custom's measure
 custom_measure_is : (rest : List ℕ) (t : Token) → SpellsCustom rest t → custom_measure (custom_of (take 3 rest)) ≡ measure_of t
 custom_measure_is rest t (inl s) = rw (s.1, custom_of_int32) (sym (ap measure_of s.3))
 custom_measure_is rest t (inr (inl s)) = rw (s.1, custom_of_int64) (sym (ap measure_of s.3))
@@ -73,10 +74,12 @@ spelled_measure (kinds.Double little) rest t s = sym (ap measure_of s.1)
 spelled_measure (kinds.Doubles width little) rest t s = rw (← s.2) (sym (ap measure_of s.4))
 spelled_measure kinds.Custom rest t s = custom_measure_is rest t s
 
+-- the same, by what the code begins
 spelled_length_from : (r : Result CodeKind CodeFault) (rest : List ℕ) (t : Token) → SpellsFrom r rest t → length rest ≡ length_behind r rest
 spelled_length_from (Ok kind) rest t s = spelled_length kind rest t s
 spelled_length_from (Err fault) rest t s = absurd s
 
+-- the same, by what the code begins
 spelled_measure_from : (r : Result CodeKind CodeFault) (rest : List ℕ) (t : Token) → SpellsFrom r rest t → measure_from r rest ≡ measure_of t
 spelled_measure_from (Ok kind) rest t s = spelled_measure kind rest t s
 spelled_measure_from (Err fault) rest t s = absurd s
@@ -108,12 +111,14 @@ custom_token (Some customs.Int32) rest = leaf (objects.I32 (signed (drop 3 rest)
 custom_token (Some customs.Int64) rest = leaf (objects.I64 (signed (drop 3 rest)))
 custom_token (Some customs.Native) rest = leaf (objects.Native (signed (drop 4 rest)))
 
+-- a custom spells its token
 custom_token_is : (rest : List ℕ) (t : Token) → SpellsCustom rest t → t ≡ custom_token (custom_of (take 3 rest)) rest
 custom_token_is rest t (inl s) = rw (s.1, custom_of_int32) s.3
 custom_token_is rest t (inr (inl s)) = rw (s.1, custom_of_int64) s.3
 custom_token_is rest t (inr (inr (inl s))) = rw (s.1, custom_of_native) s.3
 custom_token_is rest t (inr (inr (inr s))) = rw (s.1, custom_of_native) s.3
 
+-- what stands behind a code of this kind spells at most one token
 spelled_same : (kind : CodeKind) (rest : List ℕ) (t u : Token) → SpellsBehind kind rest t → SpellsBehind kind rest u → t ≡ u
 spelled_same (kinds.SmallBlock tag size) rest t u s v = s.1 ∙ sym v.1
 spelled_same (kinds.SmallInt n) rest t u s v = s.1 ∙ sym v.1
@@ -126,6 +131,7 @@ spelled_same (kinds.Double little) rest t u s v = s.1 ∙ sym v.1
 spelled_same (kinds.Doubles width little) rest t u s v = s.4 ∙ ap (λ ds. leaf (objects.Doubles ds)) (SpellsDoubles-same little s.0 v.0 (drop width rest) s.3 v.3) ∙ sym v.4
 spelled_same kinds.Custom rest t u s v = custom_token_is rest t s ∙ sym (custom_token_is rest u v)
 
+-- the same, by what the code begins
 spelled_same_from : (r : Result CodeKind CodeFault) (rest : List ℕ) (t u : Token) → SpellsFrom r rest t → SpellsFrom r rest u → t ≡ u
 spelled_same_from (Ok kind) rest t u s v = spelled_same kind rest t u s v
 spelled_same_from (Err fault) rest t u s v = absurd s

@@ -12,10 +12,12 @@ IsByte b = b < 256
 digit_lt : (b p n : ℕ) → b < 256 → n < p → b * p + n < p * 256
 digit_lt b p n h k = omega (arith, mul-le-mul_right {m = b} {n = 255} p (omega arith))
 
+-- a number of bytes is below 256 to the power of their number
 pub number_lt : (bytes : List ℕ) → AreBytes bytes → number bytes < 256 ^ length bytes
 number_lt [] a = omega arith
 number_lt (b ∷ bytes) a = rw pow-suc (digit_lt b (256 ^ length bytes) (number bytes) (All-head IsByte b bytes a) (number_lt bytes (All-tail IsByte b bytes a)))
 
+-- a little endian one too
 pub little_number_lt : (bytes : List ℕ) → AreBytes bytes → little_number bytes < 256 ^ length bytes
 little_number_lt [] a = omega arith
 little_number_lt (b ∷ bytes) a =
@@ -23,6 +25,7 @@ little_number_lt (b ∷ bytes) a =
     let high : little_number bytes < 256 ^ length bytes = little_number_lt bytes (All-tail IsByte b bytes a) in
     rw pow-suc (omega arith)
 
+-- in either byte order
 pub number_in_lt : (little : Bool) (bytes : List ℕ) → AreBytes bytes → number_in little bytes < 256 ^ length bytes
 number_in_lt true bytes a = little_number_lt bytes a
 number_in_lt false bytes a = number_lt bytes a
@@ -34,6 +37,7 @@ IsSigned-twos_complement k n h =
     (λ e. omega (arith, ltb-true (2 * n) (2 * 2 ^ k) e))
     (λ e. omega (arith, ltb-false (2 * n) (2 * 2 ^ k) e))
 
+-- a signed number has more bits too
 pub IsSigned-wider : (j k : ℕ) → j ≤ k → (z : ℤ) → IsSigned j z → IsSigned k z
 IsSigned-wider j k h (pos n) s = omega (arith, pow_mono h)
 IsSigned-wider j k h (negsuc n) s = omega (arith, pow_mono h)
@@ -45,6 +49,7 @@ half_of_bytes (suc l) =
     let shift : 8 * suc (suc l) - 1 ≡ (8 * suc l - 1) + 8 = omega arith in
     rw (shift, pow-add 2 (8 * suc l - 1) 8, pow-suc 256 (suc l), half_of_bytes l) (omega arith)
 
+-- bytes in two's complement spell a number of as many bits
 pub IsSigned-signed : (bytes : List ℕ) → AreBytes bytes → IsSigned (8 * length bytes - 1) (signed bytes)
 IsSigned-signed [] a = omega arith
 IsSigned-signed (b ∷ bytes) a =
@@ -57,8 +62,10 @@ IsSigned-signed (b ∷ bytes) a =
 pub number_lt-at : (width bound : ℕ) (bytes : List ℕ) → 256 ^ width ≡ bound → length bytes ≡ width → AreBytes bytes → number bytes < bound
 number_lt-at width bound bytes e l a = rw (← e, ← l) (number_lt bytes a)
 
+-- in either byte order
 pub number_in_lt-at : (little : Bool) (width bound : ℕ) (bytes : List ℕ) → 256 ^ width ≡ bound → length bytes ≡ width → AreBytes bytes → number_in little bytes < bound
 number_in_lt-at little width bound bytes e l a = rw (← e, ← l) (number_in_lt little bytes a)
 
+-- a signed number of bytes that have at most so many bits
 pub IsSigned-signed_at : (k : ℕ) (bytes : List ℕ) → 8 * length bytes - 1 ≤ k → AreBytes bytes → IsSigned k (signed bytes)
 IsSigned-signed_at k bytes h a = IsSigned-wider (8 * length bytes - 1) k h (signed bytes) (IsSigned-signed bytes a)

@@ -14,10 +14,12 @@ abbrev pub AllEndWithin : ℕ → List Step → Type 0
 AllEndWithin n [] = Unit {0}
 AllEndWithin n (s ∷ steps) = (s.ends ≤ n) × AllEndWithin n steps
 
+-- where neither of two refuses there is no refusal
 pub or_else_none : (a b : Option ReadRefusal) → a ≡ None → b ≡ None → or_else a b ≡ None
 or_else_none None b p q = q
 or_else_none (Some r) b p q = p
 
+-- and the other way round
 pub or_else_parts : (a b : Option ReadRefusal) → or_else a b ≡ None → (a ≡ None) × (b ≡ None)
 or_else_parts None b p = (refl, p)
 or_else_parts (Some r) b p = absurd (cc)
@@ -41,6 +43,7 @@ pub fails_if_none : (b : Bool) (r : ReadRefusal) → b ≡ false → fails_if b 
 fails_if_none true r e = absurd (cc)
 fails_if_none false r e = refl
 
+-- and the other way round
 pub none_fails_if : (b : Bool) (r : ReadRefusal) → fails_if b r ≡ None → b ≡ false
 none_fails_if true r e = absurd (cc)
 none_fails_if false r e = refl
@@ -50,10 +53,12 @@ pub AllStepsPass-append : (xs ys : List Step) → AllStepsPass xs → AllStepsPa
 AllStepsPass-append [] ys p q = q
 AllStepsPass-append (x ∷ xs) ys p q = (p.0, AllStepsPass-append xs ys p.1 q)
 
+-- and the other way round
 pub AllStepsPass-parts : (xs ys : List Step) → AllStepsPass (xs ++ ys) → AllStepsPass xs × AllStepsPass ys
 AllStepsPass-parts [] ys p = (tt, p)
 AllStepsPass-parts (x ∷ xs) ys p = let rest = AllStepsPass-parts xs ys p.1 in ((p.0, rest.0), rest.1)
 
+-- and where they are decided
 pub AllEndWithin-append : (n : ℕ) (xs ys : List Step) → AllEndWithin n xs → AllEndWithin n ys → AllEndWithin n (xs ++ ys)
 AllEndWithin-append n [] ys p q = q
 AllEndWithin-append n (x ∷ xs) ys p q = (p.0, AllEndWithin-append n xs ys p.1 q)
@@ -63,10 +68,12 @@ pub AllStepsPass-cond : (b : Bool) (xs : List Step) → (b ≡ true → AllSteps
 AllStepsPass-cond true xs p = p refl
 AllStepsPass-cond false xs p = tt
 
+-- and the other way round
 pub AllStepsPass-when : (b : Bool) (xs : List Step) → AllStepsPass (cond b xs []) → b ≡ true → AllStepsPass xs
 AllStepsPass-when true xs p e = p
 AllStepsPass-when false xs p e = absurd (cc)
 
+-- and where they are decided
 pub AllEndWithin-cond : (n : ℕ) (b : Bool) (xs : List Step) → AllEndWithin n xs → AllEndWithin n (cond b xs [])
 AllEndWithin-cond n true xs p = p
 AllEndWithin-cond n false xs p = tt

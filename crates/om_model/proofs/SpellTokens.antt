@@ -26,31 +26,33 @@ use Rattle.om_model.proofs.SpellFields.{AreSoundFields, IsTokenThere, spelled_of
 use Rattle.om_model.proofs.SpellFacts.{VariableFits, token_length, up_to, TokenFacts, facts_from_none, none_from_facts}
 
 -- behind the last token, which ends behind n bytes of the data: the header states what all of them take
-pub record Ends (head : Head) (n : ℕ) (all : List (Option Measure)) : Type 0 where
+pub record EndsAt (head : Head) (n : ℕ) (all : List (Option Measure)) : Type 0 where
   pub length : head.length ≡ n
   pub w32 : head.big ≡ false → head.w32 ≡ all_words32 all
   pub w64 : head.w64 ≡ all_words64 all
   pub count : (head.objects ≡ 0) ⊎ (head.objects ≡ objects all)
 
 -- a token that ends behind n bytes of the data fits, with the measures of all up to it
-pub record Fits (head : Head) (n : ℕ) (all : List (Option Measure)) : Type 0 where
+pub record FitsUpTo (head : Head) (n : ℕ) (all : List (Option Measure)) : Type 0 where
   pub within : n ≤ head.length
   pub room : pending all ≤ head.length - n
   pub w32 : head.big ≡ false → all_words32 all ≤ head.w32
   pub w64 : all_words64 all ≤ head.w64
-  pub end : pending all ≡ 0 → Ends head n all
+  pub end : pending all ≡ 0 → EndsAt head n all
 
 -- behind these tokens
 abbrev pub FitsBehind : Head → List (List ℕ) → List ℕ → Type 0
-FitsBehind head before piece = Fits head (length (concat before) + length piece) (map raw_measure before ++ raw_measure piece ∷ [])
+FitsBehind head before piece = FitsUpTo head (length (concat before) + length piece) (map raw_measure before ++ raw_measure piece ∷ [])
 
 -- ---- from the steps
 
+-- a token that passes ends within the data
 within_from_facts : (c : Context) (kind : CodeKind) (custom : Option CustomKind) (rest : List ℕ) → custom ≡ custom_of (take 3 rest) → c.taken < c.head.length → fixed_bytes kind ≤ left_after c 1 → VariableFits c kind custom rest → c.taken + token_length kind rest ≤ c.head.length
 within_from_facts c kinds.Custom (Some customs.Native) rest e more fixed f = rw (← e) (omega (arith, f.0, f.1, f.2))
 within_from_facts c kind custom rest e more fixed f = omega arith
 
-fits_from_facts : (c : Context) (kind : CodeKind) (rest : List ℕ) (n : ℕ) → n ≡ token_length kind rest → c.taken < c.head.length → TokenFacts c kind rest → Fits c.head (c.taken + n) (up_to c kind rest)
+-- and fits
+fits_from_facts : (c : Context) (kind : CodeKind) (rest : List ℕ) (n : ℕ) → n ≡ token_length kind rest → c.taken < c.head.length → TokenFacts c kind rest → FitsUpTo c.head (c.taken + n) (up_to c kind rest)
 fits_from_facts c kind rest n e more f =
     let within : c.taken + token_length kind rest ≤ c.head.length = within_from_facts c kind (custom_of (take 3 rest)) rest refl more f.fixed f.variable in
     rw e (record {
@@ -66,6 +68,7 @@ abbrev PassesAs : Context → Result CodeKind CodeFault → List ℕ → Type 0
 PassesAs c r rest =
     (t : Token) × SpellsFrom r rest t × IsTokenThere t (objects c.before) c.head.objects
 
+-- bytes that pass spell a token, by what the code begins
 token_behind : (c : Context) (code : ℕ) (r : Result CodeKind CodeFault) (rest : List ℕ) → IsKindOrFault r → AreBytes rest → length rest ≡ length_behind r rest → first_refusal (length (code ∷ rest)) (steps_from c code r rest) ≡ None → PassesAs c r rest
 token_behind c code (Ok kind) rest k a l p =
     let facts = facts_from_none c code kind rest (length (code ∷ rest)) (omega arith) p in
@@ -73,7 +76,8 @@ token_behind c code (Ok kind) rest k a l p =
 token_behind c code (Err fault) rest k a l p =
     absurd (let none = (steps_pass (length (code ∷ rest)) (steps_from c code (Err fault) rest) (omega arith, tt) p).0 in cc (none))
 
-fits_behind : (c : Context) (code : ℕ) (r : Result CodeKind CodeFault) (rest : List ℕ) → length rest ≡ length_behind r rest → first_refusal (length (code ∷ rest)) (steps_from c code r rest) ≡ None → c.taken < c.head.length → Fits c.head (c.taken + length (code ∷ rest)) (c.before ++ measure_from r rest ∷ [])
+-- and fit, by what the code begins
+fits_behind : (c : Context) (code : ℕ) (r : Result CodeKind CodeFault) (rest : List ℕ) → length rest ≡ length_behind r rest → first_refusal (length (code ∷ rest)) (steps_from c code r rest) ≡ None → c.taken < c.head.length → FitsUpTo c.head (c.taken + length (code ∷ rest)) (c.before ++ measure_from r rest ∷ [])
 fits_behind c code (Ok kind) rest l p more =
     fits_from_facts c kind rest (length (code ∷ rest)) (omega arith) more (facts_from_none c code kind rest (length (code ∷ rest)) (omega arith) p)
 fits_behind c code (Err fault) rest l p more =
@@ -81,6 +85,7 @@ fits_behind c code (Err fault) rest l p more =
 
 -- ---- to the steps
 
+-- the variable bytes of a token within the data are there
 variable_from_within : (c : Context) (kind : CodeKind) (custom : Option CustomKind) (rest : List ℕ) → custom ≡ custom_of (take 3 rest) → AreSoundFields kind rest (objects c.before) c.head.objects → c.taken + token_length kind rest ≤ c.head.length → VariableFits c kind custom rest
 variable_from_within c kinds.Custom (Some customs.Native) rest e s h =
     let some : 0 < native_bytes (slice_index rest 3) = rw (← e) at s in
@@ -88,9 +93,10 @@ variable_from_within c kinds.Custom (Some customs.Native) rest e s h =
     (omega arith, some, omega arith)
 variable_from_within c kind custom rest e s h = omega arith
 
-facts_from_fits : (c : Context) (kind : CodeKind) (rest : List ℕ) (n : ℕ) → n ≡ token_length kind rest → AreSoundFields kind rest (objects c.before) c.head.objects → Fits c.head (c.taken + n) (up_to c kind rest) → TokenFacts c kind rest
+-- the facts of a token that fits
+facts_from_fits : (c : Context) (kind : CodeKind) (rest : List ℕ) (n : ℕ) → n ≡ token_length kind rest → AreSoundFields kind rest (objects c.before) c.head.objects → FitsUpTo c.head (c.taken + n) (up_to c kind rest) → TokenFacts c kind rest
 facts_from_fits c kind rest n e s fits =
-    let f : Fits c.head (c.taken + token_length kind rest) (up_to c kind rest) = subst (λ m. Fits c.head (c.taken + m) (up_to c kind rest)) e fits in
+    let f : FitsUpTo c.head (c.taken + token_length kind rest) (up_to c kind rest) = subst (λ m. FitsUpTo c.head (c.taken + m) (up_to c kind rest)) e fits in
     record {
       fixed = omega (arith, f.within);
       fields = s;
@@ -101,7 +107,8 @@ facts_from_fits c kind rest n e s fits =
       end = λ p. record { left = omega (arith, (f.end p).length); w32 = (f.end p).w32; w64 = (f.end p).w64; count = (f.end p).count };
     }
 
-no_refusal_behind : (c : Context) (code : ℕ) (r : Result CodeKind CodeFault) (rest : List ℕ) (t : Token) → SpellsFrom r rest t → IsTokenThere t (objects c.before) c.head.objects → Fits c.head (c.taken + length (code ∷ rest)) (c.before ++ measure_from r rest ∷ []) → first_refusal (length (code ∷ rest)) (steps_from c code r rest) ≡ None
+-- a spelled token that fits is not refused, by what the code begins
+no_refusal_behind : (c : Context) (code : ℕ) (r : Result CodeKind CodeFault) (rest : List ℕ) (t : Token) → SpellsFrom r rest t → IsTokenThere t (objects c.before) c.head.objects → FitsUpTo c.head (c.taken + length (code ∷ rest)) (c.before ++ measure_from r rest ∷ []) → first_refusal (length (code ∷ rest)) (steps_from c code r rest) ≡ None
 no_refusal_behind c code (Ok kind) rest t s there fits =
     let l = spelled_length kind rest t s in
     none_from_facts c code kind rest (length (code ∷ rest))
@@ -110,10 +117,12 @@ no_refusal_behind c code (Err fault) rest t s there fits = absurd s
 
 -- ---- whole pieces
 
+-- the steps of a token, by what its code begins
 token_steps-are : (c : Context) (code : ℕ) (rest : List ℕ) (n : ℕ) → first_refusal n (token_steps c (code ∷ rest)) ≡ first_refusal n (steps_from c code (kind_of code) rest)
 unfolding token_steps
 token_steps-are c code rest n = refl
 
+-- the length of a raw token behind its code
 behind_code : (code : ℕ) (rest : List ℕ) → IsRaw (code ∷ rest) → length rest ≡ length_behind (kind_of code) rest
 behind_code code rest raw = omega (arith, raw)
 

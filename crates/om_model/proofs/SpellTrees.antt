@@ -11,7 +11,7 @@ use Rattle.om_model.specs.Front.{TokensPass, HeaderPasses}
 use Rattle.om_model.specs.Token.{Token, IsToken, measure_of, Spells}
 use Rattle.om_model.specs.Tree.{Tree, node, IsTree, tokens, ReferBack}
 use Rattle.om_model.specs.Spelled.{IsNoReference, StatesWords32, States, SpelledUnder}
-use Rattle.om_model.proofs.SpellTokens.{Ends, Fits}
+use Rattle.om_model.proofs.SpellTokens.{EndsAt, FitsUpTo}
 use Rattle.om_model.proofs.SpellHeaders.{HeaderFacts, HeaderFacts-passes, HeaderPasses-facts}
 use Rattle.om_model.proofs.SpellValues.{OpenBefore, EachRefersBack, raw_measures-spelled, tokens-same, some_bytes, table_from_states, ends_from_states, tokens_pass, SpelledTokens, spelled_tokens, AreBytes-rest}
 
@@ -30,7 +30,7 @@ pub record SpelledBy (limit : ℕ) (bytes header : List ℕ) (pieces : List (Lis
   pub spells : AllZip Spells (tokens tree) pieces
 
 -- what a spelled value passes
-pub record Passes (limit : ℕ) (header : List ℕ) (pieces : List (List ℕ)) : Type 0 where
+pub record PassesWhole (limit : ℕ) (header : List ℕ) (pieces : List (List ℕ)) : Type 0 where
   pub header_passes : HeaderPasses limit header
   pub tokens_pass : TokensPass header [] pieces
   pub whole : pending (map raw_measure pieces) ≡ 0
@@ -41,20 +41,23 @@ some_data (node t forest) [] s = absurd s
 some_data (node t forest) (piece ∷ pieces) s = omega (arith, some_bytes t piece s.0, length-append piece (concat pieces))
 
 -- where nothing is read yet
-fits_at_start : (head : Head) → 0 < head.length → Fits head 0 []
+fits_at_start : (head : Head) → 0 < head.length → FitsUpTo head 0 []
 fits_at_start head h = record { within = omega arith; room = omega arith; w32 = λ b. omega arith; w64 = omega arith; end = λ e. absurd (omega arith) }
 
+-- the words on 32 bits, which a big header does not state
 states_words32 : (big : Bool) (stated found : ℕ) → (big ≡ false → stated ≡ found) → StatesWords32 big stated found
 states_words32 true stated found e = tt
 states_words32 false stated found e = e refl
 
-states_from_ends : (head : Head) (n : ℕ) (ts : List Token) → Ends head n (map measure_of ts) → (head.objects ≡ 0 → All IsNoReference ts) → States head ts
+-- a header that states what was read
+states_from_ends : (head : Head) (n : ℕ) (ts : List Token) → EndsAt head n (map measure_of ts) → (head.objects ≡ 0 → All IsNoReference ts) → States head ts
 states_from_ends head n ts e table = record {
   w32 = states_words32 head.big head.w32 (all_words32 (map measure_of ts)) e.w32;
   w64 = e.w64;
   objects = elim e.count [ inl z ↦ inr (z, table z) | inr o ↦ inl o ];
 }
 
+-- a value, from its tokens and its tree
 spelled_by : (limit : ℕ) (bytes header : List ℕ) (pieces : List (List ℕ)) → bytes ≡ header ++ concat pieces → HeaderFacts limit header → (r : SpelledTokens header [] [] pieces) → pending (map measure_of r.all) ≡ 0 → (t : TreeOf r.all) → ReferBack t.tree 0 → SpelledBy limit bytes header pieces
 spelled_by limit bytes header pieces e h r none t back =
     let head = head_of header in
@@ -84,12 +87,13 @@ module _
     (ReferBack-each : (tree : Tree) (c : ℕ) → ReferBack tree c ↔ EachRefersBack c (tokens tree))
     (tokens_injective : (tree other : Tree) → IsTree tree → IsTree other → tokens tree ≡ tokens other → tree ≡ other)
   where
+    -- behind a tree's tokens no value is to come
     none_to_come : (tree : Tree) → IsTree tree → pending (map measure_of (tokens tree)) ≡ 0
     none_to_come tree h = omega (arith, pending-tokens [] tree h (omega arith))
 
     -- a spelled value passes
-    pub Passes-spelled : (limit : ℕ) (bytes : List ℕ) (tree : Tree) (s : SpelledUnder limit bytes tree) → Passes limit s.header s.pieces
-    Passes-spelled limit bytes tree s =
+    pub PassesWhole-spelled : (limit : ℕ) (bytes : List ℕ) (tree : Tree) (s : SpelledUnder limit bytes tree) → PassesWhole limit s.header s.pieces
+    PassesWhole-spelled limit bytes tree s =
         let v = s.spells in
         let head = head_of s.header in
         let ts = tokens tree in

@@ -15,7 +15,7 @@ use Rattle.om_model.specs.Token.{Token, integer, atom, shared, block, leaf, IsTo
 use Rattle.om_model.specs.Tree.{tokens, made_by, RefersBack}
 use Rattle.om_model.specs.Spelled.{IsNoReference, StatesWords32, States}
 use Rattle.om_model.proofs.SpellLemmas.{IsRaw-spelled, raw_measure-spelled, Spells-same}
-use Rattle.om_model.proofs.SpellTokens.{Ends, Fits, FitsBehind, SpelledThere, SpelledThere-passes, FitsBehind-passes, passes-spelled}
+use Rattle.om_model.proofs.SpellTokens.{EndsAt, FitsUpTo, FitsBehind, SpelledThere, SpelledThere-passes, FitsBehind-passes, passes-spelled}
 
 -- behind these measures each token comes while a value is still to come
 abbrev pub OpenBefore : List (Option Measure) → List Token → Type 0
@@ -29,6 +29,7 @@ EachRefersBack c (token ∷ tokens) = RefersBack token c × EachRefersBack (c + 
 
 -- ---- pieces and their tokens
 
+-- the bytes of one more piece
 length-concat_push : (pieces : List (List ℕ)) (piece : List ℕ) → length (concat (pieces ++ piece ∷ [])) ≡ length (concat pieces) + length piece
 length-concat_push [] piece = omega (arith, length-append piece [])
 length-concat_push (p ∷ pieces) piece =
@@ -39,6 +40,7 @@ pub some_bytes : (t : Token) (piece : List ℕ) → Spells t piece → 0 < lengt
 some_bytes t [] s = absurd s
 some_bytes t (code ∷ rest) s = omega arith
 
+-- tokens take as many bytes at least
 bytes_of_tokens : (ts : List Token) (pieces : List (List ℕ)) → AllZip Spells ts pieces → length ts ≤ length (concat pieces)
 bytes_of_tokens [] pieces s = omega arith
 bytes_of_tokens (t ∷ ts) [] s = absurd s
@@ -72,6 +74,7 @@ tokens-same (t ∷ ts) (u ∷ us) (piece ∷ pieces) s v =
 measures_push : (before : List (List ℕ)) (ms : List (Option Measure)) (piece : List ℕ) (m : Option Measure) → map raw_measure before ≡ ms → raw_measure piece ≡ m → map raw_measure (before ++ piece ∷ []) ≡ ms ++ m ∷ []
 measures_push before ms piece m e f = map_push raw_measure before piece ∙ cc (e, f)
 
+-- a measure behind the first ones or before the others
 measures_cons : (ms : List (Option Measure)) (m : Option Measure) (ns : List (Option Measure)) → (ms ++ m ∷ []) ++ ns ≡ ms ++ (m ∷ ns)
 measures_cons ms m ns = append_assoc ms (m ∷ []) ns
 
@@ -82,6 +85,7 @@ pending-le ms ns e =
 
 -- ---- from a value to steps
 
+-- behind no object a token refers to none
 no_reference : (t : Token) (c : ℕ) → RefersBack t c → c ≡ 0 → IsNoReference t
 no_reference (integer z) c r e = tt
 no_reference (atom tag) c r e = tt
@@ -96,6 +100,7 @@ no_references c (t ∷ ts) r e =
     let sum : objects (map measure_of (t ∷ ts)) ≡ made_by t + objects (map measure_of ts) = sum_by-cons (of_object (λ _. 1)) (measure_of t) (map measure_of ts) in
     All-cons IsNoReference t ts (no_reference t c r.0 (omega arith)) (no_references (c + made_by t) ts r.1 (omega arith))
 
+-- where the header states no object no token refers to one
 pub table_from_states : (head : Head) (ts : List Token) → States head ts → EachRefersBack 0 ts → head.objects ≡ 0 → All IsNoReference ts
 table_from_states head ts s r z =
     elim s.objects [
@@ -103,11 +108,13 @@ table_from_states head ts s r z =
       | inr n ↦ n.1
     ]
 
+-- the words on 32 bits, where they are stated
 states32 : (big : Bool) (stated found : ℕ) → StatesWords32 big stated found → big ≡ false → stated ≡ found
 states32 true stated found s b = absurd (cc)
 states32 false stated found s b = s
 
-pub ends_from_states : (head : Head) (n : ℕ) (ts : List Token) → head.length ≡ n → States head ts → Ends head n (map measure_of ts)
+-- the header of a spelled value states what its tokens take
+pub ends_from_states : (head : Head) (n : ℕ) (ts : List Token) → head.length ≡ n → States head ts → EndsAt head n (map measure_of ts)
 ends_from_states head n ts e s = record {
   length = e;
   w32 = states32 head.big head.w32 (all_words32 (map measure_of ts)) s.w32;
@@ -116,14 +123,15 @@ ends_from_states head n ts e s = record {
 }
 
 -- tokens before others fit where the header states what all take
-ends_here : (head : Head) (n rest : ℕ) (ms : List (Option Measure)) (ts : List Token) → Ends head (n + rest) (ms ++ map measure_of ts) → OpenBefore ms ts → (ts ≡ [] → rest ≡ 0) → pending ms ≡ 0 → Ends head n ms
+ends_here : (head : Head) (n rest : ℕ) (ms : List (Option Measure)) (ts : List Token) → EndsAt head (n + rest) (ms ++ map measure_of ts) → OpenBefore ms ts → (ts ≡ [] → rest ≡ 0) → pending ms ≡ 0 → EndsAt head n ms
 ends_here head n rest ms [] e o none p =
     let all : ms ++ [] ≡ ms = append-nil ms in
-    let f : Ends head (n + rest) ms = rw all at e in
+    let f : EndsAt head (n + rest) ms = rw all at e in
     record { length = omega (arith, f.length, none refl); w32 = f.w32; w64 = f.w64; count = f.count }
 ends_here head n rest ms (t ∷ ts) e o none p = absurd (omega (arith, o.0))
 
-fits_here : (head : Head) (n rest : ℕ) (ms : List (Option Measure)) (ts : List Token) → Ends head (n + rest) (ms ++ map measure_of ts) → pending (ms ++ map measure_of ts) ≡ 0 → OpenBefore ms ts → length ts ≤ rest → (ts ≡ [] → rest ≡ 0) → Fits head n ms
+-- the first tokens of all fit
+fits_here : (head : Head) (n rest : ℕ) (ms : List (Option Measure)) (ts : List Token) → EndsAt head (n + rest) (ms ++ map measure_of ts) → pending (ms ++ map measure_of ts) ≡ 0 → OpenBefore ms ts → length ts ≤ rest → (ts ≡ [] → rest ≡ 0) → FitsUpTo head n ms
 fits_here head n rest ms ts e p o l none = record {
   within = omega (arith, e.length);
   room = omega (arith, e.length, pending-le ms (map measure_of ts) p, length-map ts measure_of);
@@ -132,13 +140,14 @@ fits_here head n rest ms ts e p o l none = record {
   end = ends_here head n rest ms ts e o none;
 }
 
+-- no tokens have no bytes
 no_bytes : (ts : List Token) (pieces : List (List ℕ)) → AllZip Spells ts pieces → ts ≡ [] → length (concat pieces) ≡ 0
 no_bytes [] [] s e = refl
 no_bytes [] (piece ∷ pieces) s e = absurd s
 no_bytes (t ∷ ts) pieces s e = absurd (cc)
 
 -- spelled tokens pass, with others before them, where the header states what all take
-pub tokens_pass : (header : List ℕ) (before : List (List ℕ)) (ms : List (Option Measure)) (ts : List Token) (pieces : List (List ℕ)) → map raw_measure before ≡ ms → AllZip Spells ts pieces → OpenBefore ms ts → EachRefersBack (objects ms) ts → ((head_of header).objects ≡ 0 → All IsNoReference ts) → pending (ms ++ map measure_of ts) ≡ 0 → Ends (head_of header) (length (concat before) + length (concat pieces)) (ms ++ map measure_of ts) → TokensPass header before pieces
+pub tokens_pass : (header : List ℕ) (before : List (List ℕ)) (ms : List (Option Measure)) (ts : List Token) (pieces : List (List ℕ)) → map raw_measure before ≡ ms → AllZip Spells ts pieces → OpenBefore ms ts → EachRefersBack (objects ms) ts → ((head_of header).objects ≡ 0 → All IsNoReference ts) → pending (ms ++ map measure_of ts) ≡ 0 → EndsAt (head_of header) (length (concat before) + length (concat pieces)) (ms ++ map measure_of ts) → TokensPass header before pieces
 tokens_pass header before ms [] [] e s o r table p ends = tt
 tokens_pass header before ms [] (piece ∷ pieces) e s o r table p ends = absurd s
 tokens_pass header before ms (t ∷ ts) [] e s o r table p ends = absurd s
@@ -150,8 +159,8 @@ tokens_pass header before ms (t ∷ ts) (piece ∷ pieces) e s o r table p ends 
     let p' : pending (next ++ map measure_of ts) ≡ 0 = rw all at p in
     let rest = length (concat pieces) in
     let here : length (concat before) + length (concat (piece ∷ pieces)) ≡ (length (concat before) + length piece) + rest = omega (arith, length-append piece (concat pieces)) in
-    let ends' : Ends head ((length (concat before) + length piece) + rest) (next ++ map measure_of ts) = subst₂ (λ n ns. Ends head n ns) here all ends in
-    let fits : Fits head (length (concat before) + length piece) next = fits_here head (length (concat before) + length piece) rest next ts ends' p' o.1 (bytes_of_tokens ts pieces s.1) (no_bytes ts pieces s.1) in
+    let ends' : EndsAt head ((length (concat before) + length piece) + rest) (next ++ map measure_of ts) = subst₂ (λ n ns. EndsAt head n ns) here all ends in
+    let fits : FitsUpTo head (length (concat before) + length piece) next = fits_here head (length (concat before) + length piece) rest next ts ends' p' o.1 (bytes_of_tokens ts pieces s.1) (no_bytes ts pieces s.1) in
     let same : map raw_measure before ++ raw_measure piece ∷ [] ≡ next = cc (e, m) in
     let there : length (concat (before ++ piece ∷ [])) ≡ length (concat before) + length piece = length-concat_push before piece in
     let more : objects next ≡ objects ms + made_by t = sum_by_push (of_object (λ _. 1)) ms (measure_of t) in (
@@ -174,12 +183,14 @@ pub record SpelledTokens (header : List ℕ) (before : List (List ℕ)) (ms : Li
   pub opens : OpenBefore ms all
   pub refers_back : EachRefersBack (objects ms) all
   pub table : (head_of header).objects ≡ 0 → All IsNoReference all
-  pub fits : Fits (head_of header) (length (concat before) + length (concat pieces)) (ms ++ map measure_of all)
+  pub fits : FitsUpTo (head_of header) (length (concat before) + length (concat pieces)) (ms ++ map measure_of all)
 
+-- what is spelled is a token
 IsToken-spelled : (t : Token) (piece : List ℕ) → Spells t piece → IsToken t
 IsToken-spelled t [] s = absurd s
 IsToken-spelled t (code ∷ rest) s = s.0
 
+-- the first of bytes, and the others
 pub AreBytes-front : (xs ys : List ℕ) → AreBytes (xs ++ ys) → AreBytes xs
 AreBytes-front xs ys a = rw (take_at xs ys (length xs) refl) at (All-take (λ b. b < 256) (length xs) (xs ++ ys) a)
 
@@ -199,17 +210,17 @@ spelled_cons header before ms piece pieces e k there r =
       opens = (k, r.opens);
       refers_back = (rw e at there.refers_back, rw made at r.refers_back);
       table = λ z. All-cons IsNoReference t r.all (there.table z) (r.table z);
-      fits = subst₂ (λ n ns. Fits (head_of header) n ns) here (measures_cons ms (measure_of t) (map measure_of r.all)) r.fits;
+      fits = subst₂ (λ n ns. FitsUpTo (head_of header) n ns) here (measures_cons ms (measure_of t) (map measure_of r.all)) r.fits;
     }
 
 -- what fits behind the pieces before fits behind their measures
-fits_behind : (header : List ℕ) (before : List (List ℕ)) (ms : List (Option Measure)) (piece : List ℕ) (m : Option Measure) → map raw_measure before ≡ ms → raw_measure piece ≡ m → FitsBehind (head_of header) before piece → Fits (head_of header) (length (concat (before ++ piece ∷ []))) (ms ++ m ∷ [])
+fits_behind : (header : List ℕ) (before : List (List ℕ)) (ms : List (Option Measure)) (piece : List ℕ) (m : Option Measure) → map raw_measure before ≡ ms → raw_measure piece ≡ m → FitsBehind (head_of header) before piece → FitsUpTo (head_of header) (length (concat (before ++ piece ∷ []))) (ms ++ m ∷ [])
 fits_behind header before ms piece m e f fits =
     let same : map raw_measure before ++ raw_measure piece ∷ [] ≡ ms ++ m ∷ [] = cc (e, f) in
-    subst₂ (λ n ns. Fits (head_of header) n ns) (sym (length-concat_push before piece)) same fits
+    subst₂ (λ n ns. FitsUpTo (head_of header) n ns) (sym (length-concat_push before piece)) same fits
 
 -- tokens that pass are spelled, behind others that fit
-pub spelled_tokens : (header : List ℕ) (before : List (List ℕ)) (ms : List (Option Measure)) (pieces : List (List ℕ)) → map raw_measure before ≡ ms → AreBytes (concat pieces) → Fits (head_of header) (length (concat before)) ms → TokensPass header before pieces → SpelledTokens header before ms pieces
+pub spelled_tokens : (header : List ℕ) (before : List (List ℕ)) (ms : List (Option Measure)) (pieces : List (List ℕ)) → map raw_measure before ≡ ms → AreBytes (concat pieces) → FitsUpTo (head_of header) (length (concat before)) ms → TokensPass header before pieces → SpelledTokens header before ms pieces
 spelled_tokens header before ms [] e a f p = record {
   all = [];
   spells = tt;
