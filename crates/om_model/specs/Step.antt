@@ -94,18 +94,24 @@ abbrev pub is_integer : ℤ → Bool
 is_integer (pos n) = nat_lt n (2 ^ 62)
 is_integer (negsuc n) = nat_lt n (2 ^ 62)
 
+-- an integer of eight bytes
+abbrev pub integer_refusal : Context → ℤ → Option ReadRefusal
+integer_refusal c z = fails_if (not (is_integer z)) (IntRange (place c) z)
+
+-- an offset, which counts back from the next object, and then the header's count
+abbrev pub shared_refusal : Context → ℕ → Option ReadRefusal
+shared_refusal c offset =
+    or_else
+        (fails_if ((offset == 0) || nat_lt (objects c.before) offset) (BadShared (place c) offset (objects c.before)))
+        (fails_if (c.head.objects == 0) (NoTable (place c)))
+
 -- what is wrong with the token's fields: its tag, its offset, its identifier, its integer or its length
 abbrev pub field_refusal : Context → ℕ → CodeKind → List ℕ → Option ReadRefusal
 field_refusal c code (kinds.SmallBlock tag size) rest = None
 field_refusal c code (kinds.SmallInt n) rest = None
 field_refusal c code (kinds.SmallString n) rest = None
-field_refusal c code (kinds.Int width) rest =
-    fails_if ((width == 8) && not (is_integer (signed (take 8 rest)))) (IntRange (place c) (signed (take 8 rest)))
-field_refusal c code (kinds.Shared width) rest =
-    let offset = number (take width rest) in
-    or_else
-    (fails_if ((offset == 0) || nat_lt (objects c.before) offset) (BadShared (place c) offset (objects c.before)))
-    (fails_if (c.head.objects == 0) (NoTable (place c)))
+field_refusal c code (kinds.Int width) rest = if width == 8 then integer_refusal c (signed (take 8 rest)) else None
+field_refusal c code (kinds.Shared width) rest = shared_refusal c (number (take width rest))
 field_refusal c code (kinds.Block width) rest =
     let tag = number (take width rest) % 256 in fails_if (nat_lt 243 tag) (BadTag (place c) tag)
 field_refusal c code (kinds.Str width) rest = None
