@@ -1,0 +1,4 @@
+pub mod Counts
+pub mod Pending
+pub mod Parsed
+pub mod References
