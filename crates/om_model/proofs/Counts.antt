@@ -3,10 +3,11 @@ use Rattle.std.proofs.Common.{◌≡◌, ℕ, suc, ◌+◌, List, ◌∷◌, ◌
 use Rattle.std.proofs.lemmas.List.{map-append}
 use Rattle.std.proofs.lemmas.List.Sums.{sum_by-append, sum_by-cons}
 use Rattle.om_model.specs.declared.code.Measure.{Measure}
+use Rattle.om_model.specs.declared.value.Obj.{Obj}
 use Rattle.om_model.specs.declared.value.Obj.TheVariants as objs
 use Rattle.om_model.specs.declared.value.Val.{Val}
-use Rattle.om_model.specs.Words.{of_object, objects}
-use Rattle.om_model.specs.Token.{Token, integer, atom, shared, block, leaf, IsToken, measure_of}
+use Rattle.om_model.specs.Words.{of_object, fields, objects}
+use Rattle.om_model.specs.Token.{Token, integer, atom, shared, block, leaf, IsToken, measure_of, leaf_measure}
 use Rattle.om_model.specs.Tree.{Tree, Forest, node, none, more, trees_in, IsTree, AreTrees, tokens, forest_tokens, made, made_by, all_made, object_of, objects_of, all_objects, roots}
 
 -- the objects of tokens one behind another
@@ -28,6 +29,16 @@ mutual
   pub objects-forest_tokens : (f : Forest) → objects (map measure_of (forest_tokens f)) ≡ all_made f
   objects-forest_tokens none = refl
   objects-forest_tokens (more tree f) = objects-tokens-append (tokens tree) (forest_tokens f) ∙ ap₂ ◌+◌ (objects-tokens tree) (objects-forest_tokens f)
+
+-- a leaf has no fields
+pub leaf_fields : (o : Obj) → of_object fields (leaf_measure o) ≡ 0
+leaf_fields (objs.Block tag values) = refl
+leaf_fields (objs.Bytes bytes) = refl
+leaf_fields (objs.Double bits) = refl
+leaf_fields (objs.Doubles all) = refl
+leaf_fields (objs.I32 z) = refl
+leaf_fields (objs.I64 z) = refl
+leaf_fields (objs.Native z) = refl
 
 -- a token makes the object that its measure says
 pub length-object_of : (t : Token) (values : List Val) → IsToken t → length (object_of t values) ≡ made_by t

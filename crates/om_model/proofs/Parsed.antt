@@ -9,14 +9,14 @@ use Rattle.om_model.specs.Build.{OpenBefore}
 use Rattle.om_model.proofs.Pending.{pending_push}
 
 -- trees with these tokens, so many of them
-pub record AreTreesOf (ts : List Token) (n : ℕ) : Type 0 where
+pub record TreesOf (ts : List Token) (n : ℕ) : Type 0 where
   pub forest : Forest
   pub tokens_are : forest_tokens forest ≡ ts
   pub count : trees_in forest ≡ n
   pub are_trees : AreTrees forest
 
 -- a tree with these tokens
-pub record IsTreeOf (ts : List Token) : Type 0 where
+pub record TreeOf (ts : List Token) : Type 0 where
   pub tree : Tree
   pub tokens_are : tokens tree ≡ ts
   pub is_tree : IsTree tree
@@ -47,10 +47,10 @@ split (more tree f) (suc n) m h e =
     }
 
 -- behind measures after which n values are to come, and with none to come at the end, tokens are those of n trees
-pub trees_from_tokens : (ms : List (Option Measure)) (ts : List Token) → All IsToken ts → OpenBefore ms ts → pending (ms ++ map measure_of ts) ≡ 0 → AreTreesOf ts (pending ms)
+pub trees_from_tokens : (ms : List (Option Measure)) (ts : List Token) → All IsToken ts → OpenBefore ms ts → pending (ms ++ map measure_of ts) ≡ 0 → TreesOf ts (pending ms)
 trees_from_tokens ms [] h k e = record { forest = none; tokens_are = refl; count = sym (rw append-nil at e); are_trees = tt }
 trees_from_tokens ms (t ∷ ts) h k e =
-    let r : AreTreesOf ts (pending (ms ++ measure_of t ∷ [])) =
+    let r : TreesOf ts (pending (ms ++ measure_of t ∷ [])) =
     trees_from_tokens (ms ++ measure_of t ∷ []) ts (All-tail IsToken t ts h) k.1 (rw append_assoc e) in
     let o : 0 < pending ms = k.0 in
     let p = pending_push ms (measure_of t) o in
@@ -63,14 +63,14 @@ trees_from_tokens ms (t ∷ ts) h k e =
       are_trees = ((All-head IsToken t ts h, s.front_count, s.front_trees), s.rest_trees);
     }
 
-only_tree : (ts : List Token) → AreTreesOf ts 1 → IsTreeOf ts
+only_tree : (ts : List Token) → TreesOf ts 1 → TreeOf ts
 only_tree ts r = go r.forest r.tokens_are r.count r.are_trees
   where
-    go : (f : Forest) → forest_tokens f ≡ ts → trees_in f ≡ 1 → AreTrees f → IsTreeOf ts
+    go : (f : Forest) → forest_tokens f ≡ ts → trees_in f ≡ 1 → AreTrees f → TreeOf ts
     go none e n h = absurd (omega arith)
     go (more tree none) e n h = record { tree = tree; tokens_are = rw append-nil at e; is_tree = h.0 }
     go (more tree (more other f)) e n h = absurd (omega arith)
 
 -- tokens each of which comes while a value is to come, and with none to come at the end, are those of a tree
-pub tree_from_tokens : (ts : List Token) → All IsToken ts → OpenBefore [] ts → pending (map measure_of ts) ≡ 0 → IsTreeOf ts
+pub tree_from_tokens : (ts : List Token) → All IsToken ts → OpenBefore [] ts → pending (map measure_of ts) ≡ 0 → TreeOf ts
 tree_from_tokens ts h k e = only_tree ts (trees_from_tokens [] ts h k e)

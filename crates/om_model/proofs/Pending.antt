@@ -50,6 +50,9 @@ OpenBefore-rest ms (x ∷ xs) ys h = rw (← before_push ms x xs) (OpenBefore-re
 pub open_at : (ms : List (Option Measure)) (xs : List Token) (t : Token) (ys : List Token) → OpenBefore ms (xs ++ t ∷ ys) → 0 < pending (ms ++ map measure_of xs)
 open_at ms xs t ys h = (OpenBefore-rest ms xs (t ∷ ys) h).0
 
+pub OpenBefore_push : (ms : List (Option Measure)) (ts : List Token) (t : Token) → OpenBefore ms ts → 0 < pending (ms ++ map measure_of ts) → OpenBefore ms (ts ++ t ∷ [])
+OpenBefore_push ms ts t h k = OpenBefore-append ms ts (t ∷ []) h (k, tt)
+
 -- the tokens of a tree take one place together
 
 -- the fields among the tokens of trees are the other trees in them

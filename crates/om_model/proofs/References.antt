@@ -2,7 +2,7 @@
 use Rattle.std.proofs.Common.{◌≡◌, ℕ, ◌+◌, ◌↔◌, List, [], ◌∷◌, ◌++◌, map, add_assoc, add-zero, sym, ap, ◌∙◌}
 use Rattle.om_model.specs.Words.{objects}
 use Rattle.om_model.specs.Token.{Token, measure_of}
-use Rattle.om_model.specs.Tree.{Tree, Forest, node, none, more, tokens, forest_tokens, made, made_by, ReferBack, AllReferBack}
+use Rattle.om_model.specs.Tree.{Tree, Forest, node, none, more, tokens, forest_tokens, made, made_by, RefersBack, ReferBack, AllReferBack}
 use Rattle.om_model.specs.Build.{EachRefersBack}
 use Rattle.om_model.proofs.Counts.{objects-tokens, objects-tokens-cons}
 
@@ -22,6 +22,10 @@ pub EachRefersBack-rest : (c : ℕ) (xs ys : List Token) → EachRefersBack c (x
 EachRefersBack-rest c [] ys h = rw add-zero h
 EachRefersBack-rest c (x ∷ xs) ys h = rw (← behind c x xs) (EachRefersBack-rest (c + made_by x) xs ys h.1)
 
+pub EachRefersBack_push : (c : ℕ) (ts : List Token) (t : Token) → EachRefersBack c ts → RefersBack t (c + objects (map measure_of ts)) → EachRefersBack c (ts ++ t ∷ [])
+EachRefersBack_push c ts t h k = EachRefersBack-append c ts (t ∷ []) h (k, tt)
+
+-- the references of trees
 mutual
   pub each_refers_back : (tree : Tree) (c : ℕ) → ReferBack tree c → EachRefersBack c (tokens tree)
   each_refers_back (node t f) c h = (h.0, all_refer_back f (c + made_by t) h.1)

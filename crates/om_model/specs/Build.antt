@@ -35,8 +35,11 @@ pub record Building : Type 0 where
   pub open_blocks : List OpenBlock
   pub root : Option Val
 
+abbrev pub building : List Obj → List OpenBlock → Option Val → Building
+building all open_blocks root = record { objects = all; open_blocks = open_blocks; root = root }
+
 abbrev pub start : Building
-start = record { objects = []; open_blocks = []; root = None }
+start = building [] [] None
 
 -- ---- a value comes
 
@@ -63,8 +66,8 @@ advanced b n = record b { next = b.next + n }
 
 -- it is the root, or the next field of the innermost open block
 abbrev pub place : Val → List Obj → List OpenBlock → Option Val → Building
-place v all [] root = record { objects = all; open_blocks = []; root = Some v }
-place v all (b ∷ outer) root = record { objects = set_field all b.object b.next v; open_blocks = still_open (advanced b 1) outer; root = root }
+place v all [] root = building all [] (Some v)
+place v all (b ∷ outer) root = building (set_field all b.object b.next v) (still_open (advanced b 1) outer) root
 
 -- ---- a token comes
 
@@ -96,13 +99,16 @@ absorb_all state tokens = fold absorb state tokens
 
 -- ---- what holds of it
 
-abbrev pub rootless : Option Val → ℕ
-rootless None = 1
-rootless (Some v) = 0
+-- how many values are still to come: the root, and fields of the open blocks
+abbrev pub root_to_come : Option Val → ℕ
+root_to_come None = 1
+root_to_come (Some v) = 0
 
--- how many values are still to come
+abbrev pub fields_to_come : List OpenBlock → ℕ
+fields_to_come blocks = sum_by (λ b. b.size - b.next) blocks
+
 abbrev pub to_come : Building → ℕ
-to_come state = rootless state.root + sum_by (λ b. b.size - b.next) state.open_blocks
+to_come state = root_to_come state.root + fields_to_come state.open_blocks
 
 abbrev pub HasSize : ℕ → Obj → Type 0
 HasSize size (objects.Block tag values) = length values ≡ size
