@@ -1,6 +1,6 @@
 -- The steps of a token pass just where some facts on its numbers hold.
-use Rattle.std.proofs.Common.{ℕ, ◌+◌, ◌%◌, ◌<◌, ◌≤◌, ◌≡◌, Bool, true, false, not, ◌&&◌, ◌||◌, cond, ltb, eqb, List, [], ◌∷◌, ◌++◌, take, slice_index, Option, Some, None, is_none, ◌⊎◌, inl, inr, refl, arith, ltb-false, le-ltb, eqb-true, eq-eqb, ne_eqb, pos_of_ne-zero, le_of_eq, le_refl, subst}
-use Rattle.std.proofs.lemmas.Bool.{cond_both, cases_eq, eqb-false, not-false, and_left, and_right, false≢true, not_from_true, or_parts, or_from}
+use Rattle.std.proofs.Common.{ℕ, ℤ, ◌+◌, ◌%◌, ◌<◌, ◌≤◌, ◌≡◌, Bool, true, false, not, ◌&&◌, ◌||◌, ltb, eqb, List, [], ◌∷◌, ◌++◌, take, slice_index, Option, Some, None, is_none, ◌⊎◌, inl, inr, refl, arith, ltb-false, le-ltb, eqb-true, eq-eqb, ne_eqb, pos_of_ne-zero, le_of_eq, le_refl, subst}
+use Rattle.std.proofs.lemmas.Bool.{cond_both, cases_eq, eqb-false, not-false, and_left, and_right, not_from_true, or_parts, or_from}
 use Rattle.om_model.specs.declared.refusal.ReadRefusal.TheVariants.{OtherCustom, BadTag, BadShared, NoTable, BadNative, IntRange, ZeroArray, Overlong, SizeMismatch, CountMismatch, LengthMismatch}
 use Rattle.om_model.specs.declared.refusal.WordSum.TheVariants.{W32, W64}
 use Rattle.om_model.specs.declared.header.Head.{Head}
@@ -13,7 +13,7 @@ use Rattle.om_model.specs.Bytes.{number, signed}
 use Rattle.om_model.specs.Code.{custom_of, native_bytes}
 use Rattle.om_model.specs.Raw.{fixed_bytes, field_bytes, sizing_bytes, kind_bytes, custom_bytes, variable_bytes, measure_behind}
 use Rattle.om_model.specs.Words.{objects, all_words32, all_words64, pending}
-use Rattle.om_model.specs.Step.{Step, step, fails_if, first_refusal, Context, place, left_after, overlong, is_integer, field_refusal, variable_steps, words32_refusal, words64_refusal, nat_ne, end_steps, steps_behind}
+use Rattle.om_model.specs.Step.{fails_if, first_refusal, Context, place, left_after, overlong, is_integer, integer_refusal, field_refusal, variable_steps, words32_refusal, words64_refusal, nat_ne, end_steps, closing_steps, steps_behind}
 use Rattle.om_model.proofs.SpellSteps.{AllStepsPass, AllEndWithin, no_refusal, steps_pass, fails_if_none, none_fails_if, or_else_none, or_else_parts, AllStepsPass-append, AllStepsPass-parts, AllEndWithin-append, AllStepsPass-cond, AllStepsPass-when, AllEndWithin-cond}
 use Rattle.om_model.proofs.SpellFields.{IsKnownData, AreSoundFields}
 
@@ -91,15 +91,13 @@ data_known : (known : Option CustomKind) (kind : ℕ) → IsKnownData known kind
 data_known None kind d = absurd d
 data_known (Some custom) kind d = refl
 
--- an integer of eight bytes that is not refused
-wide_integer : (width : ℕ) (small : Bool) → (eqb width 8 && not small) ≡ false → width ≡ 8 → small ≡ true
-wide_integer width true e w = refl
-wide_integer width false e w = absurd (let t : eqb width 8 ≡ true = eq-eqb width 8 w in cc (rw t at e))
+-- an integer that is not refused
+integer_small : (c : Context) (z : ℤ) → integer_refusal c z ≡ None → is_integer z ≡ true
+integer_small c z e = not-false (is_integer z) (none_fails_if (not (is_integer z)) (IntRange (place c) z) e)
 
 -- and the other way round
-integer_wide : (width : ℕ) (small : Bool) → (width ≡ 8 → small ≡ true) → (eqb width 8 && not small) ≡ false
-integer_wide width true f = and_right (eqb width 8) false refl
-integer_wide width false f = and_left (eqb width 8) true (ne_eqb width 8 (λ e. false≢true (f e)))
+small_integer : (c : Context) (z : ℤ) → is_integer z ≡ true → integer_refusal c z ≡ None
+small_integer c z e = fails_if_none (not (is_integer z)) (IntRange (place c) z) (not_from_true (is_integer z) e)
 
 -- fields that are not refused are sound
 fields_from_none : (c : Context) (code : ℕ) (kind : CodeKind) (rest : List ℕ) → field_refusal c code kind rest ≡ None → VariableFits c kind (custom_of (take 3 rest)) rest → AreSoundFields kind rest (objects c.before) c.head.objects
@@ -107,7 +105,7 @@ fields_from_none c code (kinds.SmallBlock tag size) rest e f = tt
 fields_from_none c code (kinds.SmallInt n) rest e f = tt
 fields_from_none c code (kinds.SmallString n) rest e f = tt
 fields_from_none c code (kinds.Int width) rest e f =
-    wide_integer width (is_integer (signed (take 8 rest))) (none_fails_if (eqb width 8 && not (is_integer (signed (take 8 rest)))) (IntRange (place c) (signed (take 8 rest))) e)
+    λ w. integer_small c (signed (take 8 rest)) (rw (eq-eqb width 8 w) at e)
 fields_from_none c code (kinds.Shared width) rest e f =
     let offset = number (take width rest) in
     let both = or_else_parts (fails_if (eqb offset 0 || ltb (objects c.before) offset) (BadShared (place c) offset (objects c.before))) (fails_if (eqb c.head.objects 0) (NoTable (place c))) e in
@@ -129,7 +127,7 @@ none_from_fields c code (kinds.SmallBlock tag size) rest s = refl
 none_from_fields c code (kinds.SmallInt n) rest s = refl
 none_from_fields c code (kinds.SmallString n) rest s = refl
 none_from_fields c code (kinds.Int width) rest s =
-    fails_if_none (eqb width 8 && not (is_integer (signed (take 8 rest)))) (IntRange (place c) (signed (take 8 rest))) (integer_wide width (is_integer (signed (take 8 rest))) s)
+    cond_both (eqb width 8) (integer_refusal c (signed (take 8 rest))) None (λ r. r ≡ None) (λ e. small_integer c (signed (take 8 rest)) (s (eqb-true width 8 e))) (λ _. refl)
 none_from_fields c code (kinds.Shared width) rest s =
     let offset = number (take width rest) in
     or_else_none (fails_if (eqb offset 0 || ltb (objects c.before) offset) (BadShared (place c) offset (objects c.before))) (fails_if (eqb c.head.objects 0) (NoTable (place c)))
@@ -226,23 +224,12 @@ steps_from_end c n all f =
 
 -- ---- the steps of a token
 
--- those behind the step on its variable bytes
-abbrev last_steps : Context → CodeKind → List ℕ → List Step
-last_steps c kind rest =
-    let n = token_length kind rest in
-    let sized = 1 + sizing_bytes kind rest in
-    let all = up_to c kind rest in
-    step sized (overlong c (pending all) n)
-    ∷ step sized (words32_refusal ltb (place c) c.head all)
-    ∷ step sized (words64_refusal ltb (place c) c.head all)
-    ∷ (cond (eqb (pending all) 0) (end_steps c n all) [])
-
 -- where the steps of a token pass its facts hold
 pub facts_from_steps : (c : Context) (code : ℕ) (kind : CodeKind) (rest : List ℕ) → AllStepsPass (steps_behind c code kind rest) → TokenFacts c kind rest
 facts_from_steps c code kind rest p =
     let n = token_length kind rest in
     let all = up_to c kind rest in
-    let parts = AllStepsPass-parts (variable_steps c kind (custom_of (take 3 rest)) rest) (last_steps c kind rest) p.1.1 in
+    let parts = AllStepsPass-parts (variable_steps c kind (custom_of (take 3 rest)) rest) (closing_steps c kind rest) p.1.1 in
     let fits : VariableFits c kind (custom_of (take 3 rest)) rest = variable_from_steps c kind (custom_of (take 3 rest)) rest parts.0 in
     record {
       fixed = room_from_none c (fixed_bytes kind) 1 p.0;
@@ -262,7 +249,7 @@ steps_from_facts c code kind rest f =
       none_from_room c (fixed_bytes kind) 1 f.fixed,
       (
         none_from_fields c code kind rest f.fields,
-        AllStepsPass-append (variable_steps c kind (custom_of (take 3 rest)) rest) (last_steps c kind rest)
+        AllStepsPass-append (variable_steps c kind (custom_of (take 3 rest)) rest) (closing_steps c kind rest)
             (steps_from_variable c kind (custom_of (take 3 rest)) rest f.variable) (
               none_from_room c (pending all) n f.room,
               (
@@ -315,7 +302,7 @@ steps_end c code kind rest =
       omega arith,
       (
         omega (arith, field-le-fixed kind),
-        AllEndWithin-append n (variable_steps c kind (custom_of (take 3 rest)) rest) (last_steps c kind rest)
+        AllEndWithin-append n (variable_steps c kind (custom_of (take 3 rest)) rest) (closing_steps c kind rest)
             (variable_steps_end n c kind (custom_of (take 3 rest)) rest refl refl)
             (sized, (sized, (sized, AllEndWithin-cond n (eqb (pending all) 0) (end_steps c n all) (end_steps_end c n all)))),
       ),

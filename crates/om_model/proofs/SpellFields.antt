@@ -10,14 +10,14 @@ use Rattle.om_model.specs.declared.code.CustomKind.{CustomKind}
 use Rattle.om_model.specs.declared.code.CustomKind.TheVariants as customs
 use Rattle.om_model.specs.Bytes.{AreBytes, number, number_in, signed, SpellsDoubles}
 use Rattle.om_model.specs.Graph.{IsInteger}
-use Rattle.om_model.specs.Code.{custom_of, native_bytes}
+use Rattle.om_model.specs.Code.{custom_of, native_bytes, IsKind}
 use Rattle.om_model.specs.Raw.{fixed_bytes, custom_bytes, variable_bytes}
 use Rattle.om_model.specs.Step.{is_integer}
 use Rattle.om_model.specs.Token.{Token, integer, shared, leaf, IsToken, block_or_atom, word_token, SpellsCustom, SpellsBehind}
 use Rattle.om_model.specs.Tree.{RefersBack}
 use Rattle.om_model.specs.Spelled.{IsNoReference}
 use Rattle.om_model.proofs.SpellNumbers.{number_in_lt-at, IsSigned-signed_at}
-use Rattle.om_model.proofs.SpellKinds.{IsWidth, IsKind, custom_letter, custom_of_parts}
+use Rattle.om_model.proofs.SpellCustoms.{custom_letter, custom_of_parts}
 use Rattle.om_model.proofs.SpellLemmas.{custom_of_int32, custom_of_int64, custom_of_native}
 
 -- data of a known identifier: a `Nativeint` has four or eight bytes
@@ -58,18 +58,15 @@ block_there : (tag size n stated : ℕ) → tag ≤ 243 → IsTokenThere (block_
 block_there tag zero n stated h = record { is_token = h; refers_back = tt; table = λ _. tt }
 block_there tag (suc size) n stated h = record { is_token = (h, omega arith); refers_back = tt; table = λ _. tt }
 
--- an integer of fewer than eight bytes is one of 63 bits
-small_integer : (k width : ℕ) (rest : List ℕ) → width ≡ k → k < 8 → length rest ≡ width → AreBytes rest → IsInteger (signed rest)
-small_integer k width rest e h l a = IsSigned-signed_at 62 rest (omega arith) a
-
--- an integer of one of the widths, where one of eight bytes passes the test
-width_integer : (width : ℕ) (rest : List ℕ) → IsWidth width → length rest ≡ width → AreBytes rest → (width ≡ 8 → is_integer (signed (take 8 rest)) ≡ true) → IsInteger (signed rest)
-width_integer width rest (inl e) l a f = small_integer 1 width rest e (omega arith) l a
-width_integer width rest (inr (inl e)) l a f = small_integer 2 width rest e (omega arith) l a
-width_integer width rest (inr (inr (inl e))) l a f = small_integer 4 width rest e (omega arith) l a
-width_integer width rest (inr (inr (inr e))) l a f =
-    let whole : take 8 rest ≡ rest = take_all 8 rest (omega arith) in
-    IsInteger-is_integer (signed rest) (rw whole at (f e))
+-- an integer of at most eight bytes, where one of eight passes the test
+width_integer : (width : ℕ) (rest : List ℕ) → width ≤ 8 → length rest ≡ width → AreBytes rest → (width ≡ 8 → is_integer (signed (take 8 rest)) ≡ true) → IsInteger (signed rest)
+width_integer width rest k l a f =
+    elim (cases_eq width 8) [
+      | inl e ↦
+          let whole : take 8 rest ≡ rest = take_all 8 rest (omega arith) in
+          IsInteger-is_integer (signed rest) (rw whole at (f e))
+      | inr n ↦ IsSigned-signed_at 62 rest (omega arith) a
+    ]
 
 -- so many doubles
 pub doubles_of : (little : Bool) (n : ℕ) (bytes : List ℕ) → AreBytes bytes → length bytes ≡ 8 * n → (all : List ℕ) × (length all ≡ n) × SpellsDoubles little all bytes × All (λ bits. bits < 2 ^ 64) all
@@ -151,7 +148,7 @@ spelled_of (kinds.SmallString i) rest n stated k a l s =
     (leaf (objects.Bytes rest), (omega arith, refl), record { is_token = a; refers_back = tt; table = λ _. tt })
 spelled_of (kinds.Int width) rest n stated k a l s =
     let whole : length rest ≡ width = omega arith in
-    (integer (signed rest), (whole, refl), record { is_token = width_integer width rest k whole a s; refers_back = tt; table = λ _. tt })
+    (integer (signed rest), (whole, refl), record { is_token = width_integer width rest k.1 whole a s; refers_back = tt; table = λ _. tt })
 spelled_of (kinds.Shared width) rest n stated k a l s =
     let whole : take width rest ≡ rest = take_all width rest (omega arith) in
     let f : (1 ≤ number rest) × (number rest ≤ n) × (0 < stated) = rw whole at s in

@@ -21,7 +21,7 @@ use Rattle.om_model.specs.Tree.{RefersBack}
 use Rattle.om_model.specs.Spelled.{IsNoReference}
 use Rattle.om_model.proofs.SpellLemmas.{spelled_length}
 use Rattle.om_model.proofs.SpellSteps.{steps_pass}
-use Rattle.om_model.proofs.SpellKinds.{IsKindOrFault, IsKind-kind_of}
+use Rattle.om_model.proofs.KindLemmas.{InRange, kind_of-in_range}
 use Rattle.om_model.proofs.SpellFields.{AreSoundFields, IsTokenThere, spelled_of, sound_of}
 use Rattle.om_model.proofs.SpellFacts.{VariableFits, token_length, up_to, TokenFacts, facts_from_none, none_from_facts}
 
@@ -69,7 +69,7 @@ PassesAs c r rest =
     (t : Token) × SpellsFrom r rest t × IsTokenThere t (objects c.before) c.head.objects
 
 -- bytes that pass spell a token, by what the code begins
-token_behind : (c : Context) (code : ℕ) (r : Result CodeKind CodeFault) (rest : List ℕ) → IsKindOrFault r → AreBytes rest → length rest ≡ length_behind r rest → first_refusal (length (code ∷ rest)) (steps_from c code r rest) ≡ None → PassesAs c r rest
+token_behind : (c : Context) (code : ℕ) (r : Result CodeKind CodeFault) (rest : List ℕ) → InRange r → AreBytes rest → length rest ≡ length_behind r rest → first_refusal (length (code ∷ rest)) (steps_from c code r rest) ≡ None → PassesAs c r rest
 token_behind c code (Ok kind) rest k a l p =
     let facts = facts_from_none c code kind rest (length (code ∷ rest)) (omega arith) p in
     spelled_of kind rest (objects c.before) c.head.objects k a l facts.fields
@@ -138,7 +138,7 @@ pub SpelledThere-passes : (header : List ℕ) (before : List (List ℕ)) (piece 
 SpelledThere-passes header before [] a raw p = absurd (omega (arith, raw))
 SpelledThere-passes header before (code ∷ rest) a raw p =
     let c = context header before in
-    let t = token_behind c code (kind_of code) rest (IsKind-kind_of code) (All-tail (λ b. b < 256) code rest a) (behind_code code rest raw) (sym (token_steps-are c code rest (length (code ∷ rest))) ∙ p) in
+    let t = token_behind c code (kind_of code) rest (kind_of-in_range code) (All-tail (λ b. b < 256) code rest a) (behind_code code rest raw) (sym (token_steps-are c code rest (length (code ∷ rest))) ∙ p) in
     record { token = t.0; spells = (t.2.is_token, t.1); refers_back = t.2.refers_back; table = t.2.table }
 
 -- and fits its place, where data are left for it

@@ -1,25 +1,22 @@
 -- A spelled value passes its steps, and what passes its steps is a spelled value, of one tree.
-use Rattle.std.proofs.Common.{ℕ, ◌+◌, ◌<◌, ◌≡◌, ◌↔◌, Bool, true, false, List, [], ◌∷◌, ◌++◌, length, map, All, Option, inl, inr, refl, arith, length-append}
+use Rattle.std.proofs.Common.{ℕ, ◌+◌, ◌<◌, ◌≡◌, Bool, true, false, List, [], ◌∷◌, ◌++◌, length, map, All, inl, inr, refl, arith, length-append}
 use Rattle.std.specs.List.{concat, AllZip}
 use Rattle.om_model.specs.declared.header.Head.{Head}
-use Rattle.om_model.specs.declared.code.Measure.{Measure}
 use Rattle.om_model.specs.Bytes.{AreBytes}
 use Rattle.om_model.specs.Header.{head_of}
 use Rattle.om_model.specs.Raw.{raw_measure}
 use Rattle.om_model.specs.Words.{all_words32, pending}
 use Rattle.om_model.specs.Front.{TokensPass, HeaderPasses}
-use Rattle.om_model.specs.Token.{Token, IsToken, measure_of, Spells}
+use Rattle.om_model.specs.Token.{Token, measure_of, Spells}
 use Rattle.om_model.specs.Tree.{Tree, node, IsTree, tokens, ReferBack}
 use Rattle.om_model.specs.Spelled.{IsNoReference, StatesWords32, States, SpelledUnder}
+use Rattle.om_model.proofs.Pending.{open_tokens, pending-tokens}
+use Rattle.om_model.proofs.Parsed.{TreeOf, tree_from_tokens}
+use Rattle.om_model.proofs.References.{ReferBack-each}
+use Rattle.om_model.proofs.Unique.{tokens_injective}
 use Rattle.om_model.proofs.SpellTokens.{EndsAt, FitsUpTo}
 use Rattle.om_model.proofs.SpellHeaders.{HeaderFacts, HeaderFacts-passes, HeaderPasses-facts}
-use Rattle.om_model.proofs.SpellValues.{OpenBefore, EachRefersBack, raw_measures-spelled, tokens-same, some_bytes, table_from_states, ends_from_states, tokens_pass, SpelledTokens, spelled_tokens, AreBytes-rest}
-
--- a tree with these tokens
-pub record TreeOf (ts : List Token) : Type 0 where
-  pub tree : Tree
-  pub tokens_are : tokens tree ≡ ts
-  pub is_tree : IsTree tree
+use Rattle.om_model.proofs.SpellValues.{raw_measures-spelled, tokens-same, some_bytes, table_from_states, ends_from_states, tokens_pass, SpelledTokens, spelled_tokens, AreBytes-rest}
 
 -- a value that these bytes spell, cut so
 pub record SpelledBy (limit : ℕ) (bytes header : List ℕ) (pieces : List (List ℕ)) : Type 0 where
@@ -79,45 +76,37 @@ spelled_by limit bytes header pieces e h r none t back =
       spells = spells;
     }
 
--- trees, as tokens in preorder
-module _
-    (open_tokens : (ms : List (Option Measure)) (tree : Tree) → IsTree tree → 0 < pending ms → OpenBefore ms (tokens tree))
-    (pending-tokens : (ms : List (Option Measure)) (tree : Tree) → IsTree tree → 0 < pending ms → pending (ms ++ map measure_of (tokens tree)) + 1 ≡ pending ms)
-    (tree_from_tokens : (ts : List Token) → All IsToken ts → OpenBefore [] ts → pending (map measure_of ts) ≡ 0 → TreeOf ts)
-    (ReferBack-each : (tree : Tree) (c : ℕ) → ReferBack tree c ↔ EachRefersBack c (tokens tree))
-    (tokens_injective : (tree other : Tree) → IsTree tree → IsTree other → tokens tree ≡ tokens other → tree ≡ other)
-  where
-    -- behind a tree's tokens no value is to come
-    none_to_come : (tree : Tree) → IsTree tree → pending (map measure_of (tokens tree)) ≡ 0
-    none_to_come tree h = omega (arith, pending-tokens [] tree h (omega arith))
+-- behind a tree's tokens no value is to come
+none_to_come : (tree : Tree) → IsTree tree → pending (map measure_of (tokens tree)) ≡ 0
+none_to_come tree h = omega (arith, pending-tokens [] tree h (omega arith))
 
-    -- a spelled value passes
-    pub PassesWhole-spelled : (limit : ℕ) (bytes : List ℕ) (tree : Tree) (s : SpelledUnder limit bytes tree) → PassesWhole limit s.header s.pieces
-    PassesWhole-spelled limit bytes tree s =
-        let v = s.spells in
-        let head = head_of s.header in
-        let ts = tokens tree in
-        let none = none_to_come tree v.is_tree in
-        let each = (ReferBack-each tree 0).0 v.refers_back in
-        record {
-          header_passes = HeaderPasses-facts limit s.header (record { is_header = v.is_header; words = s.words; small = s.small; some = rw v.length (some_data tree s.pieces v.spells) });
-          tokens_pass = tokens_pass s.header [] [] ts s.pieces refl v.spells (open_tokens [] tree v.is_tree (omega arith)) each (table_from_states head ts v.states each) none
-              (ends_from_states head (length {A = ℕ} [] + length (concat s.pieces)) ts (omega (arith, v.length)) v.states);
-          whole = rw (raw_measures-spelled ts s.pieces v.spells) none;
-        }
+-- a spelled value passes
+pub PassesWhole-spelled : (limit : ℕ) (bytes : List ℕ) (tree : Tree) (s : SpelledUnder limit bytes tree) → PassesWhole limit s.header s.pieces
+PassesWhole-spelled limit bytes tree s =
+    let v = s.spells in
+    let head = head_of s.header in
+    let ts = tokens tree in
+    let none = none_to_come tree v.is_tree in
+    let each = (ReferBack-each tree 0).0 v.refers_back in
+    record {
+      header_passes = HeaderPasses-facts limit s.header (record { is_header = v.is_header; words = s.words; small = s.small; some = rw v.length (some_data tree s.pieces v.spells) });
+      tokens_pass = tokens_pass s.header [] [] ts s.pieces refl v.spells (open_tokens [] tree v.is_tree (omega arith)) each (table_from_states head ts v.states each) none
+          (ends_from_states head (length {A = ℕ} [] + length (concat s.pieces)) ts (omega (arith, v.length)) v.states);
+      whole = rw (raw_measures-spelled ts s.pieces v.spells) none;
+    }
 
-    -- what passes is a spelled value
-    pub SpelledBy-passes : (limit : ℕ) (bytes header : List ℕ) (pieces : List (List ℕ)) → AreBytes bytes → bytes ≡ header ++ concat pieces → HeaderPasses limit header → TokensPass header [] pieces → pending (map raw_measure pieces) ≡ 0 → SpelledBy limit bytes header pieces
-    SpelledBy-passes limit bytes header pieces a e h p none =
-        let facts = HeaderFacts-passes limit header h in
-        let content : AreBytes (concat pieces) = AreBytes-rest header (concat pieces) (rw e at a) in
-        let r : SpelledTokens header [] [] pieces = spelled_tokens header [] [] pieces refl content (fits_at_start (head_of header) facts.some) p in
-        let none' : pending (map measure_of r.all) ≡ 0 = rw (raw_measures-spelled r.all pieces r.spells) at none in
-        let t : TreeOf r.all = tree_from_tokens r.all r.are_tokens r.opens none' in
-        spelled_by limit bytes header pieces e facts r none' t ((ReferBack-each t.tree 0).1 (rw t.tokens_are r.refers_back))
+-- what passes is a spelled value
+pub SpelledBy-passes : (limit : ℕ) (bytes header : List ℕ) (pieces : List (List ℕ)) → AreBytes bytes → bytes ≡ header ++ concat pieces → HeaderPasses limit header → TokensPass header [] pieces → pending (map raw_measure pieces) ≡ 0 → SpelledBy limit bytes header pieces
+SpelledBy-passes limit bytes header pieces a e h p none =
+    let facts = HeaderFacts-passes limit header h in
+    let content : AreBytes (concat pieces) = AreBytes-rest header (concat pieces) (rw e at a) in
+    let r : SpelledTokens header [] [] pieces = spelled_tokens header [] [] pieces refl content (fits_at_start (head_of header) facts.some) p in
+    let none' : pending (map measure_of r.all) ≡ 0 = rw (raw_measures-spelled r.all pieces r.spells) at none in
+    let t : TreeOf r.all = tree_from_tokens r.all r.are_tokens r.opens none' in
+    spelled_by limit bytes header pieces e facts r none' t ((ReferBack-each t.tree 0).1 (rw t.tokens_are r.refers_back))
 
-    -- one header and pieces spell one tree
-    pub tree-same : (limit limit' : ℕ) (bytes bytes' : List ℕ) (tree tree' : Tree) (s : SpelledUnder limit bytes tree) (s' : SpelledUnder limit' bytes' tree') → s.pieces ≡ s'.pieces → tree ≡ tree'
-    tree-same limit limit' bytes bytes' tree tree' s s' e =
-        let spells : AllZip Spells (tokens tree) s'.pieces = rw e at s.spells.spells in
-        tokens_injective tree tree' s.spells.is_tree s'.spells.is_tree (tokens-same (tokens tree) (tokens tree') s'.pieces spells s'.spells.spells)
+-- one header and pieces spell one tree
+pub tree-same : (limit limit' : ℕ) (bytes bytes' : List ℕ) (tree tree' : Tree) (s : SpelledUnder limit bytes tree) (s' : SpelledUnder limit' bytes' tree') → s.pieces ≡ s'.pieces → tree ≡ tree'
+tree-same limit limit' bytes bytes' tree tree' s s' e =
+    let spells : AllZip Spells (tokens tree) s'.pieces = rw e at s.spells.spells in
+    tokens_injective tree tree' s.spells.is_tree s'.spells.is_tree (tokens-same (tokens tree) (tokens tree') s'.pieces spells s'.spells.spells)

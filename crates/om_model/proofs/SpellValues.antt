@@ -9,23 +9,15 @@ use Rattle.om_model.specs.declared.code.Measure.{Measure}
 use Rattle.om_model.specs.Bytes.{AreBytes}
 use Rattle.om_model.specs.Header.{head_of}
 use Rattle.om_model.specs.Raw.{raw_measure}
-use Rattle.om_model.specs.Words.{of_object, fields, words32, words64, objects, all_words32, pending}
+use Rattle.om_model.specs.Words.{of_object, words32, words64, objects, all_words32, pending}
 use Rattle.om_model.specs.Front.{TokensPass}
 use Rattle.om_model.specs.Token.{Token, integer, atom, shared, block, leaf, IsToken, measure_of, Spells}
-use Rattle.om_model.specs.Tree.{tokens, made_by, RefersBack}
+use Rattle.om_model.specs.Tree.{made_by, RefersBack}
+use Rattle.om_model.specs.Build.{OpenBefore, EachRefersBack}
 use Rattle.om_model.specs.Spelled.{IsNoReference, StatesWords32, States}
+use Rattle.om_model.proofs.Pending.{pending-le-length}
 use Rattle.om_model.proofs.SpellLemmas.{IsRaw-spelled, raw_measure-spelled, Spells-same}
 use Rattle.om_model.proofs.SpellTokens.{EndsAt, FitsUpTo, FitsBehind, SpelledThere, SpelledThere-passes, FitsBehind-passes, passes-spelled}
-
--- behind these measures each token comes while a value is still to come
-abbrev pub OpenBefore : List (Option Measure) → List Token → Type 0
-OpenBefore before [] = Unit {0}
-OpenBefore before (token ∷ tokens) = (0 < pending before) × OpenBefore (before ++ measure_of token ∷ []) tokens
-
--- behind c objects each reference leads to one that was made before it
-abbrev pub EachRefersBack : ℕ → List Token → Type 0
-EachRefersBack c [] = Unit {0}
-EachRefersBack c (token ∷ tokens) = RefersBack token c × EachRefersBack (c + made_by token) tokens
 
 -- ---- pieces and their tokens
 
@@ -78,11 +70,6 @@ measures_push before ms piece m e f = map_push raw_measure before piece ∙ cc (
 measures_cons : (ms : List (Option Measure)) (m : Option Measure) (ns : List (Option Measure)) → (ms ++ m ∷ []) ++ ns ≡ ms ++ (m ∷ ns)
 measures_cons ms m ns = append_assoc ms (m ∷ []) ns
 
--- each value to come takes a token at least
-pending-le : (ms ns : List (Option Measure)) → pending (ms ++ ns) ≡ 0 → pending ms ≤ length ns
-pending-le ms ns e =
-    omega (arith, rw (sum_by-append (of_object fields) ms ns, length-append ms ns) at e)
-
 -- ---- from a value to steps
 
 -- behind no object a token refers to none
@@ -134,7 +121,7 @@ ends_here head n rest ms (t ∷ ts) e o none p = absurd (omega (arith, o.0))
 fits_here : (head : Head) (n rest : ℕ) (ms : List (Option Measure)) (ts : List Token) → EndsAt head (n + rest) (ms ++ map measure_of ts) → pending (ms ++ map measure_of ts) ≡ 0 → OpenBefore ms ts → length ts ≤ rest → (ts ≡ [] → rest ≡ 0) → FitsUpTo head n ms
 fits_here head n rest ms ts e p o l none = record {
   within = omega (arith, e.length);
-  room = omega (arith, e.length, pending-le ms (map measure_of ts) p, length-map ts measure_of);
+  room = omega (arith, e.length, pending-le-length ms (map measure_of ts) p, length-map ts measure_of);
   w32 = λ b. omega (arith, e.w32 b, sum_by-append (of_object words32) ms (map measure_of ts));
   w64 = omega (arith, e.w64, sum_by-append (of_object words64) ms (map measure_of ts));
   end = ends_here head n rest ms ts e o none;

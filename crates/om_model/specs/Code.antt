@@ -1,5 +1,5 @@
 -- The codes that begin tokens (`intext.h`).
-use Rattle.std.specs.Prelude.{ℕ, ◌/◌, ◌%◌, true, false, List, [], ◌∷◌, Option, Some, None, Result, Ok, Err, nat_le, ◌==◌, ◌&&◌, if◌then◌else◌, slice_index_or, slice_index}
+use Rattle.std.specs.Prelude.{ℕ, ◌/◌, ◌%◌, ◌<◌, ◌≤◌, true, false, List, [], ◌∷◌, Option, Some, None, Result, Ok, Err, nat_le, ◌==◌, ◌&&◌, if◌then◌else◌, slice_index_or, slice_index}
 use Rattle.om_model.specs.declared.code.CodeKind.{CodeKind}
 use Rattle.om_model.specs.declared.code.CodeKind.TheVariants.{SmallBlock, SmallInt, SmallString, Int, Shared, Block, Str, Double, Doubles, Custom}
 use Rattle.om_model.specs.declared.code.CodeFault.{CodeFault}
@@ -39,3 +39,16 @@ custom_of bytes =
 -- a custom's data: four bytes, eight, and behind a kind byte of 1 or 2 four or eight
 abbrev pub native_bytes : ℕ → ℕ
 native_bytes kind = if kind == 1 then 4 else if kind == 2 then 8 else 0
+
+-- the widths of numbers and the small numbers that kinds have
+abbrev pub IsKind : CodeKind → Type 0
+IsKind (SmallBlock tag size) = (tag < 16) × (size < 8)
+IsKind (SmallInt n) = n < 64
+IsKind (SmallString n) = n < 32
+IsKind (Int width) = (1 ≤ width) × (width ≤ 8)
+IsKind (Shared width) = (1 ≤ width) × (width ≤ 8)
+IsKind (Block width) = (1 ≤ width) × (width ≤ 8)
+IsKind (Str width) = (1 ≤ width) × (width ≤ 8)
+IsKind (Double little) = Unit {0}
+IsKind (Doubles width little) = (1 ≤ width) × (width ≤ 8)
+IsKind Custom = Unit {0}

@@ -10,3 +10,4 @@ pub mod Raw
 pub mod Step
 pub mod Front
 pub mod Judgement
+pub mod Build

@@ -94,18 +94,24 @@ abbrev pub is_integer : ℤ → Bool
 is_integer (pos n) = nat_lt n (2 ^ 62)
 is_integer (negsuc n) = nat_lt n (2 ^ 62)
 
+-- an integer of eight bytes
+abbrev pub integer_refusal : Context → ℤ → Option ReadRefusal
+integer_refusal c z = fails_if (not (is_integer z)) (IntRange (place c) z)
+
+-- an offset, which counts back from the next object, and then the header's count
+abbrev pub shared_refusal : Context → ℕ → Option ReadRefusal
+shared_refusal c offset =
+    or_else
+        (fails_if ((offset == 0) || nat_lt (objects c.before) offset) (BadShared (place c) offset (objects c.before)))
+        (fails_if (c.head.objects == 0) (NoTable (place c)))
+
 -- what is wrong with the token's fields: its tag, its offset, its identifier, its integer or its length
 abbrev pub field_refusal : Context → ℕ → CodeKind → List ℕ → Option ReadRefusal
 field_refusal c code (kinds.SmallBlock tag size) rest = None
 field_refusal c code (kinds.SmallInt n) rest = None
 field_refusal c code (kinds.SmallString n) rest = None
-field_refusal c code (kinds.Int width) rest =
-    fails_if ((width == 8) && not (is_integer (signed (take 8 rest)))) (IntRange (place c) (signed (take 8 rest)))
-field_refusal c code (kinds.Shared width) rest =
-    let offset = number (take width rest) in
-    or_else
-    (fails_if ((offset == 0) || nat_lt (objects c.before) offset) (BadShared (place c) offset (objects c.before)))
-    (fails_if (c.head.objects == 0) (NoTable (place c)))
+field_refusal c code (kinds.Int width) rest = if width == 8 then integer_refusal c (signed (take 8 rest)) else None
+field_refusal c code (kinds.Shared width) rest = shared_refusal c (number (take width rest))
 field_refusal c code (kinds.Block width) rest =
     let tag = number (take width rest) % 256 in fails_if (nat_lt 243 tag) (BadTag (place c) tag)
 field_refusal c code (kinds.Str width) rest = None
@@ -138,7 +144,7 @@ words64_refusal differ p head all =
 abbrev pub nat_ne : ℕ → ℕ → Bool
 nat_ne a b = not (a == b)
 
--- behind the last token, which ends at place p: the bytes left, the words and the objects
+-- behind the last token, which has n bytes: the bytes left, the words and the objects
 abbrev pub end_steps : Context → ℕ → List (Option Measure) → List Step
 end_steps c n all =
     let p = place c + n in
@@ -148,19 +154,28 @@ end_steps c n all =
     ∷ step n (fails_if (not (c.head.objects == 0) && nat_ne c.head.objects (objects all)) (CountMismatch p c.head.objects (objects all)))
     ∷ []
 
--- the steps of a token of this kind, and behind the last token those of the tree's end
-abbrev pub steps_behind : Context → ℕ → CodeKind → List ℕ → List Step
-steps_behind c code kind rest =
+-- the bytes of each token of the kind, and its fields
+abbrev pub entry_steps : Context → ℕ → CodeKind → List ℕ → List Step
+entry_steps c code kind rest =
+    step 1 (overlong c (fixed_bytes kind) 1)
+    ∷ step (1 + field_bytes kind) (field_refusal c code kind rest)
+    ∷ []
+
+-- the values that are to come and the words, and behind the last token the tree's end
+abbrev pub closing_steps : Context → CodeKind → List ℕ → List Step
+closing_steps c kind rest =
     let n = 1 + fixed_bytes kind + variable_bytes kind rest in
     let sized = 1 + sizing_bytes kind rest in
     let all = c.before ++ measure_behind kind rest ∷ [] in
-    step 1 (overlong c (fixed_bytes kind) 1)
-    ∷ step (1 + field_bytes kind) (field_refusal c code kind rest)
-    ∷ variable_steps c kind (custom_of (take 3 rest)) rest
-    ++ step sized (overlong c (pending all) n)
+    step sized (overlong c (pending all) n)
     ∷ step sized (words32_refusal nat_lt (place c) c.head all)
     ∷ step sized (words64_refusal nat_lt (place c) c.head all)
     ∷ (if pending all == 0 then end_steps c n all else [])
+
+-- the steps of a token of this kind
+abbrev pub steps_behind : Context → ℕ → CodeKind → List ℕ → List Step
+steps_behind c code kind rest =
+    entry_steps c code kind rest ++ (variable_steps c kind (custom_of (take 3 rest)) rest ++ closing_steps c kind rest)
 
 abbrev pub steps_from : Context → ℕ → Result CodeKind CodeFault → List ℕ → List Step
 steps_from c code (Ok kind) rest = steps_behind c code kind rest

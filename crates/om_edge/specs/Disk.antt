@@ -1,0 +1,7 @@
+-- What is known of the file system: the counts of faults, and the name at the last fetch that failed.
+use Rattle.std.specs.Prelude.{ℕ, List, Option}
+
+pub record DiskValue : Type 0 where
+  pub open_faults : ℕ
+  pub last_open_fault : Option (List ℕ)
+  pub read_faults : ℕ

@@ -1,0 +1,60 @@
+-- What the fakes in memory are: the bytes, and the numbers of the calls that fail.
+use Rattle.std.specs.Prelude.{◌≡◌, ℕ, ◌+◌, ◌<◌, ◌≤◌, min, if◌then◌else◌, Bool, List, [], map, drop, length, slice_index_or, Contains, Option, Some, None, IfSome, String, string_bytes, Vec}
+use Rattle.std.specs.declared.alloc.Global.{Global}
+use Rattle.om_edge.specs.Faults.{last_count}
+use Rattle.om_edge.specs.Files.{File}
+
+-- the calls of one kind: the numbers of those that fail, the number of the next, and how many failed
+pub record Plan : Type 0 where
+  pub failing : List ℕ
+  pub calls : ℕ
+  pub faults : ℕ
+
+-- the next call is one of those that fail
+abbrev pub FailsNext : Plan → Type 0
+FailsNext plan = Contains plan.failing plan.calls
+
+-- one more, up to the last value
+abbrev pub one_more : ℕ → ℕ
+one_more n = min (n + 1) last_count
+
+-- the plan after one more call, by whether it failed
+abbrev pub after_call : Plan → Bool → Plan
+after_call plan failed = record { failing = plan.failing; calls = one_more plan.calls; faults = if failed then one_more plan.faults else plan.faults }
+
+-- no call yet
+abbrev pub plan_of : List ℕ → Plan
+plan_of failing = record { failing = failing; calls = 0; faults = 0 }
+
+-- a source in memory: the bytes left, and how many it gives at most in a call
+pub record SourceValue : Type 0 where
+  pub left : List ℕ
+  pub piece : ℕ
+  pub takes : Plan
+
+-- a sink in memory: the bytes written, and how many it can hold
+pub record SinkValue : Type 0 where
+  pub written : List ℕ
+  pub room : ℕ
+  pub puts : Plan
+
+-- files in memory: the map, the bytes left of the file fetched last, and the name at the last fetch that failed
+pub record FilesValue : Type 0 where
+  pub files : List File
+  pub left : List ℕ
+  pub fetches : Plan
+  pub reads : Plan
+  pub last_open_fault : Option (List ℕ)
+
+-- the names and bytes of the pairs
+abbrev pub files_of : List (String Global × Vec ℕ Global) → List File
+files_of pairs = map (λ pair. (string_bytes pair.0, pair.1.items)) pairs
+
+-- what is left of the file at a place, from an offset on; nothing where there is no file
+abbrev pub left_at : List File → Option ℕ → ℕ → List ℕ
+left_at files None offset = []
+left_at files (Some place) offset = drop offset (slice_index_or files place ([], [])).1
+
+-- the place is one of the files', and the offset is within its bytes
+abbrev pub IsWithin : List File → Option ℕ → ℕ → Type 0
+IsWithin files place offset = IfSome place (λ k. (k < length files) × (offset ≤ length (slice_index_or files k ([], [])).1))

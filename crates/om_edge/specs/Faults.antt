@@ -1,0 +1,18 @@
+-- How a call changes a count of faults.
+use Rattle.std.specs.Prelude.{◌≡◌, ◌⊎◌, ℕ, ◌-◌, ◌^◌, ◌<◌, ◌≤◌, Bool}
+use Rattle.std.specs.Bool.{OnTrue, OnFalse}
+
+-- the last value of a count, where it stays
+abbrev pub last_count : ℕ
+last_count = 2 ^ 64 - 1
+
+-- the count rose, or stands at the last value
+abbrev pub RoseOrLast : ℕ → ℕ → Type 0
+RoseOrLast before after = (before < after) ⊎ (after ≡ last_count)
+
+-- A call fails only where the count of faults rose, or stands at the last value. Another call leaves the count.
+pub record HasCause (before after : ℕ) (failed : Bool) : Type 0 where
+  pub never_falls : before ≤ after
+  pub rose : OnTrue failed (RoseOrLast before after)
+  pub kept : OnFalse failed (after ≡ before)
+  pub at_last : before ≡ last_count → after ≡ last_count

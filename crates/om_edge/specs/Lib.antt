@@ -1,0 +1,6 @@
+pub mod Disk
+pub mod Fakes
+pub mod Faults
+pub mod Files
+pub mod Sink
+pub mod Source

@@ -1,0 +1,348 @@
+//! Fakes in memory. They tell their bytes, and fail at the calls that they are made to fail at.
+
+ghost use Rattle.std.specs.Prelude.{◌≡◌, ◌⊎◌, ◌↔◌, ◌<◌, ◌≤◌, min, List, [], length, take, Option, None, Some, Result, is_err, IsErr, IsErrOf, IsTrue, OnOk, OnErr, IfOk, IfSome, option_copied, position, bytes_eq, string_bytes, slice_index_or};
+ghost use Rattle.std.specs.Bool.{OnTrue, OnFalse};
+ghost use Rattle.om_edge.specs.Faults.{HasCause};
+ghost use Rattle.om_edge.specs.Source.{TakesFront};
+ghost use Rattle.om_edge.specs.Sink.{AppendsFront};
+ghost use Rattle.om_edge.specs.Fakes.{FailsNext, after_call, plan_of, files_of};
+ghost use Rattle.om_edge.specs.Files.{HasNoNameTwice};
+
+use crate::plan::Plan;
+use crate::{Failed, OpenError, Opener, Sink, Source};
+use om_model::Memory;
+use std::alloc::Global;
+use std::marker::Model;
+
+// Copies bytes to the front of a buffer, as many as there are and have room.
+fn copy_front(from: &[u8], to: &mut [u8]) -> usize
+    ensures amount { result ≡ min (length from.now) (length to.new) }
+    ensures front { take result to.new ≡ take result from.now }
+{
+    let n = from.len().min(to.len());
+    to[..n].copy_from_slice(&from[..n]);
+    n
+}
+
+/// A source of given bytes.
+#[derive(Debug, Drop)]
+pub struct MemSource {
+    bytes: Vec<u8>,
+    at: usize,
+    piece: usize,
+    takes: Plan,
+}
+
+impl Model for MemSource {
+    ghost use Rattle.std.specs.Prelude.{◌≤◌, vec_len, drop};
+    ghost use Rattle.om_edge.specs.Fakes.{SourceValue};
+
+    ghost Value = { SourceValue };
+
+    ghost view = { λ s. record { left = drop s.at s.bytes.items; piece = s.piece; takes = s.takes } };
+
+    ghost invariant = { λ s. (s.at ≤ vec_len s.bytes) × (1 ≤ s.piece) };
+}
+
+impl MemSource {
+    /// Gives at most `piece` bytes in a call. The calls of these numbers fail, counted from 0.
+    pub fn new(bytes: Vec<u8>, piece: usize, failing: Vec<u64>) -> MemSource
+        requires { 1 ≤ piece }
+        ensures { result ≡ record { left = bytes.items; piece = piece; takes = plan_of failing.items } }
+    {
+        MemSource {
+            bytes,
+            at: 0,
+            piece,
+            takes: Plan::new(failing),
+        }
+    }
+
+    /// How many calls failed.
+    pub fn faults(&self) -> u64
+        ensures { result ≡ self.now.takes.faults }
+    {
+        self.takes.faults()
+    }
+}
+
+impl Source for MemSource {
+    ghost left = { λ s. Some s.left };
+
+    ghost faults = { λ s. s.takes.faults };
+
+    fn take(&mut self, buf: &mut [u8]) -> Result<usize, Failed>
+        ensures takes { TakesFront (Some self.old.left) (Some self.new.left) result buf.new }
+        ensures cause { HasCause self.old.takes.faults self.new.takes.faults (is_err result) }
+
+        // Which calls fail, and how many bytes the others give.
+        ensures fails { IsErr result ↔ FailsNext self.old.takes }
+        ensures amount { IfOk result (λ n. n ≡ min (min self.old.piece (length self.old.left)) (length buf.new)) }
+        ensures counted { self.new.takes ≡ after_call self.old.takes (is_err result) }
+        ensures piece { self.new.piece ≡ self.old.piece }
+    {
+        let failed = self.takes.fails_next();
+        self.takes.count_call(failed);
+        if failed {
+            return Err(Failed);
+        }
+        let rest = &self.bytes[self.at..];
+        let n = copy_front(&rest[..self.piece.min(rest.len())], buf);
+        self.at += n;
+        Ok(n)
+    }
+}
+
+/// A sink that keeps the bytes written.
+#[derive(Debug, Drop)]
+pub struct MemSink {
+    bytes: Vec<u8>,
+    room: usize,
+    puts: Plan,
+}
+
+impl Model for MemSink {
+    ghost use Rattle.std.specs.Prelude.{◌≤◌, vec_len, vec_capacity};
+    ghost use Rattle.om_edge.specs.Fakes.{SinkValue};
+
+    ghost Value = { SinkValue };
+
+    ghost view = { λ s. record { written = s.bytes.items; room = s.room; puts = s.puts } };
+
+    ghost invariant = { λ s. (vec_len s.bytes ≤ s.room) × (s.room ≤ vec_capacity s.bytes) };
+}
+
+impl MemSink {
+    /// Holds at most `room` bytes, for which it takes the memory at once. A call that finds it full
+    /// fails, and so do the calls of these numbers, counted from 0.
+    pub fn new(alloc: Global, room: usize, failing: Vec<u64>) -> Result<MemSink, Memory>
+        ensures { IfOk result (λ sink. sink ≡ record { written = []; room = room; puts = plan_of failing.items }) }
+    {
+        match Vec::with_capacity(alloc, room) {
+            Ok(bytes) => Ok(MemSink {
+                bytes,
+                room,
+                puts: Plan::new(failing),
+            }),
+            Err(_) => Err(Memory),
+        }
+    }
+
+    /// The bytes written.
+    pub fn written(&self) -> &[u8]
+        ensures { result.now ≡ self.now.written }
+    {
+        self.bytes.as_slice()
+    }
+
+    /// How many calls failed.
+    pub fn faults(&self) -> u64
+        ensures { result ≡ self.now.puts.faults }
+    {
+        self.puts.faults()
+    }
+}
+
+impl Sink for MemSink {
+    ghost use Rattle.std.specs.Prelude.{◌-◌};
+
+    ghost written = { λ s. Some s.written };
+
+    ghost faults = { λ s. s.puts.faults };
+
+    fn put(&mut self, piece: &[u8]) -> Result<usize, Failed>
+        ensures appends { AppendsFront (Some self.old.written) (Some self.new.written) result piece.now }
+        ensures cause { HasCause self.old.puts.faults self.new.puts.faults (is_err result) }
+
+        // Which calls fail, and how many bytes the others take.
+        ensures fails { IsErr result ↔ (FailsNext self.old.puts ⊎ (length self.old.written ≡ self.old.room)) }
+        ensures amount { IfOk result (λ n. n ≡ min (self.old.room - length self.old.written) (length piece.now)) }
+        ensures counted { self.new.puts ≡ after_call self.old.puts (is_err result) }
+        ensures room { self.new.room ≡ self.old.room }
+    {
+        let left = self.room - self.bytes.len();
+        let failed = left == 0 || self.puts.fails_next();
+        self.puts.count_call(failed);
+        if failed {
+            return Err(Failed);
+        }
+        let n = left.min(piece.len());
+        self.bytes.extend_from_slice(&piece[..n]).unwrap();
+        Ok(n)
+    }
+}
+
+/// Files of given names and bytes.
+#[derive(Debug, Drop)]
+pub struct MemFiles {
+    alloc: Global,
+    pairs: Vec<(String, Vec<u8>)>,
+    fetched: Option<usize>,
+    at: usize,
+    fetches: Plan,
+    reads: Plan,
+    last: Option<String>,
+}
+
+impl Model for MemFiles {
+    ghost use Rattle.std.specs.Prelude.{option_map, string_bytes};
+    ghost use Rattle.om_edge.specs.Fakes.{FilesValue, files_of, left_at, IsWithin};
+
+    ghost Value = { FilesValue };
+
+    ghost view = { λ f. record {
+        files = files_of f.pairs.items; left = left_at (files_of f.pairs.items) f.fetched f.at;
+        fetches = f.fetches; reads = f.reads; last_open_fault = option_map string_bytes f.last } };
+
+    ghost invariant = { λ f. IsWithin (files_of f.pairs.items) f.fetched f.at };
+}
+
+// The place of the first pair of this name.
+fn place_of(pairs: &[(String, Vec<u8>)], name: &str) -> Option<usize>
+    ensures { result ≡ position (λ pair. bytes_eq (string_bytes pair.0) name.now) pairs.now }
+{
+    pairs.iter().position(|pair| pair.0.as_str() == name)
+}
+
+// The bytes of the file at a place.
+fn bytes_at(pairs: &[(String, Vec<u8>)], place: usize) -> &[u8]
+    requires { place < length pairs.now }
+    ensures { result.now ≡ (slice_index_or (files_of pairs.now) place ([], [])).1 }
+{
+    pairs[place].1.as_slice()
+}
+
+impl MemFiles {
+    /// No name stands twice. The fetches of the numbers `failing` fail, and the takes of the numbers
+    /// `reads`, each counted from 0.
+    pub fn new(
+        alloc: Global,
+        pairs: Vec<(String, Vec<u8>)>,
+        failing: Vec<u64>,
+        reads: Vec<u64>,
+    ) -> MemFiles
+        requires { HasNoNameTwice (files_of pairs.items) }
+        ensures { result ≡ record {
+            files = files_of pairs.items; left = []; fetches = plan_of failing.items;
+            reads = plan_of reads.items; last_open_fault = None } }
+    {
+        MemFiles {
+            alloc,
+            pairs,
+            fetched: None,
+            at: 0,
+            fetches: Plan::new(failing),
+            reads: Plan::new(reads),
+            last: None,
+        }
+    }
+
+    /// Whether no name stands twice, as `new` asks.
+    pub fn have_no_name_twice(pairs: &[(String, Vec<u8>)]) -> bool
+        ensures { IsTrue result ↔ HasNoNameTwice (files_of pairs.now) }
+    {
+        for (i, pair) in pairs.iter().enumerate() {
+            if place_of(pairs, pair.0.as_str()) != Some(i) {
+                return false;
+            }
+        }
+        true
+    }
+
+    /// How many fetches failed.
+    pub fn open_faults(&self) -> u64
+        ensures { result ≡ self.now.fetches.faults }
+    {
+        self.fetches.faults()
+    }
+
+    /// The name at the last fetch that failed.
+    pub fn last_open_fault(&self) -> Option<&str>
+        ensures { option_copied result ≡ self.now.last_open_fault }
+    {
+        match &self.last {
+            Some(name) => Some(name.as_str()),
+            None => None,
+        }
+    }
+
+    /// How many takes failed.
+    pub fn read_faults(&self) -> u64
+        ensures { result ≡ self.now.reads.faults }
+    {
+        self.reads.faults()
+    }
+}
+
+impl Opener for MemFiles {
+    ghost use Rattle.om_edge.specs.Files.{Opens, bytes_of, has_failed};
+
+    ghost files = { λ f. Some f.files };
+
+    ghost left = { λ f. Some f.left };
+
+    ghost open_faults = { λ f. f.fetches.faults };
+
+    ghost last_open_fault = { λ f. f.last_open_fault };
+
+    ghost read_faults = { λ f. f.reads.faults };
+
+    fn take(&mut self, buf: &mut [u8]) -> Result<usize, Failed>
+        ensures takes { TakesFront (Some self.old.left) (Some self.new.left) result buf.new }
+        ensures cause { HasCause self.old.reads.faults self.new.reads.faults (is_err result) }
+        ensures files { self.new.files ≡ self.old.files }
+        ensures last { self.new.last_open_fault ≡ self.old.last_open_fault }
+
+        // Which calls fail, and how many bytes the others give.
+        ensures fails { IsErr result ↔ FailsNext self.old.reads }
+        ensures amount { IfOk result (λ n. n ≡ min (length self.old.left) (length buf.new)) }
+        ensures counted { self.new.reads ≡ after_call self.old.reads (is_err result) }
+        ensures fetches { self.new.fetches ≡ self.old.fetches }
+    {
+        let failed = self.reads.fails_next();
+        self.reads.count_call(failed);
+        if failed {
+            return Err(Failed);
+        }
+        let Some(place) = self.fetched else {
+            return Ok(0);
+        };
+        let n = copy_front(&bytes_at(&self.pairs, place)[self.at..], buf);
+        self.at += n;
+        Ok(n)
+    }
+
+    fn fetch(&mut self, name: &str) -> Result<(), OpenError>
+        ensures opened { OnOk result (Opens self.old.files name.now (Some self.new.left)) }
+        ensures refused { OnErr result (self.new.left ≡ []) }
+        ensures missing { IsErrOf result OpenError.Missing → bytes_of self.old.files name.now ≡ None }
+        ensures cause { HasCause self.old.fetches.faults self.new.fetches.faults (has_failed result) }
+        ensures named { OnTrue (has_failed result) (self.new.last_open_fault ≡ Some name.now) }
+        ensures last { OnFalse (has_failed result) (self.new.last_open_fault ≡ self.old.last_open_fault) }
+        ensures files { self.new.files ≡ self.old.files }
+        ensures reads { self.new.reads ≡ self.old.reads }
+
+        // Which calls fail, unless memory runs out first.
+        ensures fails { FailsNext self.old.fetches → IsErrOf result OpenError.Failed ⊎ IsErrOf result OpenError.Memory }
+        ensures planned { IsErrOf result OpenError.Failed → FailsNext self.old.fetches }
+        ensures counted { self.new.fetches ≡ after_call self.old.fetches (has_failed result) }
+    {
+        self.fetched = None;
+        let Ok(kept) = String::from_str(self.alloc, name) else {
+            self.fetches.count_call(false);
+            return Err(OpenError::Memory);
+        };
+        let failed = self.fetches.fails_next();
+        self.fetches.count_call(failed);
+        if failed {
+            self.last = Some(kept);
+            return Err(OpenError::Failed);
+        }
+        self.at = 0;
+        self.fetched = place_of(&self.pairs, name);
+        match self.fetched {
+            Some(_) => Ok(()),
+            None => Err(OpenError::Missing),
+        }
+    }
+}

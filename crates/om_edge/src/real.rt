@@ -1,0 +1,209 @@
+//! Readers, writers and the file system. Each tells its faults, and nothing of its bytes.
+
+ghost use Rattle.std.specs.Prelude.{◌≡◌, ℕ, Option, None, option_copied};
+
+use crate::{Failed, OpenError, Opener, Sink, Source};
+use std::alloc::Global;
+use std::fs;
+use std::io::{Read, Write};
+use std::marker::Model;
+use std::rt::Files;
+
+/// A source over a reader.
+#[derive(Drop)]
+pub struct StdSource<R> {
+    reader: R,
+    faults: u64,
+}
+
+impl<R> Model for StdSource<R> {
+    ghost use Rattle.std.specs.Prelude.{ℕ};
+
+    ghost Value = { ℕ };
+
+    ghost view = { λ s. s.faults };
+}
+
+impl<R> StdSource<R> {
+    /// No call has failed.
+    pub fn new(reader: R) -> StdSource<R>
+        ensures { result ≡ 0 }
+    {
+        StdSource { reader, faults: 0 }
+    }
+
+    /// How many calls failed.
+    pub fn faults(&self) -> u64
+        ensures { result ≡ self.now }
+    {
+        self.faults
+    }
+}
+
+impl<R: Read> Source for StdSource<R> {
+    ghost left = { λ _. None };
+
+    ghost faults = { λ s. s };
+
+    fn take(&mut self, buf: &mut [u8]) -> Result<usize, Failed> {
+        match self.reader.read(buf) {
+            Ok(n) => Ok(n),
+            Err(_) => {
+                self.faults = self.faults.saturating_add(1);
+                Err(Failed)
+            }
+        }
+    }
+}
+
+/// A sink over a writer.
+#[derive(Drop)]
+pub struct StdSink<W> {
+    writer: W,
+    faults: u64,
+}
+
+impl<W> Model for StdSink<W> {
+    ghost use Rattle.std.specs.Prelude.{ℕ};
+
+    ghost Value = { ℕ };
+
+    ghost view = { λ s. s.faults };
+}
+
+impl<W> StdSink<W> {
+    /// No call has failed.
+    pub fn new(writer: W) -> StdSink<W>
+        ensures { result ≡ 0 }
+    {
+        StdSink { writer, faults: 0 }
+    }
+
+    /// How many calls failed.
+    pub fn faults(&self) -> u64
+        ensures { result ≡ self.now }
+    {
+        self.faults
+    }
+}
+
+impl<W: Write> Sink for StdSink<W> {
+    ghost written = { λ _. None };
+
+    ghost faults = { λ s. s };
+
+    fn put(&mut self, piece: &[u8]) -> Result<usize, Failed> {
+        match self.writer.write(piece) {
+            Ok(n) if n > 0 || piece.is_empty() => Ok(n),
+            // An error, or a writer that takes nothing.
+            _ => {
+                self.faults = self.faults.saturating_add(1);
+                Err(Failed)
+            }
+        }
+    }
+}
+
+/// The file system.
+#[derive(Drop)]
+pub struct DiskFiles<R: Files> {
+    alloc: Global,
+    rt: R,
+    file: Option<R::File>,
+    open_faults: u64,
+    last: Option<String>,
+    read_faults: u64,
+}
+
+impl<R: Files> Model for DiskFiles<R> {
+    ghost use Rattle.std.specs.Prelude.{option_map, string_bytes};
+    ghost use Rattle.om_edge.specs.Disk.{DiskValue};
+
+    ghost Value = { DiskValue };
+
+    ghost view = { λ d. record {
+        open_faults = d.open_faults; last_open_fault = option_map string_bytes d.last; read_faults = d.read_faults } };
+}
+
+impl<R: Files> DiskFiles<R> {
+    /// No call has failed.
+    pub fn new(alloc: Global, rt: R) -> DiskFiles<R>
+        ensures { result ≡ record { open_faults = 0; last_open_fault = None; read_faults = 0 } }
+    {
+        DiskFiles {
+            alloc,
+            rt,
+            file: None,
+            open_faults: 0,
+            last: None,
+            read_faults: 0,
+        }
+    }
+
+    /// How many fetches failed.
+    pub fn open_faults(&self) -> u64
+        ensures { result ≡ self.now.open_faults }
+    {
+        self.open_faults
+    }
+
+    /// The name at the last fetch that failed.
+    pub fn last_open_fault(&self) -> Option<&str>
+        ensures { option_copied result ≡ self.now.last_open_fault }
+    {
+        match &self.last {
+            Some(name) => Some(name.as_str()),
+            None => None,
+        }
+    }
+
+    /// How many takes failed.
+    pub fn read_faults(&self) -> u64
+        ensures { result ≡ self.now.read_faults }
+    {
+        self.read_faults
+    }
+}
+
+impl<R: Files> Opener for DiskFiles<R> {
+    ghost files = { λ _. None };
+
+    ghost left = { λ _. None };
+
+    ghost open_faults = { λ d. d.open_faults };
+
+    ghost last_open_fault = { λ d. d.last_open_fault };
+
+    ghost read_faults = { λ d. d.read_faults };
+
+    fn take(&mut self, buf: &mut [u8]) -> Result<usize, Failed> {
+        let Some(file) = &mut self.file else {
+            return Ok(0);
+        };
+        match file.read(buf) {
+            Ok(n) => Ok(n),
+            Err(_) => {
+                self.read_faults = self.read_faults.saturating_add(1);
+                Err(Failed)
+            }
+        }
+    }
+
+    fn fetch(&mut self, name: &str) -> Result<(), OpenError> {
+        self.file = None;
+        let Ok(kept) = String::from_str(self.alloc, name) else {
+            return Err(OpenError::Memory);
+        };
+        match fs::open(&self.rt, name) {
+            Ok(file) => {
+                self.file = Some(file);
+                Ok(())
+            }
+            Err(_) => {
+                self.open_faults = self.open_faults.saturating_add(1);
+                self.last = Some(kept);
+                Err(OpenError::Failed)
+            }
+        }
+    }
+}
