@@ -1,0 +1,3 @@
+pub mod RawLemmas
+pub mod StepLemmas
+pub mod TokenStepLemmas
