@@ -1,4 +1,5 @@
 pub mod NextLemmas
+pub mod OneOutcome
 pub mod RawLemmas
 pub mod ReadingLemmas
 pub mod StepLemmas

@@ -61,6 +61,7 @@ pub record RefusedNext (header : List ℕ) (before : List (List ℕ)) (rest : Li
   pub count : ℕ
   pub pos : 1 ≤ count
   pub within : count ≤ length rest
+  pub most : count ≤ raw_length rest
   pub split : take count rest ≡ take (count - 1) rest ++ slice_index rest (count - 1) ∷ []
   pub refuses : first_refusal count (token_steps (context header before) (take count rest)) ≡ Some refusal
   pub refused : token_refusal header before (take count rest) ≡ Some refusal
@@ -80,6 +81,7 @@ refused_from header before rest r h =
       count = n;
       pos = bounds.0;
       within = within;
+      most = bounds.1;
       split = take-last n rest bounds.0 within;
       refuses = token_steps-take c n n rest (omega arith) ∙ h.refuses;
       refused = token_refusal-take header before n rest within ∙ h.refuses;

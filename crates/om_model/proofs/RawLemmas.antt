@@ -1,5 +1,5 @@
 -- Raw tokens: their length and their object stand in their first bytes, and no raw token begins another.
-use Rattle.std.proofs.Common.{◌≡◌, ℕ, zero, suc, ◌+◌, ◌<◌, ◌≤◌, ◌==◌, List, [], ◌∷◌, ◌++◌, length, take, drop, Option, Some, None, Result, Ok, Err, inl, inr, refl, sym, ◌∙◌, ap, arith, eqb-true, slice_index, length-append, length-take, length-take-le, take-take, get_or-take, take_at, if◌then◌else◌}
+use Rattle.std.proofs.Common.{◌⊎◌, ◌≡◌, ℕ, zero, suc, ◌+◌, ◌<◌, ◌≤◌, ◌==◌, List, [], ◌∷◌, ◌++◌, length, take, drop, Option, Some, None, Result, Ok, Err, inl, inr, refl, sym, ◌∙◌, ap, arith, eqb-true, slice_index, length-append, length-take, length-take-le, take-take, get_or-take, take_at, if◌then◌else◌}
 use Rattle.std.proofs.lemmas.List.{take-append-le, take-append-drop}
 use Rattle.std.proofs.lemmas.Bool.{cases_lt, cond_both}
 use Rattle.om_model.specs.declared.code.CodeKind.{CodeKind}
@@ -66,30 +66,30 @@ pub custom_take : (m : ℕ) (rest : List ℕ) → 3 ≤ m → custom_of (take 3 
 custom_take m rest l = ap custom_of (take-take 3 m rest l)
 
 -- with the fields the first bytes say which bytes say the size
-pub sizing-take : (kind : CodeKind) (m : ℕ) (rest : List ℕ) → field_bytes kind ≤ m → sizing_bytes kind (take m rest) ≡ sizing_bytes kind rest
-sizing-take (kinds.SmallBlock tag size) m rest l = refl
-sizing-take (kinds.SmallInt n) m rest l = refl
-sizing-take (kinds.SmallString n) m rest l = refl
-sizing-take (kinds.Int width) m rest l = refl
-sizing-take (kinds.Shared width) m rest l = refl
-sizing-take (kinds.Block width) m rest l = refl
-sizing-take (kinds.Str width) m rest l = refl
-sizing-take (kinds.Double little) m rest l = refl
-sizing-take (kinds.Doubles width little) m rest l = refl
-sizing-take kinds.Custom m rest l = ap (λ o. 3 + kind_bytes o) (custom_take m rest l)
+pub sizing_bytes-take : (kind : CodeKind) (m : ℕ) (rest : List ℕ) → field_bytes kind ≤ m → sizing_bytes kind (take m rest) ≡ sizing_bytes kind rest
+sizing_bytes-take (kinds.SmallBlock tag size) m rest l = refl
+sizing_bytes-take (kinds.SmallInt n) m rest l = refl
+sizing_bytes-take (kinds.SmallString n) m rest l = refl
+sizing_bytes-take (kinds.Int width) m rest l = refl
+sizing_bytes-take (kinds.Shared width) m rest l = refl
+sizing_bytes-take (kinds.Block width) m rest l = refl
+sizing_bytes-take (kinds.Str width) m rest l = refl
+sizing_bytes-take (kinds.Double little) m rest l = refl
+sizing_bytes-take (kinds.Doubles width little) m rest l = refl
+sizing_bytes-take kinds.Custom m rest l = ap (λ o. 3 + kind_bytes o) (custom_take m rest l)
 
 -- and which object there is
-pub measure-take : (kind : CodeKind) (m : ℕ) (rest : List ℕ) → field_bytes kind ≤ m → measure_behind kind (take m rest) ≡ measure_behind kind rest
-measure-take (kinds.SmallBlock tag size) m rest l = refl
-measure-take (kinds.SmallInt n) m rest l = refl
-measure-take (kinds.SmallString n) m rest l = refl
-measure-take (kinds.Int width) m rest l = refl
-measure-take (kinds.Shared width) m rest l = refl
-measure-take (kinds.Block width) m rest l = rw take-take
-measure-take (kinds.Str width) m rest l = rw take-take
-measure-take (kinds.Double little) m rest l = refl
-measure-take (kinds.Doubles width little) m rest l = rw take-take
-measure-take kinds.Custom m rest l = ap custom_measure (custom_take m rest l)
+pub measure_behind-take : (kind : CodeKind) (m : ℕ) (rest : List ℕ) → field_bytes kind ≤ m → measure_behind kind (take m rest) ≡ measure_behind kind rest
+measure_behind-take (kinds.SmallBlock tag size) m rest l = refl
+measure_behind-take (kinds.SmallInt n) m rest l = refl
+measure_behind-take (kinds.SmallString n) m rest l = refl
+measure_behind-take (kinds.Int width) m rest l = refl
+measure_behind-take (kinds.Shared width) m rest l = refl
+measure_behind-take (kinds.Block width) m rest l = rw take-take
+measure_behind-take (kinds.Str width) m rest l = rw take-take
+measure_behind-take (kinds.Double little) m rest l = refl
+measure_behind-take (kinds.Doubles width little) m rest l = rw take-take
+measure_behind-take kinds.Custom m rest l = ap custom_measure (custom_take m rest l)
 
 -- what a custom's data takes turns on the kind byte where that belongs to the sizing bytes
 custom_same : (o : Option CustomKind) (a b m : ℕ) → 3 + kind_bytes o ≤ m → (3 < m → a ≡ b) → custom_bytes o a ≡ custom_bytes o b
@@ -99,17 +99,17 @@ custom_same (Some customs.Int64) a b m l e = refl
 custom_same (Some customs.Native) a b m l e = ap (λ k. 1 + native_bytes k) (e (omega arith))
 
 -- and with the bytes that say the size, how many bytes more there are
-pub variable-take : (kind : CodeKind) (m : ℕ) (rest : List ℕ) → sizing_bytes kind rest ≤ m → variable_bytes kind (take m rest) ≡ variable_bytes kind rest
-variable-take (kinds.SmallBlock tag size) m rest l = refl
-variable-take (kinds.SmallInt n) m rest l = refl
-variable-take (kinds.SmallString n) m rest l = refl
-variable-take (kinds.Int width) m rest l = refl
-variable-take (kinds.Shared width) m rest l = refl
-variable-take (kinds.Block width) m rest l = refl
-variable-take (kinds.Str width) m rest l = rw take-take
-variable-take (kinds.Double little) m rest l = refl
-variable-take (kinds.Doubles width little) m rest l = rw take-take
-variable-take kinds.Custom m rest l =
+pub variable_bytes-take : (kind : CodeKind) (m : ℕ) (rest : List ℕ) → sizing_bytes kind rest ≤ m → variable_bytes kind (take m rest) ≡ variable_bytes kind rest
+variable_bytes-take (kinds.SmallBlock tag size) m rest l = refl
+variable_bytes-take (kinds.SmallInt n) m rest l = refl
+variable_bytes-take (kinds.SmallString n) m rest l = refl
+variable_bytes-take (kinds.Int width) m rest l = refl
+variable_bytes-take (kinds.Shared width) m rest l = refl
+variable_bytes-take (kinds.Block width) m rest l = refl
+variable_bytes-take (kinds.Str width) m rest l = rw take-take
+variable_bytes-take (kinds.Double little) m rest l = refl
+variable_bytes-take (kinds.Doubles width little) m rest l = rw take-take
+variable_bytes-take kinds.Custom m rest l =
     ap (λ o. custom_bytes o (slice_index (take m rest) 3)) (custom_take m rest (omega arith))
     ∙ custom_same (custom_of (take 3 rest)) (slice_index (take m rest) 3) (slice_index rest 3) m l (λ h. get_or-take m rest 3 0 h)
 
@@ -118,24 +118,24 @@ variable_part : (kind : CodeKind) (m : ℕ) (rest : List ℕ) → m < sizing_byt
 variable_part kind m rest l =
     elim (cases_lt m (field_bytes kind)) [
       | inl u ↦ omega (arith, fields_fit kind)
-      | inr g ↦ omega (arith, sizing-take kind m rest g, sizing_fits kind (take m rest))
+      | inr g ↦ omega (arith, sizing_bytes-take kind m rest g, sizing_fits kind (take m rest))
     ]
 
 -- ---- behind a code
 
 pub length_behind-take : (r : Result CodeKind CodeFault) (m : ℕ) (rest : List ℕ) → length_behind r rest ≤ m → length_behind r (take m rest) ≡ length_behind r rest
-length_behind-take (Ok kind) m rest l = ap (λ n. fixed_bytes kind + n) (variable-take kind m rest (omega (arith, sizing_fits kind rest)))
+length_behind-take (Ok kind) m rest l = ap (λ n. fixed_bytes kind + n) (variable_bytes-take kind m rest (omega (arith, sizing_fits kind rest)))
 length_behind-take (Err fault) m rest l = refl
 
 pub measure_from-take : (r : Result CodeKind CodeFault) (m : ℕ) (rest : List ℕ) → length_behind r rest ≤ m → measure_from r (take m rest) ≡ measure_from r rest
-measure_from-take (Ok kind) m rest l = measure-take kind m rest (omega (arith, sizing_fits kind rest, fields_first kind rest))
+measure_from-take (Ok kind) m rest l = measure_behind-take kind m rest (omega (arith, sizing_fits kind rest, fields_first kind rest))
 measure_from-take (Err fault) m rest l = refl
 
 pub length_behind-part : (r : Result CodeKind CodeFault) (m : ℕ) (rest : List ℕ) → m < length_behind r rest → m < length_behind r (take m rest)
 length_behind-part (Ok kind) m rest l =
     elim (cases_lt m (sizing_bytes kind rest)) [
       | inl u ↦ variable_part kind m rest u
-      | inr g ↦ omega (arith, variable-take kind m rest g)
+      | inr g ↦ omega (arith, variable_bytes-take kind m rest g)
     ]
 length_behind-part (Err fault) m rest l = omega arith
 
@@ -174,6 +174,23 @@ IsPart-take n bytes l = omega (arith, raw_length-part n bytes l, length-take n b
 -- as many are one
 pub IsRaw-take : (bytes : List ℕ) → raw_length bytes ≤ length bytes → IsRaw (take (raw_length bytes) bytes)
 IsRaw-take bytes l = length-take-le (raw_length bytes) bytes l ∙ sym (raw_length-take (raw_length bytes) bytes (omega arith))
+
+-- bytes are a part of a raw token, or have one at their front
+pub part_or_raw : (bytes : List ℕ) → IsPart bytes ⊎ (raw_length bytes ≤ length bytes)
+part_or_raw bytes = cases_lt (length bytes) (raw_length bytes)
+
+-- by the kind of the code
+pub raw_length-ok : (code : ℕ) (kind : CodeKind) (rest : List ℕ) → kind_of code ≡ Ok kind → raw_length (code ∷ rest) ≡ 1 + (fixed_bytes kind + variable_bytes kind rest)
+raw_length-ok code kind rest e = ap (λ r. 1 + length_behind r rest) e
+
+pub raw_length-err : (code : ℕ) (fault : CodeFault) (rest : List ℕ) → kind_of code ≡ Err fault → raw_length (code ∷ rest) ≡ 1
+raw_length-err code fault rest e = ap (λ r. 1 + length_behind r rest) e
+
+pub raw_measure-ok : (code : ℕ) (kind : CodeKind) (rest : List ℕ) → kind_of code ≡ Ok kind → raw_measure (code ∷ rest) ≡ measure_behind kind rest
+raw_measure-ok code kind rest e = ap (λ r. measure_from r rest) e
+
+pub raw_measure-err : (code : ℕ) (fault : CodeFault) (rest : List ℕ) → kind_of code ≡ Err fault → raw_measure (code ∷ rest) ≡ None
+raw_measure-err code fault rest e = ap (λ r. measure_from r rest) e
 
 -- ---- a token, and bytes behind it
 

@@ -87,7 +87,10 @@ pub readings : (header : List ℕ) (before : List (List ℕ)) (ts us : List (Lis
     → TokensPass header before ts → TokensPass header before us → concat ts ++ x ≡ concat us ++ y → Readings ts us x y
 readings header before ts us x y p q e = raw_readings ts us x y (TokensPass-raw header before ts p) (TokensPass-raw header before us q) e
 
--- the next token of the one that goes on passes behind the other
+-- what goes on passes behind the other
+pub GoesOn-tokens_pass : (header : List ℕ) (ts us : List (List ℕ)) (x y : List ℕ) → TokensPass header [] us → (g : GoesOn ts us x y) → TokensPass header ts (g.next ∷ g.more)
+GoesOn-tokens_pass header ts us x y p g = TokensPass-behind header [] ts (g.next ∷ g.more) (subst (TokensPass header []) g.tokens_are p)
+
+-- its first token too
 pub GoesOn-passes : (header : List ℕ) (ts us : List (List ℕ)) (x y : List ℕ) → TokensPass header [] us → (g : GoesOn ts us x y) → TokenPasses header ts g.next
-GoesOn-passes header ts us x y p g =
-    (TokensPass-behind header [] ts (g.next ∷ g.more) (subst (TokensPass header []) g.tokens_are p)).0
+GoesOn-passes header ts us x y p g = (GoesOn-tokens_pass header ts us x y p g).0

@@ -160,6 +160,17 @@ agree_same n steps more e = subst (λ ss. AgreeUpTo n steps ss) e (agree_itself 
 pub agree_more : (n : ℕ) (s : Step) (steps more : List Step) → AgreeUpTo n steps more → AgreeUpTo n (s ∷ steps) (s ∷ more)
 agree_more n s steps more h = inl (refl, h)
 
+-- what agrees as far as n bytes decide does so with fewer
+pub agree_fewer : (n k : ℕ) (steps more : List Step) → AgreeUpTo n steps more → k ≤ n → AgreeUpTo k steps more
+agree_fewer n k [] [] h l = tt
+agree_fewer n k [] (t ∷ more) h l = omega arith
+agree_fewer n k (s ∷ steps) [] h l = omega arith
+agree_fewer n k (s ∷ steps) (t ∷ more) h l =
+    elim h [
+      | inl p ↦ inl (p.0, agree_fewer n k steps more p.1 l)
+      | inr u ↦ inr (omega (arith, u.0), omega (arith, u.1))
+    ]
+
 -- what agrees refuses alike, with up to so many bytes
 pub agree_refuses : (n k : ℕ) (steps more : List Step) → AgreeUpTo n steps more → k ≤ n → first_refusal k steps ≡ first_refusal k more
 agree_refuses n k [] [] h l = refl

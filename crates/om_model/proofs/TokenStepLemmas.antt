@@ -17,9 +17,9 @@ use Rattle.om_model.specs.declared.header.Head.{Head}
 use Rattle.om_model.specs.Bytes.{number, signed}
 use Rattle.om_model.specs.Header.{magic, big_magic, header_length, head_of, small_head, big_head}
 use Rattle.om_model.specs.Words.{pending}
-use Rattle.om_model.specs.Step.{Step, step, Context, place, overlong, fails_if, field_refusal, native_steps, variable_steps, words32_refusal, words64_refusal, end_steps, is_integer, header_steps, magic_refusal, length_limit, steps_behind, steps_from, token_steps, first_refusal}
-use Rattle.om_model.proofs.RawLemmas.{fields_fit, sizing_fits, fields_first, custom_take, sizing-take, measure-take, variable-take}
-use Rattle.om_model.proofs.StepLemmas.{EndWithin, EndWithin-append, AgreeUpTo, agree_same, agree_refuses}
+use Rattle.om_model.specs.Step.{Step, step, Context, place, overlong, fails_if, field_refusal, native_steps, variable_steps, words32_refusal, words64_refusal, end_steps, is_integer, header_steps, magic_refusal, length_limit, code_refusal, steps_behind, steps_from, token_steps, first_refusal}
+use Rattle.om_model.proofs.RawLemmas.{fields_fit, sizing_fits, fields_first, custom_take, sizing_bytes-take, measure_behind-take, variable_bytes-take}
+use Rattle.om_model.proofs.StepLemmas.{EndWithin, EndWithin-high, EndWithin-append, AgreeUpTo, agree_same, agree_refuses}
 
 -- ---- a kind, at the first m bytes behind the code
 
@@ -66,7 +66,7 @@ variable_steps-take c (kinds.Double little) m rest l = refl
 variable_steps-take c (kinds.Doubles width little) m rest l = rw take-take
 variable_steps-take c kinds.Custom m rest l =
     ap (λ o. variable_steps c kinds.Custom o (take m rest)) (custom_take m rest (omega arith))
-    ∙ custom_steps-take c (custom_of (take 3 rest)) m rest l (variable-take kinds.Custom m rest l)
+    ∙ custom_steps-take c (custom_of (take 3 rest)) m rest l (variable_bytes-take kinds.Custom m rest l)
 
 -- behind the code, by what the bytes there say
 steps_of : Context → CodeKind → Option ReadRefusal → List Step → ℕ → ℕ → Option Measure → List Step
@@ -94,9 +94,9 @@ steps_behind-take c code kind m rest l =
     let f : field_bytes kind ≤ m = omega (arith, fields_first kind rest) in
     let e1 = field_refusal-take c code kind m rest f in
     let e2 = variable_steps-take c kind m rest l in
-    let e3 = variable-take kind m rest l in
-    let e4 = sizing-take kind m rest f in
-    let e5 = measure-take kind m rest f in
+    let e3 = variable_bytes-take kind m rest l in
+    let e4 = sizing_bytes-take kind m rest f in
+    let e5 = measure_behind-take kind m rest f in
     steps_behind_is c code kind (take m rest)
     ∙ ((λ i. steps_of c kind (e1 i) (e2 i) (1 + fixed_bytes kind + e3 i) (1 + e4 i) (e5 i))
     ∙ sym (steps_behind_is c code kind rest))
@@ -241,6 +241,20 @@ token_steps-agree_take c (suc m) (code ∷ rest) = steps_from-agree_take c code 
 pub token_steps-take : (c : Context) (k n : ℕ) (bytes : List ℕ) → k ≤ n → first_refusal k (token_steps c (take n bytes)) ≡ first_refusal k (token_steps c bytes)
 token_steps-take c k n bytes l = agree_refuses n k (token_steps c (take n bytes)) (token_steps c bytes) (token_steps-agree_take c n bytes) l
 
+-- with the whole token every step is decided
+pub token_steps-decided : (c : Context) (n : ℕ) (bytes : List ℕ) → raw_length bytes ≤ n → first_refusal n (token_steps c bytes) ≡ first_refusal (raw_length bytes) (token_steps c bytes)
+token_steps-decided c n bytes l = EndWithin-high 1 (raw_length bytes) n (token_steps c bytes) (token_steps-within c bytes) l
+
+-- by the kind of the code
+pub token_steps-ok : (c : Context) (code : ℕ) (kind : CodeKind) (rest : List ℕ) → kind_of code ≡ Ok kind → token_steps c (code ∷ rest) ≡ steps_behind c code kind rest
+unfolding token_steps
+token_steps-ok c code kind rest e = ap (λ r. steps_from c code r rest) e
+
+pub token_steps-err : (c : Context) (code : ℕ) (fault : CodeFault) (rest : List ℕ) → kind_of code ≡ Err fault
+    → token_steps c (code ∷ rest) ≡ step 1 (Some (code_refusal fault (place c) code)) ∷ []
+unfolding token_steps
+token_steps-err c code fault rest e = ap (λ r. steps_from c code r rest) e
+
 -- ---- a header
 
 -- four bytes say which header it is
@@ -320,6 +334,10 @@ header_apart k limit m n m' n' head head' l = inr (l, l)
 header_magic : (k limit m n : ℕ) (head head' : Head) → k < n → AgreeUpTo k (header_steps_of limit m n head) (header_steps_of limit m n head')
 unfolding header_steps_of
 header_magic k limit m n head head' l = inl (refl, inr (l, l))
+
+-- with the whole header every step is decided
+pub header_steps-decided : (limit n : ℕ) (bytes : List ℕ) → header_length bytes ≤ n → first_refusal n (header_steps limit bytes) ≡ first_refusal (header_length bytes) (header_steps limit bytes)
+header_steps-decided limit n bytes l = EndWithin-high 4 (header_length bytes) n (header_steps limit bytes) (header_steps-within limit bytes) l
 
 -- the first n bytes have the whole's steps, as far as they decide
 pub header_steps-agree_take : (limit n : ℕ) (bytes : List ℕ) → AgreeUpTo n (header_steps limit (take n bytes)) (header_steps limit bytes)
