@@ -1,5 +1,5 @@
 -- The steps of a token and of a header: the first n bytes decide of them what the whole does.
-use Rattle.std.proofs.Common.{◌≡◌, ℕ, zero, suc, ◌+◌, ◌-◌, ◌<◌, ◌≤◌, ◌==◌, ◌&&◌, not, nat_lt, Bool, true, false, List, [], ◌∷◌, ◌++◌, take, drop, Option, Some, None, Result, Ok, Err, inl, inr, refl, sym, ◌∙◌, ap, subst, subst₂, arith, slice_index, take-take, get_or-take, if◌then◌else◌}
+use Rattle.std.proofs.Common.{◌≡◌, ℕ, zero, suc, ◌+◌, ◌-◌, ◌<◌, ◌≤◌, ◌==◌, nat_lt, Bool, true, false, List, [], ◌∷◌, ◌++◌, take, drop, Option, Some, None, Result, Ok, Err, inl, inr, refl, sym, ◌∙◌, ap, subst, subst₂, arith, slice_index, take-take, get_or-take, if◌then◌else◌}
 use Rattle.std.proofs.lemmas.List.{drop-take}
 use Rattle.std.proofs.lemmas.Bool.{cases_lt, cond_both}
 use Rattle.om_model.specs.declared.refusal.ReadRefusal.{ReadRefusal}
@@ -11,24 +11,23 @@ use Rattle.om_model.specs.declared.code.CustomKind.TheVariants as customs
 use Rattle.om_model.specs.declared.code.Measure.{Measure}
 use Rattle.om_model.specs.Code.{kind_of, custom_of}
 use Rattle.om_model.specs.Raw.{fixed_bytes, field_bytes, kind_bytes, custom_bytes, sizing_bytes, variable_bytes, measure_behind, length_behind, raw_length}
-use Rattle.om_model.specs.declared.refusal.ReadRefusal.TheVariants.{IntRange, TooLarge, Overlong}
+use Rattle.om_model.specs.declared.refusal.ReadRefusal.TheVariants.{TooLarge, Overlong}
 use Rattle.om_model.specs.declared.refusal.Stated.TheVariants.{Words, Length}
 use Rattle.om_model.specs.declared.header.Head.{Head}
 use Rattle.om_model.specs.Bytes.{number, signed}
 use Rattle.om_model.specs.Header.{magic, big_magic, header_length, head_of, small_head, big_head}
 use Rattle.om_model.specs.Words.{pending}
-use Rattle.om_model.specs.Step.{Step, step, Context, place, overlong, fails_if, field_refusal, native_steps, variable_steps, words32_refusal, words64_refusal, end_steps, is_integer, header_steps, magic_refusal, length_limit, code_refusal, steps_behind, steps_from, token_steps, first_refusal}
+use Rattle.om_model.specs.Step.{Step, step, Context, place, overlong, fails_if, field_refusal, native_steps, variable_steps, words32_refusal, words64_refusal, end_steps, header_steps, magic_refusal, length_limit, code_refusal, steps_behind, steps_from, token_steps, first_refusal, integer_refusal}
 use Rattle.om_model.proofs.RawLemmas.{fields_fit, sizing_fits, fields_first, custom_take, sizing_bytes-take, measure_behind-take, variable_bytes-take}
 use Rattle.om_model.proofs.StepLemmas.{EndWithin, EndWithin-high, EndWithin-append, AgreeUpTo, agree_same, agree_refuses}
 
 -- ---- a kind, at the first m bytes behind the code
 
 -- an integer of eight bytes is judged by those
-int_guard : (b : Bool) (p m : ℕ) (rest : List ℕ) → (if b then 8 else 0) ≤ m
-    → fails_if (b && not (is_integer (signed (take 8 (take m rest))))) (IntRange p (signed (take 8 (take m rest))))
-    ≡ fails_if (b && not (is_integer (signed (take 8 rest)))) (IntRange p (signed (take 8 rest)))
-int_guard true p m rest l = ap (λ xs. fails_if (not (is_integer (signed xs))) (IntRange p (signed xs))) (take-take 8 m rest l)
-int_guard false p m rest l = refl
+int_guard : (c : Context) (b : Bool) (m : ℕ) (rest : List ℕ) → (if b then 8 else 0) ≤ m
+    → (if b then integer_refusal c (signed (take 8 (take m rest))) else None) ≡ (if b then integer_refusal c (signed (take 8 rest)) else None)
+int_guard c true m rest l = ap (λ xs. integer_refusal c (signed xs)) (take-take 8 m rest l)
+int_guard c false m rest l = refl
 
 -- the fields are judged alike where the bytes hold them
 pub field_refusal-take : (c : Context) (code : ℕ) (kind : CodeKind) (m : ℕ) (rest : List ℕ) → field_bytes kind ≤ m
@@ -36,7 +35,7 @@ pub field_refusal-take : (c : Context) (code : ℕ) (kind : CodeKind) (m : ℕ) 
 field_refusal-take c code (kinds.SmallBlock tag size) m rest l = refl
 field_refusal-take c code (kinds.SmallInt n) m rest l = refl
 field_refusal-take c code (kinds.SmallString n) m rest l = refl
-field_refusal-take c code (kinds.Int width) m rest l = int_guard (width == 8) (place c) m rest l
+field_refusal-take c code (kinds.Int width) m rest l = int_guard c (width == 8) m rest l
 field_refusal-take c code (kinds.Shared width) m rest l = rw take-take
 field_refusal-take c code (kinds.Block width) m rest l = rw take-take
 field_refusal-take c code (kinds.Str width) m rest l = refl
