@@ -1,5 +1,5 @@
 -- What the table of codes holds.
-use Rattle.std.proofs.Common.{ℕ, ◌≤◌, ◌<◌, ◌%◌, ◌/◌, ◌≡◌, Bool, true, false, List, [], ◌∷◌, Result, Ok, Err, cond, refl, arith, sym, subst, get_or, zero, suc, leb}
+use Rattle.std.proofs.Common.{ℕ, ◌≤◌, ◌%◌, ◌/◌, ◌≡◌, Bool, true, false, List, [], ◌∷◌, Result, Ok, Err, cond, arith, subst, get_or, zero, suc, leb}
 use Rattle.std.specs.List.{AllByRecursion}
 use Rattle.om_model.specs.declared.code.CodeKind.{CodeKind}
 use Rattle.om_model.specs.declared.code.CodeKind.TheVariants.{SmallBlock, SmallInt, SmallString}

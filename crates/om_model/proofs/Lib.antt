@@ -8,6 +8,12 @@ pub mod References
 pub mod Fields
 pub mod Built
 pub mod Opened
+pub mod NextLemmas
+pub mod OneOutcome
+pub mod RawLemmas
+pub mod ReadingLemmas
+pub mod StepLemmas
+pub mod TokenStepLemmas
 pub mod SpellLemmas
 pub mod SpellNumbers
 pub mod SpellSteps

@@ -1,5 +1,5 @@
 -- The numbers that bytes spell: of bytes one behind another, of a front and of a rest, and how large they are.
-use Rattle.std.proofs.Common.{◌≡◌, ℕ, zero, suc, ◌+◌, ◌-◌, ◌*◌, ◌%◌, ◌^◌, ◌<◌, ◌≤◌, List, [], ◌∷◌, ◌++◌, length, get_or, take, drop, Fits, w8, refl, ℤ, pos, negsuc, arith}
+use Rattle.std.proofs.Common.{◌≡◌, ℕ, zero, suc, ◌+◌, ◌-◌, ◌*◌, ◌%◌, ◌^◌, ◌<◌, ◌≤◌, List, [], ◌∷◌, ◌++◌, length, get_or, take, drop, Fits, w8, refl, pos, negsuc, arith}
 use Rattle.std.proofs.Math.Nat.{pow-suc, mul-le-mul_right, pow-le-pow_right}
 use Rattle.std.proofs.lemmas.Nat.{pow-add, one_shl}
 use Rattle.std.proofs.lemmas.Bool.Decides.{nat_tests}
