@@ -1,0 +1,76 @@
+//! Numbers that bytes spell, as `intern.c` reads them.
+
+ghost use Rattle.std.specs.Prelude.{◌≡◌, ◌≤◌, length};
+ghost use Rattle.om_model.specs.Bytes.{number, little_number, number_in, signed as signed_number};
+
+/// The number of at most eight bytes, the most significant first (`intern.c`).
+pub fn big_endian(bytes: &[u8]) -> u64
+    requires { length bytes.now ≤ 8 }
+    ensures { result ≡ number bytes.now }
+{
+    let mut value = 0;
+    for byte in bytes {
+        value = value * 256 + u64::from(*byte);
+    }
+    value
+}
+
+/// The number of at most eight bytes, the least significant first (`intern.c`).
+pub fn little_endian(bytes: &[u8]) -> u64
+    requires { length bytes.now ≤ 8 }
+    ensures { result ≡ little_number bytes.now }
+{
+    let mut value = 0;
+    for i in (0..bytes.len()).rev() {
+        value = value * 256 + u64::from(bytes[i]);
+    }
+    value
+}
+
+/// The integer of one to eight bytes, the most significant first, in two's complement (`intern.c`).
+pub fn signed(bytes: &[u8]) -> i64
+    requires some { 1 ≤ length bytes.now }
+    requires few { length bytes.now ≤ 8 }
+    ensures { result ≡ signed_number bytes.now }
+{
+    let value = big_endian(bytes);
+    let half = 1u64 << (8 * bytes.len() - 1);
+    if value < half {
+        value as i64
+    } else {
+        -1 - (half - 1 - (value - half)) as i64
+    }
+}
+
+/// The bits of a double, whose eight bytes stand in either order (`intern.c`).
+pub fn double(bytes: &[u8], little: bool) -> u64
+    requires { length bytes.now ≡ 8 }
+    ensures { result ≡ number_in little bytes.now }
+{
+    if little {
+        little_endian(bytes)
+    } else {
+        big_endian(bytes)
+    }
+}
+
+#[cfg(test)]
+mod tests {
+    use super::*;
+
+    // Integers and doubles as OCaml 4.13 writes them behind their codes.
+    #[test]
+    fn reads_what_ocaml_writes(rt: HostRuntime) {
+        let magic = [0x84, 0x95, 0xa6, 0xbe];
+        assert_eq!(rt; big_endian(&magic), 2224400062);
+        assert_eq!(rt; little_endian(&magic), 3198588292);
+        let least = [0xc0, 0, 0, 0, 0, 0, 0, 0];
+        assert_eq!(rt; signed(&[0xff]), -1);
+        assert_eq!(rt; signed(&[0, 0x80]), 128);
+        assert_eq!(rt; signed(&[0x3f, 0xff, 0xff, 0xff]), 1073741823);
+        assert_eq!(rt; signed(&least), -4611686018427387904);
+        let one = 4607182418800017408;
+        assert_eq!(rt; double(&[0x3f, 0xf0, 0, 0, 0, 0, 0, 0], false), one);
+        assert_eq!(rt; double(&[0, 0, 0, 0, 0, 0, 0xf0, 0x3f], true), one);
+    }
+}
