@@ -24,3 +24,6 @@ pub mod SpellTokens
 pub mod SpellHeaders
 pub mod SpellValues
 pub mod SpellTrees
+pub mod StandLemmas
+pub mod JudgementLaws
+pub mod SpellingLaws

@@ -11,3 +11,4 @@ pub mod Step
 pub mod Front
 pub mod Judgement
 pub mod Build
+pub mod Laws
