@@ -5,9 +5,6 @@ pub mod Pending
 pub mod Parsed
 pub mod Unique
 pub mod References
-pub mod Fields
-pub mod Built
-pub mod Opened
 pub mod NextLemmas
 pub mod OneOutcome
 pub mod RawLemmas

@@ -10,5 +10,5 @@ pub mod Raw
 pub mod Step
 pub mod Front
 pub mod Judgement
-pub mod Build
+pub mod Preorder
 pub mod Laws
