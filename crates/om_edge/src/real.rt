@@ -122,7 +122,10 @@ impl<R: Files> Model for DiskFiles<R> {
     ghost Value = { DiskValue };
 
     ghost view = { λ d. record {
-        open_faults = d.open_faults; last_open_fault = option_map string_bytes d.last; read_faults = d.read_faults } };
+      open_faults = d.open_faults;
+      last_open_fault = option_map string_bytes d.last;
+      read_faults = d.read_faults;
+    } };
 }
 
 impl<R: Files> DiskFiles<R> {
