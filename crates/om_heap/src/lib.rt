@@ -36,7 +36,10 @@ pub enum Kind {
 /// As many words no heap has, counted as on 64 bits.
 const WORD_LIMIT: u64 = 1 << 60;
 
-/// A graph that grows: contracts see the list of its objects.
+/// A graph, which contracts see as the list of its objects.
+///
+/// A call that appends answers the object's number, or `Memory` with all as before. It does so too where the objects
+/// would have 2^60 words or more together, counted as on 64 bits.
 #[derive(Drop)]
 pub struct Heap {
     objects: Vec<Stored>,
@@ -69,7 +72,7 @@ impl Heap {
         }
     }
 
-    /// How many objects there are.
+    /// How many objects there are. It also tells what holds of each heap.
     pub fn count(&self) -> u64
         ensures count { result ≡ length self.now }
         ensures heap { IsHeap self.now }
