@@ -1,6 +1,7 @@
 //! The plain data of the tool, and the definitions that its contracts cite.
 #![tactic(auto)]
 
+pub mod lexeme;
 pub mod list;
 pub mod value;
 

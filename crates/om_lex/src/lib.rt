@@ -1,0 +1,11 @@
+//! The lexemes of declarations, types and literals.
+#![tactic(auto)]
+
+mod bytes;
+mod characters;
+mod comments;
+mod found;
+mod numbers;
+mod scan;
+mod symbols;
+mod words;
