@@ -5,3 +5,8 @@ pub mod SymbolLaws
 pub mod CharLaws
 pub mod NameLaws
 pub mod FormLaws
+pub mod FrontLaws
+pub mod TakenLaws
+pub mod InsideLaws
+pub mod StepLaws
+pub mod FaultLaws

@@ -234,3 +234,20 @@ step_at [] = Err (faults.BadByte 0)
 step_at (b ∷ bs) =
     if is_separator b then Ok (Gap 1)
     else (if b == 40 && begins_with 42 bs then gap_of (closing 0 (drop 1 bs)) else word_of (lexeme_at (b ∷ bs)))
+
+-- ---- places
+
+abbrev pub place_of : LexFault → ℕ
+place_of (faults.BadByte place) = place
+place_of (faults.OpenString place) = place
+place_of (faults.OpenComment place) = place
+place_of (faults.TooBig place) = place
+place_of faults.Memory = 0
+
+-- a fault of what begins at a place
+abbrev pub moved : ℕ → LexFault → LexFault
+moved by (faults.BadByte place) = faults.BadByte (place + by)
+moved by (faults.OpenString place) = faults.OpenString (place + by)
+moved by (faults.OpenComment place) = faults.OpenComment (place + by)
+moved by (faults.TooBig place) = faults.TooBig (place + by)
+moved by faults.Memory = faults.Memory
