@@ -10,3 +10,4 @@ pub mod TakenLaws
 pub mod InsideLaws
 pub mod StepLaws
 pub mod FaultLaws
+pub mod PartLaws

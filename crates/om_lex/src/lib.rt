@@ -9,3 +9,5 @@ mod numbers;
 mod scan;
 mod symbols;
 mod words;
+
+pub use scan::tokens;
