@@ -1,9 +1,9 @@
 -- The character at the front is the one that is found, and no other.
-use Rattle.std.proofs.Common.{◌≡◌, ◌≢◌, ◌⊎◌, ℕ, zero, suc, ◌+◌, ◌-◌, ◌<◌, ◌≤◌, Bool, true, false, not, ◌&&◌, ◌||◌, cond, eqb, leb, List, [], ◌∷◌, ◌++◌, length, map, take, drop, get_or, Option, Some, None, is_some, Ok, Err, refl, sym, ap, subst, ◌∙◌, arith, inl, inr, append_assoc, length-append}
+use Rattle.std.proofs.Common.{◌≡◌, ◌⊎◌, ℕ, zero, suc, ◌+◌, ◌-◌, ◌<◌, ◌≤◌, Bool, true, false, ◌&&◌, ◌||◌, cond, eqb, leb, List, [], ◌∷◌, ◌++◌, length, map, drop, get_or, Option, Some, None, is_some, Ok, Err, refl, sym, ap, subst, ◌∙◌, arith, inl, inr, append_assoc, length-append}
 use Rattle.std.specs.List.{list_all, flat_map, AllByRecursion}
 use Rattle.std.specs.Char.{is_ascii_digit, is_ascii_hexdigit}
-use Rattle.std.proofs.lemmas.Bool.{eqb-true, eqb-false, ne_eqb, eq-eqb, and_parts, and_from, or_parts, or_from, leb-true, le-leb, cases_Bool, agree_below_at}
-use Rattle.std.proofs.lemmas.List.{drop_at, drop_all, drop_more, drop-drop, length-drop, flat_map_more, map_push, append-nil}
+use Rattle.std.proofs.lemmas.Bool.{eqb-true, eqb-false, ne_eqb, and_parts, and_from, or_parts, leb-true, le-leb, agree_below_at}
+use Rattle.std.proofs.lemmas.List.{drop_at, drop_all, drop_more, drop-drop, length-drop, flat_map_more, map_push}
 use Rattle.om_model.specs.declared.lexeme.LexemeKind.TheVariants as kinds
 use Rattle.om_model.specs.declared.lexeme.LexFault.TheVariants as faults
 use Rattle.om_lex.specs.declared.found.Found.{Found}
@@ -58,9 +58,9 @@ escape_at-is quote (b ∷ bs) c e =
     elim (chosen (is_some (named_char b)) (Some (Named b)) (cond (eqb b 120) (hexadecimal_at bs) (decimal_at (b ∷ bs))) (Some c) e) [
       | inl h ↦ let is : Named b ≡ c = cc in subst (IsCharAt quote (92 ∷ b ∷ bs)) is (h.0, refl)
       | inr h ↦ elim (chosen (eqb b 120) (hexadecimal_at bs) (decimal_at (b ∷ bs)) (Some c) h.1) [
-          | inl g ↦ rw (eqb-true b 120 g.0) (hexadecimal_at-is quote bs c g.1)
-          | inr g ↦ decimal_at-is quote (b ∷ bs) c g.1
-        ]
+        | inl g ↦ rw (eqb-true b 120 g.0) (hexadecimal_at-is quote bs c g.1)
+        | inr g ↦ decimal_at-is quote (b ∷ bs) c g.1
+      ]
     ]
 
 pub char_at-is : (quote : ℕ) (text : List ℕ) (c : CharForm) → char_at quote text ≡ Some c → IsCharAt quote text c
@@ -70,12 +70,12 @@ char_at-is quote (b ∷ bs) c e =
     elim (chosen (eqb b 92) (escape_at bs) (cond (eqb b quote || eqb b 10) None (Some (Plain b))) (Some c) e) [
       | inl h ↦ rw (eqb-true b 92 h.0) (escape_at-is quote bs c h.1)
       | inr h ↦ elim (chosen (eqb b quote || eqb b 10) None (Some (Plain b)) (Some c) h.1) [
-          | inl g ↦ absurd (no_value g.1)
-          | inr g ↦
-              let is : Plain b ≡ c = cc in
-              let apart = or_parts (eqb b quote) (eqb b 10) g.0 in
-              subst (IsCharAt quote (b ∷ bs)) is ((eqb-false b quote apart.0, eqb-false b 92 h.0, eqb-false b 10 apart.1), refl)
-        ]
+        | inl g ↦ absurd (no_value g.1)
+        | inr g ↦
+            let is : Plain b ≡ c = cc in
+            let apart = or_parts (eqb b quote) (eqb b 10) g.0 in
+            subst (IsCharAt quote (b ∷ bs)) is ((eqb-false b quote apart.0, eqb-false b 92 h.0, eqb-false b 10 apart.1), refl)
+      ]
     ]
 
 -- ---- the other way

@@ -1,5 +1,5 @@
 -- Going on in a comment.
-use Rattle.std.proofs.Common.{◌≡◌, ℕ, zero, suc, pred, ◌+◌, ◌-◌, ◌<◌, ◌≤◌, List, [], ◌∷◌, length, get_or, drop, Option, Some, None, refl, sym, ap, ◌∙◌, arith, add-one}
+use Rattle.std.proofs.Common.{◌≡◌, ℕ, suc, pred, ◌+◌, ◌-◌, ◌<◌, ◌≤◌, List, [], ◌∷◌, length, get_or, drop, Option, Some, None, refl, sym, ap, ◌∙◌, arith, add-one}
 use Rattle.std.proofs.lemmas.List.{drop_more, length-drop}
 use Rattle.om_lex.specs.declared.comments.Bracket.{Bracket}
 use Rattle.om_lex.specs.declared.comments.Bracket.TheVariants.{Opening, Closing, Neither}
@@ -47,13 +47,13 @@ module _ (xs : List ℕ) (i depth : ℕ) (total : Option ℕ) (lt : i + 1 < leng
   closes is inner =
       let deep : depth ≡ suc (depth - 1) = omega arith in
       let out : closing depth (drop i xs) ≡ plus 2 (closing (depth - 1) (drop (i + 2) xs)) =
-          closing-at xs i depth Closing lt is ∙ ap (λ d. closing_by Closing d (closing (suc d) (drop (i + 2) xs)) (closing (pred d) (drop (i + 2) xs)) (closing d (drop (i + 1) xs))) deep in
+      closing-at xs i depth Closing lt is ∙ ap (λ d. closing_by Closing d (closing (suc d) (drop (i + 2) xs)) (closing (pred d) (drop (i + 2) xs)) (closing d (drop (i + 1) xs))) deep in
       sym (plus-plus i 2 (closing (depth - 1) (drop (i + 2) xs))) ∙ ap (plus i) (sym out) ∙ so_far
 
   pub ends : Closing ≡ bracket_of (get_or xs i 0) (get_or xs (i + 1) 0) → depth ≡ 0 → Some (i + 2) ≡ total
   ends is outer =
       let out : closing depth (drop i xs) ≡ Some 2 =
-          closing-at xs i depth Closing lt is ∙ ap (λ d. closing_by Closing d (closing (suc d) (drop (i + 2) xs)) (closing (pred d) (drop (i + 2) xs)) (closing d (drop (i + 1) xs))) outer in
+      closing-at xs i depth Closing lt is ∙ ap (λ d. closing_by Closing d (closing (suc d) (drop (i + 2) xs)) (closing (pred d) (drop (i + 2) xs)) (closing d (drop (i + 1) xs))) outer in
       ap (plus i) (sym out) ∙ so_far
 
   pub goes_on : Neither ≡ bracket_of (get_or xs i 0) (get_or xs (i + 1) 0) → plus (i + 1) (closing depth (drop (i + 1) xs)) ≡ total

@@ -1,21 +1,19 @@
 -- The fault that is found is the one of the grammar, and what is found is a part or a fault of the grammar.
-use Rattle.std.proofs.Common.{◌≡◌, ◌≢◌, ◌⊎◌, ℕ, zero, suc, ◌+◌, ◌<◌, ◌≤◌, Bool, true, false, ◌&&◌, ◌||◌, cond, eqb, leb, List, [], ◌∷◌, ◌++◌, length, drop, Option, Some, None, Result, Ok, Err, refl, sym, ap, subst, ◌∙◌, arith, inl, inr, length-append, append_assoc}
+use Rattle.std.proofs.Common.{◌≡◌, ◌≢◌, ℕ, suc, ◌+◌, ◌≤◌, false, ◌&&◌, eqb, List, [], ◌∷◌, ◌++◌, length, drop, Option, Some, None, Result, Ok, Err, refl, sym, ap, subst, ◌∙◌, arith, inl, inr, length-append}
 use Rattle.std.specs.List.{flat_map, AllByRecursion}
-use Rattle.std.proofs.lemmas.Bool.{false≢true, true≢false, ne_eqb, eqb-true, eqb-false, or_cases, cases_Bool}
-use Rattle.std.proofs.lemmas.List.{append-nil}
+use Rattle.std.proofs.lemmas.Bool.{eqb-true, eqb-false, cases_Bool}
 use Rattle.om_model.specs.declared.lexeme.Symbol.TheVariants as symbols
 use Rattle.om_model.specs.declared.lexeme.LexFault.{LexFault}
 use Rattle.om_model.specs.declared.lexeme.LexFault.TheVariants as faults
-use Rattle.om_model.specs.Lexeme.{is_separator, CharForm, Plain, char_bytes, IsCharForm, Form, Quoted, Mark, form_bytes, IsForm, IsInRange, IsTooBig}
-use Rattle.om_model.specs.LexText.{Cut, cut_bytes, IsInside, IsTaken, Part, Separator, Comment, Word, part_bytes, IsPart, OpensString, StartsNoChar, StartsNothing, IsBadEscape, IsOpenString, IsOpenComment, IsOverlong, Breaks}
-use Rattle.om_lex.specs.declared.found.Found.{Found}
+use Rattle.om_model.specs.Lexeme.{is_separator, CharForm, Plain, char_bytes, IsCharForm, Form, Quoted, Mark}
+use Rattle.om_model.specs.LexText.{Cut, cut_bytes, IsInside, Part, Separator, Comment, Word, part_bytes, IsPart, OpensString, StartsNoChar, StartsNothing, IsBadEscape, IsOpenString, IsOpenComment, IsOverlong, Breaks}
 use Rattle.om_lex.specs.declared.found.Step.{Step}
 use Rattle.om_lex.specs.declared.found.Step.TheVariants as steps
-use Rattle.om_lex.specs.Scan.{begins_with, char_at, escape_at, chars_of, string_form, form_at, in_range, found, found_at, ended_string, string_at, lexeme_at, closing, gap_of, word_of, step_at, moved, place_of}
-use Rattle.om_lex.proofs.CharLaws.{chosen, passed, no_value, some_is, char_at-is, char_at-form, chars_of-forms}
-use Rattle.om_lex.proofs.FormLaws.{begins_with-is, chars_of-are, chars_of-stop}
-use Rattle.om_lex.proofs.TakenLaws.{found-taken, taken-found, none-found, found-none}
-use Rattle.om_lex.proofs.InsideLaws.{inside_text, closing-inside, inside-closing}
+use Rattle.om_lex.specs.Scan.{begins_with, char_at, chars_of, string_form, form_at, in_range, found_at, ended_string, string_at, lexeme_at, closing, gap_of, word_of, step_at, moved, place_of}
+use Rattle.om_lex.proofs.CharLaws.{no_value, char_at-is, char_at-form, chars_of-forms}
+use Rattle.om_lex.proofs.FormLaws.{chars_of-are, chars_of-stop}
+use Rattle.om_lex.proofs.TakenLaws.{taken-found, none-found, found-none}
+use Rattle.om_lex.proofs.InsideLaws.{closing-inside, inside-closing}
 use Rattle.om_lex.proofs.StepLaws.{part_step, comment_test, no_comment_test, no_comment, comment_regrouped, string_form-at, lexeme-some, lexeme-none, step-lexeme, step-taken, is-in_range, is-too_big, too_big-is}
 
 -- the step that is found is this fault, seen from a place
@@ -102,6 +100,7 @@ step_at-comment more = by_end (closing 0 more) refl
     no_end none inside after is e =
         let same : (flat_map cut_bytes inside ++ 42 ∷ 41 ∷ []) ++ after ≡ more = cc in
         no_value (sym none ∙ ap (closing 0) (sym (sym (comment_regrouped inside after) ∙ same)) ∙ closing-inside inside 0 after is.0 is.1)
+
     by_end : (o : Option ℕ) → closing 0 more ≡ o → IsStepAt (40 ∷ 42 ∷ more) (gap_of o)
     by_end None e = record { breaks = λ place. (omega arith, ((more, refl), no_end e)); inside = omega arith }
     by_end (Some n) e =
@@ -189,11 +188,11 @@ step_at-is b bs =
     elim (cases_Bool (is_separator b)) [
       | inl sep ↦ rw sep (record { part = Separator b; after = bs; is = refl; fits = sep; step_is = refl })
       | inr sep ↦ elim (cases_Bool (eqb b 40 && begins_with 42 bs)) [
-          | inl bracket ↦
-              let c = comment_test b bs bracket in
-              let first : b ≡ 40 = cc in
-              let others : bs ≡ 42 ∷ c.0 = cc in
-              rw (sep, bracket, first, others) (step_at-comment c.0)
-          | inr bracket ↦ rw (sep, bracket) (step_at-lexeme b bs sep bracket)
-        ]
+        | inl bracket ↦
+            let c = comment_test b bs bracket in
+            let first : b ≡ 40 = cc in
+            let others : bs ≡ 42 ∷ c.0 = cc in
+            rw (sep, bracket, first, others) (step_at-comment c.0)
+        | inr bracket ↦ rw (sep, bracket) (step_at-lexeme b bs sep bracket)
+      ]
     ]

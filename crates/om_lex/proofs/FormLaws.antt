@@ -1,15 +1,13 @@
 -- The form that is found is spelled at the front of the text.
-use Rattle.std.proofs.Common.{◌≡◌, ◌≢◌, ◌⊎◌, ℕ, zero, suc, ◌+◌, ◌<◌, ◌≤◌, Bool, true, false, ◌&&◌, ◌||◌, cond, eqb, ltb, List, [], ◌∷◌, ◌++◌, length, take, drop, Option, Some, None, refl, sym, ap, subst, ◌∙◌, arith, inl, inr, ⊎_elim, length-append, append_assoc}
+use Rattle.std.proofs.Common.{◌≡◌, ℕ, zero, suc, ◌≤◌, Bool, true, false, cond, eqb, ltb, List, [], ◌∷◌, ◌++◌, length, take, drop, Option, Some, None, refl, sym, ap, subst, ◌∙◌, arith, inl, inr, append_assoc}
 use Rattle.std.specs.List.{list_all, prefix_len, take_while, flat_map, AllByRecursion}
 use Rattle.std.specs.Char.{is_ascii_digit, is_ascii_hexdigit}
-use Rattle.std.proofs.lemmas.Bool.{false≢true, true≢false, ne_eqb, eqb-true, eqb-false, ltb-false, and_parts, cases_Bool}
-use Rattle.std.proofs.lemmas.List.{append-nil, take-append-drop, length-take-le, drop-drop, length-drop}
+use Rattle.std.proofs.lemmas.Bool.{false≢true, eqb-true, eqb-false, ltb-false, cases_Bool}
+use Rattle.std.proofs.lemmas.List.{take-append-drop, length-take-le, length-drop}
 use Rattle.std.proofs.lemmas.List.Folds.{length-prefix_len}
-use Rattle.om_model.specs.declared.lexeme.Suffix.{Suffix}
-use Rattle.om_model.specs.declared.lexeme.Suffix.TheVariants as suffixes
 use Rattle.om_model.specs.declared.lexeme.Symbol.{Symbol}
-use Rattle.om_model.specs.Lexeme.{starts_name, is_name_byte, CharForm, char_bytes, IsCharForm, minus_text, suffix_text, symbol_text, Form, Character, Number, Quoted, Double, Mark, form_bytes, IsForm}
-use Rattle.om_lex.specs.Scan.{or_form, closed_char, character_form, quote_form, variable_form, tag_form, word_form, begins_with, char_at, one_more, chars_of, closed_string, string_form, suffix_at, number_form, double_form, pair_at, single_symbol, or_symbol, symbol_form, form_at}
+use Rattle.om_model.specs.Lexeme.{starts_name, is_name_byte, CharForm, char_bytes, IsCharForm, minus_text, suffix_text, Form, Character, Number, Quoted, Double}
+use Rattle.om_lex.specs.Scan.{or_form, closed_char, character_form, quote_form, variable_form, tag_form, word_form, begins_with, char_at, one_more, chars_of, string_form, suffix_at, number_form, double_form, pair_at, single_symbol, or_symbol, symbol_form, form_at}
 use Rattle.om_lex.proofs.NumberLaws.{prefix_passes}
 use Rattle.om_lex.proofs.SymbolLaws.{single_symbol-is, pair_at-is}
 use Rattle.om_lex.proofs.CharLaws.{chosen, passed, no_value, some_is, char_at-is, char_bytes-positive}
@@ -88,12 +86,12 @@ suffix_at-is (b ∷ bs) =
     elim (cases_Bool (eqb b 108)) [
       | inl e ↦ rw e (bs, ap (λ (c : ℕ). c ∷ bs) (eqb-true b 108 e))
       | inr e ↦ elim (cases_Bool (eqb b 76)) [
-          | inl f ↦ rw (e, f) (bs, ap (λ (c : ℕ). c ∷ bs) (eqb-true b 76 f))
-          | inr f ↦ elim (cases_Bool (eqb b 110)) [
-              | inl g ↦ rw (e, f, g) (bs, ap (λ (c : ℕ). c ∷ bs) (eqb-true b 110 g))
-              | inr g ↦ rw (e, f, g) (b ∷ bs, refl)
-            ]
+        | inl f ↦ rw (e, f) (bs, ap (λ (c : ℕ). c ∷ bs) (eqb-true b 76 f))
+        | inr f ↦ elim (cases_Bool (eqb b 110)) [
+          | inl g ↦ rw (e, f, g) (bs, ap (λ (c : ℕ). c ∷ bs) (eqb-true b 110 g))
+          | inr g ↦ rw (e, f, g) (b ∷ bs, refl)
         ]
+      ]
     ]
 
 number_form-begins : (minus : Bool) (bs : List ℕ) (form : Form) → number_form minus bs ≡ Some form → Begins (minus_text minus ++ bs) form
@@ -127,6 +125,7 @@ symbol_form-begins a bs form e = by_pair (pair_at a bs) refl e
     by_single : (o : Option Symbol) → single_symbol a ≡ o → or_symbol None o ≡ Some form → Begins (a ∷ bs) form
     by_single None at e = absurd (no_value e)
     by_single (Some s) at e = subst (Begins (a ∷ bs)) (some_is e) (tt, (bs, ap (λ t. t ++ bs) (single_symbol-is a s at)))
+
     by_pair : (o : Option Symbol) → pair_at a bs ≡ o → or_symbol o (single_symbol a) ≡ Some form → Begins (a ∷ bs) form
     by_pair None at e = by_single (single_symbol a) refl e
     by_pair (Some s) at e = let is = pair_at-is a bs s at in subst (Begins (a ∷ bs)) (some_is e) (tt, (is.0, is.1))
@@ -138,18 +137,24 @@ unfolding form_at
 form_at-begins [] form e = absurd (no_value e)
 form_at-begins (b ∷ bs) form e =
     elim (chosen (eqb b 34) (string_form bs) _ (Some form) e) [
-    | inl h ↦ rw (eqb-true b 34 h.0) (string_form-begins bs form h.1)
-    | inr h ↦ elim (chosen (eqb b 39) (quote_form bs) _ (Some form) h.1) [
-    | inl h ↦ rw (eqb-true b 39 h.0) (quote_form-begins bs form h.1)
-    | inr h ↦ elim (chosen (eqb b 96) (tag_form bs) _ (Some form) h.1) [
-    | inl h ↦ rw (eqb-true b 96 h.0) (tag_form-begins bs form h.1)
-    | inr h ↦ elim (chosen (eqb b 36) (double_form bs) _ (Some form) h.1) [
-    | inl h ↦ rw (eqb-true b 36 h.0) (double_form-begins bs form h.1)
-    | inr h ↦ elim (chosen (eqb b 45) (number_form true bs) _ (Some form) h.1) [
-    | inl h ↦ rw (eqb-true b 45 h.0) (number_form-begins true bs form h.1)
-    | inr h ↦ elim (chosen (starts_name b) (Some (word_form (take_while is_name_byte (b ∷ bs)))) _ (Some form) h.1) [
-    | inl h ↦ subst (Begins (b ∷ bs)) (some_is h.1) (word-begins b bs h.0)
-    | inr h ↦ elim (chosen (is_ascii_digit b) (number_form false (b ∷ bs)) (symbol_form b bs) (Some form) h.1) [
-    | inl h ↦ number_form-begins false (b ∷ bs) form h.1
-    | inr h ↦ symbol_form-begins b bs form h.1
-    ] ] ] ] ] ] ]
+      | inl h ↦ rw (eqb-true b 34 h.0) (string_form-begins bs form h.1)
+      | inr h ↦ elim (chosen (eqb b 39) (quote_form bs) _ (Some form) h.1) [
+        | inl h ↦ rw (eqb-true b 39 h.0) (quote_form-begins bs form h.1)
+        | inr h ↦ elim (chosen (eqb b 96) (tag_form bs) _ (Some form) h.1) [
+          | inl h ↦ rw (eqb-true b 96 h.0) (tag_form-begins bs form h.1)
+          | inr h ↦ elim (chosen (eqb b 36) (double_form bs) _ (Some form) h.1) [
+            | inl h ↦ rw (eqb-true b 36 h.0) (double_form-begins bs form h.1)
+            | inr h ↦ elim (chosen (eqb b 45) (number_form true bs) _ (Some form) h.1) [
+              | inl h ↦ rw (eqb-true b 45 h.0) (number_form-begins true bs form h.1)
+              | inr h ↦ elim (chosen (starts_name b) (Some (word_form (take_while is_name_byte (b ∷ bs)))) _ (Some form) h.1) [
+                | inl h ↦ subst (Begins (b ∷ bs)) (some_is h.1) (word-begins b bs h.0)
+                | inr h ↦ elim (chosen (is_ascii_digit b) (number_form false (b ∷ bs)) (symbol_form b bs) (Some form) h.1) [
+                  | inl h ↦ number_form-begins false (b ∷ bs) form h.1
+                  | inr h ↦ symbol_form-begins b bs form h.1
+                ]
+              ]
+            ]
+          ]
+        ]
+      ]
+    ]

@@ -1,8 +1,8 @@
 -- Of the forms that begin a text, the one that is found comes first.
-use Rattle.std.proofs.Common.{◌≡◌, ◌≢◌, ◌⊎◌, ℕ, zero, suc, ◌+◌, ◌<◌, ◌≤◌, Bool, true, false, ◌&&◌, ◌||◌, cond, eqb, ltb, List, [], ◌∷◌, ◌++◌, length, take, drop, Option, Some, None, refl, sym, ap, subst, ◌∙◌, arith, inl, inr, ⊎_elim, length-append, append_assoc}
+use Rattle.std.proofs.Common.{◌≡◌, ◌≢◌, ◌⊎◌, ℕ, suc, ◌+◌, ◌<◌, ◌≤◌, Bool, true, false, ◌&&◌, eqb, ltb, List, [], ◌∷◌, ◌++◌, length, drop, Option, Some, None, refl, sym, ap, ◌∙◌, arith, inl, inr, length-append, append_assoc}
 use Rattle.std.specs.List.{list_all, prefix_len, take_while, flat_map, AllByRecursion}
 use Rattle.std.specs.Char.{is_ascii_digit, is_ascii_hexdigit, is_ascii_uppercase}
-use Rattle.std.proofs.lemmas.Bool.{false≢true, true≢false, ne_eqb, eqb-true, eqb-false, le-ltb, and_parts, or_left, or_right, cases_Bool, false_from_ne_true, agree_below_at, leb-true}
+use Rattle.std.proofs.lemmas.Bool.{false≢true, ne_eqb, le-ltb, and_parts, or_left, or_right, agree_below_at, leb-true}
 use Rattle.std.proofs.lemmas.List.{append-nil, take_at, drop_at}
 use Rattle.om_model.specs.declared.lexeme.Keyword.{Keyword}
 use Rattle.om_model.specs.declared.lexeme.Keyword.TheVariants as keywords
@@ -10,12 +10,11 @@ use Rattle.om_model.specs.declared.lexeme.Suffix.{Suffix}
 use Rattle.om_model.specs.declared.lexeme.Suffix.TheVariants as suffixes
 use Rattle.om_model.specs.declared.lexeme.Symbol.{Symbol}
 use Rattle.om_model.specs.declared.lexeme.Symbol.TheVariants as symbols
-use Rattle.om_model.specs.Lexeme.{starts_lower, starts_name, is_name_byte, IsName, CharForm, char_bytes, IsCharForm, keyword_text, minus_text, suffix_text, symbol_text, Form, Reserved, Lower, Upper, Tag, Variable, Character, Number, Quoted, Double, Mark, form_bytes, IsForm, is_character}
-use Rattle.om_lex.specs.Scan.{keyword_of, cased_form, or_form, closed_char, character_form, quote_form, variable_form, tag_form, word_form, begins_with, char_at, chars_of, closed_string, string_form, suffix_at, number_form, double_form, pair_symbol, pair_at, single_symbol, or_symbol, symbol_form, form_at}
-use Rattle.om_lex.proofs.CharLaws.{chosen, passed, no_value, some_is, char_at-form, chars_of-forms}
-use Rattle.om_lex.proofs.NameLaws.{apart, name_byte-from_start, take_while-more, keyword_of-keyword, keyword_of-other, form_bytes-word, is_character-word}
+use Rattle.om_model.specs.Lexeme.{starts_lower, starts_name, is_name_byte, CharForm, char_bytes, IsCharForm, keyword_text, minus_text, suffix_text, symbol_text, Form, Reserved, Lower, Upper, Tag, Variable, Character, Number, Quoted, Double, Mark, form_bytes, IsForm, is_character}
+use Rattle.om_lex.specs.Scan.{closed_char, character_form, quote_form, variable_form, tag_form, word_form, char_at, string_form, suffix_at, number_form, double_form, pair_symbol, pair_at, single_symbol, or_symbol, symbol_form, form_at}
+use Rattle.om_lex.proofs.CharLaws.{passed, no_value, char_at-form, chars_of-forms}
+use Rattle.om_lex.proofs.NameLaws.{apart, take_while-more, keyword_of-keyword, keyword_of-other, form_bytes-word, is_character-word}
 use Rattle.om_lex.proofs.SymbolLaws.{pair_at-is}
-use Rattle.om_lex.proofs.WordLaws.{keyword_of-some}
 
 -- the one form is a character and the other is none, or it is the longer one and neither is a character
 abbrev pub Beats : Form → Form → Type 0
@@ -38,7 +37,7 @@ module _ (make : List ℕ → Form) (mark : ℕ) (long : (name : List ℕ) → l
   goes_on name [] other is = inl (ap make (append-nil name) ∙ is)
   goes_on name (e ∷ es) other is =
       let longer : length (form_bytes other) < length (form_bytes (make (name ++ e ∷ es))) =
-          omega (arith, ap (λ f. length (form_bytes f)) is, long name, long (name ++ e ∷ es), length-append name (e ∷ es)) in
+      omega (arith, ap (λ f. length (form_bytes f)) is, long name, long (name ++ e ∷ es), length-append name (e ∷ es)) in
       inr (inr (plain (name ++ e ∷ es), sym (ap is_character is) ∙ plain name, longer))
 
 form_at-word : (b : ℕ) (bs : List ℕ) → starts_name b ≡ true → form_at (b ∷ bs) ≡ Some (word_form (take_while is_name_byte (b ∷ bs)))
@@ -49,9 +48,11 @@ form_at-word b bs first =
 -- a word, whatever follows it
 word-found : (b : ℕ) (bs more : List ℕ) (other : Form) → starts_name b ≡ true → list_all is_name_byte (b ∷ bs) ≡ true → word_form (b ∷ bs) ≡ other → IsFound (b ∷ bs ++ more) other
 word-found b bs more other first name is =
-    let run : take_while is_name_byte (b ∷ (bs ++ more)) ≡ b ∷ bs ++ take_while is_name_byte more = take_while-more is_name_byte (b ∷ bs) more name in
-    (word_form (take_while is_name_byte (b ∷ (bs ++ more))), form_at-word b (bs ++ more) first,
-     rw run (goes_on word_form 0 (λ w. ap length (form_bytes-word w) ∙ omega arith) is_character-word (b ∷ bs) (take_while is_name_byte more) other is))
+    let run : take_while is_name_byte (b ∷ (bs ++ more)) ≡ b ∷ bs ++ take_while is_name_byte more = take_while-more is_name_byte (b ∷ bs) more name in (
+      word_form (take_while is_name_byte (b ∷ (bs ++ more))),
+      form_at-word b (bs ++ more) first,
+      rw run (goes_on word_form 0 (λ w. ap length (form_bytes-word w) ∙ omega arith) is_character-word (b ∷ bs) (take_while is_name_byte more) other is),
+    )
 
 word_form-lower : (b : ℕ) (bs : List ℕ) → starts_lower b ≡ true → ((k : Keyword) → b ∷ bs ≢ keyword_text k) → word_form (b ∷ bs) ≡ Lower (b ∷ bs)
 unfolding word_form
@@ -88,9 +89,11 @@ reserved-found keywords.Mutable more = word-found 109 (117 ∷ 116 ∷ 97 ∷ 98
 tag-found : (b : ℕ) (bs more : List ℕ) → starts_name b ≡ true → list_all is_name_byte (b ∷ bs) ≡ true → IsFound (96 ∷ b ∷ bs ++ more) (Tag (b ∷ bs))
 unfolding form_at tag_form
 tag-found b bs more first name =
-    let run : take_while is_name_byte (b ∷ (bs ++ more)) ≡ b ∷ bs ++ take_while is_name_byte more = take_while-more is_name_byte (b ∷ bs) more name in
-    (Tag (take_while is_name_byte (b ∷ (bs ++ more))), rw first refl,
-     rw run (goes_on (λ w. Tag w) 1 (λ w. omega arith) (λ w. refl) (b ∷ bs) (take_while is_name_byte more) (Tag (b ∷ bs)) refl))
+    let run : take_while is_name_byte (b ∷ (bs ++ more)) ≡ b ∷ bs ++ take_while is_name_byte more = take_while-more is_name_byte (b ∷ bs) more name in (
+      Tag (take_while is_name_byte (b ∷ (bs ++ more))),
+      rw first refl,
+      rw run (goes_on (λ w. Tag w) 1 (λ w. omega arith) (λ w. refl) (b ∷ bs) (take_while is_name_byte more) (Tag (b ∷ bs)) refl),
+    )
 
 variable_form-found : (b : ℕ) (bs more : List ℕ) → starts_lower b ≡ true → variable_form (b ∷ bs ++ more) ≡ Some (Variable (take_while is_name_byte (b ∷ (bs ++ more))))
 unfolding variable_form
@@ -106,11 +109,14 @@ variable-found b bs more first name = by_character (character_form (b ∷ bs ++ 
   where
     run : take_while is_name_byte (b ∷ (bs ++ more)) ≡ b ∷ bs ++ take_while is_name_byte more
     run = take_while-more is_name_byte (b ∷ bs) more name
+
     by_character : (o : Option Form) → character_form (b ∷ bs ++ more) ≡ o → IsFound (39 ∷ b ∷ bs ++ more) (Variable (b ∷ bs))
     by_character (Some f) at = (f, rw at refl, inr (inl (is_character-closed (b ∷ bs ++ more) (char_at 39 (b ∷ bs ++ more)) f at, refl)))
-    by_character None at =
-        (Variable (take_while is_name_byte (b ∷ (bs ++ more))), rw at (variable_form-found b bs more first),
-         rw run (goes_on (λ w. Variable w) 1 (λ w. omega arith) (λ w. refl) (b ∷ bs) (take_while is_name_byte more) (Variable (b ∷ bs)) refl))
+    by_character None at = (
+      Variable (take_while is_name_byte (b ∷ (bs ++ more))),
+      rw at (variable_form-found b bs more first),
+      rw run (goes_on (λ w. Variable w) 1 (λ w. omega arith) (λ w. refl) (b ∷ bs) (take_while is_name_byte more) (Variable (b ∷ bs)) refl),
+    )
 
 -- ---- characters and strings
 

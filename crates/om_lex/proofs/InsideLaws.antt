@@ -1,9 +1,8 @@
 -- The end of a comment is found where its brackets close, and nowhere else.
-use Rattle.std.proofs.Common.{◌≡◌, ◌≢◌, ◌⊎◌, ℕ, zero, suc, pred, ◌+◌, ◌<◌, ◌≤◌, Bool, true, false, ◌&&◌, ◌||◌, cond, eqb, List, [], ◌∷◌, ◌++◌, length, drop, Option, Some, None, refl, sym, ap, subst, ◌∙◌, arith, inl, inr, length-append, append_assoc}
+use Rattle.std.proofs.Common.{◌≡◌, ℕ, zero, suc, pred, ◌+◌, false, ◌&&◌, eqb, List, [], ◌∷◌, ◌++◌, length, Option, Some, None, refl, sym, ap, subst, ◌∙◌, arith, inl, inr}
 use Rattle.std.specs.List.{flat_map}
 use Rattle.std.proofs.lemmas.Bool.{eqb-true, and_parts, or_parts, or_from, cases_Bool}
-use Rattle.om_model.specs.LexText.{Cut, Opens, Closes, Other, cut_bytes, is_bracket, begins_bracket, IsCut, Nests, IsInside}
-use Rattle.om_lex.specs.declared.comments.Bracket.{Bracket}
+use Rattle.om_model.specs.LexText.{Cut, Opens, Closes, Other, cut_bytes, is_bracket, begins_bracket, IsCut, Nests}
 use Rattle.om_lex.specs.declared.comments.Bracket.TheVariants.{Opening, Closing, Neither}
 use Rattle.om_lex.specs.Scan.{plus, bracket_of, closing, closing_by}
 use Rattle.om_lex.proofs.CharLaws.{no_value, some_is}
@@ -24,9 +23,9 @@ kind_of a b =
     elim (cases_Bool (eqb a 40 && eqb b 42)) [
       | inl e ↦ let p = and_parts (eqb a 40) (eqb b 42) e in is_open (eqb-true a 40 p.0) (eqb-true b 42 p.1) (rw e refl)
       | inr e ↦ elim (cases_Bool (eqb a 42 && eqb b 41)) [
-          | inl f ↦ let p = and_parts (eqb a 42) (eqb b 41) f in is_close (eqb-true a 42 p.0) (eqb-true b 41 p.1) (rw (e, f) refl)
-          | inr f ↦ let none : is_bracket a b ≡ false = or_from _ _ e f in is_other none (bracket_of-neither a b none)
-        ]
+        | inl f ↦ let p = and_parts (eqb a 42) (eqb b 41) f in is_close (eqb-true a 42 p.0) (eqb-true b 41 p.1) (rw (e, f) refl)
+        | inr f ↦ let none : is_bracket a b ≡ false = or_from _ _ e f in is_other none (bracket_of-neither a b none)
+      ]
     ]
 
 -- ---- the grammar's inside is found

@@ -1,16 +1,16 @@
 -- The names, tags and variables that are found are spelled so.
-use Rattle.std.proofs.Common.{◌≡◌, ◌≢◌, ◌⊎◌, ℕ, zero, suc, ◌+◌, ◌<◌, ◌≤◌, Bool, true, false, ◌&&◌, ◌||◌, cond, eqb, List, [], ◌∷◌, ◌++◌, length, take, drop, Option, Some, None, refl, sym, ap, subst, ◌∙◌, arith, inl, inr, ⊎_elim, length-append}
+use Rattle.std.proofs.Common.{◌≡◌, ◌≢◌, ℕ, suc, ◌+◌, Bool, true, false, eqb, List, [], ◌∷◌, ◌++◌, drop, Option, Some, None, refl, sym, ap, subst, ◌∙◌, arith, inl, inr, ⊎_elim}
 use Rattle.std.specs.List.{list_all, prefix_len, take_while}
-use Rattle.std.specs.Char.{is_ascii_digit, is_ascii_uppercase, is_ascii_lowercase}
-use Rattle.std.proofs.lemmas.Bool.{false≢true, true≢false, ne_eqb, or_cases, or_left, or_right, or_parts, or_from, and_parts, and_from, cases_Bool, false_from_ne_true}
-use Rattle.std.proofs.lemmas.List.{append-nil, take-append-drop}
+use Rattle.std.specs.Char.{is_ascii_uppercase, is_ascii_lowercase}
+use Rattle.std.proofs.lemmas.Bool.{false≢true, ne_eqb, or_cases, or_left, or_right, and_parts, and_from, cases_Bool}
+use Rattle.std.proofs.lemmas.List.{take-append-drop}
 use Rattle.om_model.specs.declared.lexeme.Keyword.{Keyword}
 use Rattle.om_model.specs.declared.lexeme.Keyword.TheVariants as keywords
-use Rattle.om_model.specs.Lexeme.{starts_lower, starts_name, is_name_byte, IsName, keyword_text, Form, Reserved, Lower, Upper, Tag, Variable, form_bytes, IsForm, is_character}
+use Rattle.om_model.specs.Lexeme.{starts_lower, starts_name, is_name_byte, IsName, keyword_text, Form, Tag, Variable, form_bytes, IsForm, is_character}
 use Rattle.om_lex.specs.Scan.{keyword_of, cased_form, reserved_or, word_form, tag_form, variable_form}
 use Rattle.om_lex.proofs.WordLaws.{keyword_of-some}
 use Rattle.om_lex.proofs.NumberLaws.{prefix_passes}
-use Rattle.om_lex.proofs.CharLaws.{chosen, passed, no_value, some_is}
+use Rattle.om_lex.proofs.CharLaws.{passed, no_value}
 
 -- the form is written right, and begins the text
 abbrev pub Begins : List ℕ → Form → Type 0
@@ -26,9 +26,9 @@ pub name_byte-from_start : (b : ℕ) → starts_name b ≡ true → is_name_byte
 name_byte-from_start b e =
     elim (or_cases (starts_lower b) (is_ascii_uppercase b) e) [
       | inl lower ↦ elim (or_cases (is_ascii_lowercase b) (eqb b 95) lower) [
-          | inl letter ↦ or_left _ _ (or_left _ _ (or_right _ _ letter))
-          | inr underscore ↦ or_left _ _ (or_right _ _ underscore)
-        ]
+        | inl letter ↦ or_left _ _ (or_left _ _ (or_right _ _ letter))
+        | inr underscore ↦ or_left _ _ (or_right _ _ underscore)
+      ]
       | inr upper ↦ or_left _ _ (or_left _ _ (or_left _ _ (or_right _ _ upper)))
     ]
 
@@ -77,6 +77,7 @@ form_bytes-word name = by_keyword (keyword_of name) refl
     cased : (name : List ℕ) → form_bytes (cased_form name) ≡ name
     cased [] = refl
     cased (b ∷ bs) = elim (cases_Bool (starts_lower b)) [ inl e ↦ rw e refl | inr e ↦ rw e refl ]
+
     by_keyword : (o : Option Keyword) → keyword_of name ≡ o → form_bytes (reserved_or (cased_form name) o) ≡ name
     by_keyword None e = cased name
     by_keyword (Some k) e = sym (keyword_of-some name k e)
@@ -88,6 +89,7 @@ is_character-word name = by_keyword (keyword_of name)
     cased : (name : List ℕ) → is_character (cased_form name) ≡ false
     cased [] = refl
     cased (b ∷ bs) = elim (cases_Bool (starts_lower b)) [ inl e ↦ rw e refl | inr e ↦ rw e refl ]
+
     by_keyword : (o : Option Keyword) → is_character (reserved_or (cased_form name) o) ≡ false
     by_keyword None = cased name
     by_keyword (Some k) = refl
@@ -98,21 +100,24 @@ IsForm-word name is = by_keyword (keyword_of name) refl
   where
     other : keyword_of name ≡ None → (k : Keyword) → name ≢ keyword_text k
     other none k e = no_value (sym none ∙ ap keyword_of e ∙ keyword_of-keyword k)
+
     cased : (word : List ℕ) → IsName starts_name word → ((k : Keyword) → word ≢ keyword_text k) → IsForm (cased_form word)
     cased [] is free = absurd is
     cased (b ∷ bs) is free = elim (cases_Bool (starts_lower b)) [
       | inl e ↦ rw e ((e, is.1), free)
       | inr e ↦ rw e (⊎_elim (λ lower. absurd (false≢true (sym e ∙ lower))) (λ upper. upper) (or_cases (starts_lower b) (is_ascii_uppercase b) is.0), is.1)
     ]
+
     by_keyword : (o : Option Keyword) → keyword_of name ≡ o → IsForm (reserved_or (cased_form name) o)
     by_keyword None e = cased name is (other e)
     by_keyword (Some k) e = tt
 
 pub word-begins : (b : ℕ) (bs : List ℕ) → starts_name b ≡ true → Begins (b ∷ bs) (word_form (take_while is_name_byte (b ∷ bs)))
 word-begins b bs first =
-    let name = take_while is_name_byte (b ∷ bs) in
-    (IsForm-word name (name_at starts_name b bs first (name_byte-from_start b first)),
-     (drop (prefix_len is_name_byte (b ∷ bs)) (b ∷ bs), run_and_rest is_name_byte (b ∷ bs) ∙ ap (λ t. t ++ drop (prefix_len is_name_byte (b ∷ bs)) (b ∷ bs)) (sym (form_bytes-word name))))
+    let name = take_while is_name_byte (b ∷ bs) in (
+      IsForm-word name (name_at starts_name b bs first (name_byte-from_start b first)),
+      (drop (prefix_len is_name_byte (b ∷ bs)) (b ∷ bs), run_and_rest is_name_byte (b ∷ bs) ∙ ap (λ t. t ++ drop (prefix_len is_name_byte (b ∷ bs)) (b ∷ bs)) (sym (form_bytes-word name))),
+    )
 
 pub tag_form-begins : (bs : List ℕ) (form : Form) → tag_form bs ≡ Some form → Begins (96 ∷ bs) form
 unfolding tag_form

@@ -1,5 +1,5 @@
 -- Parts one after the other, and that a text has one reading.
-use Rattle.std.proofs.Common.{◌≡◌, ◌≢◌, ◌⊎◌, ℕ, zero, suc, ◌+◌, ◌-◌, ◌<◌, ◌≤◌, List, [], ◌∷◌, ◌++◌, length, drop, Option, Some, None, Result, Ok, Err, refl, sym, ap, subst, ◌∙◌, arith, inl, inr, length-append, append_assoc}
+use Rattle.std.proofs.Common.{◌≡◌, ◌≢◌, ℕ, ◌+◌, ◌-◌, ◌<◌, ◌≤◌, List, [], ◌∷◌, ◌++◌, length, drop, Some, Result, Ok, Err, refl, sym, ap, subst, ◌∙◌, arith, inl, inr, length-append, append_assoc}
 use Rattle.std.specs.Prelude.{IfOk, IfErr}
 use Rattle.std.specs.Global.{Vec}
 use Rattle.std.specs.List.{flat_map}
@@ -9,15 +9,13 @@ use Rattle.om_model.specs.declared.lexeme.LexFault.{LexFault}
 use Rattle.om_model.specs.declared.lexeme.LexFault.TheVariants as faults
 use Rattle.om_model.specs.Lexeme.{Form, form_bytes, IsForm}
 use Rattle.om_model.specs.LexText.{Part, Separator, Comment, Word, part_bytes, IsPart, AreParts, lexemes_of, Breaks, Lexes, Faults, UnlessMemory, Answers}
-use Rattle.om_lex.specs.declared.found.Found.{Found}
 use Rattle.om_lex.specs.declared.found.Step.{Step}
 use Rattle.om_lex.specs.declared.found.Step.TheVariants as steps
 use Rattle.om_lex.specs.Scan.{form_at, step_at, moved, place_of}
 use Rattle.om_lex.proofs.CharLaws.{no_value}
 use Rattle.om_lex.proofs.FrontLaws.{form-found}
-use Rattle.om_lex.proofs.TakenLaws.{found-taken}
 use Rattle.om_lex.proofs.StepLaws.{part_step, step-part}
-use Rattle.om_lex.proofs.FaultLaws.{StepsTo, step-breaks, IsPartAt, IsFaultAt, IsStepAt, step_at-is}
+use Rattle.om_lex.proofs.FaultLaws.{step-breaks, IsPartAt, IsFaultAt, IsStepAt, step_at-is}
 
 -- ---- a part and its step
 
@@ -68,7 +66,7 @@ lexemes_push place [] part =
 lexemes_push place (p ∷ parts) part =
     let step = part_step p in
     let later : place + step_len step + length (flat_map part_bytes parts) ≡ place + length (part_bytes p ++ flat_map part_bytes parts) =
-        omega (arith, step_len-part p, length-append (part_bytes p) (flat_map part_bytes parts)) in
+    omega (arith, step_len-part p, length-append (part_bytes p) (flat_map part_bytes parts)) in
     lexemes_of-cons place p (parts ++ part ∷ [])
     ∙ ap (λ t. step_lexemes place step ++ t) (lexemes_push (place + step_len step) parts part ∙ ap (λ n. lexemes_of (place + step_len step) parts ++ step_lexemes n (part_step part)) later)
     ∙ sym (append_assoc (step_lexemes place step) (lexemes_of (place + step_len step) parts) (step_lexemes (place + length (part_bytes p ++ flat_map part_bytes parts)) (part_step part)))
@@ -100,7 +98,7 @@ pub reached_more : (text : List ℕ) (at : ℕ) (lexemes : List Lexeme) (step : 
 reached_more text at lexemes step r p =
     let len = step_len-is (drop at text) step p in
     let rest : drop (at + step_len step) text ≡ p.after =
-        sym (drop-drop (step_len step) at text) ∙ ap (drop (step_len step)) p.is ∙ drop_at (part_bytes p.part) p.after (step_len step) (sym len) in
+    sym (drop-drop (step_len step) at text) ∙ ap (drop (step_len step)) p.is ∙ drop_at (part_bytes p.part) p.after (step_len step) (sym len) in
     let are : AreParts (r.parts ++ p.part ∷ []) p.after = are_push r.parts p.part p.after (subst (AreParts r.parts) p.is r.are) p.fits in
     let bytes : flat_map part_bytes (r.parts ++ p.part ∷ []) ≡ flat_map part_bytes r.parts ++ part_bytes p.part = sym (flat_map_more part_bytes [] r.parts p.part) in
     record {
@@ -150,7 +148,7 @@ same_parts (p ∷ ps) (q ∷ qs) r s are bre e stop ttop =
     let step : part_step p ≡ part_step q = cc in
     let long : length (part_bytes p) ≡ length (part_bytes q) = sym (step_len-part p) ∙ ap step_len step ∙ step_len-part q in
     let others : flat_map part_bytes ps ++ r ≡ flat_map part_bytes qs ++ s =
-        sym (drop_at (part_bytes p) (flat_map part_bytes ps ++ r) (length (part_bytes p)) refl) ∙ ap (drop (length (part_bytes p))) texts ∙ drop_at (part_bytes q) (flat_map part_bytes qs ++ s) (length (part_bytes p)) (sym long) in
+    sym (drop_at (part_bytes p) (flat_map part_bytes ps ++ r) (length (part_bytes p)) refl) ∙ ap (drop (length (part_bytes p))) texts ∙ drop_at (part_bytes q) (flat_map part_bytes qs ++ s) (length (part_bytes p)) (sym long) in
     let same = same_parts ps qs r s are.1 bre.1 others stop ttop in
     record {
       bytes = omega (arith, long, same.bytes, length-append (part_bytes p) (flat_map part_bytes ps), length-append (part_bytes q) (flat_map part_bytes qs));

@@ -1,21 +1,17 @@
 -- The step that is found is the part or the fault of the grammar.
-use Rattle.std.proofs.Common.{◌≡◌, ◌≢◌, ◌⊎◌, ℕ, zero, suc, ◌+◌, ◌<◌, ◌≤◌, Bool, true, false, ◌&&◌, ◌||◌, cond, eqb, leb, List, [], ◌∷◌, ◌++◌, length, drop, Option, Some, None, Result, Ok, Err, refl, sym, ap, subst, ◌∙◌, arith, inl, inr, length-append, append_assoc}
-use Rattle.std.specs.List.{flat_map, AllByRecursion}
-use Rattle.std.proofs.lemmas.Bool.{false≢true, true≢false, ne_eqb, eqb-true, eqb-false, and_parts, or_parts, or_cases, cases_Bool, false_from_ne_true, le-leb, lt-leb, leb-true, leb-false}
-use Rattle.std.proofs.lemmas.List.{append-nil}
-use Rattle.om_model.specs.declared.lexeme.Symbol.TheVariants as symbols
-use Rattle.om_model.specs.declared.lexeme.LexFault.{LexFault}
+use Rattle.std.proofs.Common.{◌≡◌, ◌≢◌, ℕ, ◌+◌, true, false, ◌&&◌, eqb, List, [], ◌∷◌, ◌++◌, length, Some, None, Ok, Err, refl, sym, ap, ◌∙◌, arith, inl, inr, length-append, append_assoc}
+use Rattle.std.specs.List.{flat_map}
+use Rattle.std.proofs.lemmas.Bool.{false≢true, true≢false, ne_eqb, eqb-true, and_parts, or_cases, false_from_ne_true, le-leb, lt-leb, leb-true, leb-false}
 use Rattle.om_model.specs.declared.lexeme.LexFault.TheVariants as faults
-use Rattle.om_model.specs.Lexeme.{is_separator, number_in, greatest, CharForm, char_bytes, IsCharForm, Form, Reserved, Lower, Upper, Tag, Variable, Character, Number, Quoted, Double, Mark, form_bytes, form_kind, IsForm, IsInRange, IsTooBig}
-use Rattle.om_model.specs.LexText.{Cut, cut_bytes, IsInside, IsTaken, Part, Separator, Comment, Word, part_bytes, IsPart, OpensString, StartsNoChar, StartsNothing, IsBadEscape, IsOpenString, IsOpenComment, IsOverlong, Breaks}
-use Rattle.om_lex.specs.declared.found.Found.{Found}
+use Rattle.om_model.specs.Lexeme.{is_separator, number_in, greatest, Form, Reserved, Lower, Upper, Tag, Variable, Character, Number, Quoted, Double, Mark, form_bytes, IsInRange, IsTooBig}
+use Rattle.om_model.specs.LexText.{Cut, cut_bytes, IsInside, IsTaken, Part, Separator, Comment, Word, part_bytes, IsPart}
 use Rattle.om_lex.specs.declared.found.Step.{Step}
 use Rattle.om_lex.specs.declared.found.Step.TheVariants as steps
-use Rattle.om_lex.specs.Scan.{begins_with, char_at, chars_of, closed_string, string_form, pair_at, pair_symbol, single_symbol, symbol_form, form_at, in_range, found, found_at, ended_string, string_at, lexeme_at, closing, gap_of, word_of, step_at, moved}
-use Rattle.om_lex.proofs.CharLaws.{chosen, passed, no_value, some_is, char_at-is, char_at-form, chars_of-forms}
-use Rattle.om_lex.proofs.FormLaws.{begins_with-is, chars_of-are, chars_of-stop}
-use Rattle.om_lex.proofs.TakenLaws.{found-taken, taken-found, none-found, found-none}
-use Rattle.om_lex.proofs.InsideLaws.{inside_text, closing-inside, inside-closing}
+use Rattle.om_lex.specs.Scan.{begins_with, chars_of, string_form, pair_at, pair_symbol, single_symbol, symbol_form, form_at, in_range, found, found_at, string_at, lexeme_at, closing, gap_of, word_of, step_at}
+use Rattle.om_lex.proofs.CharLaws.{chosen, passed, no_value}
+use Rattle.om_lex.proofs.FormLaws.{begins_with-is}
+use Rattle.om_lex.proofs.TakenLaws.{found-taken}
+use Rattle.om_lex.proofs.InsideLaws.{inside_text, closing-inside}
 
 abbrev pub part_step : Part → Step
 part_step (Separator b) = steps.Gap 1
@@ -51,10 +47,19 @@ at_return (b ∷ bs) = refl
 
 separator_no_form : (b : ℕ) (bs : List ℕ) → is_separator b ≡ true → form_at (b ∷ bs) ≡ None
 separator_no_form b bs e =
-    elim (or_cases _ (eqb b 13) e) [ inr h ↦ rw (eqb-true b 13 h) (at_return bs) | inl e ↦
-    elim (or_cases _ (eqb b 12) e) [ inr h ↦ rw (eqb-true b 12 h) (at_feed bs) | inl e ↦
-    elim (or_cases _ (eqb b 10) e) [ inr h ↦ rw (eqb-true b 10 h) (at_line bs) | inl e ↦
-    elim (or_cases (eqb b 32) (eqb b 9) e) [ inr h ↦ rw (eqb-true b 9 h) (at_tab bs) | inl h ↦ rw (eqb-true b 32 h) (at_space bs) ] ] ] ]
+    elim (or_cases _ (eqb b 13) e) [
+      | inr h ↦ rw (eqb-true b 13 h) (at_return bs)
+      | inl e ↦
+          elim (or_cases _ (eqb b 12) e) [
+            | inr h ↦ rw (eqb-true b 12 h) (at_feed bs)
+            | inl e ↦
+                elim (or_cases _ (eqb b 10) e) [
+                  | inr h ↦ rw (eqb-true b 10 h) (at_line bs)
+                  | inl e ↦
+                      elim (or_cases (eqb b 32) (eqb b 9) e) [ inr h ↦ rw (eqb-true b 9 h) (at_tab bs) | inl h ↦ rw (eqb-true b 32 h) (at_space bs) ]
+                ]
+          ]
+    ]
 
 -- what the two tests for a comment say
 pub comment_test : (b : ℕ) (bs : List ℕ) → (eqb b 40 && begins_with 42 bs) ≡ true → (more : List ℕ) × (b ∷ bs ≡ 40 ∷ 42 ∷ more)

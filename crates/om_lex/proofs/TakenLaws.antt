@@ -1,6 +1,6 @@
 -- The form that is found is the one that the grammar takes.
-use Rattle.std.proofs.Common.{◌≡◌, ◌≢◌, ◌⊎◌, ℕ, zero, suc, ◌+◌, ◌<◌, ◌≤◌, Bool, true, false, List, [], ◌∷◌, ◌++◌, length, Option, Some, None, refl, sym, ap, subst, ◌∙◌, arith, inl, inr, ⊎_elim}
-use Rattle.std.proofs.lemmas.Bool.{false≢true, true≢false, cases_Bool}
+use Rattle.std.proofs.Common.{◌≡◌, ◌≢◌, ℕ, List, ◌∷◌, ◌++◌, length, Option, Some, None, refl, sym, ap, subst, ◌∙◌, arith, inl, inr}
+use Rattle.std.proofs.lemmas.Bool.{true≢false, cases_Bool}
 use Rattle.om_model.specs.Lexeme.{Form, form_bytes, IsForm, is_character, Precedes}
 use Rattle.om_model.specs.LexText.{IsTaken}
 use Rattle.om_lex.specs.Scan.{form_at}
@@ -38,15 +38,18 @@ found-taken form after taken =
 pub taken-found : (text : List ℕ) (form : Form) → form_at text ≡ Some form → ((more : List ℕ) → text ≢ 40 ∷ 42 ∷ more)
     → (after : List ℕ) × (text ≡ form_bytes form ++ after) × IsTaken form after
 taken-found text form e no_comment =
-    let begins = form_at-begins text form e in
-    (begins.1.0, begins.1.1, record {
-      written = begins.0;
-      no_comment = λ more is. no_comment more (begins.1.1 ∙ is);
-      first = λ other more written is.
-          let found = form-found other more written in
-          let same : found.0 ≡ form = some_is (sym found.1 ∙ ap form_at (is ∙ sym begins.1.1) ∙ e) in
-          subst (λ f. Precedes f other) same (comes_first found.0 other found.2);
-    })
+    let begins = form_at-begins text form e in (
+      begins.1.0,
+      begins.1.1,
+      record {
+        written = begins.0;
+        no_comment = λ more is. no_comment more (begins.1.1 ∙ is);
+        first = λ other more written is.
+            let found = form-found other more written in
+            let same : found.0 ≡ form = some_is (sym found.1 ∙ ap form_at (is ∙ sym begins.1.1) ∙ e) in
+            subst (λ f. Precedes f other) same (comes_first found.0 other found.2);
+      },
+    )
 
 -- where no form is found, none begins the text
 pub none-found : (text : List ℕ) → form_at text ≡ None → (form : Form) (after : List ℕ) → IsForm form → form_bytes form ++ after ≢ text

@@ -1,5 +1,5 @@
 -- Keywords and names.
-use Rattle.std.proofs.Common.{◌≡◌, ◌≢◌, ℕ, ◌⊎◌, Bool, true, false, cond, List, [], ◌∷◌, length, take, Option, Some, None, refl, sym, ap, ◌∙◌, inl, inr}
+use Rattle.std.proofs.Common.{◌≡◌, ℕ, ◌⊎◌, Bool, true, false, cond, List, length, take, Option, Some, None, refl, sym, ap, ◌∙◌, inl, inr}
 use Rattle.std.specs.Str.{bytes_eq}
 use Rattle.std.proofs.lemmas.Slice.Eq.{bytes_eq-Decides}
 use Rattle.om_model.specs.declared.lexeme.Keyword.{Keyword}
@@ -19,10 +19,19 @@ one-keyword name k j false others same e = inr e
 pub keyword_of-some : (name : List ℕ) (k : Keyword) → keyword_of name ≡ Some k → name ≡ keyword_text k
 keyword_of-some name k e =
     let first = one-keyword name k keywords.Type _ _ refl e in
-    elim first [ inl is ↦ is | inr e ↦
-    elim (one-keyword name k keywords.And _ _ refl e) [ inl is ↦ is | inr e ↦
-    elim (one-keyword name k keywords.Of _ _ refl e) [ inl is ↦ is | inr e ↦
-    elim (one-keyword name k keywords.Mutable _ None refl e) [ inl is ↦ is | inr e ↦ absurd cc ] ] ] ]
+    elim first [
+      | inl is ↦ is
+      | inr e ↦
+          elim (one-keyword name k keywords.And _ _ refl e) [
+            | inl is ↦ is
+            | inr e ↦
+                elim (one-keyword name k keywords.Of _ _ refl e) [
+                  | inl is ↦ is
+                  | inr e ↦
+                      elim (one-keyword name k keywords.Mutable _ None refl e) [ inl is ↦ is | inr e ↦ absurd cc ]
+                ]
+          ]
+    ]
 
 abbrev pub keyword_found : Keyword → ℕ → Found
 keyword_found k len = record { kind = kinds.Keyword k; len = len }

@@ -12,7 +12,6 @@ use Rattle.om_model.specs.declared.lexeme.Symbol.TheVariants as symbols
 use Rattle.om_model.specs.declared.lexeme.LexFault.{LexFault}
 use Rattle.om_model.specs.declared.lexeme.LexFault.TheVariants as faults
 use Rattle.om_model.specs.Lexeme.{is_separator, starts_lower, starts_name, is_name_byte, number_in, greatest, CharForm, Plain, Named, Decimal, Hexadecimal, char_bytes, char_value, named_char, keyword_text, Form, Reserved, Lower, Upper, Tag, Variable, Character, Number, Quoted, Double, Mark, form_bytes, form_kind}
-use Rattle.om_model.specs.LexText.{is_bracket}
 use Rattle.om_lex.specs.declared.comments.Bracket.{Bracket}
 use Rattle.om_lex.specs.declared.comments.Bracket.TheVariants.{Opening, Closing, Neither}
 use Rattle.om_lex.specs.declared.found.Found.{Found}

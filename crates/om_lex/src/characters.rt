@@ -104,7 +104,10 @@ pub fn quoted(alloc: Global, text: &[u8]) -> Result<Found, LexFault>
 {
     if let Some((value, len)) = char_at(b'\'', text) {
         if len < text.len() && text[len] == b'\'' {
-            return Ok(Found { kind: LexemeKind::Character(value), len: len + 2 });
+            return Ok(Found {
+                kind: LexemeKind::Character(value),
+                len: len + 2,
+            });
         }
     }
     variable(alloc, text)
@@ -125,7 +128,10 @@ pub fn string(alloc: Global, text: &[u8]) -> Result<Found, LexFault>
     }
     let end = text[at];
     if end == b'"' {
-        Ok(Found { kind: LexemeKind::Text(List::of(value)), len: at + 2 })
+        Ok(Found {
+            kind: LexemeKind::Text(List::of(value)),
+            len: at + 2,
+        })
     } else if end == b'\\' {
         Err(LexFault::BadByte(at + 2))
     } else {

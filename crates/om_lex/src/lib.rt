@@ -11,3 +11,6 @@ mod symbols;
 mod words;
 
 pub use scan::tokens;
+
+#[cfg(test)]
+mod tests;

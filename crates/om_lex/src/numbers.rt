@@ -32,7 +32,9 @@ fn number_in(base: u64, digits: &[u8]) -> u64
 {
     let mut number: u64 = 0;
     for digit in digits {
-        number = number.saturating_mul(base).saturating_add(u64::from(digit_value(*digit)));
+        number = number
+            .saturating_mul(base)
+            .saturating_add(u64::from(digit_value(*digit)));
     }
     number
 }
@@ -42,7 +44,11 @@ fn signed(minus: bool, number: u64) -> Option<i64>
     ensures { result ≡ (if nat_le number (greatest minus) then Some (signed minus number) else None) }
 {
     if !minus {
-        if number > i64::MAX as u64 { None } else { Some(number as i64) }
+        if number > i64::MAX as u64 {
+            None
+        } else {
+            Some(number as i64)
+        }
     } else if number == 0 {
         Some(0)
     } else if number > 1 << 63 {
@@ -81,7 +87,11 @@ pub fn integer(minus: bool, text: &[u8]) -> Result<Found, LexFault>
     match signed(minus, number_in(10, digits)) {
         None => Err(LexFault::TooBig(0)),
         Some(value) => Ok(Found {
-            kind: LexemeKind::Integer(Integer { minus, value, suffix }),
+            kind: LexemeKind::Integer(Integer {
+                minus,
+                value,
+                suffix,
+            }),
             len,
         }),
     }
@@ -99,5 +109,8 @@ pub fn double(text: &[u8]) -> Result<Found, LexFault>
     if !all_hexadecimal(digits) {
         return Err(LexFault::BadByte(0));
     }
-    Ok(Found { kind: LexemeKind::Double(number_in(16, digits)), len: 17 })
+    Ok(Found {
+        kind: LexemeKind::Double(number_in(16, digits)),
+        len: 17,
+    })
 }

@@ -89,9 +89,15 @@ fn scan(alloc: Global, text: &[u8]) -> Result<Vec<Lexeme>, LexFault>
         match step_at(alloc, &text[at..]) {
             Ok(Step::Gap(len)) => at += len,
             Ok(Step::Word(word)) => {
-                let span = Span { first: at, len: word.len };
+                let span = Span {
+                    first: at,
+                    len: word.len,
+                };
                 at += word.len;
-                lexemes.push(Lexeme { kind: word.kind, span })?;
+                lexemes.push(Lexeme {
+                    kind: word.kind,
+                    span,
+                })?;
             }
             Err(fault) => return Err(moved(fault, at)),
         }

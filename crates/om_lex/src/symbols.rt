@@ -66,9 +66,15 @@ pub fn symbol(first: u8, rest: &[u8]) -> Result<Found, LexFault>
     ensures { Answers (λ w. w) result (found_at (symbol_form first rest.now)) }
 {
     match pair_at(first, rest) {
-        Some(symbol) => Ok(Found { kind: LexemeKind::Symbol(symbol), len: 2 }),
+        Some(symbol) => Ok(Found {
+            kind: LexemeKind::Symbol(symbol),
+            len: 2,
+        }),
         None => match single_symbol(first) {
-            Some(symbol) => Ok(Found { kind: LexemeKind::Symbol(symbol), len: 1 }),
+            Some(symbol) => Ok(Found {
+                kind: LexemeKind::Symbol(symbol),
+                len: 1,
+            }),
             None => Err(LexFault::BadByte(0)),
         },
     }

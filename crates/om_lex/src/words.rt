@@ -44,7 +44,11 @@ fn cased(alloc: Global, name: &[u8]) -> Result<Found, LexFault>
     let lower = starts_lower(name[0]);
     let len = name.len();
     let name = copied(alloc, name)?;
-    let kind = if lower { LexemeKind::Lower(name) } else { LexemeKind::Upper(name) };
+    let kind = if lower {
+        LexemeKind::Lower(name)
+    } else {
+        LexemeKind::Upper(name)
+    };
     Ok(Found { kind, len })
 }
 
@@ -59,7 +63,10 @@ pub fn word(alloc: Global, text: &[u8]) -> Result<Found, LexFault>
     let name = &text[..len];
     match keyword_of(name) {
         None => cased(alloc, name),
-        Some(keyword) => Ok(Found { kind: LexemeKind::Keyword(keyword), len }),
+        Some(keyword) => Ok(Found {
+            kind: LexemeKind::Keyword(keyword),
+            len,
+        }),
     }
 }
 
@@ -76,7 +83,10 @@ pub fn tag(alloc: Global, text: &[u8]) -> Result<Found, LexFault>
     }
     let len = name_len(text);
     let name = copied(alloc, &text[..len])?;
-    Ok(Found { kind: LexemeKind::Tag(name), len: len + 1 })
+    Ok(Found {
+        kind: LexemeKind::Tag(name),
+        len: len + 1,
+    })
 }
 
 /// The variable whose quote stands before the text.
@@ -92,5 +102,8 @@ pub fn variable(alloc: Global, text: &[u8]) -> Result<Found, LexFault>
     }
     let len = name_len(text);
     let name = copied(alloc, &text[..len])?;
-    Ok(Found { kind: LexemeKind::Variable(name), len: len + 1 })
+    Ok(Found {
+        kind: LexemeKind::Variable(name),
+        len: len + 1,
+    })
 }

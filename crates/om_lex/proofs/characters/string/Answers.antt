@@ -1,6 +1,5 @@
-use Rattle.std.proofs.Common.{sym, ◌∙◌, ap, length, take, drop, ◌≡◌, ◌-◌, get_or, arith}
-use Rattle.std.proofs.lemmas.List.{length-drop, take_rest}
-use Rattle.om_lex.specs.Scan.{char_at, char_found}
+use Rattle.std.proofs.Common.{arith}
+use Rattle.std.proofs.lemmas.List.{take_rest}
 use Rattle.om_lex.proofs.CharLaws.{reads_more, reads_further, no_char, string_open, string_closes, string_escapes, string_breaks}
 use Rattle.om_lex.proofs.characters.string.Goals as goal
 

@@ -1,8 +1,7 @@
-use Rattle.std.proofs.Common.{◌≡◌, ◌≤◌, length, sym, ◌∙◌, ap, arith, take}
+use Rattle.std.proofs.Common.{arith, take}
 use Rattle.std.specs.Char.{is_ascii_digit}
 use Rattle.std.specs.List.{prefix_len}
 use Rattle.std.proofs.lemmas.List.Sums.{prefix_len-le-length}
-use Rattle.om_lex.specs.Scan.{number_form}
 use Rattle.om_lex.proofs.NumberLaws.{list_all-hexdigit, prefix_passes}
 use Rattle.om_lex.proofs.numbers.integer.Goals as goal
 
