@@ -1,5 +1,5 @@
 -- Of the forms that begin a text, the one that is found comes first.
-use Rattle.std.proofs.Common.{◌≡◌, ◌≢◌, ◌⊎◌, ℕ, suc, ◌+◌, ◌<◌, ◌≤◌, Bool, true, false, ◌&&◌, eqb, ltb, List, [], ◌∷◌, ◌++◌, length, drop, Option, Some, None, refl, sym, ap, ◌∙◌, arith, inl, inr, length-append, append_assoc}
+use Rattle.std.proofs.Common.{◌≡◌, ◌≢◌, ◌⊎◌, ℕ, suc, ◌+◌, ◌<◌, ◌≤◌, Bool, true, false, ◌&&◌, eqb, ltb, List, [], ◌∷◌, ◌++◌, length, drop, Option, Some, None, refl, sym, ap, ◌∙◌, arith, inl, inr, length-append, append_assoc, leb}
 use Rattle.std.specs.List.{list_all, prefix_len, take_while, flat_map, AllByRecursion}
 use Rattle.std.specs.Char.{is_ascii_digit, is_ascii_hexdigit, is_ascii_uppercase}
 use Rattle.std.proofs.lemmas.Bool.{false≢true, ne_eqb, le-ltb, and_parts, or_left, or_right, agree_below_at, leb-true}
@@ -61,7 +61,7 @@ word_form-lower b bs lower free = rw (keyword_of-other (b ∷ bs) free, lower) r
 -- no byte is of both cases, and no keyword begins with an upper one
 upper_alone : (b : ℕ) → is_ascii_uppercase b ≡ true → starts_lower b ≡ false
 upper_alone b upper =
-    let below : b ≤ 90 = leb-true b 90 (and_parts _ _ upper).1 in
+    let below : b ≤ 90 = leb-true b 90 (and_parts (leb 65 b) (leb b 90) upper).1 in
     let none = agree_below_at (λ b. is_ascii_uppercase b && starts_lower b) (λ b. false) 91 b refl (omega arith) in
     rw upper at none
 
@@ -185,7 +185,7 @@ number_form-found minus d ds suffixes.Native more digits = (_, number_form-run m
 
 digit_no_name : (d : ℕ) → is_ascii_digit d ≡ true → starts_name d ≡ false
 digit_no_name d digit =
-    let below : d ≤ 57 = leb-true d 57 (and_parts _ _ digit).1 in
+    let below : d ≤ 57 = leb-true d 57 (and_parts (leb 48 d) (leb d 57) digit).1 in
     let none = agree_below_at (λ b. is_ascii_digit b && starts_name b) (λ b. false) 58 d refl (omega arith) in
     rw digit at none
 

@@ -1,5 +1,5 @@
 -- Parts one after the other, and that a text has one reading.
-use Rattle.std.proofs.Common.{◌≡◌, ◌≢◌, ℕ, ◌+◌, ◌-◌, ◌<◌, ◌≤◌, List, [], ◌∷◌, ◌++◌, length, drop, Some, Result, Ok, Err, refl, sym, ap, subst, ◌∙◌, arith, inl, inr, length-append, append_assoc}
+use Rattle.std.proofs.Common.{◌≡◌, ◌≢◌, ℕ, ◌+◌, ◌-◌, ◌<◌, ◌≤◌, List, [], ◌∷◌, ◌++◌, length, drop, Some, Result, Ok, Err, refl, sym, ap, subst, ◌∙◌, arith, inl, inr, length-append, append_assoc, ◌⊎◌, zero, suc}
 use Rattle.std.specs.Prelude.{IfOk, IfErr}
 use Rattle.std.specs.Global.{Vec}
 use Rattle.std.specs.List.{flat_map}
@@ -8,7 +8,7 @@ use Rattle.om_model.specs.declared.lexeme.Lexeme.{Lexeme}
 use Rattle.om_model.specs.declared.lexeme.LexFault.{LexFault}
 use Rattle.om_model.specs.declared.lexeme.LexFault.TheVariants as faults
 use Rattle.om_model.specs.Lexeme.{Form, form_bytes, IsForm}
-use Rattle.om_model.specs.LexText.{Part, Separator, Comment, Word, part_bytes, IsPart, AreParts, lexemes_of, Breaks, Lexes, Faults, UnlessMemory, Answers}
+use Rattle.om_model.specs.LexText.{Part, Separator, Comment, Word, part_bytes, IsPart, AreParts, lexemes_of, Breaks, Lexes, Faults, UnlessMemory, Answers, Outcome, HasOneOutcome, SpansWithin}
 use Rattle.om_lex.specs.declared.found.Step.{Step}
 use Rattle.om_lex.specs.declared.found.Step.TheVariants as steps
 use Rattle.om_lex.specs.Scan.{form_at, step_at, moved, place_of}
@@ -266,3 +266,82 @@ told_fault text at lexemes fault r lt told = by_fault fault (told_here text at f
 
 pub goes_down : (text : List ℕ) (at len : ℕ) → (0 < len) × (at + len ≤ length text) → length text - (at + len) < length text - at
 goes_down text at len on = omega (arith, on.0, on.1)
+
+-- ---- spans
+
+-- spans may begin earlier
+spans_earlier : (low from : ℕ) (xs : List Lexeme) (end : ℕ) → low ≤ from → SpansWithin from xs end → SpansWithin low xs end
+spans_earlier low from [] end le spans = omega (arith, spans)
+spans_earlier low from (x ∷ xs) end le spans = (omega (arith, spans.0), spans.1, spans.2)
+
+spans_of : (place : ℕ) (parts : List Part) (rest : List ℕ) → AreParts parts rest → SpansWithin place (lexemes_of place parts) (place + length (flat_map part_bytes parts))
+spans_of place [] rest are = omega arith
+spans_of place (Separator b ∷ parts) rest are =
+    let later = spans_of (place + 1) parts rest are.1 in
+    let end : place + 1 + length (flat_map part_bytes parts) ≡ place + suc (length (flat_map part_bytes parts)) = omega arith in
+    spans_earlier place (place + 1) _ _ (omega arith) (subst (SpansWithin (place + 1) (lexemes_of (place + 1) parts)) end later)
+spans_of place (Comment inside ∷ parts) rest are =
+    let len = length (part_bytes (Comment inside)) in
+    let later = spans_of (place + len) parts rest are.1 in
+    let end : place + len + length (flat_map part_bytes parts) ≡ place + length (part_bytes (Comment inside) ++ flat_map part_bytes parts) = omega (arith, length-append (part_bytes (Comment inside)) (flat_map part_bytes parts)) in
+    spans_earlier place (place + len) (lexemes_of (place + len) parts) _ (omega arith) (subst (SpansWithin (place + len) (lexemes_of (place + len) parts)) end later)
+spans_of place (Word form ∷ parts) rest are =
+    let len = length (form_bytes form) in
+    let later = spans_of (place + len) parts rest are.1 in
+    let end : place + len + length (flat_map part_bytes parts) ≡ place + length (form_bytes form ++ flat_map part_bytes parts) = omega (arith, length-append (form_bytes form) (flat_map part_bytes parts)) in
+    (omega arith, form-positive form are.0.0.written, subst (SpansWithin (place + len) (lexemes_of (place + len) parts)) end later)
+
+pub spans_within : (text : List ℕ) (r : Result (Vec Lexeme) LexFault) → IfOk r (λ v. Lexes text v.items) → IfOk r (λ v. SpansWithin 0 v.items (length text))
+spans_within text (Ok v) is =
+    let spans = spans_of 0 is.0 [] is.1 in
+    subst (λ l. SpansWithin 0 l (length text)) (sym is.3) (subst (SpansWithin 0 (lexemes_of 0 is.0)) (omega (arith, ap length is.2)) spans)
+spans_within text (Err fault) is = tt
+
+-- ---- each text has an outcome
+
+-- parts, and then the end or a fault
+record Read (text : List ℕ) : Type 0 where
+  parts : List Part
+  rest : List ℕ
+  are : AreParts parts rest
+  is : text ≡ flat_map part_bytes parts ++ rest
+  ending : (rest ≡ []) ⊎ ((fault : LexFault) × IsFaultAt rest fault)
+
+read_more : (part : Part) (after : List ℕ) → IsPart part after → Read after → Read (part_bytes part ++ after)
+read_more part after is read = record {
+  parts = part ∷ read.parts;
+  rest = read.rest;
+  are = (subst (IsPart part) read.is is, read.are);
+  is = ap (λ t. part_bytes part ++ t) read.is ∙ sym (append_assoc (part_bytes part) (flat_map part_bytes read.parts) read.rest);
+  ending = read.ending;
+}
+
+-- a text of at most so many bytes
+read : (n : ℕ) (text : List ℕ) → length text ≤ n → Read text
+read n [] le = record { parts = []; rest = []; are = tt; is = refl; ending = inl refl }
+read zero (b ∷ bs) le = absurd (omega arith)
+read (suc n) (b ∷ bs) le = by_step (λ t fits. read n t fits) (step_at (b ∷ bs)) (step_at-is b bs)
+  where
+    by_step : ((t : List ℕ) → length t ≤ n → Read t) → (r : Result Step LexFault) → IsStepAt (b ∷ bs) r → Read (b ∷ bs)
+    by_step others (Err fault) at = record { parts = []; rest = b ∷ bs; are = tt; is = refl; ending = inr (fault, at) }
+    by_step others (Ok step) at =
+        let shorter : length at.after ≤ n = omega (arith, ap length at.is, length-append (part_bytes at.part) at.after, part-positive at.part at.after at.fits) in
+        subst Read (sym at.is) (read_more at.part at.after at.fits (others at.after shorter))
+
+outcome_of : (text : List ℕ) → Read text → (outcome : Result (List Lexeme) LexFault) × Outcome text outcome
+outcome_of text r =
+    elim r.ending [
+      | inl end ↦ (Ok (lexemes_of 0 r.parts), (r.parts, subst (AreParts r.parts) end r.are, r.is ∙ ap (λ t. flat_map part_bytes r.parts ++ t) end ∙ append-nil (flat_map part_bytes r.parts), refl))
+      | inr fault ↦ (Err (moved (length (flat_map part_bytes r.parts)) fault.0), (r.parts, r.rest, r.are, r.is, fault.1.breaks (length (flat_map part_bytes r.parts))))
+    ]
+
+same_outcome : (text : List ℕ) (o other : Result (List Lexeme) LexFault) → Outcome text o → Outcome text other → other ≡ o
+same_outcome text (Ok xs) (Ok ys) is other = ap (λ (l : List Lexeme). Ok l) (one_list text ys xs other is)
+same_outcome text (Ok xs) (Err f) is other = absurd (list_or_fault text xs f is other)
+same_outcome text (Err f) (Ok xs) is other = absurd (list_or_fault text xs f other is)
+same_outcome text (Err f) (Err g) is other = ap (λ (l : LexFault). Err l) (one_fault text g f other is)
+
+pub has_one_outcome : (text : List ℕ) → HasOneOutcome text
+has_one_outcome text =
+    let o = outcome_of text (read (length text) text (omega arith)) in
+    (o.0, o.1, λ other is. same_outcome text o.0 other o.1 is)

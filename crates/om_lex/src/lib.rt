@@ -10,7 +10,7 @@ mod scan;
 mod symbols;
 mod words;
 
-pub use scan::tokens;
+pub use scan::{one_outcome, tokens};
 
 #[cfg(test)]
 mod tests;

@@ -1,9 +1,9 @@
 //! The parts of a text, one after the other.
 
-ghost use Rattle.std.specs.Prelude.{◌≡◌, ◌+◌, ◌<◌, ◌^◌, IfOk, IfErr, List};
+ghost use Rattle.std.specs.Prelude.{◌≡◌, ◌+◌, ◌<◌, ◌^◌, ℕ, IfOk, IfErr, List, length};
 ghost use Rattle.om_model.specs.declared.lexeme.Lexeme.{Lexeme};
 ghost use Rattle.om_model.specs.declared.lexeme.LexFault.{LexFault};
-ghost use Rattle.om_model.specs.LexText.{Lexes, Faults, Answers, UnlessMemory};
+ghost use Rattle.om_model.specs.LexText.{Lexes, Faults, Answers, UnlessMemory, SpansWithin, HasOneOutcome};
 ghost use Rattle.om_lex.specs.Scan.{lexeme_at, step_at, place_of, moved};
 
 use crate::bytes::{is_separator, starts_name};
@@ -111,9 +111,17 @@ pub fn tokens(alloc: Global, text: &[u8]) -> Result<Vec<Lexeme>, LexFault>
     ensures lexemes { IfOk result (λ v. Lexes text.now v.items) }
     ensures fault { IfErr result (UnlessMemory (Faults text.now)) }
 
+    // Its lexemes stand one after the other.
+    ensures spans { IfOk result (λ v. SpansWithin 0 v.items (length text.now)) }
+
     // A text that has lexemes, or a fault, gets no others, unless memory runs out.
     ensures only_lexemes { (lexemes : List Lexeme) → Lexes text.now lexemes → Answers (λ v. v.items) result (Ok lexemes) }
     ensures only_fault { (fault : LexFault) → Faults text.now fault → Answers (λ v. v.items) result (Err fault) }
 {
     scan(alloc, text)
 }
+
+/// Each text has lexemes or a fault, and no others.
+pub fn one_outcome()
+    ensures { (text : List ℕ) → HasOneOutcome text }
+{}

@@ -1,6 +1,6 @@
 -- The lexemes of a text, or its first fault. Separators and comments are those of the lexical conventions of OCaml's
 -- reference manual, but that nothing inside a comment is looked at; the faults are this project's own.
-use Rattle.std.specs.Prelude.{◌≡◌, ◌≢◌, ◌⊎◌, ℕ, zero, suc, ◌+◌, Bool, true, false, ◌&&◌, ◌||◌, ◌==◌, List, [], ◌∷◌, ◌++◌, length, IsTrue, Result, Ok, Err}
+use Rattle.std.specs.Prelude.{◌≡◌, ◌≢◌, ◌⊎◌, ℕ, zero, suc, ◌+◌, ◌<◌, ◌≤◌, Bool, false, ◌&&◌, ◌||◌, ◌==◌, List, [], ◌∷◌, ◌++◌, length, IsTrue, Result, Ok, Err}
 use Rattle.std.specs.List.{flat_map, AllByRecursion}
 use Rattle.om_model.specs.declared.lexeme.Lexeme.{Lexeme}
 use Rattle.om_model.specs.declared.lexeme.LexFault.{LexFault}
@@ -149,3 +149,19 @@ UnlessMemory P fault = P fault
 abbrev pub Answers : {X Y : Type 0} → (X → Y) → Result X LexFault → Result Y LexFault → Type 0
 Answers view (Ok x) expected = expected ≡ Ok (view x)
 Answers view (Err fault) expected = UnlessMemory (λ f. expected ≡ Err f) fault
+
+-- ---- what a text gives
+
+-- the text's lexemes, or its fault
+abbrev pub Outcome : List ℕ → Result (List Lexeme) LexFault → Type 0
+Outcome text (Ok lexemes) = Lexes text lexemes
+Outcome text (Err fault) = Faults text fault
+
+-- a text has an outcome, and no other
+abbrev pub HasOneOutcome : List ℕ → Type 0
+HasOneOutcome text = (outcome : Result (List Lexeme) LexFault) × Outcome text outcome × ((other : Result (List Lexeme) LexFault) → Outcome text other → other ≡ outcome)
+
+-- the spans are not empty and come one after the other, from a place on, and up to another
+abbrev pub SpansWithin : ℕ → List Lexeme → ℕ → Type 0
+SpansWithin from [] end = from ≤ end
+SpansWithin from (lexeme ∷ lexemes) end = (from ≤ lexeme.span.first) × (0 < lexeme.span.len) × SpansWithin (lexeme.span.first + lexeme.span.len) lexemes end

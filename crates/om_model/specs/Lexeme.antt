@@ -1,6 +1,6 @@
 -- How a lexeme is written. Words, characters, strings, integers and symbols follow the lexical conventions of
 -- OCaml's reference manual; escapes are those of the same page; `$` and sixteen digits is this project's own.
-use Rattle.std.specs.Prelude.{◌≡◌, ◌≢◌, ◌⊎◌, ℕ, ℤ, pos, ◌+◌, ◌-◌, ◌*◌, ◌^◌, ◌≤◌, ◌<◌, ◌-ℤ◌, Bool, true, false, ◌||◌, ◌==◌, if◌then◌else◌, nat_lt, List, [], ◌∷◌, ◌++◌, length, map, Option, Some, None, IsSome, unwrap_or, IsTrue}
+use Rattle.std.specs.Prelude.{◌≡◌, ◌≢◌, ◌⊎◌, ℕ, ℤ, pos, ◌+◌, ◌-◌, ◌*◌, ◌^◌, ◌≤◌, ◌<◌, ◌-ℤ◌, Bool, true, false, ◌||◌, ◌==◌, if◌then◌else◌, nat_lt, List, [], ◌∷◌, ◌++◌, length, map, Option, Some, None, IsSome, unwrap_or, IsTrue, codes}
 use Rattle.std.specs.List.{list_all, flat_map, AllByRecursion}
 use Rattle.std.specs.Char.{is_ascii_lowercase, is_ascii_uppercase, is_ascii_alphanumeric, is_ascii_digit, is_ascii_hexdigit}
 use Rattle.om_model.specs.declared.lexeme.Keyword.{Keyword}
@@ -9,7 +9,6 @@ use Rattle.om_model.specs.declared.lexeme.Suffix.{Suffix}
 use Rattle.om_model.specs.declared.lexeme.Suffix.TheVariants as suffixes
 use Rattle.om_model.specs.declared.lexeme.Symbol.{Symbol}
 use Rattle.om_model.specs.declared.lexeme.Symbol.TheVariants as symbols
-use Rattle.om_model.specs.declared.lexeme.Integer.{Integer}
 use Rattle.om_model.specs.declared.lexeme.LexemeKind.{LexemeKind}
 use Rattle.om_model.specs.declared.lexeme.LexemeKind.TheVariants as kinds
 
@@ -93,39 +92,39 @@ IsCharForm quote (Hexadecimal h l) = IsTrue (list_all is_ascii_hexdigit (h ∷ l
 -- ---- lexemes
 
 abbrev pub keyword_text : Keyword → List ℕ
-keyword_text keywords.Type = 116 ∷ 121 ∷ 112 ∷ 101 ∷ []
-keyword_text keywords.And = 97 ∷ 110 ∷ 100 ∷ []
-keyword_text keywords.Of = 111 ∷ 102 ∷ []
-keyword_text keywords.Mutable = 109 ∷ 117 ∷ 116 ∷ 97 ∷ 98 ∷ 108 ∷ 101 ∷ []
+keyword_text keywords.Type = codes "type"
+keyword_text keywords.And = codes "and"
+keyword_text keywords.Of = codes "of"
+keyword_text keywords.Mutable = codes "mutable"
 
 abbrev pub suffix_text : Suffix → List ℕ
 suffix_text suffixes.Absent = []
-suffix_text suffixes.Int32 = 108 ∷ []
-suffix_text suffixes.Int64 = 76 ∷ []
-suffix_text suffixes.Native = 110 ∷ []
+suffix_text suffixes.Int32 = codes "l"
+suffix_text suffixes.Int64 = codes "L"
+suffix_text suffixes.Native = codes "n"
 
 abbrev pub symbol_text : Symbol → List ℕ
-symbol_text symbols.OpenArray = 91 ∷ 124 ∷ []
-symbol_text symbols.CloseArray = 124 ∷ 93 ∷ []
-symbol_text symbols.DoubleSemicolon = 59 ∷ 59 ∷ []
-symbol_text symbols.DoubleColon = 58 ∷ 58 ∷ []
-symbol_text symbols.OpenParen = 40 ∷ []
-symbol_text symbols.CloseParen = 41 ∷ []
-symbol_text symbols.OpenBrace = 123 ∷ []
-symbol_text symbols.CloseBrace = 125 ∷ []
-symbol_text symbols.OpenBracket = 91 ∷ []
-symbol_text symbols.CloseBracket = 93 ∷ []
-symbol_text symbols.Bar = 124 ∷ []
-symbol_text symbols.Comma = 44 ∷ []
-symbol_text symbols.Semicolon = 59 ∷ []
-symbol_text symbols.Colon = 58 ∷ []
-symbol_text symbols.Equals = 61 ∷ []
-symbol_text symbols.Star = 42 ∷ []
-symbol_text symbols.Dot = 46 ∷ []
-symbol_text symbols.Hash = 35 ∷ []
+symbol_text symbols.OpenArray = codes "[|"
+symbol_text symbols.CloseArray = codes "|]"
+symbol_text symbols.DoubleSemicolon = codes ";;"
+symbol_text symbols.DoubleColon = codes "::"
+symbol_text symbols.OpenParen = codes "("
+symbol_text symbols.CloseParen = codes ")"
+symbol_text symbols.OpenBrace = codes "{"
+symbol_text symbols.CloseBrace = codes "}"
+symbol_text symbols.OpenBracket = codes "["
+symbol_text symbols.CloseBracket = codes "]"
+symbol_text symbols.Bar = codes "|"
+symbol_text symbols.Comma = codes ","
+symbol_text symbols.Semicolon = codes ";"
+symbol_text symbols.Colon = codes ":"
+symbol_text symbols.Equals = codes "="
+symbol_text symbols.Star = codes "*"
+symbol_text symbols.Dot = codes "."
+symbol_text symbols.Hash = codes "#"
 
 abbrev pub minus_text : Bool → List ℕ
-minus_text true = 45 ∷ []
+minus_text true = codes "-"
 minus_text false = []
 
 -- a lexeme as it is written
