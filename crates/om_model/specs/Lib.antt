@@ -12,3 +12,6 @@ pub mod Front
 pub mod Judgement
 pub mod Preorder
 pub mod Laws
+pub mod LexText
+pub mod Lexeme
+pub mod TagHash

@@ -5,6 +5,7 @@ pub mod bytes;
 pub mod code;
 pub mod header;
 pub mod laws;
+pub mod lexeme;
 pub mod list;
 pub mod refusal;
 pub mod value;
