@@ -11,3 +11,9 @@ pub mod Step
 pub mod Front
 pub mod Judgement
 pub mod Build
+pub mod PathText
+pub mod Shapes
+pub mod Typing
+pub mod Fault
+pub mod ListShapes
+pub mod VerdictText

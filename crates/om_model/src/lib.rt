@@ -3,8 +3,11 @@
 
 pub mod bytes;
 pub mod code;
+pub mod fault;
 pub mod header;
 pub mod list;
+pub mod list_type;
+pub mod path;
 pub mod refusal;
 pub mod value;
 
