@@ -8,3 +8,5 @@ pub mod References
 pub mod Fields
 pub mod Built
 pub mod Opened
+pub mod FaultLemmas
+pub mod ListShapeLemmas

@@ -17,3 +17,5 @@ pub mod Typing
 pub mod Fault
 pub mod ListShapes
 pub mod VerdictText
+pub mod Lawful
+pub mod VerdictLaws

@@ -5,6 +5,7 @@ pub mod bytes;
 pub mod code;
 pub mod fault;
 pub mod header;
+pub mod laws;
 pub mod list;
 pub mod list_type;
 pub mod path;
