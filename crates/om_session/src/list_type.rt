@@ -37,3 +37,20 @@ fn count_lists(text: &[u8]) -> Option<u8>
     }
     None
 }
+
+#[cfg(test)]
+mod tests {
+    use super::*;
+
+    #[test]
+    fn texts_of_types(rt: HostRuntime) {
+        let string_lists = ListType {
+            base: Base::Text,
+            lists: 2,
+        };
+        assert_eq!(rt; read_list_type(b"string list list"), Some(string_lists));
+        assert_eq!(rt; read_list_type(b"int  list"), None);
+        assert_eq!(rt; read_list_type(b"int list "), None);
+        assert_eq!(rt; read_list_type(b"float"), None);
+    }
+}

@@ -207,3 +207,87 @@ fn put(text: &mut Vec<u8>, bytes: &[u8]) -> Result<(), Memory>
         Err(_) => Err(Memory),
     }
 }
+
+#[cfg(test)]
+mod tests {
+    use super::*;
+    use crate::check::check;
+    use crate::list_type::read_list_type;
+    use std::test::Fail;
+
+    fn line(alloc: Global, heap: &Heap, root: Val, ty: &[u8]) -> Result<List<u8>, Fail>
+        requires { IsValue (length heap.now) root }
+    {
+        let ty = read_list_type(ty).ok_or("no type")?;
+        let verdict = check(alloc, heap, root, ty)?;
+        let text = verdict_text(alloc, heap, root, ty, &verdict)?;
+        Ok(text)
+    }
+
+    #[test]
+    fn values_without_objects(rt: HostRuntime) -> Result<(), Fail> {
+        let heap = Heap::new(rt.alloc());
+        let five = line(rt.alloc(), &heap, Val::Int(-5), b"int")?;
+        assert_eq!(rt; five.as_slice(), b"yes".as_slice());
+        let nothing = line(rt.alloc(), &heap, Val::Int(0), b"string list")?;
+        assert_eq!(rt; nothing.as_slice(), b"yes".as_slice());
+        let text = line(rt.alloc(), &heap, Val::Int(-5), b"string")?;
+        assert_eq!(rt;
+            text.as_slice(),
+            b"no .: expected string, found int -5".as_slice()
+        );
+        let atom = line(rt.alloc(), &heap, Val::Atom(0), b"int list")?;
+        assert_eq!(rt;
+            atom.as_slice(),
+            b"no .: expected int list, found atom 0".as_slice()
+        );
+        Ok(())
+    }
+
+    #[test]
+    fn a_string(rt: HostRuntime) -> Result<(), Fail> {
+        let mut heap = Heap::new(rt.alloc());
+        assert_eq!(rt; heap.add_bytes(3)?, 0);
+        let yes = line(rt.alloc(), &heap, Val::Ref(0), b"string")?;
+        assert_eq!(rt; yes.as_slice(), b"yes".as_slice());
+        let no = line(rt.alloc(), &heap, Val::Ref(0), b"int")?;
+        assert_eq!(rt;
+            no.as_slice(),
+            b"no .: expected int, found string".as_slice()
+        );
+        Ok(())
+    }
+
+    // The list that is its own rest.
+    #[test]
+    fn a_list_that_holds_itself(rt: HostRuntime) -> Result<(), Fail> {
+        let mut heap = Heap::new(rt.alloc());
+        assert_eq!(rt; heap.add_block(0, 2)?, 0);
+        heap.set(0, 1, Val::Ref(0));
+        let yes = line(rt.alloc(), &heap, Val::Ref(0), b"int list")?;
+        assert_eq!(rt; yes.as_slice(), b"yes".as_slice());
+        let no = line(rt.alloc(), &heap, Val::Ref(0), b"string list")?;
+        assert_eq!(rt;
+            no.as_slice(),
+            b"no .0: expected string, found int 0".as_slice()
+        );
+        Ok(())
+    }
+
+    // The list of 0 and 0, whose end is a block.
+    #[test]
+    fn a_list_with_a_wrong_end(rt: HostRuntime) -> Result<(), Fail> {
+        let mut heap = Heap::new(rt.alloc());
+        assert_eq!(rt; heap.add_block(0, 2)?, 0);
+        assert_eq!(rt; heap.add_block(0, 2)?, 1);
+        assert_eq!(rt; heap.add_block(1, 3)?, 2);
+        heap.set(0, 1, Val::Ref(1));
+        heap.set(1, 1, Val::Ref(2));
+        let no = line(rt.alloc(), &heap, Val::Ref(0), b"int list")?;
+        assert_eq!(rt;
+            no.as_slice(),
+            b"no .1.1: expected int list, found block 1 of 3".as_slice()
+        );
+        Ok(())
+    }
+}
