@@ -15,3 +15,12 @@ pub mod Laws
 pub mod LexText
 pub mod Lexeme
 pub mod TagHash
+pub mod Build
+pub mod PathText
+pub mod Shapes
+pub mod Typing
+pub mod Fault
+pub mod ListShapes
+pub mod VerdictText
+pub mod Lawful
+pub mod VerdictLaws

@@ -3,10 +3,13 @@
 
 pub mod bytes;
 pub mod code;
+pub mod fault;
 pub mod header;
 pub mod laws;
 pub mod lexeme;
 pub mod list;
+pub mod list_type;
+pub mod path;
 pub mod refusal;
 pub mod value;
 
