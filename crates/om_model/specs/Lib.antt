@@ -11,3 +11,7 @@ pub mod Step
 pub mod Front
 pub mod Judgement
 pub mod Build
+pub mod Status
+pub mod RefusalText
+pub mod Stream
+pub mod Outcome

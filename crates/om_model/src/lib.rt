@@ -6,6 +6,7 @@ pub mod code;
 pub mod header;
 pub mod list;
 pub mod refusal;
+pub mod status;
 pub mod value;
 
 /// Want of memory.
