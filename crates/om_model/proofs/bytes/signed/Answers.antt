@@ -11,10 +11,10 @@ pub returns-then-value-half : goal.returns-then-value-half
 returns-then-value-half c =
     let twice = half_shifted (length c.args.bytes.now) c.requires.some c.requires.few in
     let fits = half_fits (length c.args.bytes.now) c.requires.some c.requires.few in
-    rw (← c.big_endian-value.ensures, twos_complement-low _ _ _ twice c.if-value-half.true) (omega (arith, ints))
+    rw (← c.big_endian-value.ensures, twos_complement-low _ _ c.big_endian-value.result twice (omega arith)) (omega (arith, ints))
 
 pub returns-else-value-half : goal.returns-else-value-half
 returns-else-value-half c =
     let twice = half_shifted (length c.args.bytes.now) c.requires.some c.requires.few in
     let fits = half_fits (length c.args.bytes.now) c.requires.some c.requires.few in
-    rw (← c.big_endian-value.ensures, twos_complement-high _ _ _ twice c.if-value-half.false) (omega (arith, ints))
+    rw (← c.big_endian-value.ensures, twos_complement-high _ _ c.big_endian-value.result twice (omega arith)) (omega (arith, ints))

@@ -1,0 +1,2 @@
+pub mod HeapLemmas
+mod StoredLemmas
