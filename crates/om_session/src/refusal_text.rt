@@ -1,34 +1,46 @@
 //! The texts of refusals.
 
 ghost use Rattle.std.specs.Prelude.{◌≡◌, ◌++◌, codes, decimal, IfOk, string_bytes};
-ghost use Rattle.om_model.specs.RefusalText.{refusal_text as text_of, truncated_text as text_of_cut, stated_text as stated, sum_text as sum, hex_byte, hex_word};
+ghost use Rattle.om_model.specs.RefusalText.{refusal_text as text_of, truncated_text as text_of_cut, hex_byte, hex_word};
 
 use om_model::Memory;
 use om_model::refusal::{ReadRefusal, Stated, WordSum};
 use std::alloc::{AllocError, Global};
 
-fn stated_text(which: Stated) -> &'static str
-    ensures { result.now ≡ stated which }
+#[tactic(auto, unfolding(om_model::specs::RefusalText::refusal_text))]
+fn shared_text(alloc: Global, place: u64, offset: u64, have: u64) -> Result<String, AllocError>
+    ensures { IfOk result (λ text. string_bytes text ≡ text_of (ReadRefusal.BadShared place offset have)) }
 {
-    match which {
-        Stated::Words => "words",
-        Stated::Length => "length",
-    }
+    format!(in alloc; "BadShared({offset}, {have}) at {place}")
 }
 
-fn sum_text(which: WordSum) -> &'static str
-    ensures { result.now ≡ sum which }
+#[tactic(auto, unfolding(om_model::specs::RefusalText::refusal_text))]
+fn range_text(alloc: Global, place: u64, value: i64) -> Result<String, AllocError>
+    ensures { IfOk result (λ text. string_bytes text ≡ text_of (ReadRefusal.IntRange place value)) }
 {
-    match which {
-        WordSum::W32 => "w32",
-        WordSum::W64 => "w64",
-    }
+    format!(in alloc; "IntRange({value}) at {place}")
 }
 
-fn numbers_text(alloc: Global, name: &str, first: u64, second: u64, place: u64) -> Result<String, AllocError>
-    ensures { IfOk result (λ text. string_bytes text ≡ name.now ++ codes "(" ++ decimal first ++ codes ", " ++ decimal second ++ codes ") at " ++ decimal place) }
+#[tactic(auto, unfolding(om_model::specs::RefusalText::refusal_text))]
+fn overlong_text(alloc: Global, place: u64, need: u128, left: u64) -> Result<String, AllocError>
+    ensures { IfOk result (λ text. string_bytes text ≡ text_of (ReadRefusal.Overlong place need left)) }
 {
-    format!(in alloc; "{name}({first}, {second}) at {place}")
+    format!(in alloc; "Overlong({need}, {left}) at {place}")
+}
+
+#[tactic(auto, unfolding(om_model::specs::RefusalText::refusal_text))]
+fn code_text(alloc: Global, place: u64, code: u8) -> Result<String, AllocError>
+    ensures { IfOk result (λ text. string_bytes text ≡ text_of (ReadRefusal.BadCode place code)) }
+{
+    let digits = hex::encode(alloc, [code])?;
+    format!(in alloc; "BadCode({digits}) at {place}")
+}
+
+#[tactic(auto, unfolding(om_model::specs::RefusalText::refusal_text))]
+fn table_text(alloc: Global, place: u64) -> Result<String, AllocError>
+    ensures { IfOk result (λ text. string_bytes text ≡ text_of (ReadRefusal.NoTable place)) }
+{
+    format!(in alloc; "NoTable at {place}")
 }
 
 /// The text of a value that is cut short behind so many bytes.
