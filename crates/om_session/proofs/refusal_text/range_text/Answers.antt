@@ -6,6 +6,6 @@ use Rattle.om_session.proofs.refusal_text.range_text.Goals as goal
 
 pub returns : goal.returns
 returns c =
-    let fits : SFits w64 c.args.value = c.ranges.value.sfits in
+    let fits : SFits w64 c.args.value = c.ranges.value in
     let digits : c.format.result.now ≡ signed_decimal c.args.value = simp to_z-of_z at c.format.ensures.text in
     rw (← digits) c.digits_text.ensures
