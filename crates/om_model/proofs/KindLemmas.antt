@@ -31,9 +31,55 @@ eight : (1 ≤ 8) × (8 ≤ 8)
 eight = (omega arith, omega arith)
 
 large_in_range : AllByRecursion InRange large_kinds
-large_in_range =
-    (one, (two, (four, (eight, (one, (two, (four, (four, (four, (one, (four, (tt, (tt, (one, (one, (four,
-    (tt, (tt, (tt, (eight, (eight, (eight, (eight, (eight, (tt, (tt, tt))))))))))))))))))))))))))
+large_in_range = (
+  one,
+  (
+    two,
+    (
+      four,
+      (
+        eight,
+        (
+          one,
+          (
+            two,
+            (
+              four,
+              (
+                four,
+                (
+                  four,
+                  (
+                    one,
+                    (
+                      four,
+                      (
+                        tt,
+                        (
+                          tt,
+                          (
+                            one,
+                            (
+                              one,
+                              (
+                                four,
+                                (tt, (tt, (tt, (eight, (eight, (eight, (eight, (eight, (tt, (tt, tt)))))))))),
+                              ),
+                            ),
+                          ),
+                        ),
+                      ),
+                    ),
+                  ),
+                ),
+              ),
+            ),
+          ),
+        ),
+      ),
+    ),
+  ),
+)
 
 choose : (b : Bool) (x y : Result CodeKind CodeFault) → InRange x → InRange y → InRange (cond b x y)
 choose true x y p q = p

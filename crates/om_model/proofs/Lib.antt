@@ -5,9 +5,6 @@ pub mod Pending
 pub mod Parsed
 pub mod Unique
 pub mod References
-pub mod Fields
-pub mod Built
-pub mod Opened
 pub mod NextLemmas
 pub mod OneOutcome
 pub mod RawLemmas
@@ -24,3 +21,6 @@ pub mod SpellTokens
 pub mod SpellHeaders
 pub mod SpellValues
 pub mod SpellTrees
+pub mod StandLemmas
+pub mod JudgementLaws
+pub mod SpellingLaws

@@ -5,7 +5,7 @@ use Rattle.om_model.specs.declared.code.Measure.{Measure}
 use Rattle.om_model.specs.Words.{of_object, fields, pending}
 use Rattle.om_model.specs.Token.{Token, IsToken, measure_of}
 use Rattle.om_model.specs.Tree.{Tree, Forest, node, none, more, trees_in, IsTree, AreTrees, tokens, forest_tokens}
-use Rattle.om_model.specs.Build.{OpenBefore}
+use Rattle.om_model.specs.Preorder.{OpenBefore}
 use Rattle.om_model.proofs.Pending.{pending_push}
 
 -- trees with these tokens, so many of them

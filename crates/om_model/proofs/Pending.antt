@@ -6,7 +6,7 @@ use Rattle.om_model.specs.declared.code.Measure.{Measure}
 use Rattle.om_model.specs.Words.{of_object, fields, pending}
 use Rattle.om_model.specs.Token.{Token, measure_of}
 use Rattle.om_model.specs.Tree.{Tree, Forest, node, none, more, trees_in, IsTree, AreTrees, tokens, forest_tokens}
-use Rattle.om_model.specs.Build.{OpenBefore}
+use Rattle.om_model.specs.Preorder.{OpenBefore}
 
 -- a token takes one place, and its fields come on top
 pub pending_push : (ms : List (Option Measure)) (m : Option Measure) → 0 < pending ms → pending (ms ++ m ∷ []) ≡ pending ms - 1 + of_object fields m

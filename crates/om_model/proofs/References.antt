@@ -3,7 +3,7 @@ use Rattle.std.proofs.Common.{◌≡◌, ℕ, ◌+◌, ◌↔◌, List, [], ◌�
 use Rattle.om_model.specs.Words.{objects}
 use Rattle.om_model.specs.Token.{Token, measure_of}
 use Rattle.om_model.specs.Tree.{Tree, Forest, node, none, more, tokens, forest_tokens, made, made_by, RefersBack, ReferBack, AllReferBack}
-use Rattle.om_model.specs.Build.{EachRefersBack}
+use Rattle.om_model.specs.Preorder.{EachRefersBack}
 use Rattle.om_model.proofs.Counts.{objects-tokens, objects-tokens-cons}
 
 -- behind the objects of a token and those of more tokens

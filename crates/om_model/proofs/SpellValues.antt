@@ -13,7 +13,7 @@ use Rattle.om_model.specs.Words.{of_object, words32, words64, objects, all_words
 use Rattle.om_model.specs.Front.{TokensPass}
 use Rattle.om_model.specs.Token.{Token, integer, atom, shared, block, leaf, IsToken, measure_of, Spells}
 use Rattle.om_model.specs.Tree.{made_by, RefersBack}
-use Rattle.om_model.specs.Build.{OpenBefore, EachRefersBack}
+use Rattle.om_model.specs.Preorder.{OpenBefore, EachRefersBack}
 use Rattle.om_model.specs.Spelled.{IsNoReference, StatesWords32, States}
 use Rattle.om_model.proofs.Pending.{pending-le-length}
 use Rattle.om_model.proofs.SpellLemmas.{IsRaw-spelled, raw_measure-spelled, Spells-same}

@@ -15,3 +15,5 @@ pub mod Status
 pub mod RefusalText
 pub mod Stream
 pub mod Outcome
+pub mod Preorder
+pub mod Laws

@@ -102,8 +102,8 @@ integer_refusal c z = fails_if (not (is_integer z)) (IntRange (place c) z)
 abbrev pub shared_refusal : Context → ℕ → Option ReadRefusal
 shared_refusal c offset =
     or_else
-        (fails_if ((offset == 0) || nat_lt (objects c.before) offset) (BadShared (place c) offset (objects c.before)))
-        (fails_if (c.head.objects == 0) (NoTable (place c)))
+    (fails_if ((offset == 0) || nat_lt (objects c.before) offset) (BadShared (place c) offset (objects c.before)))
+    (fails_if (c.head.objects == 0) (NoTable (place c)))
 
 -- what is wrong with the token's fields: its tag, its offset, its identifier, its integer or its length
 abbrev pub field_refusal : Context → ℕ → CodeKind → List ℕ → Option ReadRefusal

@@ -4,6 +4,7 @@
 pub mod bytes;
 pub mod code;
 pub mod header;
+pub mod laws;
 pub mod list;
 pub mod refusal;
 pub mod status;
