@@ -24,3 +24,5 @@ pub mod SpellTrees
 pub mod StandLemmas
 pub mod JudgementLaws
 pub mod SpellingLaws
+pub mod FaultLemmas
+pub mod ListShapeLemmas

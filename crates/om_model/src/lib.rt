@@ -3,9 +3,12 @@
 
 pub mod bytes;
 pub mod code;
+pub mod fault;
 pub mod header;
 pub mod laws;
 pub mod list;
+pub mod list_type;
+pub mod path;
 pub mod refusal;
 pub mod status;
 pub mod value;

@@ -1,0 +1,15 @@
+-- Equal list types mean the same.
+use Rattle.std.proofs.Common.{◌∙◌, refl, sym, subst}
+use Rattle.std.specs.Prelude.{IsTrue, Contains}
+use Rattle.om_model.specs.Lawful.{AreLawful}
+use Rattle.om_model.specs.ListShapes.{fits, needs, list_shapes}
+
+pub list_shapes_are_lawful : AreLawful list_shapes
+list_shapes_are_lawful = record {
+  reflexive = λ t. refl;
+  symmetric = λ t u same. sym same;
+  transitive = λ t u w first second. first ∙ second;
+  fits = λ graph v t u same held. subst (λ w. IsTrue (fits graph v w)) same held;
+  needs = λ graph v t u i a same needed. (a, subst (λ w. Contains (needs graph v w) (i, a)) same needed, refl);
+  mutable = λ graph o t u same never. never;
+}

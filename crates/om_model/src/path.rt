@@ -1,0 +1,109 @@
+//! A path into a value: the numbers of the fields that lead from the root.
+
+ghost use Rattle.std.specs.Prelude.{◌≡◌, ◌<◌, ◌++◌, ◌∷◌, [], length, slice_index, OnOk, OnErr, IfOk, codes, decimal};
+ghost use Rattle.om_model.specs.PathText.{path_text};
+
+use crate::Memory;
+use crate::list::List;
+use std::alloc::{AllocError, Global};
+use std::marker::Model;
+
+/// The numbers of fields, from the root on.
+#[derive(Drop)]
+pub struct Path {
+    steps: Vec<u64>,
+}
+
+impl Model for Path {
+    ghost use Rattle.std.specs.Prelude.{List, ℕ};
+
+    ghost Value = { List ℕ };
+
+    ghost view = { λ p. p.steps.items };
+}
+
+impl Path {
+    /// The path to the root.
+    pub fn new(alloc: Global) -> Path
+        ensures { result ≡ [] }
+    {
+        Path {
+            steps: Vec::new(alloc),
+        }
+    }
+
+    /// How many steps there are.
+    pub fn len(&self) -> usize
+        ensures { result ≡ length self.now }
+    {
+        self.steps.len()
+    }
+
+    /// Step i, from the root.
+    pub fn step(&self, i: usize) -> u64
+        requires { i < length self.now }
+        ensures { result ≡ slice_index self.now i }
+    {
+        self.steps[i]
+    }
+
+    /// Adds a step at the end. After `Memory` nothing has changed.
+    pub fn push(&mut self, step: u64) -> Result<(), Memory>
+        ensures ok { OnOk result (self.new ≡ self.old ++ step ∷ []) }
+        ensures err { OnErr result (self.new ≡ self.old) }
+    {
+        match self.steps.push(step) {
+            Ok(()) => Ok(()),
+            Err(_) => Err(Memory),
+        }
+    }
+
+    /// The path's text: `.` for the root, else `.` and the number for each step.
+    pub fn text(&self, alloc: Global) -> Result<List<u8>, Memory>
+        ensures { IfOk result (λ text. text ≡ path_text self.now) }
+    {
+        match steps_text(alloc, self.steps.as_slice()) {
+            Ok(text) => Ok(List::of(text)),
+            Err(_) => Err(Memory),
+        }
+    }
+}
+
+fn steps_text(alloc: Global, steps: &[u64]) -> Result<Vec<u8>, AllocError>
+    ensures { IfOk result (λ text. text.items ≡ path_text steps.now) }
+{
+    if steps.is_empty() {
+        return Vec::from_slice(alloc, b".");
+    }
+    let mut text = Vec::new(alloc);
+    for step in steps {
+        put_step(&mut text, alloc, *step)?;
+    }
+    Ok(text)
+}
+
+fn put_step(text: &mut Vec<u8>, alloc: Global, step: u64) -> Result<(), AllocError>
+    ensures { OnOk result (text.new.items ≡ text.old.items ++ codes "." ++ decimal step) }
+{
+    let number = step.to_string(alloc)?;
+    text.extend_from_slice(b".")?;
+    text.extend_from_slice(number.as_bytes())
+}
+
+#[cfg(test)]
+mod tests {
+    use super::*;
+    use std::test::Fail;
+
+    #[test]
+    fn a_path_has_a_text(rt: HostRuntime) -> Result<(), Fail> {
+        let mut path = Path::new(rt.alloc());
+        assert_eq!(rt; path.text(rt.alloc())?.as_slice(), b".".as_slice());
+        path.push(1)?;
+        path.push(10)?;
+        assert_eq!(rt; path.len(), 2);
+        assert_eq!(rt; path.step(1), 10);
+        assert_eq!(rt; path.text(rt.alloc())?.as_slice(), b".1.10".as_slice());
+        Ok(())
+    }
+}
