@@ -1,3 +1,5 @@
+pub mod LineLemmas
 pub mod PutLemmas
 pub mod TakeLemmas
+pub mod ValueLemmas
 pub mod WordLemmas

@@ -1,5 +1,11 @@
 pub mod Call
+pub mod Fetch
 pub mod Gathered
 pub mod Given
+pub mod Lists
+pub mod Read
 pub mod Run
+pub mod Stops
+pub mod Types
+pub mod Values
 pub mod Words

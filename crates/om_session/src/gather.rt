@@ -26,7 +26,7 @@ pub struct Gathered {
 }
 
 /// So many bytes are too many.
-const LENGTH_LIMIT: usize = 1 << 48;
+pub const LENGTH_LIMIT: usize = 1 << 48;
 
 /// Takes the bytes of a source, up to their end, a fault or 2^48 bytes.
 pub fn gather<S: Source>(alloc: Global, source: &mut S) -> Result<Gathered, Memory>
