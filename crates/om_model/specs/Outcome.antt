@@ -242,13 +242,16 @@ Says {D} {T} language words given ending =
     (prepared : Result (Task T) Stop) × Prepares language words given.file prepared
     × MatchResult prepared (λ task. SaysValues language task given.input ending) (λ stop. ending ≡ stopped stop)
 
--- the texts of the first values, as far as the run came
+-- the texts of the first values of the bytes
+abbrev pub SaysSome : {D T : Type 0} → Language D T → Task T → List ℕ → List ℕ → Type 0
+SaysSome language task bytes text =
+    (trees : List Tree) × (rest : List ℕ) × SpellAll (limit_of task.request) bytes trees rest
+    × (ending : Ending) × TreatsAll language task (λ closing. closing ≡ ended) 0 trees ending × (text ≡ ending.out)
+
+-- as far as a run came: nothing, or the texts of the first values
 abbrev pub SaysFirst : {D T : Type 0} → Language D T → List (List ℕ) → Given → List ℕ → Type 0
 SaysFirst {D} {T} language words given text =
-    (text ≡ [])
-    ⊎ ((task : Task T) × Prepares language words given.file (Ok task) × (trees : List Tree) × (rest : List ℕ)
-    × SpellAll (limit_of task.request) given.input.bytes trees rest
-    × (ending : Ending) × TreatsAll language task (λ closing. closing ≡ ended) 0 trees ending × (text ≡ ending.out))
+    (text ≡ []) ⊎ ((task : Task T) × Prepares language words given.file (Ok task) × SaysSome language task given.input.bytes text)
 
 -- ---- the outcome of words, files and an input that are told
 

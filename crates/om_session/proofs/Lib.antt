@@ -1,5 +1,6 @@
 pub mod LineLemmas
 pub mod PutLemmas
 pub mod TakeLemmas
+pub mod TypeLemmas
 pub mod ValueLemmas
 pub mod WordLemmas

@@ -1,4 +1,5 @@
 pub mod Call
+pub mod Check
 pub mod Fetch
 pub mod Gathered
 pub mod Given

@@ -24,17 +24,17 @@ MayEnd language words given ending =
     Says language words given ending
     ⊎ ((text : List ℕ) × SaysFirst language words given text × (ending ≡ record (stopped out_of_memory) { out = text }))
 
--- err has the line of the ending, whose status is the call's; or it could not be put whole
-abbrev pub PutsLine : Call → Ending → Type 0
-PutsLine call ending =
-    (Puts call.err ending.err × (call.status ≡ ending.status)) ⊎ (PutsPart call.err ending.err × (call.status ≡ WriteFault))
+-- err has the line of the ending, whose status is answered; or the line could not be put whole
+abbrev pub PutsLine : Change Seen → Status → Ending → Type 0
+PutsLine err status ending =
+    (Puts err ending.err × (status ≡ ending.status)) ⊎ (PutsPart err ending.err × (status ≡ WriteFault))
 
 -- all was put that belongs to the ending, but for its line perhaps
 pub record Completes {D T : Type 0} (language : Language D T) (words : List (List ℕ)) (given : Given) (call : Call) : Type 0 where
   pub ending : Ending
   pub may_end : MayEnd language words given ending
   pub out : Puts call.out ending.out
-  pub line : PutsLine call ending
+  pub line : PutsLine call.err call.status ending
 
 -- out failed within the texts of some first values, and err has nothing
 pub record Breaks {D T : Type 0} (language : Language D T) (words : List (List ℕ)) (given : Given) (call : Call) : Type 0 where

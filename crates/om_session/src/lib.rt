@@ -5,6 +5,7 @@ mod fetch;
 mod gather;
 mod refusal_text;
 mod report;
+mod run;
 mod stand_in;
 mod stop;
 mod types;

@@ -30,6 +30,7 @@ enum Next {
 }
 
 /// What was found: what stands behind the last value, whether nothing is wrong with any, and how many there are.
+#[derive(Clone, Copy)]
 pub struct Said {
     pub end: StreamEnd,
     pub well: bool,
