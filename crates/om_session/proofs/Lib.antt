@@ -1,3 +1,5 @@
+pub mod AccountLemmas
+pub mod CheckLemmas
 pub mod LineLemmas
 pub mod PutLemmas
 pub mod TakeLemmas

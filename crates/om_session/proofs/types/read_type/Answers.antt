@@ -35,4 +35,4 @@ returns-in-Ok-None c = λ file.
         (no_bytes bytes.items (subst (λ n. true ≡ (n == 0)) bytes.ok.0 c.if-not-is_empty.ensures))
         (λ t is_text.
             let found = (c.in-Ok-None.ensures t).1 (subst (λ text. IsListTypeText text t) (sym c.as_bytes.ensures.value) is_text) in
-            let none = c.in-Ok-None.field-0-is in ?)
+            let none = c.in-Ok-None.field-0-is in cc (found, none))
