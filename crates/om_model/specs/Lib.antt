@@ -16,6 +16,10 @@ pub mod LexText
 pub mod Lexeme
 pub mod TagHash
 pub mod Build
+pub mod Status
+pub mod RefusalText
+pub mod Stream
+pub mod Outcome
 pub mod PathText
 pub mod Shapes
 pub mod Typing

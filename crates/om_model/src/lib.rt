@@ -11,6 +11,7 @@ pub mod list;
 pub mod list_type;
 pub mod path;
 pub mod refusal;
+pub mod status;
 pub mod value;
 
 /// Want of memory.

@@ -1,3 +1,11 @@
 pub mod ListTexts
 pub mod SearchLemmas
 pub mod KindTexts
+pub mod AccountLemmas
+pub mod CheckLemmas
+pub mod LineLemmas
+pub mod PutLemmas
+pub mod TakeLemmas
+pub mod TypeLemmas
+pub mod ValueLemmas
+pub mod WordLemmas

@@ -1,2 +1,14 @@
 pub mod Verdict
 pub mod Search
+pub mod Call
+pub mod Check
+pub mod Fetch
+pub mod Gathered
+pub mod Given
+pub mod Lists
+pub mod Read
+pub mod Run
+pub mod Stops
+pub mod Types
+pub mod Values
+pub mod Words

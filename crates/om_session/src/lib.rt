@@ -1,6 +1,16 @@
-//! Values of a stream against types, and the lines that tell of them.
+//! The top call: the words, the files, the type, and the values of the input one by one.
 #![tactic(auto)]
 
-pub mod check;
-pub mod list_type;
-pub mod verdict;
+mod check;
+mod fetch;
+mod gather;
+mod list_type;
+mod refusal_text;
+mod report;
+mod run;
+mod stand_in;
+mod stop;
+mod types;
+mod values;
+mod verdict;
+mod words;

@@ -1,0 +1,17 @@
+-- The numbers of the statuses.
+use Rattle.std.specs.Prelude.{ℕ}
+use Rattle.om_model.specs.declared.status.Status.{Status}
+use Rattle.om_model.specs.declared.status.Status.TheVariants.{Well, No, Usage, Types, Value, Script, ReadFault, WriteFault, OpenFault, Memory, TooLong}
+
+abbrev pub code_of : Status → ℕ
+code_of Well = 0
+code_of No = 1
+code_of Usage = 2
+code_of Types = 3
+code_of Value = 4
+code_of Script = 5
+code_of ReadFault = 6
+code_of WriteFault = 7
+code_of OpenFault = 8
+code_of Memory = 9
+code_of TooLong = 10

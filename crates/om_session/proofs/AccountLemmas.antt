@@ -1,0 +1,126 @@
+-- The account of a call, from what each stage gave.
+use Rattle.std.proofs.Common.{◌≡◌, ◌⊎◌, ℕ, true, false, List, [], ◌∷◌, ◌++◌, Option, Some, None, IfSome, Result, Ok, Err, inl, inr, refl, sym, ap, ◌∙◌, subst, arith}
+use Rattle.om_model.specs.declared.status.Status.{Status}
+use Rattle.om_model.specs.declared.list_type.ListType.{ListType}
+use Rattle.om_model.specs.Outcome.{Taken, Until, unasked, at_end, Found, unfetched, Given, Stop, usage, out_of_memory, status_of, text_of, err_line, stopped, Request, check, Asks, typed_by, Task, ReadsTypeOf, Prepares, Says, SaysFirst, SaysValues}
+use Rattle.om_edge.specs.Faults.{HasCause}
+use Rattle.om_session.specs.declared.stop.Stop.TheVariants as stops
+use Rattle.om_session.specs.declared.stop.Stop as codes
+use Rattle.om_session.specs.Call.{Seen, SeenFiles, Change, Call}
+use Rattle.om_session.specs.Check.{EndsValues, ChecksValues}
+use Rattle.om_session.specs.Given.{TakesFrom, Took, Fetched, Puts, PutsPart}
+use Rattle.om_session.specs.Lists.{lists}
+use Rattle.om_session.specs.Run.{FetchesFor, MayEnd, PutsLine, Completes, Breaks, Account, IsUsage}
+use Rattle.om_session.specs.Stops.{stop_of, Reports}
+use Rattle.om_session.specs.Types.{GivesType}
+use Rattle.om_session.specs.Values.{checks}
+use Rattle.om_session.proofs.PutLemmas.{from_to}
+use Rattle.om_session.proofs.CheckLemmas.{puts_nothing}
+
+abbrev pub call : Change Seen → Change SeenFiles → Change Seen → Change Seen → Status → Call
+call input files out err status = record { input = input; files = files; out = out; err = err; status = status }
+
+-- ---- nothing taken
+
+abbrev nothing : Taken
+nothing = record { bytes = []; until = unasked }
+
+nothing_told : (o : Option (List ℕ)) → IfSome o (λ bytes. (rest : List ℕ) × TakesFrom bytes nothing rest × (o ≡ Some rest))
+nothing_told None = tt
+nothing_told (Some bytes) = (bytes, record { front = refl; ends = λ e. cc e }, refl)
+
+took_nothing : (a : Seen) → Took (from_to a a) nothing
+took_nothing a = record {
+  told = nothing_told a.bytes;
+  measured = tt;
+  cause = record { never_falls = omega arith; rose = tt; kept = refl; at_last = λ e. e };
+}
+
+-- ---- a stop before the values
+
+module _ (words : List (List ℕ)) (file : List ℕ → Found) (input out : Seen) (files : Change SeenFiles) (fetches : FetchesFor words files file) (err : Change Seen) (status : Status) where
+  abbrev given : Given
+  given = record { file = file; input = nothing }
+
+  abbrev Ended : Type 0
+  Ended = Account lists words (call (from_to input input) files (from_to out out) err status)
+
+  account_of : (s : Stop) → MayEnd lists words given (stopped s) → PutsLine err status (stopped s) → Ended
+  account_of s may line = record {
+    given = given;
+    input = took_nothing input;
+    files = fetches;
+    ends = inl (record { ending = stopped s; may_end = may; out = puts_nothing out; line = line });
+  }
+
+  memory_account : PutsLine err status (stopped out_of_memory) → Ended
+  memory_account line = account_of out_of_memory (inr ([], inl refl, refl)) line
+
+  -- the stop is reported, or that memory ran out for its line
+  pub stop_account : (s : Stop) → (Prepares lists words file (Err s) ⊎ (s ≡ out_of_memory)) → Reports s err status → Ended
+  stop_account s (inl prepared) r = which r.which where
+    which : (r.said ≡ s) ⊎ (r.said ≡ out_of_memory) → Ended
+    which (inl same) = account_of s (inl (Err s, prepared, refl)) (subst (λ s. PutsLine err status (stopped s)) same r.line)
+    which (inr same) = memory_account (subst (λ s. PutsLine err status (stopped s)) same r.line)
+  stop_account s (inr memory) r = which r.which where
+    which : (r.said ≡ s) ⊎ (r.said ≡ out_of_memory) → Ended
+    which (inl same) = memory_account (subst (λ s. PutsLine err status (stopped s)) (same ∙ memory) r.line)
+    which (inr same) = memory_account (subst (λ s. PutsLine err status (stopped s)) same r.line)
+
+-- ---- the words
+
+pub usage_account : (words : List (List ℕ)) → IsUsage words → (input out : Seen) (files : SeenFiles) (err : Change Seen) (status : Status)
+    → Reports usage err status → Account lists words (call (from_to input input) (record { before = files; after = files }) (from_to out out) err status)
+usage_account words none input out files err status r =
+    stop_account words (λ name. unfetched) input out (record { before = files; after = files })
+        (record { asked = λ request asks. absurd (none request asks); unasked = λ unasked. refl }) err status usage (inl (Err usage, (none, refl), refl)) r
+
+module _ (words : List (List ℕ)) (file type_text : List ℕ) (asks : Asks words (check file type_text)) (files : Change SeenFiles) (found : Found) (fetched : Fetched files file found) where
+  asked : (request : Request) → Asks words request → IfSome (typed_by request) (λ typed. Fetched files typed.0 found)
+  asked (check f t) other =
+      let first = asks.0 in let second = other.0 in
+      let same : file ≡ f = cc in
+      subst (λ name. Fetched files name found) same fetched
+
+  fetches : FetchesFor words files (λ name. found)
+  fetches = record { asked = asked; unasked = λ none. absurd (none (check file type_text) asks) }
+
+  prepared_ok : (t : ListType) → ReadsTypeOf lists (λ name. found) (file, type_text) (Ok t) → Prepares lists words (λ name. found) (Ok (checks file type_text t))
+  prepared_ok t reads = (Ok (check file type_text), asks, (Ok (Some t), (Ok t, reads, refl), refl))
+
+  prepared_err : (s : Stop) → ReadsTypeOf lists (λ name. found) (file, type_text) (Err s) → Prepares lists words (λ name. found) (Err s)
+  prepared_err s reads = (Ok (check file type_text), asks, (Err s, (Err s, reads, refl), refl))
+
+  gives_err : (stop : codes.Stop) → GivesType file type_text found (Err stop) → Prepares lists words (λ name. found) (Err (stop_of stop)) ⊎ (stop_of stop ≡ out_of_memory)
+  gives_err stops.Memory h = inr refl
+  gives_err stops.Usage h = inl (prepared_err _ h)
+  gives_err (stops.CannotOpen name) h = inl (prepared_err _ h)
+  gives_err stops.Declarations h = inl (prepared_err _ h)
+  gives_err stops.RequestedType h = inl (prepared_err _ h)
+  gives_err (stops.Refused number refusal) h = inl (prepared_err _ h)
+  gives_err (stops.Cut number taken) h = inl (prepared_err _ h)
+  gives_err stops.ReadFault h = inl (prepared_err _ h)
+  gives_err stops.TooLong h = inl (prepared_err _ h)
+
+  -- there is no type
+  pub type_account : (stop : codes.Stop) → GivesType file type_text found (Err stop) → (input out : Seen) (err : Change Seen) (status : Status)
+      → Reports (stop_of stop) err status → Account lists words (call (from_to input input) files (from_to out out) err status)
+  type_account stop gives input out err status r =
+      stop_account words (λ name. found) input out files fetches err status (stop_of stop) (gives_err stop gives) r
+
+  -- the values are checked at the type
+  pub values_account : (t : ListType) → GivesType file type_text found (Ok t) → (input out err : Change Seen) (status : Status)
+      → ChecksValues t input out err status → Account lists words (call input files out err status)
+  values_account t gives input out err status v = record { given = given; input = v.1; files = fetches; ends = ends (v.2 file type_text) } where
+    task : Task ListType
+    task = checks file type_text t
+    given : Given
+    given = record { file = λ name. found; input = v.0 }
+    ends : EndsValues (checks file type_text t) v.0 out err status
+        → Completes lists words (record { file = λ name. found; input = v.0 }) (call input files out err status) ⊎ Breaks lists words (record { file = λ name. found; input = v.0 }) (call input files out err status)
+    ends (inl (ending, inl says, puts, line)) =
+        inl (record { ending = ending; may_end = inl (Ok (checks file type_text t), prepared_ok t gives, says); out = puts; line = line })
+    ends (inl (ending, inr (text, some, same), puts, line)) =
+        inl (record { ending = ending; may_end = inr (text, inr (checks file type_text t, prepared_ok t gives, some), same); out = puts; line = line })
+    ends (inr (text, some, part, none, same)) =
+        inr (record { text = text; first = inr (checks file type_text t, prepared_ok t gives, some); out = part; err = none; status = same })

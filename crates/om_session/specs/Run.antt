@@ -1,0 +1,172 @@
+-- What is promised of a call of `run`. One account of the call carries all: what the outside gave, how a run ends with
+-- that, and how much of it was put. The others follow from it.
+use Rattle.std.specs.Prelude.{ℕ, ◌^◌, ◌<◌, ◌≤◌, ◌≡◌, ◌≢◌, ◌⊎◌, Bool, true, List, [], ◌++◌, length, map, All, Option, Some, None, IsSomeAnd, IfSome, Result, Ok, Err}
+use Rattle.om_model.specs.declared.status.Status.{Status}
+use Rattle.om_model.specs.declared.status.Status.TheVariants.{Well, No, Usage, Types, Value, ReadFault, WriteFault, OpenFault, Memory, TooLong}
+use Rattle.om_model.specs.Tree.{Tree}
+use Rattle.om_model.specs.Stream.{SpellAll, End, clean, refused, cut, Stream}
+use Rattle.om_model.specs.Outcome.{Until, Taken, Found, Given, Stop, Request, Language, Ending, Task, Asks, typed_by, limit_of, Prepares, ReadsTypeOf, found_of, Says, SaysFirst, Outcome, stopped, out_of_memory}
+use Rattle.om_edge.specs.Faults.{RoseOrLast}
+use Rattle.om_edge.specs.Files.{File, bytes_of}
+use Rattle.om_session.specs.Call.{Seen, SeenFiles, Change, Call}
+use Rattle.om_session.specs.Given.{Took, Fetched, Puts, PutsPart}
+
+-- ---- the account of a call
+
+-- FILE is fetched where the words are plain and ask for one, and nothing else is
+pub record FetchesFor (words : List (List ℕ)) (files : Change SeenFiles) (file : List ℕ → Found) : Type 0 where
+  pub asked : (request : Request) → Asks words request → IfSome (typed_by request) (λ typed. Fetched files typed.0 (file typed.0))
+  pub unasked : ((request : Request) → Asks words request → ⊥) → files.after ≡ files.before
+
+-- how a run ends: with what follows from what was given, or where memory runs out, behind the texts of some first values
+abbrev pub MayEnd : {D T : Type 0} → Language D T → List (List ℕ) → Given → Ending → Type 0
+MayEnd language words given ending =
+    Says language words given ending
+    ⊎ ((text : List ℕ) × SaysFirst language words given text × (ending ≡ record (stopped out_of_memory) { out = text }))
+
+-- err has the line of the ending, whose status is answered; or the line could not be put whole
+abbrev pub PutsLine : Change Seen → Status → Ending → Type 0
+PutsLine err status ending =
+    (Puts err ending.err × (status ≡ ending.status)) ⊎ (PutsPart err ending.err × (status ≡ WriteFault))
+
+-- all was put that belongs to the ending, but for its line perhaps
+pub record Completes {D T : Type 0} (language : Language D T) (words : List (List ℕ)) (given : Given) (call : Call) : Type 0 where
+  pub ending : Ending
+  pub may_end : MayEnd language words given ending
+  pub out : Puts call.out ending.out
+  pub line : PutsLine call.err call.status ending
+
+-- out failed within the texts of some first values, and err has nothing
+pub record Breaks {D T : Type 0} (language : Language D T) (words : List (List ℕ)) (given : Given) (call : Call) : Type 0 where
+  pub text : List ℕ
+  pub first : SaysFirst language words given text
+  pub out : PutsPart call.out text
+  pub err : Puts call.err []
+  pub status : call.status ≡ WriteFault
+
+-- what was given in the call, and what was put
+pub record Account {D T : Type 0} (language : Language D T) (words : List (List ℕ)) (call : Call) : Type 0 where
+  pub given : Given
+  pub input : Took call.input given.input
+  pub files : FetchesFor words call.files given.file
+  pub ends : Completes language words given call ⊎ Breaks language words given call
+
+-- ---- the headline
+
+-- no call failed
+pub record HasNoFault (call : Call) : Type 0 where
+  pub input : ¬ RoseOrLast call.input.before.faults call.input.after.faults
+  pub opens : ¬ RoseOrLast call.files.before.open_faults call.files.after.open_faults
+  pub reads : ¬ RoseOrLast call.files.before.read_faults call.files.after.read_faults
+  pub out : ¬ RoseOrLast call.out.before.faults call.out.after.faults
+  pub err : ¬ RoseOrLast call.err.before.faults call.err.after.faults
+
+-- the input and the files are told, they are short enough, and no call failed
+pub record IsHonest (call : Call) (input : List ℕ) (files : List File) : Type 0 where
+  pub input_told : call.input.before.bytes ≡ Some input
+  pub files_told : call.files.before.map ≡ Some files
+  pub input_short : length input < 2 ^ 48
+  pub files_short : All (λ file. length file.1 < 2 ^ 48) files
+  pub no_fault : HasNoFault call
+
+-- the outcome of the words, the files and the input is what out, err and the status say
+pub record HasOutcome {D T : Type 0} (language : Language D T) (words : List (List ℕ)) (call : Call) (input : List ℕ) (files : List File) : Type 0 where
+  pub ending : Ending
+  pub outcome : Outcome language words (bytes_of files) input ending
+  pub out : Puts call.out ending.out
+  pub err : Puts call.err ending.err
+  pub status : call.status ≡ ending.status
+
+-- Unless memory runs out, an honest call has the outcome, however the input was cut.
+abbrev pub Headline : {D T : Type 0} → Language D T → List (List ℕ) → Call → Type 0
+Headline language words call =
+    (input : List ℕ) (files : List File) → IsHonest call input files → call.status ≢ Memory → HasOutcome language words call input files
+
+-- ---- the causes of the statuses
+
+-- no plain words
+abbrev pub IsUsage : List (List ℕ) → Type 0
+IsUsage words = (request : Request) → Asks words request → ⊥
+
+-- it could not be said, for want of memory or since err failed
+abbrev pub IsUnsaid : Status → Type 0
+IsUnsaid status = (status ≡ Memory) ⊎ (status ≡ WriteFault)
+
+-- 2: only where the words are not plain; and where they are not, unless it could not be said
+abbrev pub OnlyUsage : List (List ℕ) → Call → Type 0
+OnlyUsage words call = call.status ≡ Usage → IsUsage words
+
+abbrev pub IfUsage : List (List ℕ) → Call → Type 0
+IfUsage words call = IsUsage words → (call.status ≡ Usage) ⊎ IsUnsaid call.status
+
+-- 6: only where the count of the input or the files' read faults rose, or stands at the last value
+abbrev pub OnlyReadFault : Call → Type 0
+OnlyReadFault call = call.status ≡ ReadFault
+    → RoseOrLast call.input.before.faults call.input.after.faults ⊎ RoseOrLast call.files.before.read_faults call.files.after.read_faults
+
+-- 7: only where that of out or err did
+abbrev pub OnlyWriteFault : Call → Type 0
+OnlyWriteFault call = call.status ≡ WriteFault
+    → RoseOrLast call.out.before.faults call.out.after.faults ⊎ RoseOrLast call.err.before.faults call.err.after.faults
+
+-- a fetch of the name failed, or the map is told and has not the name
+abbrev pub CannotOpen : Change SeenFiles → List ℕ → Type 0
+CannotOpen files name =
+    (RoseOrLast files.before.open_faults files.after.open_faults × (files.after.last_open_fault ≡ Some name))
+    ⊎ IsSomeAnd files.before.map (λ all. bytes_of all name ≡ None)
+
+-- FILE of plain words that ask for one
+abbrev pub IsFileOf : List (List ℕ) → List ℕ → Type 0
+IsFileOf words name = (request : Request) × (type : List ℕ) × Asks words request × (typed_by request ≡ Some (name, type))
+
+-- 8: only where FILE could not be opened; and where the map is told and has not FILE
+abbrev pub OnlyOpenFault : List (List ℕ) → Call → Type 0
+OnlyOpenFault words call = call.status ≡ OpenFault → (name : List ℕ) × IsFileOf words name × CannotOpen call.files name
+
+abbrev pub IfMissing : List (List ℕ) → Call → Type 0
+IfMissing words call = (name : List ℕ) → IsFileOf words name → IsSomeAnd call.files.before.map (λ all. bytes_of all name ≡ None)
+    → (call.status ≡ OpenFault) ⊎ IsUnsaid call.status
+
+-- 10: only where 2^48 bytes or more were taken from the input, or from FILE
+abbrev pub OnlyTooLong : List (List ℕ) → Call → Type 0
+OnlyTooLong words call = call.status ≡ TooLong
+    → IfSome call.input.before.bytes (λ bytes. 2 ^ 48 ≤ length bytes)
+    ⊎ ((name : List ℕ) × IsFileOf words name × IfSome call.files.before.map (λ all. IsSomeAnd (bytes_of all name) (λ bytes. 2 ^ 48 ≤ length bytes)))
+
+-- a count that rose: the call is not taken to have gone well
+abbrev pub Rises : ℕ → ℕ → Type 0
+Rises before after = before < after
+
+pub record IsAfterFault (status : Status) (call : Call) : Type 0 where
+  pub input : Rises call.input.before.faults call.input.after.faults → (status ≡ ReadFault) ⊎ IsUnsaid status
+  pub opens : Rises call.files.before.open_faults call.files.after.open_faults → (status ≡ OpenFault) ⊎ IsUnsaid status
+  pub reads : Rises call.files.before.read_faults call.files.after.read_faults → (status ≡ ReadFault) ⊎ IsUnsaid status
+  pub out : Rises call.out.before.faults call.out.after.faults → status ≡ WriteFault
+  pub err : Rises call.err.before.faults call.err.after.faults → status ≡ WriteFault
+
+abbrev pub NoFaultIsTakenForAnEnd : Call → Type 0
+NoFaultIsTakenForAnEnd call = IsAfterFault call.status call
+
+-- 1 and 4, in an honest call: some value of a clean input has not the type; what stands behind the last value is refused,
+-- or is a value that is cut short
+abbrev pub HasStream : List (List ℕ) → Call → (List Tree → End → Type 0) → Type 0
+HasStream words call P = IfSome call.input.before.bytes (λ input.
+    (request : Request) × Asks words request × (trees : List Tree) × (end : End) × Stream input (limit_of request) trees end × P trees end)
+
+-- ---- completeness
+
+-- the words, the declarations and the type are accepted, and the input is values that have the type
+pub record IsAllWell {D T : Type 0} (language : Language D T) (words : List (List ℕ)) (input : List ℕ) (files : List File) : Type 0 where
+  pub task : Task T
+  pub prepared : Prepares language words (λ name. found_of (bytes_of files name)) (Ok task)
+  pub type : T
+  pub typed : task.type ≡ Some type
+  pub trees : List Tree
+  pub spelled : SpellAll (limit_of task.request) input trees []
+  pub have_type : All (λ tree. (line : List ℕ) × language.SaysVerdict type tree line true) trees
+
+-- where all is well, the run ends well, or memory ran out
+abbrev pub IsComplete : {D T : Type 0} → Language D T → List (List ℕ) → Call → Type 0
+IsComplete language words call =
+    (input : List ℕ) (files : List File) → IsHonest call input files → IsAllWell language words input files
+    → (call.status ≡ Well) ⊎ (call.status ≡ Memory)

@@ -1,0 +1,28 @@
+-- The stops of the code, and what is put of them.
+use Rattle.std.specs.Prelude.{ℕ, ◌≡◌, ◌⊎◌, codes}
+use Rattle.om_model.specs.declared.status.Status.{Status}
+use Rattle.om_model.specs.declared.status.Status.TheVariants.{WriteFault}
+use Rattle.om_model.specs.RefusalText.{refusal_text, truncated_text}
+use Rattle.om_model.specs.Outcome as outcome
+use Rattle.om_session.specs.declared.stop.Stop.{Stop}
+use Rattle.om_session.specs.declared.stop.Stop.TheVariants as stops
+use Rattle.om_session.specs.Call.{Seen, Change}
+use Rattle.om_session.specs.Given.{Puts, PutsPart}
+
+abbrev pub stop_of : Stop → outcome.Stop
+stop_of stops.Usage = outcome.usage
+stop_of (stops.CannotOpen name) = outcome.cannot_open name.now
+stop_of stops.Declarations = outcome.declarations (codes "NotYet")
+stop_of stops.RequestedType = outcome.requested_type (codes "NotYet")
+stop_of (stops.Refused number refusal) = outcome.value number (refusal_text refusal)
+stop_of (stops.Cut number taken) = outcome.value number (truncated_text taken)
+stop_of stops.ReadFault = outcome.read_fault
+stop_of stops.TooLong = outcome.too_long
+stop_of stops.Memory = outcome.out_of_memory
+
+-- the line of the stop, or that memory ran out, is put and its status answered; or the line could not be put whole
+pub record Reports (stop : outcome.Stop) (err : Change Seen) (status : Status) : Type 0 where
+  pub said : outcome.Stop
+  pub which : (said ≡ stop) ⊎ (said ≡ outcome.out_of_memory)
+  pub line : (Puts err (outcome.err_line (outcome.text_of said)) × (status ≡ outcome.status_of said))
+      ⊎ (PutsPart err (outcome.err_line (outcome.text_of said)) × (status ≡ WriteFault))

@@ -1,0 +1,162 @@
+//! The texts of refusals.
+
+ghost use Rattle.std.specs.Prelude.{◌≡◌, ◌++◌, codes, decimal, IfOk, string_bytes};
+ghost use Rattle.std.specs.Fmt.{signed_decimal};
+ghost use Rattle.om_model.specs.RefusalText.{refusal_text as text_of, truncated_text as text_of_cut, stated_text as stated, sum_text as sum, hex_byte, hex_word};
+
+use itoa::Buffer;
+use om_model::refusal::{ReadRefusal, Stated, WordSum};
+use std::alloc::{AllocError, Global};
+
+fn stated_text(which: Stated) -> &'static str
+    ensures { result.now ≡ stated which }
+{
+    match which {
+        Stated::Words => "words",
+        Stated::Length => "length",
+    }
+}
+
+fn sum_text(which: WordSum) -> &'static str
+    ensures { result.now ≡ sum which }
+{
+    match which {
+        WordSum::W32 => "w32",
+        WordSum::W64 => "w64",
+    }
+}
+
+// A name and the place.
+fn place_text(alloc: Global, name: &str, place: u64) -> Result<String, AllocError>
+    ensures { IfOk result (λ text. string_bytes text ≡ name.now ++ codes " at " ++ decimal place) }
+{
+    format!(in alloc; "{name} at {place}")
+}
+
+// A name, a number and the place.
+fn number_text(alloc: Global, name: &str, number: u64, place: u64) -> Result<String, AllocError>
+    ensures { IfOk result (λ text. string_bytes text ≡ name.now ++ codes "(" ++ decimal number ++ codes ") at " ++ decimal place) }
+{
+    format!(in alloc; "{name}({number}) at {place}")
+}
+
+// A name, the digits of a number and the place.
+fn digits_text(
+    alloc: Global,
+    name: &str,
+    digits: &str,
+    place: u64,
+) -> Result<String, AllocError>
+    ensures { IfOk result (λ text. string_bytes text ≡ name.now ++ codes "(" ++ digits.now ++ codes ") at " ++ decimal place) }
+{
+    format!(in alloc; "{name}({digits}) at {place}")
+}
+
+// A name, a code in hexadecimal and the place.
+fn code_text(alloc: Global, name: &str, code: u8, place: u64) -> Result<String, AllocError>
+    ensures { IfOk result (λ text. string_bytes text ≡ name.now ++ codes "(" ++ hex_byte code ++ codes ") at " ++ decimal place) }
+{
+    let digits = hex::encode(alloc, [code])?;
+    digits_text(alloc, name, digits.as_str(), place)
+}
+
+// A name, two numbers and the place.
+fn numbers_text(
+    alloc: Global,
+    name: &str,
+    first: u64,
+    second: u64,
+    place: u64,
+) -> Result<String, AllocError>
+    ensures { IfOk result (λ text. string_bytes text ≡ name.now ++ codes "(" ++ decimal first ++ codes ", " ++ decimal second ++ codes ") at " ++ decimal place) }
+{
+    format!(in alloc; "{name}({first}, {second}) at {place}")
+}
+
+fn magic_text(alloc: Global, magic: u32) -> Result<String, AllocError>
+    ensures { IfOk result (λ text. string_bytes text ≡ codes "BadMagic(" ++ hex_word magic ++ codes ")") }
+{
+    let digits = hex::encode(alloc, magic.to_be_bytes())?;
+    format!(in alloc; "BadMagic({digits})")
+}
+
+fn too_large_text(
+    alloc: Global,
+    which: &str,
+    stated: u64,
+    limit: u64,
+) -> Result<String, AllocError>
+    ensures { IfOk result (λ text. string_bytes text ≡ codes "TooLarge(" ++ which.now ++ codes ", " ++ decimal stated ++ codes ", " ++ decimal limit ++ codes ")") }
+{
+    format!(in alloc; "TooLarge({which}, {stated}, {limit})")
+}
+
+fn mismatch_text(
+    alloc: Global,
+    which: &str,
+    stated: u64,
+    found: u64,
+    place: u64,
+) -> Result<String, AllocError>
+    ensures { IfOk result (λ text. string_bytes text ≡ codes "SizeMismatch(" ++ which.now ++ codes ", " ++ decimal stated ++ codes ", " ++ decimal found ++ codes ") at " ++ decimal place) }
+{
+    format!(in alloc; "SizeMismatch({which}, {stated}, {found}) at {place}")
+}
+
+fn range_text(alloc: Global, value: i64, place: u64) -> Result<String, AllocError>
+    ensures { IfOk result (λ text. string_bytes text ≡ codes "IntRange(" ++ signed_decimal value ++ codes ") at " ++ decimal place) }
+{
+    let mut buffer = Buffer::new();
+    digits_text(alloc, "IntRange", buffer.format(value), place)
+}
+
+fn overlong_text(alloc: Global, need: u128, left: u64, place: u64) -> Result<String, AllocError>
+    ensures { IfOk result (λ text. string_bytes text ≡ codes "Overlong(" ++ decimal need ++ codes ", " ++ decimal left ++ codes ") at " ++ decimal place) }
+{
+    format!(in alloc; "Overlong({need}, {left}) at {place}")
+}
+
+/// The text of a refusal.
+#[tactic(auto, unfolding(om_model::specs::RefusalText::refusal_text))]
+pub fn refusal_text(alloc: Global, refusal: ReadRefusal) -> Result<String, AllocError>
+    ensures { IfOk result (λ text. string_bytes text ≡ text_of refusal) }
+{
+    match refusal {
+        ReadRefusal::BadMagic(magic) => magic_text(alloc, magic),
+        ReadRefusal::Compressed => String::from_str(alloc, "Compressed"),
+        ReadRefusal::TooLarge(which, stated, limit) => {
+            too_large_text(alloc, stated_text(which), stated, limit)
+        }
+        ReadRefusal::BadCode(place, code) => code_text(alloc, "BadCode", code, place),
+        ReadRefusal::PointerCode(place, code) => code_text(alloc, "PointerCode", code, place),
+        ReadRefusal::OtherCustom(place, code) => code_text(alloc, "OtherCustom", code, place),
+        ReadRefusal::BadTag(place, tag) => number_text(alloc, "BadTag", u64::from(tag), place),
+        ReadRefusal::BadShared(place, offset, have) => {
+            numbers_text(alloc, "BadShared", offset, have, place)
+        }
+        ReadRefusal::NoTable(place) => place_text(alloc, "NoTable", place),
+        ReadRefusal::BadNative(place, kind) => {
+            number_text(alloc, "BadNative", u64::from(kind), place)
+        }
+        ReadRefusal::IntRange(place, value) => range_text(alloc, value, place),
+        ReadRefusal::ZeroArray(place) => place_text(alloc, "ZeroArray", place),
+        ReadRefusal::Overlong(place, need, left) => overlong_text(alloc, need, left, place),
+        ReadRefusal::SizeMismatch(place, which, stated, found) => {
+            mismatch_text(alloc, sum_text(which), stated, found, place)
+        }
+        ReadRefusal::CountMismatch(place, stated, found) => {
+            numbers_text(alloc, "CountMismatch", stated, found, place)
+        }
+        ReadRefusal::LengthMismatch(place, left) => {
+            number_text(alloc, "LengthMismatch", left, place)
+        }
+        ReadRefusal::Memory => Ok(String::new(alloc)),
+    }
+}
+
+/// The text of a value that is cut short behind so many bytes.
+pub fn truncated_text(alloc: Global, taken: u64) -> Result<String, AllocError>
+    ensures { IfOk result (λ text. string_bytes text ≡ text_of_cut taken) }
+{
+    format!(in alloc; "Truncated({taken})")
+}
