@@ -24,8 +24,5 @@ pub mod SpellTrees
 pub mod StandLemmas
 pub mod JudgementLaws
 pub mod SpellingLaws
-pub mod Fields
-pub mod Built
-pub mod Opened
 pub mod FaultLemmas
 pub mod ListShapeLemmas

@@ -15,7 +15,6 @@ pub mod Laws
 pub mod LexText
 pub mod Lexeme
 pub mod TagHash
-pub mod Build
 pub mod Status
 pub mod RefusalText
 pub mod Stream
