@@ -1,5 +1,6 @@
 pub mod AccountLemmas
 pub mod CheckLemmas
+pub mod HeadlineLemmas
 pub mod LineLemmas
 pub mod PutLemmas
 pub mod TakeLemmas

@@ -5,9 +5,11 @@ mod fetch;
 mod gather;
 mod refusal_text;
 mod report;
-mod run;
 mod stand_in;
 mod stop;
+mod top;
 mod types;
 mod values;
 mod words;
+
+pub use top::run;
