@@ -6,7 +6,7 @@ use Rattle.om_model.specs.Outcome.{Taken, Until, unasked, at_end, Found, unfetch
 use Rattle.om_edge.specs.Faults.{HasCause}
 use Rattle.om_session.specs.declared.stop.Stop.TheVariants as stops
 use Rattle.om_session.specs.declared.stop.Stop as codes
-use Rattle.om_session.specs.Call.{Seen, SeenFiles, Change, Call}
+use Rattle.om_session.specs.Call.{Seen, SeenFiles, Change, Call, call}
 use Rattle.om_session.specs.Check.{EndsValues, ChecksValues}
 use Rattle.om_session.specs.Given.{TakesFrom, Took, Fetched, Puts, PutsPart}
 use Rattle.om_session.specs.Lists.{lists}
@@ -16,9 +16,6 @@ use Rattle.om_session.specs.Types.{GivesType}
 use Rattle.om_session.specs.Values.{checks}
 use Rattle.om_session.proofs.PutLemmas.{from_to}
 use Rattle.om_session.proofs.CheckLemmas.{puts_nothing}
-
-abbrev pub call : Change Seen → Change SeenFiles → Change Seen → Change Seen → Status → Call
-call input files out err status = record { input = input; files = files; out = out; err = err; status = status }
 
 -- ---- nothing taken
 

@@ -3,6 +3,7 @@ pub mod SearchLemmas
 pub mod KindTexts
 pub mod AccountLemmas
 pub mod CheckLemmas
+pub mod HeadlineLemmas
 pub mod LineLemmas
 pub mod PutLemmas
 pub mod TakeLemmas

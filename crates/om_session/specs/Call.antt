@@ -40,3 +40,6 @@ seen_files map opens last reads old new = record {
   before = record { map = map old; open_faults = opens old; last_open_fault = last old; read_faults = reads old };
   after = record { map = map new; open_faults = opens new; last_open_fault = last new; read_faults = reads new };
 }
+
+abbrev pub call : Change Seen → Change SeenFiles → Change Seen → Change Seen → Status → Call
+call input files out err status = record { input = input; files = files; out = out; err = err; status = status }

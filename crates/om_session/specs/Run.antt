@@ -66,7 +66,7 @@ pub record IsHonest (call : Call) (input : List ℕ) (files : List File) : Type 
   pub input_told : call.input.before.bytes ≡ Some input
   pub files_told : call.files.before.map ≡ Some files
   pub input_short : length input < 2 ^ 48
-  pub files_short : All (λ file. length file.1 < 2 ^ 48) files
+  pub files_short : (name bytes : List ℕ) → bytes_of files name ≡ Some bytes → length bytes < 2 ^ 48
   pub no_fault : HasNoFault call
 
 -- the outcome of the words, the files and the input is what out, err and the status say

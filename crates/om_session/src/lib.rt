@@ -7,10 +7,12 @@ mod gather;
 mod list_type;
 mod refusal_text;
 mod report;
-mod run;
 mod stand_in;
 mod stop;
+mod top;
 mod types;
 mod values;
 mod verdict;
 mod words;
+
+pub use top::run;

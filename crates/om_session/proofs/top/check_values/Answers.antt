@@ -11,7 +11,7 @@ use Rattle.om_session.specs.Lists.{lists}
 use Rattle.om_session.proofs.PutLemmas.{at, from_to}
 use Rattle.om_session.proofs.ValueLemmas.{says_nothing}
 use Rattle.om_session.proofs.CheckLemmas.{puts_nothing, memory_values, stopped_values, ended_values, fault_values}
-use Rattle.om_session.proofs.run.check_values.Goals as goal
+use Rattle.om_session.proofs.top.check_values.Goals as goal
 
 pub returns-in-Err : goal.returns-in-Err
 returns-in-Err g c =
@@ -64,7 +64,14 @@ returns-in-Err-Memory g c =
     (taken, c.in-Ok.ensures, λ file type_text.
         let err = rw c.in-Err-Memory.field-0-is at c.in-Err-Memory.ensures in
         let p = subst (λ b. PutsValues (checks file type_text c.args.ty) b out (Err errors.Memory)) c.as_slice.ensures.value (err file type_text) in
-        ?)
+        memory_values file type_text c.args.ty taken p.1 p.0 p.2 p.3 p.4 out p.5
+            (seen g.E.Sink.written g.E.Sink.faults c.args.err.now c.report_stop-in-Err-Memory.new.err) c.report_stop-in-Err-Memory.result c.report_stop-in-Err-Memory.ensures)
 
 pub returns : goal.returns
-returns g c = ?
+returns g c =
+    let taken = taken_of c.in-Ok.gathered in
+    let out = seen g.K.Sink.written g.K.Sink.faults c.args.out.now c.put_values.new.out in
+    (taken, c.in-Ok.ensures, λ file type_text.
+        let err = rw c.in-Err-Fault.field-0-is at c.in-Err-Fault.ensures in
+        let p = subst (λ b. PutsValues (checks file type_text c.args.ty) b out (Err errors.Fault)) c.as_slice.ensures.value (err file type_text) in
+        fault_values file type_text c.args.ty taken p.1 p.0 p.2 p.3 p.4 out p.5 (at g.E.Sink.written g.E.Sink.faults c.args.err.now))
