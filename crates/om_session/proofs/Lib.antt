@@ -10,3 +10,4 @@ pub mod TakeLemmas
 pub mod TypeLemmas
 pub mod ValueLemmas
 pub mod WordLemmas
+pub mod ReadLemmas

@@ -7,9 +7,10 @@ ghost use Rattle.om_model.specs.PathText.{path_text};
 ghost use Rattle.om_model.specs.Fault.{step as step_of, place_at, IsFault};
 ghost use Rattle.om_model.specs.ListShapes.{list_shapes, list_type_text, base_text};
 ghost use Rattle.om_model.specs.VerdictText.{kind_text, IsVerdictLine};
+ghost use Rattle.om_session.specs.Lists.{IsLine};
 ghost use Rattle.om_session.specs.Verdict.{IsVerdict, IsLineOf, PutsFault, object_text};
 
-use crate::check::{Verdict, field_type, is_pair};
+use crate::check::{Verdict, check, field_type, is_pair};
 use itoa::Buffer;
 use om_heap::{Heap, Kind};
 use om_model::Memory;
@@ -20,6 +21,24 @@ use om_model::list_type::{Base, ListType};
 use om_model::path::Path;
 use om_model::value::Val;
 use std::alloc::Global;
+
+/// The line of a verdict, and whether the value has the type.
+#[derive(Drop)]
+pub struct Line {
+    pub text: List<u8>,
+    pub well: bool,
+}
+
+/// Checks a value against a type, and says what comes of that.
+pub fn verdict_line(alloc: Global, heap: &Heap, root: Val, ty: ListType) -> Result<Line, Memory>
+    requires { IsValue (length heap.now) root }
+    ensures { IfOk result (λ line. IsLine ty heap.now root line.text line.well) }
+{
+    let verdict = check(alloc, heap, root, ty)?;
+    let text = verdict_text(alloc, heap, root, ty, &verdict)?;
+    let well = matches!(verdict, Verdict::Yes);
+    Ok(Line { text, well })
+}
 
 /// The line of a verdict: `yes`, or `no` and the fault.
 pub fn verdict_text(
@@ -211,7 +230,6 @@ fn put(text: &mut Vec<u8>, bytes: &[u8]) -> Result<(), Memory>
 #[cfg(test)]
 mod tests {
     use super::*;
-    use crate::check::check;
     use crate::list_type::read_list_type;
     use std::test::Fail;
 
