@@ -3,7 +3,7 @@
 ghost use Rattle.std.specs.Prelude.{◌≡◌, ◌<◌, IsTrue};
 ghost use Rattle.std.specs.Char.{is_ascii_hexdigit};
 ghost use Rattle.std.specs.List.{prefix_len};
-ghost use Rattle.om_model.specs.Lexeme.{is_separator, starts_lower, starts_name, is_name_byte, digit_value};
+ghost use Rattle.om_model.specs.Lexeme.{is_separator, starts_lower, starts_name, is_name_byte, value_of_digit};
 
 /// Space, tab, line feed, form feed or carriage return.
 pub fn is_separator(b: u8) -> bool
@@ -43,7 +43,7 @@ pub fn name_len(text: &[u8]) -> usize
 /// What a digit of either case stands for.
 pub fn digit_value(b: u8) -> u8
     requires { IsTrue (is_ascii_hexdigit b) }
-    ensures value { result ≡ digit_value b }
+    ensures value { result ≡ value_of_digit b }
     ensures small { result < 16 }
 {
     if b < b':' {

@@ -35,13 +35,13 @@ IsName starts (b ∷ bs) = IsTrue (starts b) × IsTrue (list_all is_name_byte (b
 -- ---- numbers
 
 -- what a digit of either case stands for: 48 is `0`, 65 `A`, 97 `a`
-abbrev pub digit_value : ℕ → ℕ
-digit_value b = if nat_lt b 58 then b - 48 else (if nat_lt b 71 then b - 55 else b - 87)
+abbrev pub value_of_digit : ℕ → ℕ
+value_of_digit b = if nat_lt b 58 then b - 48 else (if nat_lt b 71 then b - 55 else b - 87)
 
 -- what digits stand for, the last one of weight 1
 abbrev pub number_in : ℕ → List ℕ → ℕ
 number_in base [] = 0
-number_in base (d ∷ ds) = digit_value d * base ^ length ds + number_in base ds
+number_in base (d ∷ ds) = value_of_digit d * base ^ length ds + number_in base ds
 
 abbrev pub signed : Bool → ℕ → ℤ
 signed true n = pos 0 -ℤ pos n
