@@ -47,6 +47,7 @@ module _ (words : List (List ℕ)) (file : List ℕ → Found) (input out : Seen
     given = given;
     input = took_nothing input;
     files = fetches;
+    asked = λ read. absurd (read refl);
     ends = inl (record { ending = stopped s; may_end = may; out = puts_nothing out; line = line });
   }
 
@@ -108,7 +109,7 @@ module _ (words : List (List ℕ)) (file type_text : List ℕ) (asks : Asks word
   -- the values are checked at the type
   pub values_account : (t : ListType) → GivesType file type_text found (Ok t) → (input out err : Change Seen) (status : Status)
       → ChecksValues t input out err status → Account lists words (call input files out err status)
-  values_account t gives input out err status v = record { given = given; input = v.1; files = fetches; ends = ends (v.2 file type_text) } where
+  values_account t gives input out err status v = record { given = given; input = v.1; files = fetches; asked = λ read. (task, prepared_ok t gives); ends = ends (v.2 file type_text) } where
     task : Task ListType
     task = checks file type_text t
     given : Given

@@ -77,7 +77,7 @@ module _ {D T : Type 0} (language : Language D T) (words : List (List ℕ)) (fil
       (Ok (check f t), asks, (found, (type, reads_same f t (fetches.asked (check f t) asks) type r, same), rest))
 
 -- `check` stops at no value
-no_stop : {D T : Type 0} (language : Language D T) (request : Request) (type : Option T) (k : ℕ) (tree : Tree) (stop : Stop) → Treats language request type k tree (stops stop) → ⊥
+pub no_stop : {D T : Type 0} (language : Language D T) (request : Request) (type : Option T) (k : ℕ) (tree : Tree) (stop : Stop) → Treats language request type k tree (stops stop) → ⊥
 no_stop language (check f t) None k tree stop h = h
 no_stop language (check f t) (Some type) k tree stop h = h
 

@@ -1,4 +1,5 @@
 pub mod AccountLemmas
+pub mod CauseLemmas
 pub mod CheckLemmas
 pub mod HeadlineLemmas
 pub mod LineLemmas

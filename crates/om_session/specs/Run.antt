@@ -4,8 +4,8 @@ use Rattle.std.specs.Prelude.{ℕ, ◌^◌, ◌<◌, ◌≤◌, ◌≡◌, ◌�
 use Rattle.om_model.specs.declared.status.Status.{Status}
 use Rattle.om_model.specs.declared.status.Status.TheVariants.{Well, No, Usage, Types, Value, ReadFault, WriteFault, OpenFault, Memory, TooLong}
 use Rattle.om_model.specs.Tree.{Tree}
-use Rattle.om_model.specs.Stream.{SpellAll, End, clean, refused, cut, Stream}
-use Rattle.om_model.specs.Outcome.{Until, Taken, Found, Given, Stop, Request, Language, Ending, Task, Asks, typed_by, limit_of, Prepares, ReadsTypeOf, found_of, Says, SaysFirst, Outcome, stopped, out_of_memory}
+use Rattle.om_model.specs.Stream.{SpellAll}
+use Rattle.om_model.specs.Outcome.{unasked, Found, Given, Stop, Request, Language, Ending, Task, Asks, typed_by, limit_of, Prepares, ReadsTypeOf, found_of, Says, SaysFirst, Outcome, stopped, out_of_memory}
 use Rattle.om_edge.specs.Faults.{RoseOrLast}
 use Rattle.om_edge.specs.Files.{File, bytes_of}
 use Rattle.om_session.specs.Call.{Seen, SeenFiles, Change, Call}
@@ -49,6 +49,8 @@ pub record Account {D T : Type 0} (language : Language D T) (words : List (List 
   pub given : Given
   pub input : Took call.input given.input
   pub files : FetchesFor words call.files given.file
+  -- the input is asked for once the words, FILE and TYPE are accepted
+  pub asked : given.input.until ≢ unasked → (task : Task T) × Prepares language words given.file (Ok task)
   pub ends : Completes language words given call ⊎ Breaks language words given call
 
 -- ---- the headline
@@ -133,25 +135,17 @@ OnlyTooLong words call = call.status ≡ TooLong
     → IfSome call.input.before.bytes (λ bytes. 2 ^ 48 ≤ length bytes)
     ⊎ ((name : List ℕ) × IsFileOf words name × IfSome call.files.before.map (λ all. IsSomeAnd (bytes_of all name) (λ bytes. 2 ^ 48 ≤ length bytes)))
 
--- a count that rose: the call is not taken to have gone well
-abbrev pub Rises : ℕ → ℕ → Type 0
-Rises before after = before < after
+-- a failed call is not taken for one that went well: where a count rose, the status is 6, 7, 8 or 9
+pub record TellsWriteFault (call : Call) : Type 0 where
+  pub out : call.out.before.faults < call.out.after.faults → call.status ≡ WriteFault
+  pub err : call.err.before.faults < call.err.after.faults → call.status ≡ WriteFault
 
-pub record IsAfterFault (status : Status) (call : Call) : Type 0 where
-  pub input : Rises call.input.before.faults call.input.after.faults → (status ≡ ReadFault) ⊎ IsUnsaid status
-  pub opens : Rises call.files.before.open_faults call.files.after.open_faults → (status ≡ OpenFault) ⊎ IsUnsaid status
-  pub reads : Rises call.files.before.read_faults call.files.after.read_faults → (status ≡ ReadFault) ⊎ IsUnsaid status
-  pub out : Rises call.out.before.faults call.out.after.faults → status ≡ WriteFault
-  pub err : Rises call.err.before.faults call.err.after.faults → status ≡ WriteFault
+abbrev pub TellsOpenFault : Call → Type 0
+TellsOpenFault call = call.files.before.open_faults < call.files.after.open_faults → (call.status ≡ OpenFault) ⊎ IsUnsaid call.status
 
-abbrev pub NoFaultIsTakenForAnEnd : Call → Type 0
-NoFaultIsTakenForAnEnd call = IsAfterFault call.status call
-
--- 1 and 4, in an honest call: some value of a clean input has not the type; what stands behind the last value is refused,
--- or is a value that is cut short
-abbrev pub HasStream : List (List ℕ) → Call → (List Tree → End → Type 0) → Type 0
-HasStream words call P = IfSome call.input.before.bytes (λ input.
-    (request : Request) × Asks words request × (trees : List Tree) × (end : End) × Stream input (limit_of request) trees end × P trees end)
+pub record TellsReadFault (call : Call) : Type 0 where
+  pub input : call.input.before.faults < call.input.after.faults → (call.status ≡ ReadFault) ⊎ IsUnsaid call.status
+  pub file : call.files.before.read_faults < call.files.after.read_faults → (call.status ≡ ReadFault) ⊎ IsUnsaid call.status
 
 -- ---- completeness
 

@@ -5,7 +5,7 @@ ghost use Rattle.om_model.specs.Outcome.{Asks, check as check_of};
 ghost use Rattle.om_session.specs.Call.{call, seen, seen_files};
 ghost use Rattle.om_session.specs.Check.{ClosesAs, ChecksValues};
 ghost use Rattle.om_session.specs.Lists.{lists};
-ghost use Rattle.om_session.specs.Run.{Account, Headline};
+ghost use Rattle.om_session.specs.Run.{Account, Headline, OnlyUsage, IfUsage, OnlyReadFault, OnlyWriteFault, OnlyOpenFault, OnlyTooLong, TellsWriteFault};
 ghost use Rattle.om_session.specs.Words.{texts};
 
 use crate::gather::{Until, gather};
@@ -120,6 +120,31 @@ pub fn run<S: Source, O: Opener, K: Sink, E: Sink>(
     // Unless memory runs out, an honest call has the outcome of the words, the files and the input.
     ensures headline { Headline lists (texts words.now)
         (call (seen S.left S.faults input.old input.new)
+            (seen_files O.files O.open_faults O.last_open_fault O.read_faults files.old files.new)
+            (seen K.written K.faults out.old out.new) (seen E.written E.faults err.old err.new) result) }
+
+    // The causes of the statuses.
+    ensures usage_only { OnlyUsage (texts words.now) (call (seen S.left S.faults input.old input.new)
+            (seen_files O.files O.open_faults O.last_open_fault O.read_faults files.old files.new)
+            (seen K.written K.faults out.old out.new) (seen E.written E.faults err.old err.new) result) }
+    ensures usage_if { IfUsage (texts words.now) (call (seen S.left S.faults input.old input.new)
+            (seen_files O.files O.open_faults O.last_open_fault O.read_faults files.old files.new)
+            (seen K.written K.faults out.old out.new) (seen E.written E.faults err.old err.new) result) }
+    ensures read_fault_only { OnlyReadFault (call (seen S.left S.faults input.old input.new)
+            (seen_files O.files O.open_faults O.last_open_fault O.read_faults files.old files.new)
+            (seen K.written K.faults out.old out.new) (seen E.written E.faults err.old err.new) result) }
+    ensures write_fault_only { OnlyWriteFault (call (seen S.left S.faults input.old input.new)
+            (seen_files O.files O.open_faults O.last_open_fault O.read_faults files.old files.new)
+            (seen K.written K.faults out.old out.new) (seen E.written E.faults err.old err.new) result) }
+    ensures open_fault_only { OnlyOpenFault (texts words.now) (call (seen S.left S.faults input.old input.new)
+            (seen_files O.files O.open_faults O.last_open_fault O.read_faults files.old files.new)
+            (seen K.written K.faults out.old out.new) (seen E.written E.faults err.old err.new) result) }
+    ensures too_long_only { OnlyTooLong (texts words.now) (call (seen S.left S.faults input.old input.new)
+            (seen_files O.files O.open_faults O.last_open_fault O.read_faults files.old files.new)
+            (seen K.written K.faults out.old out.new) (seen E.written E.faults err.old err.new) result) }
+
+    // No failed call is taken for one that went well.
+    ensures tells_write_fault { TellsWriteFault (call (seen S.left S.faults input.old input.new)
             (seen_files O.files O.open_faults O.last_open_fault O.read_faults files.old files.new)
             (seen K.written K.faults out.old out.new) (seen E.written E.faults err.old err.new) result) }
 {

@@ -1,0 +1,234 @@
+-- The causes of the statuses, from the account of a call.
+use Rattle.std.proofs.Common.{◌≡◌, ◌≢◌, ◌⊎◌, ℕ, suc, ◌+◌, ◌^◌, ◌<◌, ◌≤◌, Bool, true, false, List, [], ◌∷◌, ◌++◌, length, Option, Some, None, IfSome, Result, Ok, Err, inl, inr, refl, sym, ap, ◌∙◌, subst, length-append, arith}
+use Rattle.std.specs.Prelude.{IsSome, IsSomeAnd, MatchResult, if◌then◌else◌}
+use Rattle.om_model.specs.declared.status.Status.{Status}
+use Rattle.om_model.specs.declared.status.Status.TheVariants as statuses
+use Rattle.om_model.specs.Stream.{End, clean, refused, cut}
+use Rattle.om_model.specs.Tree.{Tree}
+use Rattle.om_model.specs.Outcome.{Taken, Until, at_end, at_fault, at_length, unasked, whole, Found, opened, missing, failed, unfetched, Given, Stop, usage, cannot_open, declarations, requested_type, value, read_fault, too_long, out_of_memory, status_of, Ending, stopped, ended, or_no, behind, Request, check, Asks, typed_by, Task, Language, ReadsFile, ReadsTypeOf, Prepares, Says, SaysValues, Closes, says, stops, TreatsAll, fault_of}
+use Rattle.om_edge.specs.Faults.{HasCause, RoseOrLast}
+use Rattle.om_edge.specs.Files.{File, bytes_of}
+use Rattle.om_session.specs.Call.{Seen, SeenFiles, Change, Call}
+use Rattle.om_session.specs.Given.{TakesFrom, Took, Fetched, Puts, PutsPart, IsFoundOf, IsMeasured, IsMeasuredFile, has_read_fault}
+use Rattle.om_session.specs.Run.{FetchesFor, MayEnd, PutsLine, Completes, Breaks, Account, IsUsage, IsFileOf, CannotOpen, OnlyUsage, OnlyReadFault, OnlyWriteFault, OnlyOpenFault, OnlyTooLong, IfUsage, IsUnsaid, TellsWriteFault, TellsOpenFault}
+use Rattle.std.proofs.lemmas.Option.{IfSome_then}
+use Rattle.om_session.proofs.HeadlineLemmas.{no_stop}
+
+some_and : {X : Type 0} (o : Option X) (P : X → Type 0) → IsSome o → IfSome o P → IsSomeAnd o P
+some_and None P some h = absurd (cc some)
+some_and (Some x) P some h = h
+
+and_then : {X : Type 0} (o : Option X) (P Q : X → Type 0) → IsSomeAnd o P → ((x : X) → P x → Q x) → IsSomeAnd o Q
+and_then None P Q h implies = h
+and_then (Some x) P Q h implies = implies x h
+
+longer : (bytes : List ℕ) (taken : Taken) (rest : List ℕ) → TakesFrom bytes taken rest → 2 ^ 48 ≤ length taken.bytes → 2 ^ 48 ≤ length bytes
+longer bytes taken rest t long =
+    let all : length bytes ≡ length taken.bytes + length rest = ap length t.front ∙ length-append taken.bytes rest in
+    omega arith
+
+risen : (a b : ℕ) → b ≡ a → a < b → ⊥
+risen a b same less = omega arith
+
+-- why a call ends with a status
+pub data Why (words : List (List ℕ)) (call : Call) (given : Given) : Status → Type 0 where
+  all_well : Why words call given statuses.Well
+  some_no : Why words call given statuses.No
+  not_plain : IsUsage words → Why words call given statuses.Usage
+  not_there : (name : List ℕ) → IsFileOf words name → given.file name ≡ missing → Why words call given statuses.OpenFault
+  not_opened : (name : List ℕ) → IsFileOf words name → given.file name ≡ failed → Why words call given statuses.OpenFault
+  no_types : Why words call given statuses.Types
+  file_fault : (name : List ℕ) (taken : Taken) → IsFileOf words name → given.file name ≡ opened taken → taken.until ≡ at_fault → Why words call given statuses.ReadFault
+  file_long : (name : List ℕ) (taken : Taken) → IsFileOf words name → given.file name ≡ opened taken → taken.until ≡ at_length → Why words call given statuses.TooLong
+  no_value : Why words call given statuses.Value
+  input_fault : given.input.until ≡ at_fault → Why words call given statuses.ReadFault
+  input_long : given.input.until ≡ at_length → Why words call given statuses.TooLong
+  memory : Why words call given statuses.Memory
+  out_fault : RoseOrLast call.out.before.faults call.out.after.faults → Why words call given statuses.WriteFault
+  err_fault : RoseOrLast call.err.before.faults call.err.after.faults → Why words call given statuses.WriteFault
+
+module _ (words : List (List ℕ)) (call : Call) (given : Given) where
+  or_no_why : (s : Status) → Why words call given s → Why words call given (or_no s)
+  or_no_why s all_well = some_no
+  or_no_why s some_no = some_no
+  or_no_why s (not_plain none) = not_plain none
+  or_no_why s (not_there name is none) = not_there name is none
+  or_no_why s (not_opened name is none) = not_opened name is none
+  or_no_why s no_types = no_types
+  or_no_why s (file_fault name taken is found e) = file_fault name taken is found e
+  or_no_why s (file_long name taken is found e) = file_long name taken is found e
+  or_no_why s no_value = no_value
+  or_no_why s (input_fault e) = input_fault e
+  or_no_why s (input_long e) = input_long e
+  or_no_why s memory = memory
+  or_no_why s (out_fault rose) = out_fault rose
+  or_no_why s (err_fault rose) = err_fault rose
+
+  well_why : (well : Bool) (s : Status) → Why words call given s → Why words call given (if well then s else or_no s)
+  well_why true s why = why
+  well_why false s why = or_no_why s why
+
+  -- FILE was not read to its end
+  file_why : (name : List ℕ) → IsFileOf words name → (found : Found) → given.file name ≡ found → (s : Stop) → ReadsFile name found (Err s) → Why words call given (status_of s)
+  file_why name is (opened taken) e s r = until_why taken.until refl r where
+    until_why : (u : Until) → taken.until ≡ u → fault_of u ≡ Some s → Why words call given (status_of s)
+    until_why at_end same r = absurd (cc r)
+    until_why at_fault same r = let stop : read_fault ≡ s = cc in subst (λ s. Why words call given (status_of s)) stop (file_fault name taken is e same)
+    until_why at_length same r = let stop : too_long ≡ s = cc in subst (λ s. Why words call given (status_of s)) stop (file_long name taken is e same)
+    until_why unasked same r = absurd (cc r)
+  file_why name is missing e s r = subst (λ s. Why words call given (status_of s)) (sym r) (not_there name is e)
+  file_why name is failed e s r = subst (λ s. Why words call given (status_of s)) (sym r) (not_opened name is e)
+  file_why name is unfetched e s r = absurd r
+
+  module _ {D T : Type 0} (language : Language D T) where
+    type_why : (f t : List ℕ) → IsFileOf words f → (s : Stop) → ReadsTypeOf language given.file (f, t) (Err s) → Why words call given (status_of s)
+    type_why f t is s (Err stop, r, same) =
+        let e : stop ≡ s = cc in subst (λ s. Why words call given (status_of s)) e (file_why f is (given.file f) refl stop r)
+    type_why f t is s (Ok text, r, (Err stop, (refusal, reads, e), same)) =
+        let told : declarations refusal ≡ s = cc in subst (λ s. Why words call given (status_of s)) told no_types
+    type_why f t is s (Ok text, r, (Ok decls, reads, (refusal, unread, e))) = subst (λ s. Why words call given (status_of s)) (sym e) no_types
+
+    prepares_why : (s : Stop) → Prepares language words given.file (Err s) → Why words call given (status_of s)
+    prepares_why s (Err stop, (none, e), same) =
+        let told : usage ≡ s = cc in subst (λ s. Why words call given (status_of s)) told (not_plain none)
+    prepares_why s (Ok (check f t), asks, (Ok type, found, same)) = absurd (cc same)
+    prepares_why s (Ok (check f t), asks, (Err stop, (Ok type, reads, found), same)) = absurd (cc found)
+    prepares_why s (Ok (check f t), asks, (Err stop, (Err first, reads, e), same)) =
+        let told : first ≡ s = cc in
+        subst (λ s. Why words call given (status_of s)) told (type_why f t (check f t, t, asks, refl) first reads)
+
+    closes_why : (request : Request) (trees : List Tree) (u : Until) (end : End) (e : Ending) → given.input.until ≡ u → Closes request trees u end e → Why words call given e.status
+    closes_why (check f t) trees at_end clean e same h = subst (λ e. Why words call given e.status) (sym h) all_well
+    closes_why request trees at_end (refused refusal) e same h = subst (λ e. Why words call given e.status) (sym h) no_value
+    closes_why request trees at_end (cut n) e same h = subst (λ e. Why words call given e.status) (sym h) no_value
+    closes_why request trees at_fault end e same h = subst (λ e. Why words call given e.status) (sym h) (input_fault same)
+    closes_why request trees at_length end e same h = subst (λ e. Why words call given e.status) (sym h) (input_long same)
+    closes_why request trees unasked end e same h = absurd h
+
+    treats_why : (task : Task T) (C : Ending → Type 0) → ((e : Ending) → C e → Why words call given e.status) → (k : ℕ) (trees : List Tree) (e : Ending)
+        → TreatsAll language task C k trees e → Why words call given e.status
+    treats_why task C why k [] e h = why e h
+    treats_why task C why k (tree ∷ trees) e (says text well, treats, (rest, goes, same)) =
+        subst (λ e. Why words call given e.status) (sym same) (well_why well rest.status (treats_why task C why (suc k) trees rest goes))
+    treats_why task C why k (tree ∷ trees) e (stops stop, treats, same) = absurd (no_stop language task.request task.type k tree stop treats)
+
+    says_why : (ending : Ending) → Says language words given ending → Why words call given ending.status
+    says_why ending (Err stop, p, same) = subst (λ e. Why words call given e.status) (sym same) (prepares_why stop p)
+    says_why ending (Ok task, p, (trees, end, stream, treats)) =
+        treats_why task (Closes task.request trees given.input.until end) (λ e h. closes_why task.request trees given.input.until end e refl h) 0 trees ending treats
+
+module _ {D T : Type 0} (language : Language D T) (words : List (List ℕ)) (call : Call) (a : Account language words call) where
+  pub account_why : Why words call a.given call.status
+  account_why = ends a.ends where
+    ends : Completes language words a.given call ⊎ Breaks language words a.given call → Why words call a.given call.status
+    ends (inr b) = subst (λ s. Why words call a.given s) (sym b.status) (out_fault b.out.cause.rose)
+    ends (inl c) = put c.line where
+      put : PutsLine call.err call.status c.ending → Why words call a.given call.status
+      put (inr (part, same)) = subst (λ s. Why words call a.given s) (sym same) (err_fault part.cause.rose)
+      put (inl (line, same)) = subst (λ s. Why words call a.given s) (sym same) (may c.may_end) where
+        may : MayEnd language words a.given c.ending → Why words call a.given c.ending.status
+        may (inl said) = says_why words call a.given language c.ending said
+        may (inr (text, first, e)) = subst (λ e. Why words call a.given e.status) (sym e) memory
+
+  file_fetched : (name : List ℕ) → IsFileOf words name → Fetched call.files name (a.given.file name)
+  file_fetched name (request, type, asks, typed) = subst (λ o. IfSome o (λ t. Fetched call.files t.0 (a.given.file t.0))) typed (a.files.asked request asks)
+
+  -- ---- the causes
+
+  usage_of : Why words call a.given statuses.Usage → IsUsage words
+  usage_of (not_plain none) = none
+
+  pub only_usage : OnlyUsage words call
+  only_usage e = usage_of (subst (λ s. Why words call a.given s) e account_why)
+
+  write_of : Why words call a.given statuses.WriteFault → RoseOrLast call.out.before.faults call.out.after.faults ⊎ RoseOrLast call.err.before.faults call.err.after.faults
+  write_of (out_fault rose) = inl rose
+  write_of (err_fault rose) = inr rose
+
+  pub only_write_fault : OnlyWriteFault call
+  only_write_fault e = write_of (subst (λ s. Why words call a.given s) e account_why)
+
+  read_of : Why words call a.given statuses.ReadFault
+      → RoseOrLast call.input.before.faults call.input.after.faults ⊎ RoseOrLast call.files.before.read_faults call.files.after.read_faults
+  read_of (input_fault e) = inl (rw e at a.input.cause).rose
+  read_of (file_fault name taken is found e) =
+      let f = file_fetched name is in
+      let cause = subst (λ o. HasCause call.files.before.read_faults call.files.after.read_faults (has_read_fault o)) found f.reading in
+      inr (rw e at cause).rose
+
+  pub only_read_fault : OnlyReadFault call
+  only_read_fault e = read_of (subst (λ s. Why words call a.given s) e account_why)
+
+  open_of : Why words call a.given statuses.OpenFault → (name : List ℕ) × IsFileOf words name × CannotOpen call.files name
+  open_of (not_there name is found) =
+      let f = subst (λ o. Fetched call.files name o) found (file_fetched name is) in
+      (name, is, inr (some_and call.files.before.map (λ all. bytes_of all name ≡ None) (f.told refl) f.map))
+  open_of (not_opened name is found) =
+      let f = subst (λ o. Fetched call.files name o) found (file_fetched name is) in
+      (name, is, inl (f.opening.rose, f.named refl))
+
+  pub only_open_fault : OnlyOpenFault words call
+  only_open_fault e = open_of (subst (λ s. Why words call a.given s) e account_why)
+
+  long_of : Why words call a.given statuses.TooLong
+      → IfSome call.input.before.bytes (λ bytes. 2 ^ 48 ≤ length bytes)
+      ⊎ ((name : List ℕ) × IsFileOf words name × IfSome call.files.before.map (λ all. IsSomeAnd (bytes_of all name) (λ bytes. 2 ^ 48 ≤ length bytes)))
+  long_of (input_long e) =
+      let long = subst (λ u. IsMeasured u (length a.given.input.bytes)) e a.input.measured in
+      inl (IfSome_then call.input.before.bytes a.input.told (λ bytes t. longer bytes a.given.input t.0 t.1 long))
+  long_of (file_long name taken is found e) =
+      let f = subst (λ o. Fetched call.files name o) found (file_fetched name is) in
+      let long = subst (λ u. IsMeasured u (length taken.bytes)) e f.measured in
+      inr (name, is, IfSome_then call.files.before.map f.map (λ all h.
+        and_then (bytes_of all name) (λ bytes. (rest : List ℕ) × TakesFrom bytes taken rest) (λ bytes. 2 ^ 48 ≤ length bytes) h
+            (λ bytes t. longer bytes taken t.0 t.1 long)))
+
+  pub only_too_long : OnlyTooLong words call
+  only_too_long e = long_of (subst (λ s. Why words call a.given s) e account_why)
+
+  -- ---- what has to be told
+
+  usage_says : IsUsage words → (ending : Ending) → Says language words a.given ending → ending.status ≡ statuses.Usage
+  usage_says none ending (Ok task, (Err stop, h, same), said) = absurd (cc same)
+  usage_says none ending (Ok task, (Ok request, asks, more), said) = absurd (none request asks)
+  usage_says none ending (Err stop, (Err first, h, same), e) =
+      let told : usage ≡ stop = let h1 = h.1 in cc in ap (λ e. e.status) e ∙ ap status_of (sym told)
+  usage_says none ending (Err stop, (Ok request, asks, more), e) = absurd (none request asks)
+
+  -- the status where all that was said was put; else it is 7, or memory ran out and it is 9
+  said_status : (P : Status → Type 0) → ((ending : Ending) → Says language words a.given ending → P ending.status) → P call.status ⊎ IsUnsaid call.status
+  said_status P says_P = ends a.ends where
+    ends : Completes language words a.given call ⊎ Breaks language words a.given call → P call.status ⊎ IsUnsaid call.status
+    ends (inr b) = inr (inr b.status)
+    ends (inl c) = put c.line where
+      put : PutsLine call.err call.status c.ending → P call.status ⊎ IsUnsaid call.status
+      put (inr (part, same)) = inr (inr same)
+      put (inl (line, same)) = may c.may_end where
+        may : MayEnd language words a.given c.ending → P call.status ⊎ IsUnsaid call.status
+        may (inl said) = inl (subst P (sym same) (says_P c.ending said))
+        may (inr (text, first, e)) = inr (inl (same ∙ ap (λ e. e.status) e))
+
+  pub if_usage : IfUsage words call
+  if_usage none = said_status (λ s. s ≡ statuses.Usage) (usage_says none)
+
+  pub tells_write_fault : TellsWriteFault call
+  tells_write_fault = record { out = out_told a.ends; err = err_told a.ends } where
+    out_told : Completes language words a.given call ⊎ Breaks language words a.given call → call.out.before.faults < call.out.after.faults → call.status ≡ statuses.WriteFault
+    out_told (inr b) less = b.status
+    out_told (inl c) less = absurd (risen _ _ c.out.cause.kept less)
+    err_told : Completes language words a.given call ⊎ Breaks language words a.given call → call.err.before.faults < call.err.after.faults → call.status ≡ statuses.WriteFault
+    err_told (inr b) less = absurd (risen _ _ b.err.cause.kept less)
+    err_told (inl c) less = put c.line where
+      put : PutsLine call.err call.status c.ending → call.status ≡ statuses.WriteFault
+      put (inr (part, same)) = same
+      put (inl (line, same)) = absurd (risen _ _ line.cause.kept less)
+
+  -- a fetch that failed is told
+  opening_says : call.files.before.open_faults < call.files.after.open_faults → (ending : Ending) → Says language words a.given ending → ending.status ≡ statuses.OpenFault
+  opening_says less ending (prepared, (Err stop, none, rest), said) =
+      absurd (risen _ _ (ap (λ f. f.open_faults) (a.files.unasked none.0)) less)
+  opening_says less ending (prepared, (Ok (check f t), asks, (type, (found, (text, r, more), e), rest)), said) =
+      by_found (a.given.file f) refl text r more where
+    by_found : (o : Found) → a.given.file f ≡ o → (text : Result (List ℕ) Stop) → ReadsFile f (a.given.file f) text
+        → MatchResult text (λ x. Unit {0}) (λ stop. found ≡ Err stop) → ending.status ≡ statuses.OpenFault
+    by_found o same text r more = ?
