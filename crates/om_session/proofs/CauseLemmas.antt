@@ -1,16 +1,16 @@
 -- The causes of the statuses, from the account of a call.
-use Rattle.std.proofs.Common.{◌≡◌, ◌≢◌, ◌⊎◌, ℕ, suc, ◌+◌, ◌^◌, ◌<◌, ◌≤◌, Bool, true, false, List, [], ◌∷◌, ◌++◌, length, Option, Some, None, IfSome, Result, Ok, Err, inl, inr, refl, sym, ap, ◌∙◌, subst, length-append, arith}
+use Rattle.std.proofs.Common.{◌≡◌, ◌⊎◌, ℕ, suc, ◌+◌, ◌^◌, ◌<◌, ◌≤◌, Bool, true, false, List, [], ◌∷◌, length, Option, Some, None, IfSome, Result, Ok, Err, inl, inr, refl, sym, ap, ◌∙◌, subst, length-append, arith}
 use Rattle.std.specs.Prelude.{IsSome, IsSomeAnd, MatchResult, if◌then◌else◌}
 use Rattle.om_model.specs.declared.status.Status.{Status}
 use Rattle.om_model.specs.declared.status.Status.TheVariants as statuses
 use Rattle.om_model.specs.Stream.{End, clean, refused, cut}
 use Rattle.om_model.specs.Tree.{Tree}
-use Rattle.om_model.specs.Outcome.{Taken, Until, at_end, at_fault, at_length, unasked, whole, Found, opened, missing, failed, unfetched, Given, Stop, usage, cannot_open, declarations, requested_type, value, read_fault, too_long, out_of_memory, status_of, Ending, stopped, ended, or_no, behind, Request, check, Asks, typed_by, Task, Language, ReadsFile, ReadsTypeOf, Prepares, Says, SaysValues, Closes, says, stops, TreatsAll, fault_of}
+use Rattle.om_model.specs.Outcome.{Taken, Until, at_end, at_fault, at_length, unasked, whole, Found, opened, missing, failed, unfetched, Given, Stop, usage, declarations, read_fault, too_long, status_of, Ending, stopped, or_no, Request, check, Task, Language, ReadsFile, ReadsTypeOf, Prepares, Says, SaysValues, Closes, says, stops, TreatsAll, fault_of}
 use Rattle.om_edge.specs.Faults.{HasCause, RoseOrLast}
-use Rattle.om_edge.specs.Files.{File, bytes_of}
-use Rattle.om_session.specs.Call.{Seen, SeenFiles, Change, Call}
-use Rattle.om_session.specs.Given.{TakesFrom, Took, Fetched, Puts, PutsPart, IsFoundOf, IsMeasured, IsMeasuredFile, has_read_fault}
-use Rattle.om_session.specs.Run.{FetchesFor, MayEnd, PutsLine, Completes, Breaks, Account, IsUsage, IsFileOf, CannotOpen, OnlyUsage, OnlyReadFault, OnlyWriteFault, OnlyOpenFault, OnlyTooLong, IfUsage, IsUnsaid, TellsWriteFault, TellsOpenFault}
+use Rattle.om_edge.specs.Files.{bytes_of}
+use Rattle.om_session.specs.Call.{Call}
+use Rattle.om_session.specs.Given.{TakesFrom, Fetched, IsMeasured, is_fault, has_read_fault}
+use Rattle.om_session.specs.Run.{MayEnd, PutsLine, Completes, Breaks, Account, IsUsage, IsFileOf, CannotOpen, OnlyUsage, OnlyReadFault, OnlyWriteFault, OnlyOpenFault, OnlyTooLong, IfUsage, IsUnsaid, TellsWriteFault, TellsOpenFault, TellsReadFault}
 use Rattle.std.proofs.lemmas.Option.{IfSome_then}
 use Rattle.om_session.proofs.HeadlineLemmas.{no_stop}
 
@@ -179,9 +179,13 @@ module _ {D T : Type 0} (language : Language D T) (words : List (List ℕ)) (cal
   long_of (file_long name taken is found e) =
       let f = subst (λ o. Fetched call.files name o) found (file_fetched name is) in
       let long = subst (λ u. IsMeasured u (length taken.bytes)) e f.measured in
-      inr (name, is, IfSome_then call.files.before.map f.map (λ all h.
-        and_then (bytes_of all name) (λ bytes. (rest : List ℕ) × TakesFrom bytes taken rest) (λ bytes. 2 ^ 48 ≤ length bytes) h
-            (λ bytes t. longer bytes taken t.0 t.1 long)))
+      inr (
+        name,
+        is,
+        IfSome_then call.files.before.map f.map (λ all h.
+            and_then (bytes_of all name) (λ bytes. (rest : List ℕ) × TakesFrom bytes taken rest) (λ bytes. 2 ^ 48 ≤ length bytes) h
+            (λ bytes t. longer bytes taken t.0 t.1 long)),
+      )
 
   pub only_too_long : OnlyTooLong words call
   only_too_long e = long_of (subst (λ s. Why words call a.given s) e account_why)
@@ -216,6 +220,7 @@ module _ {D T : Type 0} (language : Language D T) (words : List (List ℕ)) (cal
     out_told : Completes language words a.given call ⊎ Breaks language words a.given call → call.out.before.faults < call.out.after.faults → call.status ≡ statuses.WriteFault
     out_told (inr b) less = b.status
     out_told (inl c) less = absurd (risen _ _ c.out.cause.kept less)
+
     err_told : Completes language words a.given call ⊎ Breaks language words a.given call → call.err.before.faults < call.err.after.faults → call.status ≡ statuses.WriteFault
     err_told (inr b) less = absurd (risen _ _ b.err.cause.kept less)
     err_told (inl c) less = put c.line where
@@ -223,12 +228,85 @@ module _ {D T : Type 0} (language : Language D T) (words : List (List ℕ)) (cal
       put (inr (part, same)) = same
       put (inl (line, same)) = absurd (risen _ _ line.cause.kept less)
 
-  -- a fetch that failed is told
+  -- where a stage stops the run, that is its status
+  stop_status : (ending : Ending) (found : Result T Stop) (type : Result (Option T) Stop) (prepared : Result (Task T) Stop) (request : Request) (s : Stop)
+      → found ≡ Err s → MatchResult found (λ x. type ≡ Ok (Some x)) (λ stop. type ≡ Err stop)
+      → MatchResult type (λ x. prepared ≡ Ok (record { request = request; type = x })) (λ stop. prepared ≡ Err stop)
+      → MatchResult prepared (λ task. SaysValues language task a.given.input ending) (λ stop. ending ≡ stopped stop)
+      → ending.status ≡ status_of s
+  stop_status ending (Ok x) type prepared request s e f g h = absurd (cc e)
+  stop_status ending (Err s1) (Ok x) prepared request s e f g h = absurd (cc f)
+  stop_status ending (Err s1) (Err s2) (Ok task) request s e f g h = absurd (cc g)
+  stop_status ending (Err s1) (Err s2) (Err s3) request s e f g h =
+      let told : s3 ≡ s = cc in ap (λ e. e.status) h ∙ ap status_of told
+
+  module _ (f : List ℕ) (fetched : Fetched call.files f (a.given.file f)) (ending : Ending) where
+    -- a fetch that failed is told
+    opening_at : call.files.before.open_faults < call.files.after.open_faults → (o : Found) → a.given.file f ≡ o → (text : Result (List ℕ) Stop) → ReadsFile f o text
+        → ((s : Stop) → text ≡ Err s → ending.status ≡ status_of s) → ending.status ≡ statuses.OpenFault
+    opening_at less (opened taken) same text r told = absurd (risen _ _ (subst (λ o. Fetched call.files f o) same fetched).opening.kept less)
+    opening_at less missing same text r told = absurd (risen _ _ (subst (λ o. Fetched call.files f o) same fetched).opening.kept less)
+    opening_at less unfetched same text r told = absurd (risen _ _ (subst (λ o. Fetched call.files f o) same fetched).opening.kept less)
+    opening_at less failed same (Ok bytes) r told = absurd (cc r)
+    opening_at less failed same (Err s) r told = told s refl ∙ ap status_of r
+
+    -- and so is a take of a file
+    reading_at : call.files.before.read_faults < call.files.after.read_faults → (o : Found) → a.given.file f ≡ o → (text : Result (List ℕ) Stop) → ReadsFile f o text
+        → ((s : Stop) → text ≡ Err s → ending.status ≡ status_of s) → ending.status ≡ statuses.ReadFault
+    reading_at less missing same text r told = absurd (risen _ _ (subst (λ o. Fetched call.files f o) same fetched).reading.kept less)
+    reading_at less unfetched same text r told = absurd (risen _ _ (subst (λ o. Fetched call.files f o) same fetched).reading.kept less)
+    reading_at less failed same text r told = absurd (risen _ _ (subst (λ o. Fetched call.files f o) same fetched).reading.kept less)
+    reading_at less (opened taken) same text r told = until_at taken.until refl text r told where
+      reads : (u : Until) → taken.until ≡ u → HasCause call.files.before.read_faults call.files.after.read_faults (is_fault u)
+      reads u e = subst (λ u. HasCause call.files.before.read_faults call.files.after.read_faults (is_fault u)) e (subst (λ o. Fetched call.files f o) same fetched).reading
+
+      until_at : (u : Until) → taken.until ≡ u → (text : Result (List ℕ) Stop) → ReadsFile f (opened taken) text
+          → ((s : Stop) → text ≡ Err s → ending.status ≡ status_of s) → ending.status ≡ statuses.ReadFault
+      until_at at_end e text r told = absurd (risen _ _ (reads at_end e).kept less)
+      until_at at_length e text r told = absurd (risen _ _ (reads at_length e).kept less)
+      until_at unasked e text r told = absurd (risen _ _ (reads unasked e).kept less)
+      until_at at_fault e (Ok bytes) r told = let all : taken ≡ whole bytes = cc in absurd (cc (sym e ∙ ap (λ t. t.until) all))
+      until_at at_fault e (Err s) r told =
+          let h : fault_of at_fault ≡ Some s = subst (λ u. fault_of u ≡ Some s) e r in
+          let stop : read_fault ≡ s = cc in told s refl ∙ ap status_of (sym stop)
+
   opening_says : call.files.before.open_faults < call.files.after.open_faults → (ending : Ending) → Says language words a.given ending → ending.status ≡ statuses.OpenFault
-  opening_says less ending (prepared, (Err stop, none, rest), said) =
-      absurd (risen _ _ (ap (λ f. f.open_faults) (a.files.unasked none.0)) less)
+  opening_says less ending (prepared, (Err stop, none, rest), said) = absurd (risen _ _ (ap (λ f. f.open_faults) (a.files.unasked none.0)) less)
   opening_says less ending (prepared, (Ok (check f t), asks, (type, (found, (text, r, more), e), rest)), said) =
-      by_found (a.given.file f) refl text r more where
-    by_found : (o : Found) → a.given.file f ≡ o → (text : Result (List ℕ) Stop) → ReadsFile f (a.given.file f) text
-        → MatchResult text (λ x. Unit {0}) (λ stop. found ≡ Err stop) → ending.status ≡ statuses.OpenFault
-    by_found o same text r more = ?
+      opening_at f (a.files.asked (check f t) asks) ending less (a.given.file f) refl text r
+      (λ s same. stop_status ending found type prepared (check f t) s (rw same at more) e rest said)
+
+  reading_says : call.files.before.read_faults < call.files.after.read_faults → (ending : Ending) → Says language words a.given ending → ending.status ≡ statuses.ReadFault
+  reading_says less ending (prepared, (Err stop, none, rest), said) = absurd (risen _ _ (ap (λ f. f.read_faults) (a.files.unasked none.0)) less)
+  reading_says less ending (prepared, (Ok (check f t), asks, (type, (found, (text, r, more), e), rest)), said) =
+      reading_at f (a.files.asked (check f t) asks) ending less (a.given.file f) refl text r
+      (λ s same. stop_status ending found type prepared (check f t) s (rw same at more) e rest said)
+
+  pub tells_open_fault : TellsOpenFault call
+  tells_open_fault less = said_status (λ s. s ≡ statuses.OpenFault) (opening_says less)
+
+  -- a take of the input that failed is told
+  treats_fault : (task : Task T) (C : Ending → Type 0) → ((e : Ending) → C e → e.status ≡ statuses.ReadFault) → (k : ℕ) (trees : List Tree) (e : Ending)
+      → TreatsAll language task C k trees e → e.status ≡ statuses.ReadFault
+  treats_fault task C fault k [] e h = fault e h
+  treats_fault task C fault k (tree ∷ trees) e (says text well, treats, (rest, goes, same)) =
+      ap (λ e. e.status) same ∙ kept well rest.status (treats_fault task C fault (suc k) trees rest goes) where
+        kept : (well : Bool) (s : Status) → s ≡ statuses.ReadFault → (if well then s else or_no s) ≡ statuses.ReadFault
+        kept true s e = e
+        kept false s e = ap or_no e
+  treats_fault task C fault k (tree ∷ trees) e (stops stop, treats, same) = absurd (no_stop language task.request task.type k tree stop treats)
+
+  input_says : call.input.before.faults < call.input.after.faults → (u : Until) → a.given.input.until ≡ u → (ending : Ending) → Says language words a.given ending → ending.status ≡ statuses.ReadFault
+  input_says less at_end e ending said = absurd (risen _ _ (rw e at a.input.cause).kept less)
+  input_says less at_length e ending said = absurd (risen _ _ (rw e at a.input.cause).kept less)
+  input_says less unasked e ending said = absurd (risen _ _ (rw e at a.input.cause).kept less)
+  input_says less at_fault e ending (Err stop, p, same) = absurd (a.asked (λ none. cc (sym e ∙ none)) stop p)
+  input_says less at_fault e ending (Ok task, p, (trees, end, stream, treats)) =
+      treats_fault task (Closes task.request trees at_fault end) (λ e h. ap (λ e. e.status) h) 0 trees ending
+      (subst (λ u. TreatsAll language task (Closes task.request trees u end) 0 trees ending) e treats)
+
+  pub tells_read_fault : TellsReadFault call
+  tells_read_fault = record {
+    input = λ less. said_status (λ s. s ≡ statuses.ReadFault) (input_says less a.given.input.until refl);
+    file = λ less. said_status (λ s. s ≡ statuses.ReadFault) (reading_says less);
+  }

@@ -1,11 +1,11 @@
 -- What is promised of a call of `run`. One account of the call carries all: what the outside gave, how a run ends with
 -- that, and how much of it was put. The others follow from it.
-use Rattle.std.specs.Prelude.{ℕ, ◌^◌, ◌<◌, ◌≤◌, ◌≡◌, ◌≢◌, ◌⊎◌, Bool, true, List, [], ◌++◌, length, map, All, Option, Some, None, IsSomeAnd, IfSome, Result, Ok, Err}
+use Rattle.std.specs.Prelude.{ℕ, ◌^◌, ◌<◌, ◌≤◌, ◌≡◌, ◌≢◌, ◌⊎◌, true, List, [], length, All, Some, None, IsSomeAnd, IfSome, Ok, Err}
 use Rattle.om_model.specs.declared.status.Status.{Status}
-use Rattle.om_model.specs.declared.status.Status.TheVariants.{Well, No, Usage, Types, Value, ReadFault, WriteFault, OpenFault, Memory, TooLong}
+use Rattle.om_model.specs.declared.status.Status.TheVariants.{Well, Usage, ReadFault, WriteFault, OpenFault, Memory, TooLong}
 use Rattle.om_model.specs.Tree.{Tree}
 use Rattle.om_model.specs.Stream.{SpellAll}
-use Rattle.om_model.specs.Outcome.{unasked, Found, Given, Stop, Request, Language, Ending, Task, Asks, typed_by, limit_of, Prepares, ReadsTypeOf, found_of, Says, SaysFirst, Outcome, stopped, out_of_memory}
+use Rattle.om_model.specs.Outcome.{unasked, Found, Given, Stop, Request, Language, Ending, Task, Asks, typed_by, limit_of, Prepares, found_of, Says, SaysFirst, Outcome, stopped, out_of_memory}
 use Rattle.om_edge.specs.Faults.{RoseOrLast}
 use Rattle.om_edge.specs.Files.{File, bytes_of}
 use Rattle.om_session.specs.Call.{Seen, SeenFiles, Change, Call}
@@ -49,8 +49,8 @@ pub record Account {D T : Type 0} (language : Language D T) (words : List (List 
   pub given : Given
   pub input : Took call.input given.input
   pub files : FetchesFor words call.files given.file
-  -- the input is asked for once the words, FILE and TYPE are accepted
-  pub asked : given.input.until ≢ unasked → (task : Task T) × Prepares language words given.file (Ok task)
+  -- the input is asked for only where no earlier stage stops the run
+  pub asked : given.input.until ≢ unasked → (stop : Stop) → Prepares language words given.file (Err stop) → ⊥
   pub ends : Completes language words given call ⊎ Breaks language words given call
 
 -- ---- the headline

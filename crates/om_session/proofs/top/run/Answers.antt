@@ -1,7 +1,7 @@
 use Rattle.om_session.specs.Lists.{lists}
 use Rattle.om_session.specs.Words.{texts}
 use Rattle.om_session.proofs.HeadlineLemmas.{headline}
-use Rattle.om_session.proofs.CauseLemmas.{only_usage, if_usage, only_read_fault, only_write_fault, only_open_fault, only_too_long, tells_write_fault}
+use Rattle.om_session.proofs.CauseLemmas.{only_usage, if_usage, only_read_fault, only_write_fault, only_open_fault, only_too_long, tells_read_fault, tells_open_fault, tells_write_fault}
 use Rattle.om_session.proofs.top.run.Goals as goal
 
 pub returns-clause-headline : goal.returns-clause-headline
@@ -27,3 +27,9 @@ returns-clause-too_long_only g c = only_too_long lists (texts c.args.words.now) 
 
 pub returns-clause-tells_write_fault : goal.returns-clause-tells_write_fault
 returns-clause-tells_write_fault g c = tells_write_fault lists (texts c.args.words.now) _ c.run_command.ensures
+
+pub returns-clause-tells_read_fault : goal.returns-clause-tells_read_fault
+returns-clause-tells_read_fault g c = tells_read_fault lists (texts c.args.words.now) _ c.run_command.ensures
+
+pub returns-clause-tells_open_fault : goal.returns-clause-tells_open_fault
+returns-clause-tells_open_fault g c = tells_open_fault lists (texts c.args.words.now) _ c.run_command.ensures
