@@ -2,9 +2,9 @@
 -- that, and how much of it was put. The others follow from it.
 use Rattle.std.specs.Prelude.{ℕ, ◌^◌, ◌<◌, ◌≤◌, ◌≡◌, ◌≢◌, ◌⊎◌, true, List, [], length, All, Some, None, IsSomeAnd, IfSome, Ok, Err}
 use Rattle.om_model.specs.declared.status.Status.{Status}
-use Rattle.om_model.specs.declared.status.Status.TheVariants.{Well, Usage, ReadFault, WriteFault, OpenFault, Memory, TooLong}
+use Rattle.om_model.specs.declared.status.Status.TheVariants.{Well, Usage, ReadFault, WriteFault, OpenFault, Memory, TooLong, Types, Value}
 use Rattle.om_model.specs.Tree.{Tree}
-use Rattle.om_model.specs.Stream.{SpellAll}
+use Rattle.om_model.specs.Stream.{SpellAll, End, clean, Stream}
 use Rattle.om_model.specs.Outcome.{unasked, Found, Given, Stop, Request, Language, Ending, Task, Asks, typed_by, limit_of, Prepares, found_of, Says, SaysFirst, Outcome, stopped, out_of_memory}
 use Rattle.om_edge.specs.Faults.{RoseOrLast}
 use Rattle.om_edge.specs.Files.{File, bytes_of}
@@ -100,6 +100,27 @@ OnlyUsage words call = call.status ≡ Usage → IsUsage words
 
 abbrev pub IfUsage : List (List ℕ) → Call → Type 0
 IfUsage words call = IsUsage words → (call.status ≡ Usage) ⊎ IsUnsaid call.status
+
+-- FILE and TYPE of plain words
+abbrev pub IsTyped : List (List ℕ) → List ℕ → List ℕ → Type 0
+IsTyped words name type = (request : Request) × Asks words request × (typed_by request ≡ Some (name, type))
+
+-- the declarations are refused, or the type
+abbrev pub IsRefusedType : {D T : Type 0} → Language D T → List ℕ → List ℕ → Type 0
+IsRefusedType {D} language text type =
+    ((refusal : List ℕ) × language.ReadsDeclarations text (Err refusal))
+    ⊎ ((decls : D) × (refusal : List ℕ) × language.ReadsDeclarations text (Ok decls) × language.ReadsType decls type (Err refusal))
+
+-- 3: only where what FILE holds is refused, or TYPE
+abbrev pub OnlyTypes : {D T : Type 0} → Language D T → List (List ℕ) → Call → Type 0
+OnlyTypes language words call = call.status ≡ Types
+    → (name type text : List ℕ) × IsTyped words name type × IfSome call.files.before.map (λ all. bytes_of all name ≡ Some text) × IsRefusedType language text type
+
+-- 4: only where bytes stand behind the values of the whole input
+abbrev pub OnlyValue : List (List ℕ) → Call → Type 0
+OnlyValue words call = call.status ≡ Value
+    → (request : Request) × Asks words request × (input : List ℕ) × IfSome call.input.before.bytes (λ bytes. bytes ≡ input)
+    × (trees : List Tree) × (end : End) × Stream input (limit_of request) trees end × (end ≢ clean)
 
 -- 6: only where the count of the input or the files' read faults rose, or stands at the last value
 abbrev pub OnlyReadFault : Call → Type 0

@@ -5,7 +5,7 @@ ghost use Rattle.om_model.specs.Outcome.{Asks, check as check_of};
 ghost use Rattle.om_session.specs.Call.{call, seen, seen_files};
 ghost use Rattle.om_session.specs.Check.{ClosesAs, ChecksValues};
 ghost use Rattle.om_session.specs.Lists.{lists};
-ghost use Rattle.om_session.specs.Run.{Account, Headline, OnlyUsage, IfUsage, OnlyReadFault, OnlyWriteFault, OnlyOpenFault, OnlyTooLong, TellsReadFault, TellsOpenFault, TellsWriteFault};
+ghost use Rattle.om_session.specs.Run.{Account, Headline, OnlyUsage, IfUsage, OnlyTypes, OnlyValue, OnlyReadFault, OnlyWriteFault, OnlyOpenFault, OnlyTooLong, TellsReadFault, TellsOpenFault, TellsWriteFault};
 ghost use Rattle.om_session.specs.Words.{texts};
 
 use crate::gather::{Until, gather};
@@ -130,6 +130,12 @@ pub fn run<S: Source, O: Opener, K: Sink, E: Sink>(
     ensures usage_if { IfUsage (texts words.now) (call (seen S.left S.faults input.old input.new)
         (seen_files O.files O.open_faults O.last_open_fault O.read_faults files.old files.new)
         (seen K.written K.faults out.old out.new) (seen E.written E.faults err.old err.new) result) }
+    ensures types_only { OnlyTypes lists (texts words.now) (call (seen S.left S.faults input.old input.new)
+            (seen_files O.files O.open_faults O.last_open_fault O.read_faults files.old files.new)
+            (seen K.written K.faults out.old out.new) (seen E.written E.faults err.old err.new) result) }
+    ensures value_only { OnlyValue (texts words.now) (call (seen S.left S.faults input.old input.new)
+            (seen_files O.files O.open_faults O.last_open_fault O.read_faults files.old files.new)
+            (seen K.written K.faults out.old out.new) (seen E.written E.faults err.old err.new) result) }
     ensures read_fault_only { OnlyReadFault (call (seen S.left S.faults input.old input.new)
         (seen_files O.files O.open_faults O.last_open_fault O.read_faults files.old files.new)
         (seen K.written K.faults out.old out.new) (seen E.written E.faults err.old err.new) result) }
