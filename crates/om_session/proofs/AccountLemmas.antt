@@ -1,14 +1,13 @@
 -- The account of a call, from what each stage gave.
-use Rattle.std.proofs.Common.{◌≡◌, ◌⊎◌, ℕ, true, false, List, [], ◌∷◌, ◌++◌, Option, Some, None, IfSome, Result, Ok, Err, inl, inr, refl, sym, ap, ◌∙◌, subst, arith}
+use Rattle.std.proofs.Common.{◌≡◌, ◌⊎◌, ℕ, List, [], Option, Some, None, IfSome, Ok, Err, inl, inr, refl, sym, ap, ◌∙◌, subst, arith}
 use Rattle.om_model.specs.declared.status.Status.{Status}
 use Rattle.om_model.specs.declared.list_type.ListType.{ListType}
-use Rattle.om_model.specs.Outcome.{Taken, Until, unasked, at_end, Found, unfetched, Given, Stop, usage, out_of_memory, status_of, text_of, err_line, stopped, Request, check, Asks, typed_by, Task, ReadsTypeOf, Prepares, Says, SaysFirst, SaysValues}
-use Rattle.om_edge.specs.Faults.{HasCause}
+use Rattle.om_model.specs.Outcome.{Taken, unasked, Found, unfetched, opened, whole, ReadsFile, Given, Stop, usage, out_of_memory, stopped, Request, check, Asks, typed_by, Task, ReadsTypeOf, Prepares}
 use Rattle.om_session.specs.declared.stop.Stop.TheVariants as stops
 use Rattle.om_session.specs.declared.stop.Stop as codes
-use Rattle.om_session.specs.Call.{Seen, SeenFiles, Change, Call, call}
+use Rattle.om_session.specs.Call.{Seen, SeenFiles, Change, call}
 use Rattle.om_session.specs.Check.{EndsValues, ChecksValues}
-use Rattle.om_session.specs.Given.{TakesFrom, Took, Fetched, Puts, PutsPart}
+use Rattle.om_session.specs.Given.{TakesFrom, Took, Fetched}
 use Rattle.om_session.specs.Lists.{lists}
 use Rattle.om_session.specs.Run.{FetchesFor, MayEnd, PutsLine, Completes, Breaks, Account, IsUsage}
 use Rattle.om_session.specs.Stops.{stop_of, Reports}
@@ -47,6 +46,7 @@ module _ (words : List (List ℕ)) (file : List ℕ → Found) (input out : Seen
     given = given;
     input = took_nothing input;
     files = fetches;
+    asked = λ read stop prepared. read refl;
     ends = inl (record { ending = stopped s; may_end = may; out = puts_nothing out; line = line });
   }
 
@@ -70,7 +70,7 @@ pub usage_account : (words : List (List ℕ)) → IsUsage words → (input out :
     → Reports usage err status → Account lists words (call (from_to input input) (record { before = files; after = files }) (from_to out out) err status)
 usage_account words none input out files err status r =
     stop_account words (λ name. unfetched) input out (record { before = files; after = files })
-        (record { asked = λ request asks. absurd (none request asks); unasked = λ unasked. refl }) err status usage (inl (Err usage, (none, refl), refl)) r
+    (record { asked = λ request asks. absurd (none request asks); unasked = λ unasked. refl }) err status usage (inl (Err usage, (none, refl), refl)) r
 
 module _ (words : List (List ℕ)) (file type_text : List ℕ) (asks : Asks words (check file type_text)) (files : Change SeenFiles) (found : Found) (fetched : Fetched files file found) where
   asked : (request : Request) → Asks words request → IfSome (typed_by request) (λ typed. Fetched files typed.0 found)
@@ -105,14 +105,37 @@ module _ (words : List (List ℕ)) (file type_text : List ℕ) (asks : Asks word
   type_account stop gives input out err status r =
       stop_account words (λ name. found) input out files fetches err status (stop_of stop) (gives_err stop gives) r
 
+  -- what is read is not refused
+  reads_once : (t : ListType) (stop : Stop) → ReadsTypeOf lists (λ name. found) (file, type_text) (Ok t) → ReadsTypeOf lists (λ name. found) (file, type_text) (Err stop) → ⊥
+  reads_once t stop (Err s, r, same) other = absurd (cc same)
+  reads_once t stop (Ok text, r, (Err s, h, same)) other = absurd (cc same)
+  reads_once t stop (Ok text, r, (Ok none, empty, is_text)) (Err s, fault, same) =
+      let h : ReadsFile file (opened (whole text)) (Err s) = subst (λ o. ReadsFile file o (Err s)) r fault in absurd (cc h)
+  reads_once t stop (Ok text, r, (Ok none, empty, is_text)) (Ok bytes, r', (Err s, (refusal, (some, e), e'), same)) =
+      let all : whole text ≡ whole bytes = cc in some (sym (ap (λ t. t.bytes) all) ∙ empty)
+  reads_once t stop (Ok text, r, (Ok none, empty, is_text)) (Ok bytes, r', (Ok none', empty', (refusal, (unread, e), e'))) = unread t is_text
+
+  prepares_once : (t : ListType) → ReadsTypeOf lists (λ name. found) (file, type_text) (Ok t) → (stop : Stop) → Prepares lists words (λ name. found) (Err stop) → ⊥
+  prepares_once t reads stop (Err s, (none, e), same) = none (check file type_text) asks
+  prepares_once t reads stop (Ok (check f u), other, (Ok type, h, same)) = absurd (cc same)
+  prepares_once t reads stop (Ok (check f u), other, (Err s, (Ok type, h, e), same)) = absurd (cc e)
+  prepares_once t reads stop (Ok (check f u), other, (Err s, (Err first, refused, e), same)) =
+      let one = asks.0 in let two = other.0 in
+      let names : f ≡ file = cc in
+      let types : u ≡ type_text = cc in
+      let h : ReadsTypeOf lists (λ name. found) (file, u) (Err first) = subst (λ f. ReadsTypeOf lists (λ name. found) (f, u) (Err first)) names refused in
+      reads_once t first reads (subst (λ u. ReadsTypeOf lists (λ name. found) (file, u) (Err first)) types h)
+
   -- the values are checked at the type
   pub values_account : (t : ListType) → GivesType file type_text found (Ok t) → (input out err : Change Seen) (status : Status)
       → ChecksValues t input out err status → Account lists words (call input files out err status)
-  values_account t gives input out err status v = record { given = given; input = v.1; files = fetches; ends = ends (v.2 file type_text) } where
+  values_account t gives input out err status v = record { given = given; input = v.1; files = fetches; asked = λ read stop prepared. prepares_once t gives stop prepared; ends = ends (v.2 file type_text) } where
     task : Task ListType
     task = checks file type_text t
+
     given : Given
     given = record { file = λ name. found; input = v.0 }
+
     ends : EndsValues (checks file type_text t) v.0 out err status
         → Completes lists words (record { file = λ name. found; input = v.0 }) (call input files out err status) ⊎ Breaks lists words (record { file = λ name. found; input = v.0 }) (call input files out err status)
     ends (inl (ending, inl says, puts, line)) =

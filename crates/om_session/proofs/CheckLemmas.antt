@@ -1,12 +1,11 @@
 -- How the check of the values ends, from what was put and why it stopped.
-use Rattle.std.proofs.Common.{◌≡◌, ◌⊎◌, ℕ, Bool, true, false, List, [], ◌++◌, length, Option, Some, None, IfSome, inl, inr, refl, sym, ap, ◌∙◌, subst, append-nil, arith}
+use Rattle.std.proofs.Common.{◌≡◌, ◌⊎◌, ℕ, Bool, true, false, List, [], ◌++◌, Option, Some, None, IfSome, inl, inr, refl, sym, ap, ◌∙◌, subst, append-nil, arith}
 use Rattle.std.specs.Prelude.{if◌then◌else◌}
 use Rattle.om_model.specs.declared.status.Status.{Status}
 use Rattle.om_model.specs.declared.status.Status.TheVariants as statuses
 use Rattle.om_model.specs.declared.list_type.ListType.{ListType}
 use Rattle.om_model.specs.Stream.{End, IsTail}
 use Rattle.om_model.specs.Outcome.{Taken, Ending, Task, check, Stop, usage, cannot_open, declarations, requested_type, value, read_fault, too_long, out_of_memory, status_of, text_of, err_line, stopped, ended, or_no, behind, Closes, SaysValues, SaysSome}
-use Rattle.om_edge.specs.Faults.{HasCause}
 use Rattle.om_session.specs.Call.{Seen, Change}
 use Rattle.om_session.specs.Check.{EndsValues}
 use Rattle.om_session.specs.Given.{Puts, PutsPart}
@@ -63,11 +62,14 @@ module _ (file type_text : List ℕ) (t : ListType) (taken : Taken) (rest text :
 
   says_values : (end : End) → IsTail word_limit rest end → (closing : Ending) → Closes (check file type_text) front.trees taken.until end closing
       → SaysValues lists task taken (behind text well closing)
-  says_values end tail closing closes =
-      (front.trees, end, (rest, front.spelled, tail),
-        treats_weaker lists task (λ e. e ≡ closing) (Closes (check file type_text) front.trees taken.until end)
-            (λ e same. subst (λ c. Closes (check file type_text) front.trees taken.until end c) (sym same) closes)
-            0 front.trees (behind text well closing) (front.treated closing))
+  says_values end tail closing closes = (
+    front.trees,
+    end,
+    (rest, front.spelled, tail),
+    treats_weaker lists task (λ e. e ≡ closing) (Closes (check file type_text) front.trees taken.until end)
+        (λ e same. subst (λ c. Closes (check file type_text) front.trees taken.until end c) (sym same) closes)
+        0 front.trees (behind text well closing) (front.treated closing),
+  )
 
   module _ (out : Change Seen) (put : Puts out text) where
     put_all : Puts out (text ++ [])
@@ -90,8 +92,12 @@ module _ (file type_text : List ℕ) (t : ListType) (taken : Taken) (rest text :
     stopped_values end tail s closes err status r = which r.which where
       which : (r.said ≡ s) ⊎ (r.said ≡ out_of_memory) → EndsValues task taken out err status
       which (inl same) =
-          inl (behind text well (stopped s), inl (says_values end tail (stopped s) closes), put_all,
-            line_behind s text well err status (subst (λ s. SaidLine s err status) same r.line))
+          inl (
+            behind text well (stopped s),
+            inl (says_values end tail (stopped s) closes),
+            put_all,
+            line_behind s text well err status (subst (λ s. SaidLine s err status) same r.line),
+          )
       which (inr same) = memory_ends err status (subst (λ s. SaidLine s err status) same r.line)
 
     -- the input ends

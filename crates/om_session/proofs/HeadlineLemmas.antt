@@ -1,16 +1,15 @@
 -- An honest call has the outcome of what was told.
-use Rattle.std.proofs.Common.{◌≡◌, ◌≢◌, ◌⊎◌, ℕ, suc, ◌+◌, ◌^◌, ◌<◌, ◌≤◌, Bool, true, false, List, [], ◌∷◌, ◌++◌, length, Option, Some, None, IfSome, Result, Ok, Err, inl, inr, refl, sym, ap, ◌∙◌, subst, append-nil, length-append, arith}
-use Rattle.std.specs.Prelude.{All, IsSomeAnd, MatchResult}
-use Rattle.om_model.specs.declared.status.Status.{Status}
+use Rattle.std.proofs.Common.{◌≡◌, ◌≢◌, ◌⊎◌, ℕ, suc, ◌+◌, ◌^◌, ◌<◌, ◌≤◌, List, [], ◌∷◌, ◌++◌, length, Option, Some, None, Result, Ok, Err, inl, inr, refl, sym, ap, ◌∙◌, subst, append-nil, length-append, arith}
+use Rattle.std.specs.Prelude.{IsSomeAnd, MatchResult}
 use Rattle.om_model.specs.declared.status.Status.TheVariants as statuses
 use Rattle.om_model.specs.Stream.{End}
 use Rattle.om_model.specs.Tree.{Tree}
-use Rattle.om_model.specs.Outcome.{Taken, Until, at_end, at_fault, at_length, unasked, whole, Found, opened, missing, failed, unfetched, Given, Stop, Ending, stopped, out_of_memory, Request, check, Asks, typed_by, limit_of, Task, Language, ReadsFile, ReadsTypeOf, FindsType, Prepares, Says, SaysValues, Closes, Treatment, says, stops, Treats, EndsWith, TreatsAll, ReadsWords, found_of, Outcome, fault_of}
-use Rattle.om_edge.specs.Faults.{HasCause, RoseOrLast}
+use Rattle.om_model.specs.Outcome.{Taken, Until, at_end, at_fault, at_length, unasked, whole, Found, opened, missing, failed, unfetched, Stop, Ending, stopped, Request, check, Task, Language, ReadsFile, ReadsTypeOf, Prepares, Says, SaysValues, Closes, says, stops, Treats, TreatsAll, found_of, Outcome, fault_of}
+use Rattle.om_edge.specs.Faults.{RoseOrLast}
 use Rattle.om_edge.specs.Files.{File, bytes_of}
 use Rattle.om_session.specs.Call.{Seen, SeenFiles, Change, Call}
-use Rattle.om_session.specs.Given.{TakesFrom, Took, Fetched, Puts, PutsPart, IsFoundOf, IsMeasured}
-use Rattle.om_session.specs.Run.{FetchesFor, MayEnd, PutsLine, Completes, Breaks, Account, HasNoFault, IsHonest, HasOutcome, Headline}
+use Rattle.om_session.specs.Given.{TakesFrom, Took, Fetched, IsFoundOf, IsMeasured}
+use Rattle.om_session.specs.Run.{FetchesFor, MayEnd, PutsLine, Completes, Breaks, Account, IsHonest, HasOutcome, Headline}
 
 -- ---- what was taken, where it is told and there is no fault
 
@@ -77,7 +76,7 @@ module _ {D T : Type 0} (language : Language D T) (words : List (List ℕ)) (fil
       (Ok (check f t), asks, (found, (type, reads_same f t (fetches.asked (check f t) asks) type r, same), rest))
 
 -- `check` stops at no value
-no_stop : {D T : Type 0} (language : Language D T) (request : Request) (type : Option T) (k : ℕ) (tree : Tree) (stop : Stop) → Treats language request type k tree (stops stop) → ⊥
+pub no_stop : {D T : Type 0} (language : Language D T) (request : Request) (type : Option T) (k : ℕ) (tree : Tree) (stop : Stop) → Treats language request type k tree (stops stop) → ⊥
 no_stop language (check f t) None k tree stop h = h
 no_stop language (check f t) (Some type) k tree stop h = h
 
@@ -99,16 +98,17 @@ module _ {D T : Type 0} (language : Language D T) (task : Task T) (source : Chan
   says_input at_length e said = absurd (too_short input taken taken_input.0 taken_input.1 short (subst (λ u. IsMeasured u (length taken.bytes)) e took.measured))
   says_input unasked e (trees, end, stream, treats) =
       absurd (treats_close language task (Closes task.request trees unasked end) (λ e closes. closes_not task.request trees end e closes) 0 trees ending
-        (subst (λ u. TreatsAll language task (Closes task.request trees u end) 0 trees ending) e treats)) where
-    closes_not : (request : Request) (trees : List Tree) (end : End) (e : Ending) → Closes request trees unasked end e → ⊥
-    closes_not request trees end e h = h
+      (subst (λ u. TreatsAll language task (Closes task.request trees u end) 0 trees ending) e treats)) where
+        closes_not : (request : Request) (trees : List Tree) (end : End) (e : Ending) → Closes request trees unasked end e → ⊥
+        closes_not request trees end e h = h
 
 module _ {D T : Type 0} (language : Language D T) (words : List (List ℕ)) (call : Call) (a : Account language words call) where
   says_same : (input : List ℕ) (files : List File) → IsHonest call input files → (ending : Ending) → Says language words a.given ending → Outcome language words (bytes_of files) input ending
-  says_same input files h ending (prepared, p, rest) =
-      (prepared,
-        prepares_same language words call.files files h.files_told h.files_short h.no_fault.opens h.no_fault.reads a.given.file a.files prepared p,
-        goes prepared rest) where
+  says_same input files h ending (prepared, p, rest) = (
+    prepared,
+    prepares_same language words call.files files h.files_told h.files_short h.no_fault.opens h.no_fault.reads a.given.file a.files prepared p,
+    goes prepared rest,
+  ) where
     goes : (prepared : Result (Task T) Stop)
         → MatchResult prepared (λ task. SaysValues language task a.given.input ending) (λ stop. ending ≡ stopped stop)
         → MatchResult prepared (λ task. SaysValues language task (whole input) ending) (λ stop. ending ≡ stopped stop)

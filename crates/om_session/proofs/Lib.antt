@@ -2,6 +2,7 @@ pub mod ListTexts
 pub mod SearchLemmas
 pub mod KindTexts
 pub mod AccountLemmas
+pub mod CauseLemmas
 pub mod CheckLemmas
 pub mod HeadlineLemmas
 pub mod LineLemmas

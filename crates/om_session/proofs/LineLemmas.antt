@@ -1,11 +1,11 @@
 -- The lines of the values, one more at a time.
-use Rattle.std.proofs.Common.{◌≡◌, ℕ, zero, suc, ◌+◌, ◌<◌, ◌≤◌, ◌==◌, Bool, true, false, cond, if◌then◌else◌, List, [], ◌∷◌, ◌++◌, length, take, drop, Some, Ok, Err, refl, sym, ap, ◌∙◌, subst, length-append, append-nil, arith}
+use Rattle.std.proofs.Common.{◌≡◌, ℕ, zero, suc, ◌+◌, ◌<◌, ◌≤◌, ◌==◌, Bool, true, false, cond, List, [], ◌∷◌, ◌++◌, length, take, drop, Ok, Err, refl, sym, ap, ◌∙◌, subst, length-append, append-nil, arith}
 use Rattle.std.specs.Prelude.{◌&&◌}
 use Rattle.std.specs.List.{concat}
 use Rattle.std.proofs.lemmas.Bool.{eqb-true}
 use Rattle.om_model.specs.declared.list_type.ListType.{ListType}
 use Rattle.om_model.specs.Header.{header_length}
-use Rattle.om_model.specs.Tree.{Tree, root, objects_of}
+use Rattle.om_model.specs.Tree.{Tree, objects_of}
 use Rattle.om_model.specs.Spelled.{SpelledUnder}
 use Rattle.om_model.specs.Stream.{IsTail}
 use Rattle.om_model.specs.Outcome.{line}
@@ -14,7 +14,7 @@ use Rattle.om_edge.specs.declared.sink.WriteError.TheVariants as errors
 use Rattle.om_read.specs.declared.value.Value.{Value}
 use Rattle.om_session.specs.declared.values.StreamEnd.{StreamEnd}
 use Rattle.om_session.specs.Call.{Seen}
-use Rattle.om_session.specs.Given.{Puts, PutsPart}
+use Rattle.om_session.specs.Given.{Puts}
 use Rattle.om_session.specs.Lists.{lists, IsLine}
 use Rattle.om_session.specs.Read.{IsValueOf}
 use Rattle.om_session.specs.Values.{SaysFront, HasLine, PutsNext, PutsValues, checks, end_of, word_limit}

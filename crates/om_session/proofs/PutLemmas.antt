@@ -1,5 +1,5 @@
 -- What is put in several calls.
-use Rattle.std.proofs.Common.{◌≡◌, ℕ, ◌+◌, ◌<◌, ◌≤◌, Bool, true, false, List, [], ◌++◌, length, take, Option, Some, is_some, IfSome, refl, sym, ap, ◌∙◌, append_assoc, length-append, arith}
+use Rattle.std.proofs.Common.{◌≡◌, ℕ, ◌+◌, ◌<◌, ◌≤◌, Bool, true, false, List, ◌++◌, length, take, Option, Some, is_some, IfSome, sym, ap, ◌∙◌, append_assoc, length-append, arith}
 use Rattle.std.proofs.Math.Seq.{take-append-add}
 use Rattle.std.proofs.lemmas.List.{take-append-le}
 use Rattle.std.proofs.lemmas.Option.{IfSome_then}
@@ -43,10 +43,12 @@ module _ (a b c : Seen) (first second : List ℕ) where
     appended = IfSome_then a.bytes one.appended (λ w e.
         let part : AppendsPart (w ++ first) second c.bytes = rw e at two.appended in
         let less : length first + part.0 < length (first ++ second) =
-            let parts : length (first ++ second) ≡ length first + length second = length-append first second in
-            let below : part.0 < length second = part.1 in omega arith in
-        (length first + part.0, less,
-          part.2 ∙ ap (λ bytes. Some bytes) (append_assoc w first (take part.0 second) ∙ ap (λ more. w ++ more) (sym (take-append-add first second part.0)))));
+        let parts : length (first ++ second) ≡ length first + length second = length-append first second in
+        let below : part.0 < length second = part.1 in omega arith in (
+          length first + part.0,
+          less,
+          part.2 ∙ ap (λ bytes. Some bytes) (append_assoc w first (take part.0 second) ∙ ap (λ more. w ++ more) (sym (take-append-add first second part.0))),
+        ));
     told = two.told ∙ one.told;
     cause = cause_then a.faults b.faults c.faults true one.cause two.cause;
   }

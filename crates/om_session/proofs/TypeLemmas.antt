@@ -3,7 +3,7 @@ use Rattle.std.proofs.Common.{◌≡◌, ◌≢◌, ℕ, List, [], Some, Result,
 use Rattle.std.specs.Prelude.{codes}
 use Rattle.om_model.specs.declared.list_type.ListType.{ListType}
 use Rattle.om_model.specs.ListShapes.{IsListTypeText}
-use Rattle.om_model.specs.Outcome.{Until, at_end, Taken, Found, opened, missing, failed, Stop, cannot_open, declarations, requested_type, fault_of, ReadsTypeOf}
+use Rattle.om_model.specs.Outcome.{at_end, Taken, Found, opened, missing, failed, Stop, cannot_open, declarations, requested_type, fault_of, ReadsTypeOf}
 use Rattle.om_session.specs.Lists.{lists}
 
 module _ (file type : List ℕ) where

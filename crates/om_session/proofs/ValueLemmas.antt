@@ -1,5 +1,5 @@
 -- One value more.
-use Rattle.std.proofs.Common.{◌≡◌, ℕ, zero, suc, ◌+◌, ◌≤◌, Bool, true, false, List, [], ◌∷◌, ◌++◌, length, take, drop, refl, sym, ap, ◌∙◌, subst, append_assoc, append-nil, length-append, arith}
+use Rattle.std.proofs.Common.{◌≡◌, ℕ, suc, ◌+◌, ◌≤◌, Bool, true, false, List, [], ◌∷◌, ◌++◌, length, take, drop, refl, sym, ap, ◌∙◌, subst, append_assoc, length-append, arith}
 use Rattle.std.specs.Prelude.{◌&&◌}
 use Rattle.std.proofs.lemmas.List.{take-append-drop}
 use Rattle.om_model.specs.declared.status.Status.{Status}
@@ -7,7 +7,7 @@ use Rattle.om_model.specs.declared.status.Status.TheVariants as statuses
 use Rattle.om_model.specs.Tree.{Tree}
 use Rattle.om_model.specs.Spelled.{SpelledUnder}
 use Rattle.om_model.specs.Stream.{SpellAll}
-use Rattle.om_model.specs.Outcome.{Language, Task, Request, Ending, or_no, behind, Treatment, says, stops, Treats, EndsWith, TreatsAll, limit_of}
+use Rattle.om_model.specs.Outcome.{Language, Task, Ending, or_no, behind, Treatment, says, stops, Treats, EndsWith, TreatsAll, limit_of}
 use Rattle.om_session.specs.Values.{SaysFront}
 
 or_no_once : (s : Status) → or_no (or_no s) ≡ or_no s
@@ -60,10 +60,10 @@ module _ {D T : Type 0} (language : Language D T) (task : Task T) where
   treats_snoc C k n [] tree e at h = let same : n ≡ k = omega arith in subst (λ m. One C m tree e) same h
   treats_snoc C k n (first ∷ trees) tree e at h =
       (h.0, h.1, snoc_end (λ rest. treats_snoc C (suc k) n trees tree rest (omega arith)) h.0 h.2) where
-    snoc_end : ((rest : Ending) → TreatsAll language task (One C n tree) (suc k) trees rest → TreatsAll language task C (suc k) (trees ++ tree ∷ []) rest)
-        → (t : Treatment) → EndsWith t (TreatsAll language task (One C n tree) (suc k) trees) e → EndsWith t (TreatsAll language task C (suc k) (trees ++ tree ∷ [])) e
-    snoc_end snoc (says text well) g = (g.0, snoc g.0 g.1, g.2)
-    snoc_end snoc (stops stop) g = g
+        snoc_end : ((rest : Ending) → TreatsAll language task (One C n tree) (suc k) trees rest → TreatsAll language task C (suc k) (trees ++ tree ∷ []) rest)
+            → (t : Treatment) → EndsWith t (TreatsAll language task (One C n tree) (suc k) trees) e → EndsWith t (TreatsAll language task C (suc k) (trees ++ tree ∷ [])) e
+        snoc_end snoc (says text well) g = (g.0, snoc g.0 g.1, g.2)
+        snoc_end snoc (stops stop) g = g
 
   -- nothing was said yet
   pub says_nothing : (bytes : List ℕ) → SaysFront language task bytes bytes [] true 0
@@ -80,9 +80,9 @@ module _ {D T : Type 0} (language : Language D T) (task : Task T) where
     treated = λ closing.
         let next : Ending = behind more good closing in
         let one : TreatsAll language task (One (λ e. e ≡ closing) count tree) 0 before.trees (behind text well next) =
-            treats_weaker (λ e. e ≡ next) (One (λ e. e ≡ closing) count tree) (λ e same. (says more good, treats, (closing, refl, same))) 0 before.trees
-            (behind text well next) (before.treated next) in
+        treats_weaker (λ e. e ≡ next) (One (λ e. e ≡ closing) count tree) (λ e same. (says more good, treats, (closing, refl, same))) 0 before.trees
+        (behind text well next) (before.treated next) in
         let at : count ≡ 0 + length before.trees = let counted = before.counted in omega arith in
         subst (λ e. TreatsAll language task (λ e. e ≡ closing) 0 (before.trees ++ tree ∷ []) e) (behind-behind text more well good closing)
-            (treats_snoc (λ e. e ≡ closing) 0 count before.trees tree (behind text well next) at one);
+        (treats_snoc (λ e. e ≡ closing) 0 count before.trees tree (behind text well next) at one);
   }

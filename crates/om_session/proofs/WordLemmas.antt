@@ -1,5 +1,5 @@
 -- Three words.
-use Rattle.std.proofs.Common.{◌≡◌, ℕ, List, [], ◌∷◌, length, get_or, String, string_bytes, refl, ap, arith}
+use Rattle.std.proofs.Common.{◌≡◌, List, [], ◌∷◌, length, get_or, String, string_bytes, ap, arith}
 use Rattle.std.specs.declared.alloc.Global.{Global}
 use Rattle.om_session.specs.Words.{texts}
 

@@ -2,7 +2,7 @@
 use Rattle.std.specs.Prelude.{ℕ, ◌^◌, ◌<◌, ◌≤◌, ◌≡◌, Bool, true, false, List, [], ◌++◌, length, Option, Some, None, is_some, IsSome, IsSomeAnd, IfSome}
 use Rattle.om_model.specs.Outcome.{Until, at_end, at_fault, at_length, unasked, Taken, Found, opened, missing, failed, unfetched}
 use Rattle.om_edge.specs.Faults.{HasCause}
-use Rattle.om_edge.specs.Files.{File, bytes_of}
+use Rattle.om_edge.specs.Files.{bytes_of}
 use Rattle.om_edge.specs.Sink.{AppendsPart}
 use Rattle.om_session.specs.Call.{Seen, SeenFiles, Change}
 

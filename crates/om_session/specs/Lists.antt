@@ -3,7 +3,7 @@ use Rattle.std.specs.Prelude.{ℕ, ◌≡◌, ◌≢◌, Bool, true, false, List
 use Rattle.om_model.specs.declared.value.Val.{Val}
 use Rattle.om_model.specs.declared.value.Obj.{Obj}
 use Rattle.om_model.specs.declared.list_type.ListType.{ListType}
-use Rattle.om_model.specs.Tree.{Tree, root, objects_of}
+use Rattle.om_model.specs.Tree.{root, objects_of}
 use Rattle.om_model.specs.Typing.{HasType}
 use Rattle.om_model.specs.ListShapes.{list_shapes, list_type_text, IsListTypeText}
 use Rattle.om_model.specs.VerdictText.{IsNoLine}

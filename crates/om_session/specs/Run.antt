@@ -1,11 +1,11 @@
 -- What is promised of a call of `run`. One account of the call carries all: what the outside gave, how a run ends with
 -- that, and how much of it was put. The others follow from it.
-use Rattle.std.specs.Prelude.{ℕ, ◌^◌, ◌<◌, ◌≤◌, ◌≡◌, ◌≢◌, ◌⊎◌, Bool, true, List, [], ◌++◌, length, map, All, Option, Some, None, IsSomeAnd, IfSome, Result, Ok, Err}
+use Rattle.std.specs.Prelude.{ℕ, ◌^◌, ◌<◌, ◌≤◌, ◌≡◌, ◌≢◌, ◌⊎◌, true, List, [], length, All, Some, None, IsSomeAnd, IfSome, Ok, Err}
 use Rattle.om_model.specs.declared.status.Status.{Status}
-use Rattle.om_model.specs.declared.status.Status.TheVariants.{Well, No, Usage, Types, Value, ReadFault, WriteFault, OpenFault, Memory, TooLong}
+use Rattle.om_model.specs.declared.status.Status.TheVariants.{Well, Usage, ReadFault, WriteFault, OpenFault, Memory, TooLong, Types, Value}
 use Rattle.om_model.specs.Tree.{Tree}
-use Rattle.om_model.specs.Stream.{SpellAll, End, clean, refused, cut, Stream}
-use Rattle.om_model.specs.Outcome.{Until, Taken, Found, Given, Stop, Request, Language, Ending, Task, Asks, typed_by, limit_of, Prepares, ReadsTypeOf, found_of, Says, SaysFirst, Outcome, stopped, out_of_memory}
+use Rattle.om_model.specs.Stream.{SpellAll, End, clean, Stream}
+use Rattle.om_model.specs.Outcome.{unasked, Found, Given, Stop, Request, Language, Ending, Task, Asks, typed_by, limit_of, Prepares, found_of, Says, SaysFirst, Outcome, stopped, out_of_memory}
 use Rattle.om_edge.specs.Faults.{RoseOrLast}
 use Rattle.om_edge.specs.Files.{File, bytes_of}
 use Rattle.om_session.specs.Call.{Seen, SeenFiles, Change, Call}
@@ -49,6 +49,8 @@ pub record Account {D T : Type 0} (language : Language D T) (words : List (List 
   pub given : Given
   pub input : Took call.input given.input
   pub files : FetchesFor words call.files given.file
+  -- the input is asked for only where no earlier stage stops the run
+  pub asked : given.input.until ≢ unasked → (stop : Stop) → Prepares language words given.file (Err stop) → ⊥
   pub ends : Completes language words given call ⊎ Breaks language words given call
 
 -- ---- the headline
@@ -99,6 +101,27 @@ OnlyUsage words call = call.status ≡ Usage → IsUsage words
 abbrev pub IfUsage : List (List ℕ) → Call → Type 0
 IfUsage words call = IsUsage words → (call.status ≡ Usage) ⊎ IsUnsaid call.status
 
+-- FILE and TYPE of plain words
+abbrev pub IsTyped : List (List ℕ) → List ℕ → List ℕ → Type 0
+IsTyped words name type = (request : Request) × Asks words request × (typed_by request ≡ Some (name, type))
+
+-- the declarations are refused, or the type
+abbrev pub IsRefusedType : {D T : Type 0} → Language D T → List ℕ → List ℕ → Type 0
+IsRefusedType {D} language text type =
+    ((refusal : List ℕ) × language.ReadsDeclarations text (Err refusal))
+    ⊎ ((decls : D) × (refusal : List ℕ) × language.ReadsDeclarations text (Ok decls) × language.ReadsType decls type (Err refusal))
+
+-- 3: only where what FILE holds is refused, or TYPE
+abbrev pub OnlyTypes : {D T : Type 0} → Language D T → List (List ℕ) → Call → Type 0
+OnlyTypes language words call = call.status ≡ Types
+    → (name type text : List ℕ) × IsTyped words name type × IfSome call.files.before.map (λ all. bytes_of all name ≡ Some text) × IsRefusedType language text type
+
+-- 4: only where bytes stand behind the values of the whole input
+abbrev pub OnlyValue : List (List ℕ) → Call → Type 0
+OnlyValue words call = call.status ≡ Value
+    → (request : Request) × Asks words request × (input : List ℕ) × IfSome call.input.before.bytes (λ bytes. bytes ≡ input)
+    × (trees : List Tree) × (end : End) × Stream input (limit_of request) trees end × (end ≢ clean)
+
 -- 6: only where the count of the input or the files' read faults rose, or stands at the last value
 abbrev pub OnlyReadFault : Call → Type 0
 OnlyReadFault call = call.status ≡ ReadFault
@@ -133,25 +156,17 @@ OnlyTooLong words call = call.status ≡ TooLong
     → IfSome call.input.before.bytes (λ bytes. 2 ^ 48 ≤ length bytes)
     ⊎ ((name : List ℕ) × IsFileOf words name × IfSome call.files.before.map (λ all. IsSomeAnd (bytes_of all name) (λ bytes. 2 ^ 48 ≤ length bytes)))
 
--- a count that rose: the call is not taken to have gone well
-abbrev pub Rises : ℕ → ℕ → Type 0
-Rises before after = before < after
+-- a failed call is not taken for one that went well: where a count rose, the status is 6, 7, 8 or 9
+pub record TellsWriteFault (call : Call) : Type 0 where
+  pub out : call.out.before.faults < call.out.after.faults → call.status ≡ WriteFault
+  pub err : call.err.before.faults < call.err.after.faults → call.status ≡ WriteFault
 
-pub record IsAfterFault (status : Status) (call : Call) : Type 0 where
-  pub input : Rises call.input.before.faults call.input.after.faults → (status ≡ ReadFault) ⊎ IsUnsaid status
-  pub opens : Rises call.files.before.open_faults call.files.after.open_faults → (status ≡ OpenFault) ⊎ IsUnsaid status
-  pub reads : Rises call.files.before.read_faults call.files.after.read_faults → (status ≡ ReadFault) ⊎ IsUnsaid status
-  pub out : Rises call.out.before.faults call.out.after.faults → status ≡ WriteFault
-  pub err : Rises call.err.before.faults call.err.after.faults → status ≡ WriteFault
+abbrev pub TellsOpenFault : Call → Type 0
+TellsOpenFault call = call.files.before.open_faults < call.files.after.open_faults → (call.status ≡ OpenFault) ⊎ IsUnsaid call.status
 
-abbrev pub NoFaultIsTakenForAnEnd : Call → Type 0
-NoFaultIsTakenForAnEnd call = IsAfterFault call.status call
-
--- 1 and 4, in an honest call: some value of a clean input has not the type; what stands behind the last value is refused,
--- or is a value that is cut short
-abbrev pub HasStream : List (List ℕ) → Call → (List Tree → End → Type 0) → Type 0
-HasStream words call P = IfSome call.input.before.bytes (λ input.
-    (request : Request) × Asks words request × (trees : List Tree) × (end : End) × Stream input (limit_of request) trees end × P trees end)
+pub record TellsReadFault (call : Call) : Type 0 where
+  pub input : call.input.before.faults < call.input.after.faults → (call.status ≡ ReadFault) ⊎ IsUnsaid call.status
+  pub file : call.files.before.read_faults < call.files.after.read_faults → (call.status ≡ ReadFault) ⊎ IsUnsaid call.status
 
 -- ---- completeness
 

@@ -1,5 +1,5 @@
 -- The stops of the code, and what is put of them.
-use Rattle.std.specs.Prelude.{ℕ, ◌≡◌, ◌⊎◌, codes}
+use Rattle.std.specs.Prelude.{◌≡◌, ◌⊎◌, codes}
 use Rattle.om_model.specs.declared.status.Status.{Status}
 use Rattle.om_model.specs.declared.status.Status.TheVariants.{WriteFault}
 use Rattle.om_model.specs.RefusalText.{refusal_text, truncated_text}

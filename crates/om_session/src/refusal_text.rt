@@ -41,12 +41,7 @@ fn number_text(alloc: Global, name: &str, number: u64, place: u64) -> Result<Str
 }
 
 // A name, the digits of a number and the place.
-fn digits_text(
-    alloc: Global,
-    name: &str,
-    digits: &str,
-    place: u64,
-) -> Result<String, AllocError>
+fn digits_text(alloc: Global, name: &str, digits: &str, place: u64) -> Result<String, AllocError>
     ensures { IfOk result (λ text. string_bytes text ≡ name.now ++ codes "(" ++ digits.now ++ codes ") at " ++ decimal place) }
 {
     format!(in alloc; "{name}({digits}) at {place}")
@@ -80,12 +75,7 @@ fn magic_text(alloc: Global, magic: u32) -> Result<String, AllocError>
     format!(in alloc; "BadMagic({digits})")
 }
 
-fn too_large_text(
-    alloc: Global,
-    which: &str,
-    stated: u64,
-    limit: u64,
-) -> Result<String, AllocError>
+fn too_large_text(alloc: Global, which: &str, stated: u64, limit: u64) -> Result<String, AllocError>
     ensures { IfOk result (λ text. string_bytes text ≡ codes "TooLarge(" ++ which.now ++ codes ", " ++ decimal stated ++ codes ", " ++ decimal limit ++ codes ")") }
 {
     format!(in alloc; "TooLarge({which}, {stated}, {limit})")

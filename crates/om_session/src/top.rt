@@ -5,7 +5,7 @@ ghost use Rattle.om_model.specs.Outcome.{Asks, check as check_of};
 ghost use Rattle.om_session.specs.Call.{call, seen, seen_files};
 ghost use Rattle.om_session.specs.Check.{ClosesAs, ChecksValues};
 ghost use Rattle.om_session.specs.Lists.{lists};
-ghost use Rattle.om_session.specs.Run.{Account, Headline};
+ghost use Rattle.om_session.specs.Run.{Account, Headline, OnlyUsage, IfUsage, OnlyTypes, OnlyValue, OnlyReadFault, OnlyWriteFault, OnlyOpenFault, OnlyTooLong, TellsReadFault, TellsOpenFault, TellsWriteFault};
 ghost use Rattle.om_session.specs.Words.{texts};
 
 use crate::gather::{Until, gather};
@@ -70,8 +70,8 @@ fn check<S: Source, O: Opener, K: Sink, E: Sink>(
 ) -> Status
     ensures { (words : List (List ℕ)) → Asks words (check_of file.now type_text.now) → Account lists words
         (call (seen S.left S.faults input.old input.new)
-            (seen_files O.files O.open_faults O.last_open_fault O.read_faults files.old files.new)
-            (seen K.written K.faults out.old out.new) (seen E.written E.faults err.old err.new) result) }
+        (seen_files O.files O.open_faults O.last_open_fault O.read_faults files.old files.new)
+        (seen K.written K.faults out.old out.new) (seen E.written E.faults err.old err.new) result) }
 {
     match find_type(alloc, files, file, type_text) {
         Ok(ty) => check_values(alloc, ty, input, out, err),
@@ -90,8 +90,8 @@ fn run_command<S: Source, O: Opener, K: Sink, E: Sink>(
 ) -> Status
     ensures { Account lists (texts words.now)
         (call (seen S.left S.faults input.old input.new)
-            (seen_files O.files O.open_faults O.last_open_fault O.read_faults files.old files.new)
-            (seen K.written K.faults out.old out.new) (seen E.written E.faults err.old err.new) result) }
+        (seen_files O.files O.open_faults O.last_open_fault O.read_faults files.old files.new)
+        (seen K.written K.faults out.old out.new) (seen E.written E.faults err.old err.new) result) }
 {
     match read_words(words) {
         Some(Command::Check { file, type_text }) => {
@@ -114,14 +114,51 @@ pub fn run<S: Source, O: Opener, K: Sink, E: Sink>(
     // What the outside gave, how a run ends with that, and how much of it was put.
     ensures account { Account lists (texts words.now)
         (call (seen S.left S.faults input.old input.new)
-            (seen_files O.files O.open_faults O.last_open_fault O.read_faults files.old files.new)
-            (seen K.written K.faults out.old out.new) (seen E.written E.faults err.old err.new) result) }
+        (seen_files O.files O.open_faults O.last_open_fault O.read_faults files.old files.new)
+        (seen K.written K.faults out.old out.new) (seen E.written E.faults err.old err.new) result) }
 
     // Unless memory runs out, an honest call has the outcome of the words, the files and the input.
     ensures headline { Headline lists (texts words.now)
         (call (seen S.left S.faults input.old input.new)
+        (seen_files O.files O.open_faults O.last_open_fault O.read_faults files.old files.new)
+        (seen K.written K.faults out.old out.new) (seen E.written E.faults err.old err.new) result) }
+
+    // The causes of the statuses.
+    ensures usage_only { OnlyUsage (texts words.now) (call (seen S.left S.faults input.old input.new)
+        (seen_files O.files O.open_faults O.last_open_fault O.read_faults files.old files.new)
+        (seen K.written K.faults out.old out.new) (seen E.written E.faults err.old err.new) result) }
+    ensures usage_if { IfUsage (texts words.now) (call (seen S.left S.faults input.old input.new)
+        (seen_files O.files O.open_faults O.last_open_fault O.read_faults files.old files.new)
+        (seen K.written K.faults out.old out.new) (seen E.written E.faults err.old err.new) result) }
+    ensures types_only { OnlyTypes lists (texts words.now) (call (seen S.left S.faults input.old input.new)
             (seen_files O.files O.open_faults O.last_open_fault O.read_faults files.old files.new)
             (seen K.written K.faults out.old out.new) (seen E.written E.faults err.old err.new) result) }
+    ensures value_only { OnlyValue (texts words.now) (call (seen S.left S.faults input.old input.new)
+            (seen_files O.files O.open_faults O.last_open_fault O.read_faults files.old files.new)
+            (seen K.written K.faults out.old out.new) (seen E.written E.faults err.old err.new) result) }
+    ensures read_fault_only { OnlyReadFault (call (seen S.left S.faults input.old input.new)
+        (seen_files O.files O.open_faults O.last_open_fault O.read_faults files.old files.new)
+        (seen K.written K.faults out.old out.new) (seen E.written E.faults err.old err.new) result) }
+    ensures write_fault_only { OnlyWriteFault (call (seen S.left S.faults input.old input.new)
+        (seen_files O.files O.open_faults O.last_open_fault O.read_faults files.old files.new)
+        (seen K.written K.faults out.old out.new) (seen E.written E.faults err.old err.new) result) }
+    ensures open_fault_only { OnlyOpenFault (texts words.now) (call (seen S.left S.faults input.old input.new)
+        (seen_files O.files O.open_faults O.last_open_fault O.read_faults files.old files.new)
+        (seen K.written K.faults out.old out.new) (seen E.written E.faults err.old err.new) result) }
+    ensures too_long_only { OnlyTooLong (texts words.now) (call (seen S.left S.faults input.old input.new)
+        (seen_files O.files O.open_faults O.last_open_fault O.read_faults files.old files.new)
+        (seen K.written K.faults out.old out.new) (seen E.written E.faults err.old err.new) result) }
+
+    // No failed call is taken for one that went well.
+    ensures tells_read_fault { TellsReadFault (call (seen S.left S.faults input.old input.new)
+        (seen_files O.files O.open_faults O.last_open_fault O.read_faults files.old files.new)
+        (seen K.written K.faults out.old out.new) (seen E.written E.faults err.old err.new) result) }
+    ensures tells_open_fault { TellsOpenFault (call (seen S.left S.faults input.old input.new)
+        (seen_files O.files O.open_faults O.last_open_fault O.read_faults files.old files.new)
+        (seen K.written K.faults out.old out.new) (seen E.written E.faults err.old err.new) result) }
+    ensures tells_write_fault { TellsWriteFault (call (seen S.left S.faults input.old input.new)
+        (seen_files O.files O.open_faults O.last_open_fault O.read_faults files.old files.new)
+        (seen K.written K.faults out.old out.new) (seen E.written E.faults err.old err.new) result) }
 {
     run_command(alloc, words, input, files, out, err)
 }

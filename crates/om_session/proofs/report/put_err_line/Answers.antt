@@ -11,7 +11,7 @@ returns-in_err-put_all g c =
     let a : Seen = at g.E.Sink.written g.E.Sink.faults c.args.err.now in
     let b : Seen = at g.E.Sink.written g.E.Sink.faults c.put_all.new.sink in
     MatchResult-from_err _ _ _ c.from_residual.ensures.0 (λ _.
-        part_behind a b b (codes "omarshal: ") (line c.args.text.now) (as_part a b (codes "omarshal: ") first.part first.told first.cause))
+    part_behind a b b (codes "omarshal: ") (line c.args.text.now) (as_part a b (codes "omarshal: ") first.part first.told first.cause))
 
 pub returns-in_err-put_line : goal.returns-in_err-put_line
 returns-in_err-put_line g c =
@@ -20,6 +20,6 @@ returns-in_err-put_line g c =
     let b : Seen = at g.E.Sink.written g.E.Sink.faults c.put_all.new.sink in
     let d : Seen = at g.E.Sink.written g.E.Sink.faults c.put_line.new.sink in
     MatchResult-from_err _ _ _ c.from_residual-in_err-put_line.ensures.0 (λ _.
-        part_then a b d (codes "omarshal: ") (line c.args.text.now)
-            (as_puts a b (codes "omarshal: ") first.all first.told first.cause)
-            c.in_err-put_line.ensures)
+    part_then a b d (codes "omarshal: ") (line c.args.text.now)
+    (as_puts a b (codes "omarshal: ") first.all first.told first.cause)
+    c.in_err-put_line.ensures)

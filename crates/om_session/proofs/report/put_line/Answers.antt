@@ -12,6 +12,6 @@ returns-in_err-put_all-2 g c =
     let b : Seen = at g.K.Sink.written g.K.Sink.faults c.put_all.new.sink in
     let d : Seen = at g.K.Sink.written g.K.Sink.faults c.put_all-2.new.sink in
     MatchResult-from_err _ _ _ c.from_residual-in_err-put_all-2.ensures.0 (λ _.
-        part_then a b d c.args.text.now (10 ∷ [])
-            (as_puts a b c.args.text.now first.all first.told first.cause)
-            (as_part b d (10 ∷ []) second.part second.told second.cause))
+    part_then a b d c.args.text.now (10 ∷ [])
+    (as_puts a b c.args.text.now first.all first.told first.cause)
+    (as_part b d (10 ∷ []) second.part second.told second.cause))

@@ -1,8 +1,41 @@
-use Rattle.om_session.specs.Call.{Call, call, seen, seen_files}
 use Rattle.om_session.specs.Lists.{lists}
 use Rattle.om_session.specs.Words.{texts}
 use Rattle.om_session.proofs.HeadlineLemmas.{headline}
+use Rattle.om_session.proofs.CauseLemmas.{only_types, only_value, only_usage, if_usage, only_read_fault, only_write_fault, only_open_fault, only_too_long, tells_read_fault, tells_open_fault, tells_write_fault}
 use Rattle.om_session.proofs.top.run.Goals as goal
 
 pub returns-clause-headline : goal.returns-clause-headline
 returns-clause-headline g c = headline lists (texts c.args.words.now) _ c.run_command.ensures
+
+pub returns-clause-usage_only : goal.returns-clause-usage_only
+returns-clause-usage_only g c = only_usage lists (texts c.args.words.now) _ c.run_command.ensures
+
+pub returns-clause-usage_if : goal.returns-clause-usage_if
+returns-clause-usage_if g c = if_usage lists (texts c.args.words.now) _ c.run_command.ensures
+
+pub returns-clause-read_fault_only : goal.returns-clause-read_fault_only
+returns-clause-read_fault_only g c = only_read_fault lists (texts c.args.words.now) _ c.run_command.ensures
+
+pub returns-clause-write_fault_only : goal.returns-clause-write_fault_only
+returns-clause-write_fault_only g c = only_write_fault lists (texts c.args.words.now) _ c.run_command.ensures
+
+pub returns-clause-open_fault_only : goal.returns-clause-open_fault_only
+returns-clause-open_fault_only g c = only_open_fault lists (texts c.args.words.now) _ c.run_command.ensures
+
+pub returns-clause-too_long_only : goal.returns-clause-too_long_only
+returns-clause-too_long_only g c = only_too_long lists (texts c.args.words.now) _ c.run_command.ensures
+
+pub returns-clause-tells_write_fault : goal.returns-clause-tells_write_fault
+returns-clause-tells_write_fault g c = tells_write_fault lists (texts c.args.words.now) _ c.run_command.ensures
+
+pub returns-clause-tells_read_fault : goal.returns-clause-tells_read_fault
+returns-clause-tells_read_fault g c = tells_read_fault lists (texts c.args.words.now) _ c.run_command.ensures
+
+pub returns-clause-tells_open_fault : goal.returns-clause-tells_open_fault
+returns-clause-tells_open_fault g c = tells_open_fault lists (texts c.args.words.now) _ c.run_command.ensures
+
+pub returns-clause-types_only : goal.returns-clause-types_only
+returns-clause-types_only g c = only_types lists (texts c.args.words.now) _ c.run_command.ensures
+
+pub returns-clause-value_only : goal.returns-clause-value_only
+returns-clause-value_only g c = only_value lists (texts c.args.words.now) _ c.run_command.ensures

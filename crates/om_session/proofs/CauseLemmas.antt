@@ -1,0 +1,343 @@
+-- The causes of the statuses, from the account of a call.
+use Rattle.std.proofs.Common.{◌≡◌, ◌⊎◌, ℕ, suc, ◌+◌, ◌^◌, ◌<◌, ◌≤◌, Bool, true, false, List, [], ◌∷◌, length, Option, Some, None, IfSome, Result, Ok, Err, inl, inr, refl, sym, ap, ◌∙◌, subst, length-append, arith, ◌≢◌, append-nil, ◌++◌}
+use Rattle.std.specs.Prelude.{IsSome, IsSomeAnd, MatchResult, if◌then◌else◌}
+use Rattle.om_model.specs.declared.status.Status.{Status}
+use Rattle.om_model.specs.declared.status.Status.TheVariants as statuses
+use Rattle.om_model.specs.Stream.{End, clean, refused, cut, Stream}
+use Rattle.om_model.specs.Tree.{Tree}
+use Rattle.om_model.specs.Outcome.{Taken, Until, at_end, at_fault, at_length, unasked, whole, Found, opened, missing, failed, unfetched, Given, Stop, usage, declarations, read_fault, too_long, status_of, Ending, stopped, or_no, Request, check, Task, Language, ReadsFile, ReadsTypeOf, Prepares, Says, SaysValues, Closes, says, stops, TreatsAll, fault_of, limit_of, Asks}
+use Rattle.om_edge.specs.Faults.{HasCause, RoseOrLast}
+use Rattle.om_edge.specs.Files.{bytes_of}
+use Rattle.om_session.specs.Call.{Call}
+use Rattle.om_session.specs.Given.{TakesFrom, Fetched, IsMeasured, is_fault, has_read_fault}
+use Rattle.om_session.specs.Run.{MayEnd, PutsLine, Completes, Breaks, Account, IsUsage, IsFileOf, CannotOpen, OnlyUsage, OnlyReadFault, OnlyWriteFault, OnlyOpenFault, OnlyTooLong, IfUsage, IsUnsaid, TellsWriteFault, TellsOpenFault, TellsReadFault, IsTyped, IsRefusedType, OnlyTypes, OnlyValue}
+use Rattle.std.proofs.lemmas.Option.{IfSome_then}
+use Rattle.om_session.proofs.HeadlineLemmas.{no_stop}
+
+some_and : {X : Type 0} (o : Option X) (P : X → Type 0) → IsSome o → IfSome o P → IsSomeAnd o P
+some_and None P some h = absurd (cc some)
+some_and (Some x) P some h = h
+
+and_then : {X : Type 0} (o : Option X) (P Q : X → Type 0) → IsSomeAnd o P → ((x : X) → P x → Q x) → IsSomeAnd o Q
+and_then None P Q h implies = h
+and_then (Some x) P Q h implies = implies x h
+
+longer : (bytes : List ℕ) (taken : Taken) (rest : List ℕ) → TakesFrom bytes taken rest → 2 ^ 48 ≤ length taken.bytes → 2 ^ 48 ≤ length bytes
+longer bytes taken rest t long =
+    let all : length bytes ≡ length taken.bytes + length rest = ap length t.front ∙ length-append taken.bytes rest in
+    omega arith
+
+risen : (a b : ℕ) → b ≡ a → a < b → ⊥
+risen a b same less = omega arith
+
+-- why a call ends with a status
+pub data Why (words : List (List ℕ)) (call : Call) (given : Given) (Refused : List ℕ → List ℕ → Type 0) : Status → Type 0 where
+  all_well : Why words call given Refused statuses.Well
+  some_no : Why words call given Refused statuses.No
+  not_plain : IsUsage words → Why words call given Refused statuses.Usage
+  not_there : (name : List ℕ) → IsFileOf words name → given.file name ≡ missing → Why words call given Refused statuses.OpenFault
+  not_opened : (name : List ℕ) → IsFileOf words name → given.file name ≡ failed → Why words call given Refused statuses.OpenFault
+  no_types : (name type text : List ℕ) → IsTyped words name type → given.file name ≡ opened (whole text) → Refused text type → Why words call given Refused statuses.Types
+  file_fault : (name : List ℕ) (taken : Taken) → IsFileOf words name → given.file name ≡ opened taken → taken.until ≡ at_fault → Why words call given Refused statuses.ReadFault
+  file_long : (name : List ℕ) (taken : Taken) → IsFileOf words name → given.file name ≡ opened taken → taken.until ≡ at_length → Why words call given Refused statuses.TooLong
+  no_value : (request : Request) → Asks words request → given.input.until ≡ at_end → (trees : List Tree) (end : End) → Stream given.input.bytes (limit_of request) trees end → end ≢ clean → Why words call given Refused statuses.Value
+  input_fault : given.input.until ≡ at_fault → Why words call given Refused statuses.ReadFault
+  input_long : given.input.until ≡ at_length → Why words call given Refused statuses.TooLong
+  memory : Why words call given Refused statuses.Memory
+  out_fault : RoseOrLast call.out.before.faults call.out.after.faults → Why words call given Refused statuses.WriteFault
+  err_fault : RoseOrLast call.err.before.faults call.err.after.faults → Why words call given Refused statuses.WriteFault
+
+module _ (words : List (List ℕ)) (call : Call) (given : Given) (Refused : List ℕ → List ℕ → Type 0) where
+  or_no_why : (s : Status) → Why words call given Refused s → Why words call given Refused (or_no s)
+  or_no_why s all_well = some_no
+  or_no_why s some_no = some_no
+  or_no_why s (not_plain none) = not_plain none
+  or_no_why s (not_there name is none) = not_there name is none
+  or_no_why s (not_opened name is none) = not_opened name is none
+  or_no_why s (no_types name type text is found why) = no_types name type text is found why
+  or_no_why s (file_fault name taken is found e) = file_fault name taken is found e
+  or_no_why s (file_long name taken is found e) = file_long name taken is found e
+  or_no_why s (no_value request asks e trees end stream some) = no_value request asks e trees end stream some
+  or_no_why s (input_fault e) = input_fault e
+  or_no_why s (input_long e) = input_long e
+  or_no_why s memory = memory
+  or_no_why s (out_fault rose) = out_fault rose
+  or_no_why s (err_fault rose) = err_fault rose
+
+  well_why : (well : Bool) (s : Status) → Why words call given Refused s → Why words call given Refused (if well then s else or_no s)
+  well_why true s why = why
+  well_why false s why = or_no_why s why
+
+  -- FILE was not read to its end
+  file_why : (name : List ℕ) → IsFileOf words name → (found : Found) → given.file name ≡ found → (s : Stop) → ReadsFile name found (Err s) → Why words call given Refused (status_of s)
+  file_why name is (opened taken) e s r = until_why taken.until refl r where
+    until_why : (u : Until) → taken.until ≡ u → fault_of u ≡ Some s → Why words call given Refused (status_of s)
+    until_why at_end same r = absurd (cc r)
+    until_why at_fault same r = let stop : read_fault ≡ s = cc in subst (λ s. Why words call given Refused (status_of s)) stop (file_fault name taken is e same)
+    until_why at_length same r = let stop : too_long ≡ s = cc in subst (λ s. Why words call given Refused (status_of s)) stop (file_long name taken is e same)
+    until_why unasked same r = absurd (cc r)
+  file_why name is missing e s r = subst (λ s. Why words call given Refused (status_of s)) (sym r) (not_there name is e)
+  file_why name is failed e s r = subst (λ s. Why words call given Refused (status_of s)) (sym r) (not_opened name is e)
+  file_why name is unfetched e s r = absurd r
+
+  module _ {D T : Type 0} (language : Language D T) (is_refused : (text type : List ℕ) → IsRefusedType language text type → Refused text type) where
+    type_why : (f t : List ℕ) → IsTyped words f t → (s : Stop) → ReadsTypeOf language given.file (f, t) (Err s) → Why words call given Refused (status_of s)
+    type_why f t is s (Err stop, r, same) =
+        let e : stop ≡ s = cc in subst (λ s. Why words call given Refused (status_of s)) e (file_why f (is.0, t, is.1, is.2) (given.file f) refl stop r)
+    type_why f t is s (Ok text, r, (Err stop, (refusal, reads, e), same)) =
+        let told : declarations refusal ≡ s = cc in subst (λ s. Why words call given Refused (status_of s)) told (no_types f t text is r (is_refused text t (inl (refusal, reads))))
+    type_why f t is s (Ok text, r, (Ok decls, reads, (refusal, unread, e))) = subst (λ s. Why words call given Refused (status_of s)) (sym e) (no_types f t text is r (is_refused text t (inr (decls, refusal, reads, unread))))
+
+    prepares_why : (s : Stop) → Prepares language words given.file (Err s) → Why words call given Refused (status_of s)
+    prepares_why s (Err stop, (none, e), same) =
+        let told : usage ≡ s = cc in subst (λ s. Why words call given Refused (status_of s)) told (not_plain none)
+    prepares_why s (Ok (check f t), asks, (Ok type, found, same)) = absurd (cc same)
+    prepares_why s (Ok (check f t), asks, (Err stop, (Ok type, reads, found), same)) = absurd (cc found)
+    prepares_why s (Ok (check f t), asks, (Err stop, (Err first, reads, e), same)) =
+        let told : first ≡ s = cc in
+        subst (λ s. Why words call given Refused (status_of s)) told (type_why f t (check f t, asks, refl) first reads)
+
+    closes_why : (request : Request) (trees : List Tree) (u : Until) (end : End) (e : Ending) → Asks words request → Stream given.input.bytes (limit_of request) trees end → given.input.until ≡ u → Closes request trees u end e → Why words call given Refused e.status
+    closes_why (check f t) trees at_end clean e asks stream same h = subst (λ e. Why words call given Refused e.status) (sym h) all_well
+    closes_why request trees at_end (refused refusal) e asks stream same h = subst (λ e. Why words call given Refused e.status) (sym h) (no_value request asks same trees (refused refusal) stream (λ no_end. cc))
+    closes_why request trees at_end (cut n) e asks stream same h = subst (λ e. Why words call given Refused e.status) (sym h) (no_value request asks same trees (cut n) stream (λ no_end. cc))
+    closes_why request trees at_fault end e asks stream same h = subst (λ e. Why words call given Refused e.status) (sym h) (input_fault same)
+    closes_why request trees at_length end e asks stream same h = subst (λ e. Why words call given Refused e.status) (sym h) (input_long same)
+    closes_why request trees unasked end e asks stream same h = absurd h
+
+    treats_why : (task : Task T) (C : Ending → Type 0) → ((e : Ending) → C e → Why words call given Refused e.status) → (k : ℕ) (trees : List Tree) (e : Ending)
+        → TreatsAll language task C k trees e → Why words call given Refused e.status
+    treats_why task C why k [] e h = why e h
+    treats_why task C why k (tree ∷ trees) e (says text well, treats, (rest, goes, same)) =
+        subst (λ e. Why words call given Refused e.status) (sym same) (well_why well rest.status (treats_why task C why (suc k) trees rest goes))
+    treats_why task C why k (tree ∷ trees) e (stops stop, treats, same) = absurd (no_stop language task.request task.type k tree stop treats)
+
+    task_asks : (task : Task T) → Prepares language words given.file (Ok task) → Asks words task.request
+    task_asks task (Err stop, h, same) = absurd (cc same)
+    task_asks task (Ok request, asks, (Err stop, h, same)) = absurd (cc same)
+    task_asks task (Ok request, asks, (Ok type, h, same)) =
+        let told : task ≡ record { request = request; type = type } = cc in subst (λ t. Asks words t.request) (sym told) asks
+
+    says_why : (ending : Ending) → Says language words given ending → Why words call given Refused ending.status
+    says_why ending (Err stop, p, same) = subst (λ e. Why words call given Refused e.status) (sym same) (prepares_why stop p)
+    says_why ending (Ok task, p, (trees, end, stream, treats)) =
+        treats_why task (Closes task.request trees given.input.until end) (λ e h. closes_why task.request trees given.input.until end e (task_asks task p) stream refl h) 0 trees ending treats
+
+module _ {D T : Type 0} (language : Language D T) (words : List (List ℕ)) (call : Call) (a : Account language words call) where
+  pub account_why : Why words call a.given (IsRefusedType language) call.status
+  account_why = ends a.ends where
+    ends : Completes language words a.given call ⊎ Breaks language words a.given call → Why words call a.given (IsRefusedType language) call.status
+    ends (inr b) = subst (λ s. Why words call a.given (IsRefusedType language) s) (sym b.status) (out_fault b.out.cause.rose)
+    ends (inl c) = put c.line where
+      put : PutsLine call.err call.status c.ending → Why words call a.given (IsRefusedType language) call.status
+      put (inr (part, same)) = subst (λ s. Why words call a.given (IsRefusedType language) s) (sym same) (err_fault part.cause.rose)
+      put (inl (line, same)) = subst (λ s. Why words call a.given (IsRefusedType language) s) (sym same) (may c.may_end) where
+        may : MayEnd language words a.given c.ending → Why words call a.given (IsRefusedType language) c.ending.status
+        may (inl said) = says_why words call a.given (IsRefusedType language) language (λ text type h. h) c.ending said
+        may (inr (text, first, e)) = subst (λ e. Why words call a.given (IsRefusedType language) e.status) (sym e) memory
+
+  file_fetched : (name : List ℕ) → IsFileOf words name → Fetched call.files name (a.given.file name)
+  file_fetched name (request, type, asks, typed) = subst (λ o. IfSome o (λ t. Fetched call.files t.0 (a.given.file t.0))) typed (a.files.asked request asks)
+
+  -- ---- the causes
+
+  usage_of : Why words call a.given (IsRefusedType language) statuses.Usage → IsUsage words
+  usage_of (not_plain none) = none
+
+  pub only_usage : OnlyUsage words call
+  only_usage e = usage_of (subst (λ s. Why words call a.given (IsRefusedType language) s) e account_why)
+
+  write_of : Why words call a.given (IsRefusedType language) statuses.WriteFault → RoseOrLast call.out.before.faults call.out.after.faults ⊎ RoseOrLast call.err.before.faults call.err.after.faults
+  write_of (out_fault rose) = inl rose
+  write_of (err_fault rose) = inr rose
+
+  pub only_write_fault : OnlyWriteFault call
+  only_write_fault e = write_of (subst (λ s. Why words call a.given (IsRefusedType language) s) e account_why)
+
+  read_of : Why words call a.given (IsRefusedType language) statuses.ReadFault
+      → RoseOrLast call.input.before.faults call.input.after.faults ⊎ RoseOrLast call.files.before.read_faults call.files.after.read_faults
+  read_of (input_fault e) = inl (rw e at a.input.cause).rose
+  read_of (file_fault name taken is found e) =
+      let f = file_fetched name is in
+      let cause = subst (λ o. HasCause call.files.before.read_faults call.files.after.read_faults (has_read_fault o)) found f.reading in
+      inr (rw e at cause).rose
+
+  pub only_read_fault : OnlyReadFault call
+  only_read_fault e = read_of (subst (λ s. Why words call a.given (IsRefusedType language) s) e account_why)
+
+  open_of : Why words call a.given (IsRefusedType language) statuses.OpenFault → (name : List ℕ) × IsFileOf words name × CannotOpen call.files name
+  open_of (not_there name is found) =
+      let f = subst (λ o. Fetched call.files name o) found (file_fetched name is) in
+      (name, is, inr (some_and call.files.before.map (λ all. bytes_of all name ≡ None) (f.told refl) f.map))
+  open_of (not_opened name is found) =
+      let f = subst (λ o. Fetched call.files name o) found (file_fetched name is) in
+      (name, is, inl (f.opening.rose, f.named refl))
+
+  pub only_open_fault : OnlyOpenFault words call
+  only_open_fault e = open_of (subst (λ s. Why words call a.given (IsRefusedType language) s) e account_why)
+
+  long_of : Why words call a.given (IsRefusedType language) statuses.TooLong
+      → IfSome call.input.before.bytes (λ bytes. 2 ^ 48 ≤ length bytes)
+      ⊎ ((name : List ℕ) × IsFileOf words name × IfSome call.files.before.map (λ all. IsSomeAnd (bytes_of all name) (λ bytes. 2 ^ 48 ≤ length bytes)))
+  long_of (input_long e) =
+      let long = subst (λ u. IsMeasured u (length a.given.input.bytes)) e a.input.measured in
+      inl (IfSome_then call.input.before.bytes a.input.told (λ bytes t. longer bytes a.given.input t.0 t.1 long))
+  long_of (file_long name taken is found e) =
+      let f = subst (λ o. Fetched call.files name o) found (file_fetched name is) in
+      let long = subst (λ u. IsMeasured u (length taken.bytes)) e f.measured in
+      inr (
+        name,
+        is,
+        IfSome_then call.files.before.map f.map (λ all h.
+            and_then (bytes_of all name) (λ bytes. (rest : List ℕ) × TakesFrom bytes taken rest) (λ bytes. 2 ^ 48 ≤ length bytes) h
+            (λ bytes t. longer bytes taken t.0 t.1 long)),
+      )
+
+  pub only_too_long : OnlyTooLong words call
+  only_too_long e = long_of (subst (λ s. Why words call a.given (IsRefusedType language) s) e account_why)
+
+  -- ---- what has to be told
+
+  usage_says : IsUsage words → (ending : Ending) → Says language words a.given ending → ending.status ≡ statuses.Usage
+  usage_says none ending (Ok task, (Err stop, h, same), said) = absurd (cc same)
+  usage_says none ending (Ok task, (Ok request, asks, more), said) = absurd (none request asks)
+  usage_says none ending (Err stop, (Err first, h, same), e) =
+      let told : usage ≡ stop = let h1 = h.1 in cc in ap (λ e. e.status) e ∙ ap status_of (sym told)
+  usage_says none ending (Err stop, (Ok request, asks, more), e) = absurd (none request asks)
+
+  -- the status where all that was said was put; else it is 7, or memory ran out and it is 9
+  said_status : (P : Status → Type 0) → ((ending : Ending) → Says language words a.given ending → P ending.status) → P call.status ⊎ IsUnsaid call.status
+  said_status P says_P = ends a.ends where
+    ends : Completes language words a.given call ⊎ Breaks language words a.given call → P call.status ⊎ IsUnsaid call.status
+    ends (inr b) = inr (inr b.status)
+    ends (inl c) = put c.line where
+      put : PutsLine call.err call.status c.ending → P call.status ⊎ IsUnsaid call.status
+      put (inr (part, same)) = inr (inr same)
+      put (inl (line, same)) = may c.may_end where
+        may : MayEnd language words a.given c.ending → P call.status ⊎ IsUnsaid call.status
+        may (inl said) = inl (subst P (sym same) (says_P c.ending said))
+        may (inr (text, first, e)) = inr (inl (same ∙ ap (λ e. e.status) e))
+
+  pub if_usage : IfUsage words call
+  if_usage none = said_status (λ s. s ≡ statuses.Usage) (usage_says none)
+
+  pub tells_write_fault : TellsWriteFault call
+  tells_write_fault = record { out = out_told a.ends; err = err_told a.ends } where
+    out_told : Completes language words a.given call ⊎ Breaks language words a.given call → call.out.before.faults < call.out.after.faults → call.status ≡ statuses.WriteFault
+    out_told (inr b) less = b.status
+    out_told (inl c) less = absurd (risen _ _ c.out.cause.kept less)
+
+    err_told : Completes language words a.given call ⊎ Breaks language words a.given call → call.err.before.faults < call.err.after.faults → call.status ≡ statuses.WriteFault
+    err_told (inr b) less = absurd (risen _ _ b.err.cause.kept less)
+    err_told (inl c) less = put c.line where
+      put : PutsLine call.err call.status c.ending → call.status ≡ statuses.WriteFault
+      put (inr (part, same)) = same
+      put (inl (line, same)) = absurd (risen _ _ line.cause.kept less)
+
+  -- where a stage stops the run, that is its status
+  stop_status : (ending : Ending) (found : Result T Stop) (type : Result (Option T) Stop) (prepared : Result (Task T) Stop) (request : Request) (s : Stop)
+      → found ≡ Err s → MatchResult found (λ x. type ≡ Ok (Some x)) (λ stop. type ≡ Err stop)
+      → MatchResult type (λ x. prepared ≡ Ok (record { request = request; type = x })) (λ stop. prepared ≡ Err stop)
+      → MatchResult prepared (λ task. SaysValues language task a.given.input ending) (λ stop. ending ≡ stopped stop)
+      → ending.status ≡ status_of s
+  stop_status ending (Ok x) type prepared request s e f g h = absurd (cc e)
+  stop_status ending (Err s1) (Ok x) prepared request s e f g h = absurd (cc f)
+  stop_status ending (Err s1) (Err s2) (Ok task) request s e f g h = absurd (cc g)
+  stop_status ending (Err s1) (Err s2) (Err s3) request s e f g h =
+      let told : s3 ≡ s = cc in ap (λ e. e.status) h ∙ ap status_of told
+
+  module _ (f : List ℕ) (fetched : Fetched call.files f (a.given.file f)) (ending : Ending) where
+    -- a fetch that failed is told
+    opening_at : call.files.before.open_faults < call.files.after.open_faults → (o : Found) → a.given.file f ≡ o → (text : Result (List ℕ) Stop) → ReadsFile f o text
+        → ((s : Stop) → text ≡ Err s → ending.status ≡ status_of s) → ending.status ≡ statuses.OpenFault
+    opening_at less (opened taken) same text r told = absurd (risen _ _ (subst (λ o. Fetched call.files f o) same fetched).opening.kept less)
+    opening_at less missing same text r told = absurd (risen _ _ (subst (λ o. Fetched call.files f o) same fetched).opening.kept less)
+    opening_at less unfetched same text r told = absurd (risen _ _ (subst (λ o. Fetched call.files f o) same fetched).opening.kept less)
+    opening_at less failed same (Ok bytes) r told = absurd (cc r)
+    opening_at less failed same (Err s) r told = told s refl ∙ ap status_of r
+
+    -- and so is a take of a file
+    reading_at : call.files.before.read_faults < call.files.after.read_faults → (o : Found) → a.given.file f ≡ o → (text : Result (List ℕ) Stop) → ReadsFile f o text
+        → ((s : Stop) → text ≡ Err s → ending.status ≡ status_of s) → ending.status ≡ statuses.ReadFault
+    reading_at less missing same text r told = absurd (risen _ _ (subst (λ o. Fetched call.files f o) same fetched).reading.kept less)
+    reading_at less unfetched same text r told = absurd (risen _ _ (subst (λ o. Fetched call.files f o) same fetched).reading.kept less)
+    reading_at less failed same text r told = absurd (risen _ _ (subst (λ o. Fetched call.files f o) same fetched).reading.kept less)
+    reading_at less (opened taken) same text r told = until_at taken.until refl text r told where
+      reads : (u : Until) → taken.until ≡ u → HasCause call.files.before.read_faults call.files.after.read_faults (is_fault u)
+      reads u e = subst (λ u. HasCause call.files.before.read_faults call.files.after.read_faults (is_fault u)) e (subst (λ o. Fetched call.files f o) same fetched).reading
+
+      until_at : (u : Until) → taken.until ≡ u → (text : Result (List ℕ) Stop) → ReadsFile f (opened taken) text
+          → ((s : Stop) → text ≡ Err s → ending.status ≡ status_of s) → ending.status ≡ statuses.ReadFault
+      until_at at_end e text r told = absurd (risen _ _ (reads at_end e).kept less)
+      until_at at_length e text r told = absurd (risen _ _ (reads at_length e).kept less)
+      until_at unasked e text r told = absurd (risen _ _ (reads unasked e).kept less)
+      until_at at_fault e (Ok bytes) r told = let all : taken ≡ whole bytes = cc in absurd (cc (sym e ∙ ap (λ t. t.until) all))
+      until_at at_fault e (Err s) r told =
+          let h : fault_of at_fault ≡ Some s = subst (λ u. fault_of u ≡ Some s) e r in
+          let stop : read_fault ≡ s = cc in told s refl ∙ ap status_of (sym stop)
+
+  opening_says : call.files.before.open_faults < call.files.after.open_faults → (ending : Ending) → Says language words a.given ending → ending.status ≡ statuses.OpenFault
+  opening_says less ending (prepared, (Err stop, none, rest), said) = absurd (risen _ _ (ap (λ f. f.open_faults) (a.files.unasked none.0)) less)
+  opening_says less ending (prepared, (Ok (check f t), asks, (type, (found, (text, r, more), e), rest)), said) =
+      opening_at f (a.files.asked (check f t) asks) ending less (a.given.file f) refl text r
+      (λ s same. stop_status ending found type prepared (check f t) s (rw same at more) e rest said)
+
+  reading_says : call.files.before.read_faults < call.files.after.read_faults → (ending : Ending) → Says language words a.given ending → ending.status ≡ statuses.ReadFault
+  reading_says less ending (prepared, (Err stop, none, rest), said) = absurd (risen _ _ (ap (λ f. f.read_faults) (a.files.unasked none.0)) less)
+  reading_says less ending (prepared, (Ok (check f t), asks, (type, (found, (text, r, more), e), rest)), said) =
+      reading_at f (a.files.asked (check f t) asks) ending less (a.given.file f) refl text r
+      (λ s same. stop_status ending found type prepared (check f t) s (rw same at more) e rest said)
+
+  pub tells_open_fault : TellsOpenFault call
+  tells_open_fault less = said_status (λ s. s ≡ statuses.OpenFault) (opening_says less)
+
+  -- a take of the input that failed is told
+  treats_fault : (task : Task T) (C : Ending → Type 0) → ((e : Ending) → C e → e.status ≡ statuses.ReadFault) → (k : ℕ) (trees : List Tree) (e : Ending)
+      → TreatsAll language task C k trees e → e.status ≡ statuses.ReadFault
+  treats_fault task C fault k [] e h = fault e h
+  treats_fault task C fault k (tree ∷ trees) e (says text well, treats, (rest, goes, same)) =
+      ap (λ e. e.status) same ∙ kept well rest.status (treats_fault task C fault (suc k) trees rest goes) where
+        kept : (well : Bool) (s : Status) → s ≡ statuses.ReadFault → (if well then s else or_no s) ≡ statuses.ReadFault
+        kept true s e = e
+        kept false s e = ap or_no e
+  treats_fault task C fault k (tree ∷ trees) e (stops stop, treats, same) = absurd (no_stop language task.request task.type k tree stop treats)
+
+  input_says : call.input.before.faults < call.input.after.faults → (u : Until) → a.given.input.until ≡ u → (ending : Ending) → Says language words a.given ending → ending.status ≡ statuses.ReadFault
+  input_says less at_end e ending said = absurd (risen _ _ (rw e at a.input.cause).kept less)
+  input_says less at_length e ending said = absurd (risen _ _ (rw e at a.input.cause).kept less)
+  input_says less unasked e ending said = absurd (risen _ _ (rw e at a.input.cause).kept less)
+  input_says less at_fault e ending (Err stop, p, same) = absurd (a.asked (λ none. cc (sym e ∙ none)) stop p)
+  input_says less at_fault e ending (Ok task, p, (trees, end, stream, treats)) =
+      treats_fault task (Closes task.request trees at_fault end) (λ e h. ap (λ e. e.status) h) 0 trees ending
+      (subst (λ u. TreatsAll language task (Closes task.request trees u end) 0 trees ending) e treats)
+
+  pub tells_read_fault : TellsReadFault call
+  tells_read_fault = record {
+    input = λ less. said_status (λ s. s ≡ statuses.ReadFault) (input_says less a.given.input.until refl);
+    file = λ less. said_status (λ s. s ≡ statuses.ReadFault) (reading_says less);
+  }
+
+  -- what is found of the name, where the map has it
+  contents_are : (o : Option (List ℕ)) (bytes : List ℕ) → IsSomeAnd o (λ all. (rest : List ℕ) × TakesFrom all (whole bytes) rest) → o ≡ Some bytes
+  contents_are None bytes h = absurd h
+  contents_are (Some all) bytes (rest, t) = ap (λ b. Some b) (t.front ∙ (ap (λ r. bytes ++ r) (t.ends refl) ∙ append-nil bytes))
+
+  types_of : Why words call a.given (IsRefusedType language) statuses.Types
+      → (name type text : List ℕ) × IsTyped words name type × IfSome call.files.before.map (λ all. bytes_of all name ≡ Some text) × IsRefusedType language text type
+  types_of (no_types name type text is found why) =
+      let f = subst (λ o. Fetched call.files name o) found (file_fetched name (is.0, type, is.1, is.2)) in
+      (name, type, text, is, IfSome_then call.files.before.map f.map (λ all h. contents_are (bytes_of all name) text h), why)
+
+  pub only_types : OnlyTypes language words call
+  only_types e = types_of (subst (λ s. Why words call a.given (IsRefusedType language) s) e account_why)
+
+  value_of : Why words call a.given (IsRefusedType language) statuses.Value
+      → (request : Request) × Asks words request × (input : List ℕ) × IfSome call.input.before.bytes (λ bytes. bytes ≡ input)
+      × (trees : List Tree) × (end : End) × Stream input (limit_of request) trees end × (end ≢ clean)
+  value_of (no_value request asks e trees end stream some) =
+      (request, asks, a.given.input.bytes,
+        IfSome_then call.input.before.bytes a.input.told (λ bytes t. t.1.front ∙ (ap (λ r. a.given.input.bytes ++ r) (t.1.ends e) ∙ append-nil a.given.input.bytes)),
+        trees, end, stream, some)
+
+  pub only_value : OnlyValue words call
+  only_value e = value_of (subst (λ s. Why words call a.given (IsRefusedType language) s) e account_why)
