@@ -1,11 +1,10 @@
 -- What is read, as the check of a value needs it.
-use Rattle.std.proofs.Common.{◌≡◌, ℕ, zero, suc, ◌<◌, ◌≤◌, List, length, Option, Some, None, Result, Ok, Err, refl, sym, ap, ◌∙◌, subst, arith}
+use Rattle.std.proofs.Common.{ℕ, List, length, Result, Ok, Err, sym, subst, arith}
 use Rattle.om_model.specs.declared.refusal.ReadRefusal.TheVariants as refusals
 use Rattle.om_model.specs.declared.refusal.ReadRefusal.{ReadRefusal}
 use Rattle.om_model.specs.Graph.{IsValue}
-use Rattle.om_model.specs.Token.{Token, integer, atom, shared, block, leaf}
+use Rattle.om_model.specs.Token.{integer, atom, shared, block, leaf}
 use Rattle.om_model.specs.Tree.{Tree, node, IsTree, ReferBack, root, objects_of}
-use Rattle.om_read.specs.declared.value.Value.{Value}
 use Rattle.om_read.specs.declared.value.Whole.{Whole}
 use Rattle.om_read.specs.declared.value.Whole.TheVariants.{Done, Cut}
 use Rattle.om_read.specs.Reading.{Reads}
