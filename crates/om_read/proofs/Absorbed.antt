@@ -1,12 +1,11 @@
 -- What single tokens add to a graph.
-use Rattle.std.proofs.Common.{ℕ, ◌≡◌, ◌-◌, List, [], ◌∷◌, ◌++◌, length, Option, ℤ, pos, ap, sym, subst, append-nil}
+use Rattle.std.proofs.Common.{ℕ, ◌≡◌, ◌-◌, List, [], ◌∷◌, ◌++◌, length, Option, ℤ, ap, sym, subst, append-nil}
 use Rattle.om_model.specs.declared.value.Val.{Val}
 use Rattle.om_model.specs.declared.value.Val.TheVariants as vals
 use Rattle.om_model.specs.declared.value.Obj.{Obj}
-use Rattle.om_model.specs.declared.value.Obj.TheVariants as objs
-use Rattle.om_model.specs.Token.{integer, atom, shared, block, leaf}
+use Rattle.om_model.specs.Token.{integer, atom, shared}
 use Rattle.om_read.specs.declared.build.OpenBlock.{OpenBlock}
-use Rattle.om_read.specs.Build.{Building, building, place, absorb, WellOpen, AreOpen}
+use Rattle.om_read.specs.Build.{Building, building, place, absorb, WellOpen}
 use Rattle.om_read.proofs.Opened.{AreOpen-append}
 
 pub absorbed_integer : (s : Building) (z : ℤ) → absorb s (integer z) ≡ place (vals.Int z) s.objects s.open_blocks s.root
@@ -26,4 +25,4 @@ pub well_added : (heap new : List Obj) (open_blocks : List OpenBlock) (root : Op
     → new ≡ heap ++ object ∷ [] → WellOpen s → WellOpen (building new open_blocks root)
 well_added heap new open_blocks root object s e n h =
     subst (λ (all : List Obj). WellOpen (building all open_blocks root)) (sym n)
-        (WellOpen-append (building heap open_blocks root) (object ∷ []) (subst WellOpen (sym e) h))
+    (WellOpen-append (building heap open_blocks root) (object ∷ []) (subst WellOpen (sym e) h))

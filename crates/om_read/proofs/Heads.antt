@@ -1,5 +1,5 @@
 -- What the steps of a header come to.
-use Rattle.std.proofs.Common.{ℕ, ◌≡◌, ◌≢◌, ◌⊎◌, inl, inr, ⊎_elim, ◌+◌, ◌-◌, ◌<◌, ◌≤◌, List, [], ◌∷◌, length, take, Bool, true, false, cond, eqb, ltb, Some, None, Option, Result, Ok, Err, arith, refl, ap, sym, ◌∙◌, rules, subst}
+use Rattle.std.proofs.Common.{ℕ, ◌≡◌, ◌≢◌, ◌⊎◌, inl, inr, ⊎_elim, ◌+◌, ◌<◌, ◌≤◌, List, [], ◌∷◌, length, take, Bool, true, false, cond, eqb, ltb, Some, None, Option, Result, Ok, Err, arith, refl, ap, sym, ◌∙◌, subst}
 use Rattle.std.proofs.lemmas.Bool.{le-ltb, lt-ltb, cases_lt}
 use Rattle.std.proofs.lemmas.Bool.Decides.{nat_tests}
 use Rattle.std.proofs.lemmas.List.{length-take-le}
@@ -70,8 +70,8 @@ waits limit bytes h short (inl four) =
     let head = head_of bytes in
     behind_good limit bytes (h four) four
     ∙ undecided (length bytes) (header_length bytes) (fails_if (ltb limit head.w64) (TooLarge Words head.w64 limit))
-        (step (header_length bytes) (fails_if (ltb length_limit head.length) (TooLarge Length head.length length_limit))
-        ∷ step (header_length bytes) (fails_if (eqb head.length 0) (Overlong (header_length bytes) 1 0)) ∷ []) short
+    (step (header_length bytes) (fails_if (ltb length_limit head.length) (TooLarge Length head.length length_limit))
+    ∷ step (header_length bytes) (fails_if (eqb head.length 0) (Overlong (header_length bytes) 1 0)) ∷ []) short
 waits limit bytes h short (inr few) = first_undecided limit bytes few
 
 four_or_few : (n : ℕ) → (4 ≤ n) ⊎ (n < 4)
@@ -105,9 +105,9 @@ header_states limit bytes h whole =
     let head = head_of bytes in
     behind_good limit bytes h (omega arith)
     ∙ same_steps (length bytes) (header_length bytes) (fails_if (ltb limit head.w64) (TooLarge Words head.w64 limit))
-        (fails_if (ltb length_limit head.length) (TooLarge Length head.length length_limit)) (fails_if (eqb head.length 0) (Overlong (header_length bytes) 1 0)) whole
+    (fails_if (ltb length_limit head.length) (TooLarge Length head.length length_limit)) (fails_if (eqb head.length 0) (Overlong (header_length bytes) 1 0)) whole
     ∙ ap (λ (n : ℕ). first_refusal 0 (step 0 (fails_if (ltb limit head.w64) (TooLarge Words head.w64 limit))
-        ∷ step 0 (fails_if (ltb length_limit head.length) (TooLarge Length head.length length_limit)) ∷ step 0 (fails_if (eqb head.length 0) (Overlong n 1 0)) ∷ [])) (sym (start_length bytes))
+    ∷ step 0 (fails_if (ltb length_limit head.length) (TooLarge Length head.length length_limit)) ∷ step 0 (fails_if (eqb head.length 0) (Overlong n 1 0)) ∷ [])) (sym (start_length bytes))
 
 pub header_place : (bytes : List ℕ) (place : Place) → header_length bytes ≤ length bytes → start_of (head_of bytes) place
     → IsSumOf place (context (take (header_length bytes) bytes) [])
@@ -132,6 +132,8 @@ pub header_begins : (limit : ℕ) (bytes : List ℕ) (head : Head) (result : Res
 header_begins limit bytes head (Err (Refused r)) m whole e h =
     header_states limit bytes m whole ∙ ap (λ (x : Head). first_refusal 0 (stated_steps limit x)) (sym e) ∙ h
 header_begins limit bytes head (Err Wait) m whole e h = absurd h
-header_begins limit bytes head (Ok place) m whole e h =
-    (header_states limit bytes m whole ∙ ap (λ (x : Head). first_refusal 0 (stated_steps limit x)) (sym e) ∙ h.0,
-        whole, header_place bytes place whole (subst (λ x. start_of x place) e h.1))
+header_begins limit bytes head (Ok place) m whole e h = (
+  header_states limit bytes m whole ∙ ap (λ (x : Head). first_refusal 0 (stated_steps limit x)) (sym e) ∙ h.0,
+  whole,
+  header_place bytes place whole (subst (λ x. start_of x place) e h.1),
+)

@@ -1,5 +1,5 @@
 -- What the steps of a token come to.
-use Rattle.std.proofs.Common.{ℕ, suc, ◌≡◌, ◌+◌, ◌-◌, ◌<◌, ◌≤◌, List, [], ◌∷◌, ◌++◌, length, take, drop, get_or, Bool, true, false, Option, Some, None, Result, Ok, Err, cond, ltb, arith, refl, ap, sym, ◌∙◌, subst, add-one, inl, inr}
+use Rattle.std.proofs.Common.{ℕ, suc, ◌≡◌, ◌+◌, ◌<◌, ◌≤◌, List, [], ◌∷◌, ◌++◌, length, take, drop, get_or, Bool, true, false, Option, Some, None, Result, Ok, Err, cond, ltb, arith, refl, ap, sym, ◌∙◌, subst, add-one}
 use Rattle.std.proofs.lemmas.Bool.{ltb-true, le-ltb}
 use Rattle.std.specs.Prelude.{IsErr}
 use Rattle.om_model.specs.declared.refusal.ReadRefusal.{ReadRefusal}
@@ -8,14 +8,14 @@ use Rattle.om_model.specs.declared.code.CodeFault.{CodeFault}
 use Rattle.om_model.specs.declared.code.Measure.{Measure}
 use Rattle.om_model.specs.Code.{kind_of, custom_of}
 use Rattle.om_model.specs.Raw.{raw_length, raw_measure, fixed_bytes, variable_bytes, measure_behind}
-use Rattle.om_model.specs.Step.{Context, Step, step, place, or_else, first_refusal, token_steps, steps_behind, entry_steps, variable_steps, closing_steps, code_refusal}
+use Rattle.om_model.specs.Step.{Context, Step, place, or_else, first_refusal, token_steps, entry_steps, variable_steps, closing_steps, code_refusal}
 use Rattle.om_model.proofs.StepLemmas.{EndWithin}
 use Rattle.om_model.proofs.RawLemmas.{raw_length-ok, raw_measure-ok}
 use Rattle.om_model.proofs.TokenStepLemmas.{token_steps-ok, token_steps-err, token_steps-within}
 use Rattle.om_read.specs.declared.stop.Stop.{Stop}
 use Rattle.om_read.specs.declared.stop.Stop.TheVariants.{Wait, Refused}
 use Rattle.om_read.specs.declared.place.Place.{Place}
-use Rattle.om_read.specs.Place.{IsSumOf, Judged, after, behind}
+use Rattle.om_read.specs.Place.{Judged, after, behind}
 use Rattle.om_read.specs.Progress.{Progress, passed, waiting, failed, and_then, once, progress, answered}
 use Rattle.om_read.proofs.Sums.{progress-append}
 
@@ -58,7 +58,7 @@ waiting_short low high n (s ∷ steps) within w =
 -- the steps in their groups are those of the token
 pub steps_are : (c : Context) (code : ℕ) (kind : CodeKind) (rest : List ℕ) → kind_of code ≡ Ok kind
     → and_then (progress (length rest + 1) (entry_steps c code kind rest))
-        (and_then (progress (length rest + 1) (variable_steps c kind (custom_of (take 3 rest)) rest)) (progress (length rest + 1) (closing_steps c kind rest)))
+    (and_then (progress (length rest + 1) (variable_steps c kind (custom_of (take 3 rest)) rest)) (progress (length rest + 1) (closing_steps c kind rest)))
     ≡ progress (length (code ∷ rest)) (token_steps c (code ∷ rest))
 steps_are c code kind rest e =
     let n : ℕ = length rest + 1 in
@@ -72,9 +72,10 @@ steps_are c code kind rest e =
 -- an answer that stops
 pub judged_stop : (c : Context) (bytes : List ℕ) (x : Result Place Stop) → answered x ≡ progress (length bytes) (token_steps c bytes) → IsErr x → Judged c bytes x
 judged_stop c bytes (Ok next) e h = cc
-judged_stop c bytes (Err Wait) e h =
-    (subst (λ p. Tells p (first_refusal (length bytes) (token_steps c bytes))) (sym e) (progress-tells (length bytes) (token_steps c bytes)),
-        waiting_short 1 (raw_length bytes) (length bytes) (token_steps c bytes) (token_steps-within c bytes) (sym e))
+judged_stop c bytes (Err Wait) e h = (
+  subst (λ p. Tells p (first_refusal (length bytes) (token_steps c bytes))) (sym e) (progress-tells (length bytes) (token_steps c bytes)),
+  waiting_short 1 (raw_length bytes) (length bytes) (token_steps c bytes) (token_steps-within c bytes) (sym e),
+)
 judged_stop c bytes (Err (Refused r)) e h =
     subst (λ p. Tells p (first_refusal (length bytes) (token_steps c bytes))) (sym e) (progress-tells (length bytes) (token_steps c bytes))
 
@@ -92,7 +93,7 @@ judged_fault c code fault rest e = rw (token_steps-err c code fault rest e) (rw 
 pub bytes_steps_are : (c : Context) (bytes : List ℕ) (code : ℕ) (rest : List ℕ) (kind : CodeKind) → 0 < length bytes → code ≡ get_or bytes 0 0 → rest ≡ drop 1 bytes
     → kind_of code ≡ Ok kind
     → and_then (progress (length rest + 1) (entry_steps c code kind rest))
-        (and_then (progress (length rest + 1) (variable_steps c kind (custom_of (take 3 rest)) rest)) (progress (length rest + 1) (closing_steps c kind rest)))
+    (and_then (progress (length rest + 1) (variable_steps c kind (custom_of (take 3 rest)) rest)) (progress (length rest + 1) (closing_steps c kind rest)))
     ≡ progress (length bytes) (token_steps c bytes)
 bytes_steps_are c [] code rest kind some d r e = absurd (omega arith)
 bytes_steps_are c (b ∷ bytes) code rest kind some d r e =
@@ -115,4 +116,4 @@ bytes_after c (code ∷ rest) kind some e =
     let n = bytes_length (code ∷ rest) kind some e in
     let m = raw_measure-ok code kind rest e in
     ap (λ (p : ℕ × Option Measure). record c { taken = c.taken + p.0; before = c.before ++ p.1 ∷ [] })
-        (let same : (1 + fixed_bytes kind + variable_bytes kind rest, measure_behind kind rest) ≡ (raw_length (code ∷ rest), raw_measure (code ∷ rest)) = cc in same)
+    (let same : (1 + fixed_bytes kind + variable_bytes kind rest, measure_behind kind rest) ≡ (raw_length (code ∷ rest), raw_measure (code ∷ rest)) = cc in same)

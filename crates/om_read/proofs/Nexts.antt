@@ -1,5 +1,5 @@
 -- The next token of a value.
-use Rattle.std.proofs.Common.{ℕ, ◌≡◌, ◌+◌, ◌-◌, ◌^◌, ◌<◌, ◌≤◌, List, [], ◌∷◌, ◌++◌, length, take, map, All, Option, Some, None, Result, Ok, Err, IsErr, arith, refl, ap, length-append, sym, ◌∙◌, subst}
+use Rattle.std.proofs.Common.{ℕ, ◌≡◌, ◌+◌, ◌^◌, ◌<◌, ◌≤◌, List, [], ◌∷◌, ◌++◌, length, take, map, Option, None, Result, Ok, Err, IsErr, arith, refl, ap, length-append, sym, ◌∙◌, subst}
 use Rattle.std.specs.List.{AllZip, concat}
 use Rattle.std.proofs.lemmas.List.{map-append, length-take-le}
 use Rattle.std.proofs.lemmas.List.Elements.{All-push}
@@ -7,22 +7,22 @@ use Rattle.om_model.specs.declared.code.Measure.{Measure}
 use Rattle.om_model.specs.Bytes.{AreBytes}
 use Rattle.om_model.specs.Words.{of_object, fields, objects, pending}
 use Rattle.om_model.specs.Raw.{raw_length, raw_measure}
-use Rattle.om_model.specs.Token.{Token, IsToken, Spells, measure_of}
+use Rattle.om_model.specs.Token.{Token, IsToken, Spells}
 use Rattle.om_model.specs.Tree.{RefersBack}
 use Rattle.om_model.specs.Step.{Context, first_refusal, token_steps}
 use Rattle.om_model.specs.Front.{context}
 use Rattle.om_model.proofs.Pending.{pending_push}
 use Rattle.om_model.proofs.RawLemmas.{raw_measure-take}
-use Rattle.om_model.proofs.NextLemmas.{next_passes, PassesNext}
+use Rattle.om_model.proofs.NextLemmas.{next_passes}
 use Rattle.om_model.proofs.ReadingLemmas.{concat-push}
-use Rattle.om_model.proofs.SpellTokens.{SpelledThere, SpelledThere-passes}
+use Rattle.om_model.proofs.SpellTokens.{SpelledThere-passes}
 use Rattle.om_model.proofs.SpellValues.{raw_measures-spelled}
 use Rattle.om_model.proofs.StandLemmas.{AreBytes-take}
 use Rattle.om_read.specs.declared.place.Place.{Place}
 use Rattle.om_read.specs.declared.stop.Stop.{Stop}
 use Rattle.om_read.specs.declared.stop.Stop.TheVariants.{Wait, Refused}
 use Rattle.om_read.specs.Place.{IsSumOf, Judged, after}
-use Rattle.om_read.specs.Build.{Building, start, absorb, absorb_all, WellOpen}
+use Rattle.om_read.specs.Build.{Building, start, absorb, WellOpen}
 use Rattle.om_read.specs.Reading.{Leads, NextOf, with_next}
 use Rattle.om_read.proofs.Opened.{WellOpen-from_start, length-from_start, absorb_all_push}
 
@@ -34,11 +34,11 @@ pub context_after : (header : List ℕ) (before : List (List ℕ)) (rest : List 
 context_after header before rest h =
     let piece = take (raw_length rest) rest in
     let len : length (concat before) + raw_length rest ≡ length (concat (before ++ piece ∷ [])) =
-        sym (ap length (concat-push before piece) ∙ length-append (concat before) piece ∙ ap (λ n. length (concat before) + n) (length-take-le (raw_length rest) rest h)) in
+    sym (ap length (concat-push before piece) ∙ length-append (concat before) piece ∙ ap (λ n. length (concat before) + n) (length-take-le (raw_length rest) rest h)) in
     let measures : map raw_measure before ++ raw_measure rest ∷ [] ≡ map raw_measure (before ++ piece ∷ []) =
-        sym (map-append raw_measure before (piece ∷ []) ∙ ap (λ m. map raw_measure before ++ m ∷ []) (raw_measure-take (raw_length rest) rest (omega arith))) in
+    sym (map-append raw_measure before (piece ∷ []) ∙ ap (λ m. map raw_measure before ++ m ∷ []) (raw_measure-take (raw_length rest) rest (omega arith))) in
     ap (λ (p : ℕ × List (Option Measure)). record (context header before) { taken = p.0; before = p.1 })
-        (let same : (length (concat before) + raw_length rest, map raw_measure before ++ raw_measure rest ∷ []) ≡ (length (concat (before ++ piece ∷ [])), map raw_measure (before ++ piece ∷ [])) = cc in same)
+    (let same : (length (concat before) + raw_length rest, map raw_measure before ++ raw_measure rest ∷ []) ≡ (length (concat (before ++ piece ∷ [])), map raw_measure (before ++ piece ∷ [])) = cc in same)
 
 -- the bytes that the next token takes
 pub next_taken : (c : Context) (rest : List ℕ) (place next : Place) → IsSumOf place c → IsSumOf next (after c rest) → next.taken ≡ place.taken + raw_length rest

@@ -1,14 +1,13 @@
 -- How large the object of a token is, by the token's bytes.
-use Rattle.std.proofs.Common.{ℕ, zero, suc, ◌≡◌, ◌+◌, ◌-◌, ◌*◌, ◌/◌, ◌^◌, ◌<◌, ◌≤◌, List, take, Option, Some, None, arith, slice_index, get_or, subst}
+use Rattle.std.proofs.Common.{ℕ, zero, suc, ◌≡◌, ◌+◌, ◌*◌, ◌/◌, ◌^◌, ◌<◌, ◌≤◌, List, take, Option, Some, None, arith, get_or, subst}
 use Rattle.std.specs.Option.{ForSome}
 use Rattle.om_model.specs.declared.code.CodeKind.{CodeKind}
 use Rattle.om_model.specs.declared.code.CodeKind.TheVariants as kinds
 use Rattle.om_model.specs.declared.code.CustomKind.{CustomKind}
 use Rattle.om_model.specs.declared.code.CustomKind.TheVariants as customs
 use Rattle.om_model.specs.declared.code.Measure.{Measure}
-use Rattle.om_model.specs.declared.code.Measure.TheVariants as measures
 use Rattle.om_model.specs.Bytes.{number}
-use Rattle.om_model.specs.Code.{custom_of, native_bytes}
+use Rattle.om_model.specs.Code.{custom_of}
 use Rattle.om_model.specs.Raw.{fixed_bytes, variable_bytes, measure_behind, block_measure, custom_measure, custom_bytes}
 use Rattle.om_model.specs.Words.{of_object, fields, words32, words64}
 use Rattle.om_headers.specs.Counting.{IsCountable}

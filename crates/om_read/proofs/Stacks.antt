@@ -1,5 +1,5 @@
 -- Open blocks in a vector, the innermost last.
-use Rattle.std.proofs.Common.{ℕ, ◌≡◌, ◌≢◌, ◌+◌, ◌-◌, ◌<◌, ◌≤◌, List, [], ◌∷◌, ◌++◌, length, reverse, take, set, get_or, eqb, cond, false, Option, arith, refl, ap, sym, ◌∙◌, get_or-set_same, subst}
+use Rattle.std.proofs.Common.{ℕ, ◌≡◌, ◌≢◌, ◌+◌, ◌-◌, ◌<◌, List, [], ◌∷◌, ◌++◌, length, reverse, take, set, get_or, eqb, false, Option, arith, refl, ap, sym, ◌∙◌, get_or-set_same}
 use Rattle.std.proofs.lemmas.List.{reverse-append, take_more, take-set, length-set}
 use Rattle.std.proofs.Math.Seq.{take-length}
 use Rattle.std.proofs.lemmas.Bool.Decides.{nat_tests}
@@ -7,7 +7,7 @@ use Rattle.om_model.specs.declared.value.Val.{Val}
 use Rattle.om_model.specs.declared.value.Obj.{Obj}
 use Rattle.om_heap.specs.Heap.{set_field}
 use Rattle.om_read.specs.declared.build.OpenBlock.{OpenBlock}
-use Rattle.om_read.specs.Build.{building, place, advanced, still_open}
+use Rattle.om_read.specs.Build.{building, place, advanced}
 
 -- the last one comes first
 pub reverse_last : {A : Type 0} (xs : List A) (n : ℕ) (d : A) → n ≡ length xs → 0 < n → reverse xs ≡ get_or xs (n - 1) d ∷ reverse (take (n - 1) xs)

@@ -1,5 +1,5 @@
 -- Where a reader stands in the bytes of a value, and what its answers say.
-use Rattle.std.proofs.Common.{ℕ, ◌≡◌, ◌≢◌, ◌⊎◌, inl, inr, ◌+◌, ◌-◌, ◌<◌, ◌≤◌, List, [], ◌∷◌, ◌++◌, length, take, drop, map, Option, Some, None, Result, Ok, Err, arith, refl, ap, sym, ◌∙◌, subst, length-append}
+use Rattle.std.proofs.Common.{ℕ, ◌≡◌, ◌≢◌, ◌⊎◌, inl, inr, ◌+◌, ◌-◌, ◌<◌, ◌≤◌, List, [], ◌++◌, length, take, drop, map, Some, Result, Ok, Err, arith, refl, ap, sym, ◌∙◌, subst, length-append}
 use Rattle.std.specs.List.{concat}
 use Rattle.std.proofs.lemmas.List.{length-take-le, length-drop, drop-drop}
 use Rattle.std.proofs.lemmas.List.Elements.{All-nil}
@@ -8,24 +8,22 @@ use Rattle.om_model.specs.declared.refusal.ReadRefusal.TheVariants as refusals
 use Rattle.om_model.specs.Bytes.{AreBytes}
 use Rattle.om_model.specs.Words.{pending}
 use Rattle.om_model.specs.Raw.{raw_length, raw_measure}
-use Rattle.om_model.specs.Token.{Token, IsToken}
-use Rattle.om_model.specs.Tree.{Tree, tokens, root, objects_of, IsTree}
+use Rattle.om_model.specs.Token.{IsToken}
+use Rattle.om_model.specs.Tree.{Tree, tokens, root, objects_of}
 use Rattle.om_model.specs.Header.{header_length}
-use Rattle.om_model.specs.Front.{context, IsOpen}
+use Rattle.om_model.specs.Front.{IsOpen}
 use Rattle.om_model.specs.Step.{Context}
 use Rattle.om_model.specs.Judgement.{Judgement, front, value, refused, Judges}
 use Rattle.om_model.proofs.RawLemmas.{one-le-raw_length}
 use Rattle.om_model.proofs.NextLemmas.{next_passes, next_refused, header_refused, header_is_refused, header_goes_on}
-use Rattle.om_model.proofs.StandLemmas.{Stands, BeginsValue, Stands-header, Stands-front, Stands-refused, Stands-next, Stands-value}
+use Rattle.om_model.proofs.StandLemmas.{Stands, Stands-header, Stands-front, Stands-refused, Stands-next, Stands-value}
 use Rattle.om_model.proofs.SpellValues.{tokens-same}
 use Rattle.om_model.proofs.JudgementLaws.{Judges-same}
 use Rattle.om_read.specs.declared.stop.Stop.{Stop}
 use Rattle.om_read.specs.declared.stop.Stop.TheVariants.{Wait, Refused}
 use Rattle.om_read.specs.declared.place.Place.{Place}
-use Rattle.om_read.specs.declared.value.Value.{Value}
 use Rattle.om_read.specs.declared.value.Whole.{Whole}
 use Rattle.om_read.specs.declared.value.Whole.TheVariants.{Done, Cut}
-use Rattle.om_read.specs.Place.{IsSumOf}
 use Rattle.om_read.specs.Head.{JudgedHeader}
 use Rattle.om_read.specs.Build.{Building, start, building, absorb_all}
 use Rattle.om_read.specs.Reading.{Leads, NextOf, with_next, Reads, Answers, AnswersTo, answer_of}
@@ -114,8 +112,8 @@ module _ (limit : ℕ) (bytes : List ℕ) (place : Place) (built : Building) (he
         let p = next_passes here.header here.before rest h.0 h.1 in
         let is_open : IsOpen (with_next here.before rest) = omega (arith, h.2.sums.pending) in
         let behind : drop (raw_length rest) rest ≡ drop (next.start + next.taken) bytes =
-            let n : place.start + place.taken + raw_length rest ≡ next.start + next.taken = omega (arith, start_stays, goes_on) in
-            drop-drop (raw_length rest) (place.start + place.taken) bytes ∙ ap (λ k. drop k bytes) n in
+        let n : place.start + place.taken + raw_length rest ≡ next.start + next.taken = omega (arith, start_stays, goes_on) in
+        drop-drop (raw_length rest) (place.start + place.taken) bytes ∙ ap (λ k. drop k bytes) n in
         record {
           header = here.header;
           before = with_next here.before rest;
@@ -131,9 +129,11 @@ module _ (limit : ℕ) (bytes : List ℕ) (place : Place) (built : Building) (he
         let zero : pending (map raw_measure (with_next here.before rest)) ≡ 0 = h.2.sums.pending ∙ none in
         let v = Stands-value limit bytes here.header here.before rest a here.stands p zero in
         let n_is : length here.header + length (concat (with_next here.before rest)) ≡ next.start + next.taken = omega (arith, h.2.sums.start, h.2.sums.taken) in
-        let same = tokens-same (tokens v.tree) h.2.tokens (with_next here.before rest) v.spells h.2.spells in
-        (v.tree, subst (λ n. Judges limit bytes (value n v.tree)) n_is v.judges,
-            h.2.builds ∙ ap (absorb_all start) (sym same) ∙ absorb_start v.tree v.judges.1.spells.is_tree)
+        let same = tokens-same (tokens v.tree) h.2.tokens (with_next here.before rest) v.spells h.2.spells in (
+          v.tree,
+          subst (λ n. Judges limit bytes (value n v.tree)) n_is v.judges,
+          h.2.builds ∙ ap (absorb_all start) (sym same) ∙ absorb_start v.tree v.judges.1.spells.is_tree,
+        )
 
 -- ---- one answer
 

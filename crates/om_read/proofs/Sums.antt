@@ -1,5 +1,5 @@
 -- Sums with one token more.
-use Rattle.std.proofs.Common.{ℕ, ◌≡◌, ◌+◌, ◌-◌, ◌^◌, ◌<◌, ◌≤◌, List, [], ◌∷◌, ◌++◌, Bool, true, false, Option, Some, None, arith, ap, ◌∙◌, refl, ltb}
+use Rattle.std.proofs.Common.{ℕ, ◌≡◌, ◌+◌, ◌-◌, ◌^◌, ◌<◌, List, [], ◌∷◌, ◌++◌, Bool, true, false, Option, Some, None, arith, ap, ◌∙◌, refl, ltb}
 use Rattle.std.proofs.lemmas.List.Sums.{sum_by_push}
 use Rattle.om_model.specs.declared.code.Measure.{Measure}
 use Rattle.om_model.specs.Words.{of_object, fields, words32, words64, pending, objects, all_words32, all_words64}

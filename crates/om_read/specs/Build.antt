@@ -1,10 +1,11 @@
--- A graph built from tokens that come one at a time, in preorder: what a reader holds, and what a token adds to it.
-use Rattle.std.specs.Prelude.{ℕ, ◌+◌, ◌-◌, ◌<◌, ◌≡◌, ◌==◌, if◌then◌else◌, List, [], ◌∷◌, ◌++◌, length, fold, sum_by, replicate, slice_index_or, slice_set, HoldsAt, All, Option, Some, None, pos}
+-- A graph built from tokens that come one at a time, in preorder: what a reader holds, and what a token adds to it
+-- (`intern.c` fills blocks so, from a stack of its own).
+use Rattle.std.specs.Prelude.{ℕ, ◌+◌, ◌-◌, ◌<◌, ◌≡◌, ◌==◌, if◌then◌else◌, List, [], ◌∷◌, ◌++◌, length, fold, sum_by, replicate, HoldsAt, All, Option, Some, None, pos}
 use Rattle.om_model.specs.declared.value.Val.{Val}
 use Rattle.om_model.specs.declared.value.Val.TheVariants as vals
 use Rattle.om_model.specs.declared.value.Obj.{Obj}
 use Rattle.om_model.specs.declared.value.Obj.TheVariants as objects
-use Rattle.om_model.specs.Words.{of_object, fields, pending}
+use Rattle.om_model.specs.Words.{of_object, fields}
 use Rattle.om_model.specs.Token.{Token, integer, atom, shared, block, leaf, measure_of}
 use Rattle.om_model.specs.Tree.{value_of, object_of}
 use Rattle.om_heap.specs.Heap.{set_field}
@@ -18,9 +19,11 @@ pub record Building : Type 0 where
   pub open_blocks : List OpenBlock
   pub root : Option Val
 
+-- the three together
 abbrev pub building : List Obj → List OpenBlock → Option Val → Building
 building all open_blocks root = record { objects = all; open_blocks = open_blocks; root = root }
 
+-- nothing is built
 abbrev pub start : Building
 start = building [] [] None
 
@@ -30,6 +33,7 @@ start = building [] [] None
 abbrev pub still_open : OpenBlock → List OpenBlock → List OpenBlock
 still_open b outer = if b.next == b.size then outer else b ∷ outer
 
+-- n more fields have come
 abbrev pub advanced : OpenBlock → ℕ → OpenBlock
 advanced b n = record b { next = b.next + n }
 
@@ -63,22 +67,28 @@ absorb state token =
     let placed = place (value_of token c) (state.objects ++ blank token) state.open_blocks state.root in
     record placed { open_blocks = opened token c ++ placed.open_blocks }
 
+-- the same of several tokens
 abbrev pub absorb_all : Building → List Token → Building
 absorb_all state tokens = fold absorb state tokens
 
 -- ---- what holds of it
 
 -- how many values are still to come: the root, and fields of the open blocks
+
+-- the first of the two
 abbrev pub root_to_come : Option Val → ℕ
 root_to_come None = 1
 root_to_come (Some v) = 0
 
+-- the second of the two
 abbrev pub fields_to_come : List OpenBlock → ℕ
 fields_to_come blocks = sum_by (λ b. b.size - b.next) blocks
 
+-- both together
 abbrev pub to_come : Building → ℕ
 to_come state = root_to_come state.root + fields_to_come state.open_blocks
 
+-- a block of so many fields
 abbrev pub HasSize : ℕ → Obj → Type 0
 HasSize size (objects.Block tag values) = length values ≡ size
 HasSize size (objects.Bytes bytes) = ⊥

@@ -1,4 +1,4 @@
--- What the steps of a header come to.
+-- What the steps of a header come to (`intext.h` lays it out).
 use Rattle.std.specs.Prelude.{ℕ, ◌≡◌, ◌<◌, ◌≤◌, List, [], ◌∷◌, length, take, nat_lt, ◌==◌, if◌then◌else◌, Some, None, Result, Ok, Err}
 use Rattle.om_model.specs.Header.{header_length}
 use Rattle.om_model.specs.declared.header.Head.{Head}
@@ -26,6 +26,7 @@ stated_steps limit head =
     ∷ step 0 (fails_if (head.length == 0) (Overlong (if head.big then 32 else 20) 1 0))
     ∷ []
 
+-- the place behind a header, before the first token
 abbrev pub start_of : Head → Place → Type 0
 start_of head place = (place.head ≡ head) × (place.start ≡ (if head.big then 32 else 20)) × (place.taken ≡ 0) × (place.objects ≡ 0) × (place.pending ≡ 1) × (place.w32 ≡ 0) × (place.w64 ≡ 0)
 

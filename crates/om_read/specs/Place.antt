@@ -1,4 +1,4 @@
--- Sums over the tokens before a place.
+-- Sums over the tokens before a place, and the place behind one token more.
 use Rattle.std.specs.Prelude.{ℕ, ◌≡◌, ◌+◌, ◌++◌, ◌∷◌, [], List, length, ◌<◌, ◌≤◌, Some, None, Result, Ok, Err}
 use Rattle.om_model.specs.declared.code.CodeKind.{CodeKind}
 use Rattle.om_model.specs.Raw.{fixed_bytes, variable_bytes, measure_behind, raw_length, raw_measure}

@@ -1,4 +1,4 @@
-//! The graph that tokens build, one token after another.
+//! The graph that tokens build, one token after another: a block's fields come behind it (`intern.c`).
 
 ghost use Rattle.std.specs.Prelude.{◌≡◌, ◌≤◌, ◌<◌, ◌^◌, length, OnOk, vec_len, IsSome, Some};
 
@@ -22,7 +22,7 @@ pub struct OpenBlock {
 #[derive(Drop)]
 pub struct Builder {
     heap: Heap,
-    open: Vec<OpenBlock>,
+    open_blocks: Vec<OpenBlock>,
     root: Option<Val>,
 }
 
@@ -32,7 +32,7 @@ impl Model for Builder {
 
     ghost Value = { Building };
 
-    ghost view = { λ b. building b.heap (reverse b.open.items) b.root };
+    ghost view = { λ b. building b.heap (reverse b.open_blocks.items) b.root };
 }
 
 impl Builder {
@@ -48,7 +48,7 @@ impl Builder {
     {
         Builder {
             heap: Heap::new(alloc),
-            open: Vec::new(alloc),
+            open_blocks: Vec::new(alloc),
             root: None,
         }
     }
@@ -59,17 +59,17 @@ impl Builder {
         requires valid { IsValue (length self.old.objects) v }
         ensures { self.new ≡ place_of v self.old.objects self.old.open_blocks self.old.root }
     {
-        let depth = self.open.len();
+        let depth = self.open_blocks.len();
         if depth == 0 {
             self.root = Some(v);
             return;
         }
-        let block = self.open[depth - 1];
+        let block = self.open_blocks[depth - 1];
         self.heap.set(block.object, block.next, v);
         if block.next + 1 == block.size {
-            self.open.truncate(depth - 1);
+            self.open_blocks.truncate(depth - 1);
         } else {
-            self.open[depth - 1] = OpenBlock {
+            self.open_blocks[depth - 1] = OpenBlock {
                 object: block.object,
                 next: block.next + 1,
                 size: block.size,
@@ -124,7 +124,7 @@ impl Builder {
             next: 0,
             size,
         };
-        match self.open.push(block) {
+        match self.open_blocks.push(block) {
             Ok(()) => Ok(()),
             Err(_) => Err(Memory),
         }
@@ -179,7 +179,11 @@ impl Builder {
         ensures heap { result.heap ≡ self.objects }
         ensures root { self.root ≡ Some result.root }
     {
-        let Builder { heap, open: _, root } = self;
+        let Builder {
+            heap,
+            open_blocks: _,
+            root,
+        } = self;
         Value {
             heap,
             root: root.unwrap(),

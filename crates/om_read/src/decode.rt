@@ -1,4 +1,4 @@
-//! Whole tokens, added to the graph one after another.
+//! What a whole token adds to the graph (`intern.c`).
 
 ghost use Rattle.std.specs.Prelude.{◌≡◌, ◌≤◌, ◌<◌, ◌*◌, ◌/◌, ◌%◌, ◌^◌, ℕ, List, length, OnOk};
 ghost use Rattle.om_model.specs.declared.value.Obj.TheVariants as objects;

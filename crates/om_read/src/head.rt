@@ -1,4 +1,4 @@
-//! The steps of a header.
+//! The steps of a header (`intext.h` lays it out).
 
 ghost use Rattle.std.specs.Prelude.{◌≡◌};
 ghost use Rattle.om_read.specs.Head.{JudgedHeader, Begins};
@@ -33,11 +33,7 @@ fn begin(head: Head, limit: u64) -> Result<Place, Stop>
         return Err(Stop::Refused(ReadRefusal::TooLarge(Stated::Words, head.w64, limit)));
     }
     if LENGTH_LIMIT < head.length {
-        return Err(Stop::Refused(ReadRefusal::TooLarge(
-            Stated::Length,
-            head.length,
-            LENGTH_LIMIT,
-        )));
+        return Err(Stop::Refused(ReadRefusal::TooLarge(Stated::Length, head.length, LENGTH_LIMIT)));
     }
     if head.length == 0 {
         return Err(Stop::Refused(ReadRefusal::Overlong(start, 1, 0)));

@@ -14,3 +14,6 @@ mod value;
 
 pub use read::read_value;
 pub use value::{Value, Whole};
+
+#[cfg(test)]
+mod tests;

@@ -5,10 +5,12 @@ ghost use Rattle.std.specs.Option.{ForSome};
 
 use crate::content::behind as bytes_behind;
 use crate::stop::{Stop, pass};
-use crate::token::{custom_at, field_len, fixed_len, measure_at, native_len, number_at, variable_len};
-use om_model::bytes::signed;
+use crate::token::{
+    custom_at, field_len, fixed_len, measure_at, native_len, number_at, variable_len,
+};
 use om_codes::code_kind;
 use om_headers::words_of;
+use om_model::bytes::signed;
 use om_model::code::{CodeFault, CodeKind, CustomKind, Measure};
 use om_model::header::Head;
 use om_model::refusal::{ReadRefusal, WordSum};
@@ -41,7 +43,7 @@ impl Place {
     ghost use Rattle.om_model.specs.declared.code.Measure.{Measure};
     ghost use Rattle.om_read.specs.Progress.{answered, and_then, progress, of_refusal};
 
-    /// The place of the token's code.
+    /// The place of the token's code, from the header's first byte.
     fn at(&self) -> u64
         ensures { result ≡ self.now.start + self.now.taken }
     {
@@ -86,7 +88,7 @@ impl Place {
         }
     }
 
-    /// What is wrong with the token's fields.
+    /// What is wrong with the token's fields: tag, offset, identifier, integer or length.
     fn field_refusal(&self, code: u8, kind: CodeKind, rest: &[u8]) -> Option<ReadRefusal>
         requires known { IsKind kind }
         requires whole { field_bytes kind ≤ length rest.now }
@@ -218,7 +220,7 @@ impl Place {
         }
     }
 
-    /// The words exceed what the header states.
+    /// A sum of words exceeds what the header states.
     fn exceeded(&self, w32: u64, w64: u64) -> Option<ReadRefusal>
         ensures { (c : Context) → IsSumOf self.now c → (all : List (Option Measure)) → all_words32 all ≡ w32 → all_words64 all ≡ w64 →
             result ≡ or_else (words32_refusal nat_lt (place c) c.head all) (words64_refusal nat_lt (place c) c.head all) }
@@ -232,7 +234,7 @@ impl Place {
         None
     }
 
-    /// What the header states against what the whole value has.
+    /// The whole value differs from what the header states.
     fn differs(&self, n: u64, objects: u64, w32: u64, w64: u64) -> Option<ReadRefusal>
         requires { self.now.taken + n ≤ self.now.head.length }
         ensures { (c : Context) → IsSumOf self.now c → (all : List (Option Measure)) → all_words32 all ≡ w32 → all_words64 all ≡ w64 →
@@ -256,7 +258,15 @@ impl Place {
     }
 
     /// Behind the last token the steps of the whole value, once its `n` bytes are there.
-    fn end(&self, rest: &[u8], n: u64, pending: u64, objects: u64, w32: u64, w64: u64) -> Result<(), Stop>
+    fn end(
+        &self,
+        rest: &[u8],
+        n: u64,
+        pending: u64,
+        objects: u64,
+        w32: u64,
+        w64: u64,
+    ) -> Result<(), Stop>
         requires { self.now.taken + n ≤ self.now.head.length }
         ensures { (c : Context) → IsSumOf self.now c → (all : List (Option Measure)) → all_words32 all ≡ w32 → all_words64 all ≡ w64 →
             objects_of_all all ≡ objects → pending_of all ≡ pending →
@@ -326,7 +336,10 @@ impl Place {
         match fault {
             CodeFault::BadCode => ReadRefusal::BadCode(self.at(), code),
             CodeFault::PointerCode => ReadRefusal::PointerCode(self.at(), code),
-            CodeFault::OldCustom | CodeFault::CustomLen => ReadRefusal::OtherCustom(self.at(), code),
+            CodeFault::OldCustom | CodeFault::CustomLen => ReadRefusal::OtherCustom(
+                self.at(),
+                code,
+            ),
         }
     }
 

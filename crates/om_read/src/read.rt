@@ -1,4 +1,4 @@
-//! Values from bytes.
+//! Whole values from bytes (`intern.c`).
 
 ghost use Rattle.std.specs.Prelude.{◌≡◌, ◌<◌, ◌^◌, ◌≤◌, ℕ, List, length, OnOk};
 ghost use Rattle.om_model.specs.Words.{of_object, fields};
@@ -36,7 +36,12 @@ fn add(alloc: Global, builder: &mut Builder, token: &[u8]) -> Result<(), Memory>
 }
 
 /// Judges the next token, and adds what it spells.
-fn next_token(alloc: Global, builder: &mut Builder, place: &Place, rest: &[u8]) -> Result<Place, Stop>
+fn next_token(
+    alloc: Global,
+    builder: &mut Builder,
+    place: &Place,
+    rest: &[u8],
+) -> Result<Place, Stop>
     requires open { 0 < place.now.pending }
     requires leads { (header : List ℕ) × (before : List (List ℕ)) × Leads header before place.now builder.old }
     ensures { (header : List ℕ) (before : List (List ℕ)) → Leads header before place.now builder.old → NextOf header before rest.now builder.new result }

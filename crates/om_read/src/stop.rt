@@ -1,4 +1,4 @@
-//! Why the steps of a token end early.
+//! Why the steps of a header or a token end early.
 
 ghost use Rattle.std.specs.Prelude.{◌≡◌, OnOk, None};
 ghost use Rattle.om_read.specs.Progress.{answered, of_refusal};

@@ -1,6 +1,7 @@
 //! Stands for calls of crates that are on their way.
 ghost use Rattle.std.specs.Prelude.{◌≡◌, ◌<◌, ◌≤◌, ◌^◌};
 ghost use Rattle.om_model.specs.Code.{custom_of};
+
 use om_model::code::CustomKind;
 
 #[tactic(auto, unfolding(om_model::specs::Code::custom_of))]

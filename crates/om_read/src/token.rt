@@ -1,4 +1,4 @@
-//! The steps of a token, in their order.
+//! What the code of a token and its first bytes say of its size (`intext.h` has the codes).
 
 ghost use Rattle.std.specs.Prelude.{◌≡◌, ◌≤◌, ◌<◌, ◌+◌, ◌*◌, ◌^◌, length, take, suc, slice_index, Ok};
 ghost use Rattle.om_model.specs.Bytes.{number};
@@ -26,7 +26,7 @@ pub fn fixed_len(kind: CodeKind) -> u64
     }
 }
 
-/// How many of them its steps read.
+/// How many of those bytes the steps read: none of a double or a short integer.
 pub fn field_len(kind: CodeKind) -> usize
     ensures { result ≡ field_bytes kind }
 {
@@ -35,13 +35,7 @@ pub fn field_len(kind: CodeKind) -> usize
         | CodeKind::SmallInt(_)
         | CodeKind::SmallString(_)
         | CodeKind::Double(_) => 0,
-        CodeKind::Int(width) => {
-            if width == 8 {
-                8
-            } else {
-                0
-            }
-        }
+        CodeKind::Int(width) => { if width == 8 { 8 } else { 0 } }
         CodeKind::Shared(width)
         | CodeKind::Block(width)
         | CodeKind::Str(width)

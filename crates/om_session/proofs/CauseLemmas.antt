@@ -334,10 +334,16 @@ module _ {D T : Type 0} (language : Language D T) (words : List (List ℕ)) (cal
   value_of : Why words call a.given (IsRefusedType language) statuses.Value
       → (request : Request) × Asks words request × (input : List ℕ) × IfSome call.input.before.bytes (λ bytes. bytes ≡ input)
       × (trees : List Tree) × (end : End) × Stream input (limit_of request) trees end × (end ≢ clean)
-  value_of (no_value request asks e trees end stream some) =
-      (request, asks, a.given.input.bytes,
-        IfSome_then call.input.before.bytes a.input.told (λ bytes t. t.1.front ∙ (ap (λ r. a.given.input.bytes ++ r) (t.1.ends e) ∙ append-nil a.given.input.bytes)),
-        trees, end, stream, some)
+  value_of (no_value request asks e trees end stream some) = (
+    request,
+    asks,
+    a.given.input.bytes,
+    IfSome_then call.input.before.bytes a.input.told (λ bytes t. t.1.front ∙ (ap (λ r. a.given.input.bytes ++ r) (t.1.ends e) ∙ append-nil a.given.input.bytes)),
+    trees,
+    end,
+    stream,
+    some,
+  )
 
   pub only_value : OnlyValue words call
   only_value e = value_of (subst (λ s. Why words call a.given (IsRefusedType language) s) e account_why)

@@ -20,12 +20,16 @@ root_is_value (node (leaf object) forest) is_tree back = omega arith
 
 pub is_read : (limit : ℕ) (bytes : List ℕ) (result : Result Whole ReadRefusal) → Reads limit bytes result → IsRead limit bytes result
 is_read limit bytes (Ok (Done read taken)) (tree, judged, root_is, heap_is) =
-    let valid = root_is_value tree judged.1.spells.is_tree judged.1.spells.refers_back in
-    (tree, judged.0, judged.1, record {
-      heap = heap_is;
-      root = root_is;
-      valid = subst (λ v. IsValue (length read.heap) v) (sym root_is) (subst (λ h. IsValue (length h) (root tree 0)) (sym heap_is) valid);
-    })
+    let valid = root_is_value tree judged.1.spells.is_tree judged.1.spells.refers_back in (
+      tree,
+      judged.0,
+      judged.1,
+      record {
+        heap = heap_is;
+        root = root_is;
+        valid = subst (λ v. IsValue (length read.heap) v) (sym root_is) (subst (λ h. IsValue (length h) (root tree 0)) (sym heap_is) valid);
+      },
+    )
 is_read limit bytes (Ok Cut) h = h
 is_read limit bytes (Err refusals.Memory) h = tt
 is_read limit bytes (Err (refusals.BadMagic a)) h = let n = h (λ e. cc e) in (n.0, n.1.0, n.1.1)

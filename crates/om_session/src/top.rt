@@ -131,11 +131,11 @@ pub fn run<S: Source, O: Opener, K: Sink, E: Sink>(
         (seen_files O.files O.open_faults O.last_open_fault O.read_faults files.old files.new)
         (seen K.written K.faults out.old out.new) (seen E.written E.faults err.old err.new) result) }
     ensures types_only { OnlyTypes lists (texts words.now) (call (seen S.left S.faults input.old input.new)
-            (seen_files O.files O.open_faults O.last_open_fault O.read_faults files.old files.new)
-            (seen K.written K.faults out.old out.new) (seen E.written E.faults err.old err.new) result) }
+        (seen_files O.files O.open_faults O.last_open_fault O.read_faults files.old files.new)
+        (seen K.written K.faults out.old out.new) (seen E.written E.faults err.old err.new) result) }
     ensures value_only { OnlyValue (texts words.now) (call (seen S.left S.faults input.old input.new)
-            (seen_files O.files O.open_faults O.last_open_fault O.read_faults files.old files.new)
-            (seen K.written K.faults out.old out.new) (seen E.written E.faults err.old err.new) result) }
+        (seen_files O.files O.open_faults O.last_open_fault O.read_faults files.old files.new)
+        (seen K.written K.faults out.old out.new) (seen E.written E.faults err.old err.new) result) }
     ensures read_fault_only { OnlyReadFault (call (seen S.left S.faults input.old input.new)
         (seen_files O.files O.open_faults O.last_open_fault O.read_faults files.old files.new)
         (seen K.written K.faults out.old out.new) (seen E.written E.faults err.old err.new) result) }

@@ -1,4 +1,4 @@
-use Rattle.std.proofs.Common.{rules, arith, ◌≡◌, ◌+◌, ◌-◌, ◌<◌, ◌≤◌, ◌^◌, length, take, subst, sym, ap, ◌∙◌, List, ℕ}
+use Rattle.std.proofs.Common.{rules, arith, ◌≡◌, ◌+◌, ◌-◌, ◌<◌, ◌≤◌, ◌^◌, length, take, subst, sym}
 use Rattle.std.specs.Prelude.{IsErr}
 use Rattle.std.proofs.lemmas.List.{length-take-le}
 use Rattle.om_model.specs.Raw.{raw_length, raw_measure}
@@ -57,7 +57,7 @@ add-requires-clause-small c =
     let j = c.in_ok-next.ensures at c.requires.leads.2.sums in
     let fits : of_object fields (raw_measure rest) < 2 ^ 53 = next_fields at rest c.args.place.now next c.requires.leads.2.sums j.2 c.requires.«open» few in
     subst (λ n. of_object fields (raw_measure (take n rest)) < 2 ^ 53) len
-        (subst (λ m. of_object fields m < 2 ^ 53) (sym (raw_measure-take (raw_length rest) rest (omega arith))) fits)
+    (subst (λ m. of_object fields m < 2 ^ 53) (sym (raw_measure-take (raw_length rest) rest (omega arith))) fits)
 
 pub add-requires-clause-spelled : goal.add-requires-clause-spelled
 add-requires-clause-spelled c =
@@ -68,7 +68,7 @@ add-requires-clause-spelled c =
     let h = c.requires.leads.2 in
     let j = c.in_ok-next.ensures (context c.requires.leads.0 c.requires.leads.1) h.sums in
     subst (λ n. (t : Token) × Spells t (take n rest) × RefersBack t (length c.args.builder.now.objects)) len
-        (next_spelled c.requires.leads.0 c.requires.leads.1 c.args.place.now c.args.builder.now rest bytes h j.0 j.1)
+    (next_spelled c.requires.leads.0 c.requires.leads.1 c.args.place.now c.args.builder.now rest bytes h j.0 j.1)
 
 pub returns : goal.returns
 returns c = λ header before h.
@@ -78,6 +78,9 @@ returns c = λ header before h.
     let len : next.taken - c.args.place.now.taken ≡ raw_length rest = omega (arith, length_is d) in
     let bytes = are_bytes rest (λ i. omega (arith, c.type_inv.rest i)) in
     let j = c.in_ok-next.ensures (context header before) h.sums in
-    let adds : (t : Token) → Spells t (take (next.taken - c.args.place.now.taken) rest) → c.add.new.builder ≡ absorb c.args.builder.now t = search rules in
-    (j.0, j.1, next_leads header before c.args.place.now next c.args.builder.now c.add.new.builder rest bytes h j.0 j.1 j.2
-        (subst (λ n. (t : Token) → Spells t (take n rest) → c.add.new.builder ≡ absorb c.args.builder.now t) len adds))
+    let adds : (t : Token) → Spells t (take (next.taken - c.args.place.now.taken) rest) → c.add.new.builder ≡ absorb c.args.builder.now t = search rules in (
+      j.0,
+      j.1,
+      next_leads header before c.args.place.now next c.args.builder.now c.add.new.builder rest bytes h j.0 j.1 j.2
+          (subst (λ n. (t : Token) → Spells t (take n rest) → c.add.new.builder ≡ absorb c.args.builder.now t) len adds),
+    )

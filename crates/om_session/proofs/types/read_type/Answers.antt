@@ -19,20 +19,20 @@ pub returns-then-not-is_empty : goal.returns-then-not-is_empty
 returns-then-not-is_empty c = λ file.
     let bytes = c.args.gathered.now.bytes in
     reads_declarations file c.args.type_text.now (taken_of c.args.gathered.now) (ap until_of c.in-End.is)
-        (some_bytes bytes.items (subst (λ n. false ≡ (n == 0)) bytes.ok.0 c.if-not-is_empty.ensures))
+    (some_bytes bytes.items (subst (λ n. false ≡ (n == 0)) bytes.ok.0 c.if-not-is_empty.ensures))
 
 pub returns-in-Some : goal.returns-in-Some
 returns-in-Some c = λ file.
     let bytes = c.args.gathered.now.bytes in
     reads_type file c.args.type_text.now (taken_of c.args.gathered.now) (ap until_of c.in-End.is)
-        (no_bytes bytes.items (subst (λ n. true ≡ (n == 0)) bytes.ok.0 c.if-not-is_empty.ensures))
-        c.in-Some.ty (subst (λ text. IsListTypeText text c.in-Some.ty) c.as_bytes.ensures.value ((c.in-Some.ensures c.in-Some.ty).0 refl))
+    (no_bytes bytes.items (subst (λ n. true ≡ (n == 0)) bytes.ok.0 c.if-not-is_empty.ensures))
+    c.in-Some.ty (subst (λ text. IsListTypeText text c.in-Some.ty) c.as_bytes.ensures.value ((c.in-Some.ensures c.in-Some.ty).0 refl))
 
 pub returns-in-None : goal.returns-in-None
 returns-in-None c = λ file.
     let bytes = c.args.gathered.now.bytes in
     reads_no_type file c.args.type_text.now (taken_of c.args.gathered.now) (ap until_of c.in-End.is)
-        (no_bytes bytes.items (subst (λ n. true ≡ (n == 0)) bytes.ok.0 c.if-not-is_empty.ensures))
-        (λ t is_text.
-            let found = (c.in-None.ensures t).1 (subst (λ text. IsListTypeText text t) (sym c.as_bytes.ensures.value) is_text) in
-            cc found)
+    (no_bytes bytes.items (subst (λ n. true ≡ (n == 0)) bytes.ok.0 c.if-not-is_empty.ensures))
+    (λ t is_text.
+    let found = (c.in-None.ensures t).1 (subst (λ text. IsListTypeText text t) (sym c.as_bytes.ensures.value) is_text) in
+    cc found)

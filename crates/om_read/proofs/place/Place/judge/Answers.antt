@@ -1,4 +1,4 @@
-use Rattle.std.proofs.Common.{rules, ◌≡◌, length, subst, ap, ◌∙◌, arith, get_or, drop, refl, Ok, Err}
+use Rattle.std.proofs.Common.{rules, ◌≡◌, length, subst, ap, ◌∙◌, arith, get_or, refl, Ok, Err}
 use Rattle.std.specs.Prelude.{IsErr}
 use Rattle.om_model.specs.Code.{kind_of}
 use Rattle.om_model.specs.Step.{token_steps}
