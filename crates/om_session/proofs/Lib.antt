@@ -4,6 +4,7 @@ pub mod CheckLemmas
 pub mod HeadlineLemmas
 pub mod LineLemmas
 pub mod PutLemmas
+pub mod StreamLemmas
 pub mod TakeLemmas
 pub mod TypeLemmas
 pub mod ValueLemmas

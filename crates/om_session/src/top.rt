@@ -5,7 +5,7 @@ ghost use Rattle.om_model.specs.Outcome.{Asks, check as check_of};
 ghost use Rattle.om_session.specs.Call.{call, seen, seen_files};
 ghost use Rattle.om_session.specs.Check.{ClosesAs, ChecksValues};
 ghost use Rattle.om_session.specs.Lists.{lists};
-ghost use Rattle.om_session.specs.Run.{Account, Headline, OnlyUsage, IfUsage, OnlyTypes, OnlyValue, OnlyReadFault, OnlyWriteFault, OnlyOpenFault, OnlyTooLong, TellsReadFault, TellsOpenFault, TellsWriteFault};
+ghost use Rattle.om_session.specs.Run.{Account, Headline, OnlyUsage, IfUsage, OnlyTypes, OnlyValue, OnlyReadFault, OnlyWriteFault, OnlyOpenFault, IfMissing, OnlyTooLong, TellsReadFault, TellsOpenFault, TellsWriteFault};
 ghost use Rattle.om_session.specs.Words.{texts};
 
 use crate::gather::{Until, gather};
@@ -145,6 +145,9 @@ pub fn run<S: Source, O: Opener, K: Sink, E: Sink>(
     ensures open_fault_only { OnlyOpenFault (texts words.now) (call (seen S.left S.faults input.old input.new)
         (seen_files O.files O.open_faults O.last_open_fault O.read_faults files.old files.new)
         (seen K.written K.faults out.old out.new) (seen E.written E.faults err.old err.new) result) }
+    ensures missing_if { IfMissing (texts words.now) (call (seen S.left S.faults input.old input.new)
+            (seen_files O.files O.open_faults O.last_open_fault O.read_faults files.old files.new)
+            (seen K.written K.faults out.old out.new) (seen E.written E.faults err.old err.new) result) }
     ensures too_long_only { OnlyTooLong (texts words.now) (call (seen S.left S.faults input.old input.new)
         (seen_files O.files O.open_faults O.last_open_fault O.read_faults files.old files.new)
         (seen K.written K.faults out.old out.new) (seen E.written E.faults err.old err.new) result) }
