@@ -334,10 +334,16 @@ module _ {D T : Type 0} (language : Language D T) (words : List (List ℕ)) (cal
   value_of : Why words call a.given (IsRefusedType language) statuses.Value
       → (request : Request) × Asks words request × (input : List ℕ) × IfSome call.input.before.bytes (λ bytes. bytes ≡ input)
       × (trees : List Tree) × (end : End) × Stream input (limit_of request) trees end × (end ≢ clean)
-  value_of (no_value request asks e trees end stream some) =
-      (request, asks, a.given.input.bytes,
-        IfSome_then call.input.before.bytes a.input.told (λ bytes t. t.1.front ∙ (ap (λ r. a.given.input.bytes ++ r) (t.1.ends e) ∙ append-nil a.given.input.bytes)),
-        trees, end, stream, some)
+  value_of (no_value request asks e trees end stream some) = (
+    request,
+    asks,
+    a.given.input.bytes,
+    IfSome_then call.input.before.bytes a.input.told (λ bytes t. t.1.front ∙ (ap (λ r. a.given.input.bytes ++ r) (t.1.ends e) ∙ append-nil a.given.input.bytes)),
+    trees,
+    end,
+    stream,
+    some,
+  )
 
   pub only_value : OnlyValue words call
   only_value e = value_of (subst (λ s. Why words call a.given (IsRefusedType language) s) e account_why)
@@ -348,9 +354,9 @@ module _ {D T : Type 0} (language : Language D T) (words : List (List ℕ)) (cal
       → ((s : Stop) → text ≡ Err s → ending.status ≡ status_of s) → ending.status ≡ statuses.OpenFault
   missing_at f fetched none ending (opened taken) same text r told =
       absurd (not_opened_of call.files.before.map none (subst (λ o. Fetched call.files f o) same fetched).map) where
-    not_opened_of : (map : Option (List File)) → IsSomeAnd map (λ all. bytes_of all f ≡ None) → IfSome map (λ all. IsFoundOf (bytes_of all f) (opened taken)) → ⊥
-    not_opened_of None h found = h
-    not_opened_of (Some all) h found = subst (λ o. IsSomeAnd o (λ bytes. (rest : List ℕ) × TakesFrom bytes taken rest)) h found
+        not_opened_of : (map : Option (List File)) → IsSomeAnd map (λ all. bytes_of all f ≡ None) → IfSome map (λ all. IsFoundOf (bytes_of all f) (opened taken)) → ⊥
+        not_opened_of None h found = h
+        not_opened_of (Some all) h found = subst (λ o. IsSomeAnd o (λ bytes. (rest : List ℕ) × TakesFrom bytes taken rest)) h found
   missing_at f fetched none ending missing same (Ok bytes) r told = absurd (cc r)
   missing_at f fetched none ending missing same (Err s) r told = told s refl ∙ ap status_of r
   missing_at f fetched none ending failed same (Ok bytes) r told = absurd (cc r)
@@ -367,7 +373,7 @@ module _ {D T : Type 0} (language : Language D T) (words : List (List ℕ)) (cal
       let pair : ◌≡◌ {A = List ℕ × List ℕ} (g, u) (name, type) = cc in
       let file : name ≡ f = sym (ap (λ p. p.0) pair) ∙ same in
       missing_at f (a.files.asked (check f t) asks) (subst (λ n. IsSomeAnd call.files.before.map (λ all. bytes_of all n ≡ None)) file none) ending
-        (a.given.file f) refl text r (λ s same. stop_status ending found found_type prepared (check f t) s (rw same at more) e rest said)
+      (a.given.file f) refl text r (λ s same. stop_status ending found found_type prepared (check f t) s (rw same at more) e rest said)
 
   pub if_missing : IfMissing words call
   if_missing name is none = said_status (λ s. s ≡ statuses.OpenFault) (missing_says name is none)

@@ -1,6 +1,7 @@
 pub mod AccountLemmas
 pub mod CauseLemmas
 pub mod CheckLemmas
+pub mod CompleteLemmas
 pub mod HeadlineLemmas
 pub mod LineLemmas
 pub mod PutLemmas

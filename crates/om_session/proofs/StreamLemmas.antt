@@ -61,23 +61,25 @@ module _ (law : HasOneJudgement) (limit : ℕ) where
       let zero : length (first ++ more) ≡ 0 = ap length (sym same ∙ none) in absurd (omega arith)
   stream_once bytes (t ∷ trees) [] end are_bytes (first, more, same, spelled, rest) (tail, all, is_tail) =
       absurd (no_tail end is_tail) where
-    at_front : Judges limit tail (value (length first) t)
-    at_front = subst (λ b. Judges limit b (value (length first) t)) (sym same ∙ all) (judged first more t spelled)
-    tail_bytes : AreBytes tail
-    tail_bytes = subst AreBytes all are_bytes
-    no_tail : (e : End) → IsTail limit tail e → ⊥
-    no_tail clean h =
-        let some : 0 < length first = spelled_some limit first t spelled in
-        let size : length (first ++ more) ≡ length first + length more = length-append first more in
-        let zero : length (first ++ more) ≡ 0 = ap length (sym same ∙ (all ∙ h)) in omega arith
-    no_tail (refused refusal) (n, fits, r) =
-        let e = not_both (value (length first) t) (j.refused n refusal) tail tail_bytes at_front (fits, r) in cc e
-    no_tail (cut n) (some, size, f) =
-        let e = not_both (value (length first) t) j.front tail tail_bytes at_front f in cc e
+        at_front : Judges limit tail (value (length first) t)
+        at_front = subst (λ b. Judges limit b (value (length first) t)) (sym same ∙ all) (judged first more t spelled)
+
+        tail_bytes : AreBytes tail
+        tail_bytes = subst AreBytes all are_bytes
+
+        no_tail : (e : End) → IsTail limit tail e → ⊥
+        no_tail clean h =
+            let some : 0 < length first = spelled_some limit first t spelled in
+            let size : length (first ++ more) ≡ length first + length more = length-append first more in
+            let zero : length (first ++ more) ≡ 0 = ap length (sym same ∙ (all ∙ h)) in omega arith
+        no_tail (refused refusal) (n, fits, r) =
+            let e = not_both (value (length first) t) (j.refused n refusal) tail tail_bytes at_front (fits, r) in cc e
+        no_tail (cut n) (some, size, f) =
+            let e = not_both (value (length first) t) j.front tail tail_bytes at_front f in cc e
   stream_once bytes (t ∷ trees) (u ∷ others) end are_bytes (first, more, same, spelled, rest) (tail, (first', more', same', spelled', rest'), is_tail) =
       let whole : AreBytes (first ++ more) = subst AreBytes same are_bytes in
       let one = one_value first more first' more' t u whole (sym same ∙ same') spelled spelled' in
       let behind : more ≡ more' =
-          sym (drop-append_seam first more) ∙ (ap (λ n. drop n (first ++ more)) one.1 ∙ (ap (λ b. drop (length first') b) (sym same ∙ same') ∙ drop-append_seam first' more')) in
+      sym (drop-append_seam first more) ∙ (ap (λ n. drop n (first ++ more)) one.1 ∙ (ap (λ b. drop (length first') b) (sym same ∙ same') ∙ drop-append_seam first' more')) in
       let next = stream_once more trees others end (bytes_behind first more whole) rest (tail, subst (λ m. SpellAll limit m others tail) (sym behind) rest', is_tail) in
       (let head : t ≡ u = one.0 in let tails : trees ≡ others = next.0 in cc, next.1)
