@@ -30,7 +30,7 @@ module _ (pairs : List (String Global × Vec ℕ Global)) (name : List ℕ) wher
       let test : File → Bool = λ file. bytes_eq file.0 name in
       let pair_of : String Global × Vec ℕ Global → File = λ pair. (string_bytes pair.0, pair.1.items) in
       ap (λ found. option_map (λ file. file.1) found)
-        (find_at test (files_of pairs) ∙ ap (slice_get (files_of pairs)) (position_or_len-map pair_of test pairs))
+      (find_at test (files_of pairs) ∙ ap (slice_get (files_of pairs)) (position_or_len-map pair_of test pairs))
 
   pub found_at : (i : ℕ) → position (is_named name) pairs ≡ Some i
       → (i < length (files_of pairs)) × (bytes_of (files_of pairs) name ≡ Some (get_or (files_of pairs) i ([], [])).1)
@@ -75,12 +75,12 @@ module _ (pairs : List (String Global × Vec ℕ Global)) (i : ℕ) (pair : Stri
       elim (cases_lt k i) [
         | inl before ↦ apart j k d jk before
         | inr after ↦ λ same.
-          let ji : j < i = omega arith in
-          let at : k ≡ i = omega arith in
-          let here : (get_or (files_of pairs) j d).0 ≡ string_bytes pair.0 = same ∙ ap (λ n. (get_or (files_of pairs) n d).0) at ∙ name_at i d less ∙ own_name in
-          let named : is_named (string_bytes pair.0) (get_or pairs j pair) ≡ true = (bytes_eq-Decides _ _).1 (sym (name_at j d (omega arith)) ∙ here) in
-          let no : is_named (string_bytes pair.0) (get_or pairs j pair) ≡ false = (position-Some _ pairs i pair first).2 j ji in
-          cc
+            let ji : j < i = omega arith in
+            let at : k ≡ i = omega arith in
+            let here : (get_or (files_of pairs) j d).0 ≡ string_bytes pair.0 = same ∙ ap (λ n. (get_or (files_of pairs) n d).0) at ∙ name_at i d less ∙ own_name in
+            let named : is_named (string_bytes pair.0) (get_or pairs j pair) ≡ true = (bytes_eq-Decides _ _).1 (sym (name_at j d (omega arith)) ∙ here) in
+            let no : is_named (string_bytes pair.0) (get_or pairs j pair) ≡ false = (position-Some _ pairs i pair first).2 j ji in
+            cc
       ]
 
   pub first_of_its_name : HasNoNameTwice (files_of pairs) → position (is_named (string_bytes pair.0)) pairs ≡ Some i
@@ -88,12 +88,12 @@ module _ (pairs : List (String Global × Vec ℕ Global)) (i : ℕ) (pair : Stri
       let same : length (files_of pairs) ≡ length pairs = length-map pairs _ in
       let test = is_named (string_bytes pair.0) in
       position_known pairs (string_bytes pair.0) i
-        (position_or_len_is (is_named (string_bytes pair.0)) pairs i pair (omega arith)
-          (λ k ki. false_unless _ (λ yes.
-            apart k i ([], []) ki (omega arith)
-              (name_at k ([], []) (omega arith) ∙ (bytes_eq-Decides _ _).0 yes ∙ sym own_name ∙ sym (name_at i ([], []) less))))
-          (λ _. (bytes_eq-Decides _ _).1 own_name))
-        less
+      (position_or_len_is (is_named (string_bytes pair.0)) pairs i pair (omega arith)
+      (λ k ki. false_unless _ (λ yes.
+      apart k i ([], []) ki (omega arith)
+      (name_at k ([], []) (omega arith) ∙ (bytes_eq-Decides _ _).0 yes ∙ sym own_name ∙ sym (name_at i ([], []) less))))
+      (λ _. (bytes_eq-Decides _ _).1 own_name))
+      less
 
 pub apart_at_all : (pairs : List (String Global × Vec ℕ Global)) (n : ℕ) → length pairs ≤ n → AreApart (files_of pairs) n → HasNoNameTwice (files_of pairs)
 apart_at_all pairs n all apart j k d jk within =

@@ -20,8 +20,8 @@ module _ {K : Type 0} (written : K → Option (List ℕ)) (start now : K) (piece
       → IfSome (written start) (λ bytes. written next ≡ Some (bytes ++ take (n + m) piece))
   appended_then next m before call =
       IfSome_then (written start) before (λ bytes e.
-        let there : written next ≡ Some ((bytes ++ take n piece) ++ take m (drop n piece)) = rw e at call in
-        there ∙ ap Some (append_assoc bytes (take n piece) (take m (drop n piece)) ∙ ap (λ more. bytes ++ more) (sym (take-add n m piece))))
+      let there : written next ≡ Some ((bytes ++ take n piece) ++ take m (drop n piece)) = rw e at call in
+      there ∙ ap Some (append_assoc bytes (take n piece) (take m (drop n piece)) ∙ ap (λ more. bytes ++ more) (sym (take-add n m piece))))
 
   -- a failed call leaves a proper part
   pub part_then : {after : Option (List ℕ)} → n < length piece → IfSome (written start) (λ bytes. written now ≡ Some (bytes ++ take n piece))

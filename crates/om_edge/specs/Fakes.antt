@@ -1,7 +1,8 @@
 -- What the fakes in memory are: the bytes, and the numbers of the calls that fail.
-use Rattle.std.specs.Prelude.{◌≡◌, ℕ, ◌+◌, ◌<◌, ◌≤◌, min, if◌then◌else◌, Bool, List, [], map, drop, length, slice_index_or, Contains, Option, Some, None, IfSome, String, string_bytes, Vec}
+use Rattle.std.specs.Prelude.{◌≡◌, ℕ, ◌+◌, ◌<◌, ◌≤◌, min, Bool, List, [], map, drop, length, slice_index_or, Contains, Option, Some, None, IfSome, String, string_bytes, Vec}
+use Rattle.std.proofs.Common.{ap, arith}
 use Rattle.std.specs.declared.alloc.Global.{Global}
-use Rattle.om_edge.specs.Faults.{last_count}
+use Rattle.om_edge.specs.Faults.{last_count, count_after}
 use Rattle.om_edge.specs.Files.{File}
 
 -- the calls of one kind: the numbers of those that fail, the number of the next, and how many failed
@@ -14,13 +15,13 @@ pub record Plan : Type 0 where
 abbrev pub FailsNext : Plan → Type 0
 FailsNext plan = Contains plan.failing plan.calls
 
--- one more, up to the last value
-abbrev pub one_more : ℕ → ℕ
-one_more n = min (n + 1) last_count
-
 -- the plan after one more call, by whether it failed
 abbrev pub after_call : Plan → Bool → Plan
-after_call plan failed = record { failing = plan.failing; calls = one_more plan.calls; faults = if failed then one_more plan.faults else plan.faults }
+after_call plan failed = record { failing = plan.failing; calls = min (plan.calls + 1) last_count; faults = count_after plan.faults failed }
+
+-- with no numbers no call is one that fails
+pub no_call_fails : (plan : Plan) → plan.failing ≡ [] → ¬ FailsNext plan
+no_call_fails plan none call = absurd (omega (arith, ap length none, call.1))
 
 -- no call yet
 abbrev pub plan_of : List ℕ → Plan

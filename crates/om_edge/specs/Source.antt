@@ -1,5 +1,5 @@
 -- What a call of `take` does with the bytes that are left, where they are told.
-use Rattle.std.specs.Prelude.{◌≡◌, ◌↔◌, ℕ, ◌<◌, ◌≤◌, List, [], length, take, drop, Option, Some, is_some, Result, IfOk, OnErr, IfSome}
+use Rattle.std.specs.Prelude.{◌≡◌, ◌↔◌, ℕ, ◌<◌, ◌≤◌, List, [], length, take, drop, Option, Some, is_some, Result, Ok, IfOk, OnErr, IfSome}
 
 -- The next n bytes have gone into the front of the buffer. A buffer with room gets none exactly where none is left.
 pub record Moves (bytes : List ℕ) (n : ℕ) (buffer : List ℕ) (after : Option (List ℕ)) : Type 0 where
@@ -14,3 +14,8 @@ pub record TakesFront {E : Type 0} (before after : Option (List ℕ)) (result : 
   pub moved : IfOk result (λ n. IfSome before (λ bytes. Moves bytes n buffer after))
   pub failed : OnErr result (after ≡ before)
   pub told : is_some after ≡ is_some before
+
+-- what an answer of n did, where the bytes are known
+pub moves_at : {E : Type 0} (before after : Option (List ℕ)) (n : ℕ) (buffer bytes : List ℕ) → TakesFront {E = E} before after (Ok n) buffer
+    → before ≡ Some bytes → Moves bytes n buffer after
+moves_at before after n buffer bytes call told = rw told at call.moved

@@ -191,8 +191,12 @@ impl Model for MemFiles {
     ghost Value = { FilesValue };
 
     ghost view = { λ f. record {
-        files = files_of f.pairs.items; left = left_at (files_of f.pairs.items) f.fetched f.at;
-        fetches = f.fetches; reads = f.reads; last_open_fault = option_map string_bytes f.last } };
+      files = files_of f.pairs.items;
+      left = left_at (files_of f.pairs.items) f.fetched f.at;
+      fetches = f.fetches;
+      reads = f.reads;
+      last_open_fault = option_map string_bytes f.last;
+    } };
 
     ghost invariant = { λ f. IsWithin (files_of f.pairs.items) f.fetched f.at };
 }
@@ -223,8 +227,12 @@ impl MemFiles {
     ) -> MemFiles
         requires { HasNoNameTwice (files_of pairs.items) }
         ensures { result ≡ record {
-            files = files_of pairs.items; left = []; fetches = plan_of failing.items;
-            reads = plan_of reads.items; last_open_fault = None } }
+          files = files_of pairs.items;
+          left = [];
+          fetches = plan_of failing.items;
+          reads = plan_of reads.items;
+          last_open_fault = None;
+        } }
     {
         MemFiles {
             alloc,

@@ -1,6 +1,10 @@
 //! Readers, writers and the file system. Each tells its faults, and nothing of its bytes.
 
-ghost use Rattle.std.specs.Prelude.{◌≡◌, ℕ, Option, None, option_copied};
+ghost use Rattle.std.specs.Prelude.{◌≡◌, ℕ, Option, None, Some, option_copied, is_ok, is_err, IsErrOf, false};
+ghost use Rattle.std.specs.Bool.{OnTrue, OnFalse};
+ghost use Rattle.om_edge.specs.Faults.{HasCause, count_after};
+ghost use Rattle.om_edge.specs.Source.{TakesFront};
+ghost use Rattle.om_edge.specs.Sink.{AppendsFront};
 
 use crate::{Failed, OpenError, Opener, Sink, Source};
 use std::alloc::Global;
@@ -45,7 +49,11 @@ impl<R: Read> Source for StdSource<R> {
 
     ghost faults = { λ s. s };
 
-    fn take(&mut self, buf: &mut [u8]) -> Result<usize, Failed> {
+    fn take(&mut self, buf: &mut [u8]) -> Result<usize, Failed>
+        ensures takes { TakesFront None None result buf.new }
+        ensures cause { HasCause self.old self.new (is_err result) }
+        ensures counted { self.new ≡ count_after self.old (is_err result) }
+    {
         match self.reader.read(buf) {
             Ok(n) => Ok(n),
             Err(_) => {
@@ -92,7 +100,11 @@ impl<W: Write> Sink for StdSink<W> {
 
     ghost faults = { λ s. s };
 
-    fn put(&mut self, piece: &[u8]) -> Result<usize, Failed> {
+    fn put(&mut self, piece: &[u8]) -> Result<usize, Failed>
+        ensures appends { AppendsFront None None result piece.now }
+        ensures cause { HasCause self.old self.new (is_err result) }
+        ensures counted { self.new ≡ count_after self.old (is_err result) }
+    {
         match self.writer.write(piece) {
             Ok(n) if n > 0 || piece.is_empty() => Ok(n),
             // An error, or a writer that takes nothing.
@@ -116,19 +128,23 @@ pub struct DiskFiles<R: Files> {
 }
 
 impl<R: Files> Model for DiskFiles<R> {
-    ghost use Rattle.std.specs.Prelude.{option_map, string_bytes};
+    ghost use Rattle.std.specs.Prelude.{option_map, is_some, string_bytes};
     ghost use Rattle.om_edge.specs.Disk.{DiskValue};
 
     ghost Value = { DiskValue };
 
     ghost view = { λ d. record {
-        open_faults = d.open_faults; last_open_fault = option_map string_bytes d.last; read_faults = d.read_faults } };
+      is_open = is_some d.file;
+      open_faults = d.open_faults;
+      last_open_fault = option_map string_bytes d.last;
+      read_faults = d.read_faults;
+    } };
 }
 
 impl<R: Files> DiskFiles<R> {
     /// No call has failed.
     pub fn new(alloc: Global, rt: R) -> DiskFiles<R>
-        ensures { result ≡ record { open_faults = 0; last_open_fault = None; read_faults = 0 } }
+        ensures { result ≡ record { is_open = false; open_faults = 0; last_open_fault = None; read_faults = 0 } }
     {
         DiskFiles {
             alloc,
@@ -166,6 +182,8 @@ impl<R: Files> DiskFiles<R> {
 }
 
 impl<R: Files> Opener for DiskFiles<R> {
+    ghost use Rattle.om_edge.specs.Files.{has_failed};
+
     ghost files = { λ _. None };
 
     ghost left = { λ _. None };
@@ -176,7 +194,16 @@ impl<R: Files> Opener for DiskFiles<R> {
 
     ghost read_faults = { λ d. d.read_faults };
 
-    fn take(&mut self, buf: &mut [u8]) -> Result<usize, Failed> {
+    fn take(&mut self, buf: &mut [u8]) -> Result<usize, Failed>
+        ensures takes { TakesFront None None result buf.new }
+        ensures cause { HasCause self.old.read_faults self.new.read_faults (is_err result) }
+        ensures counted { self.new ≡ record {
+            is_open = self.old.is_open; open_faults = self.old.open_faults; last_open_fault = self.old.last_open_fault;
+            read_faults = count_after self.old.read_faults (is_err result) } }
+
+        // With no file there is no byte.
+        ensures closed { self.old.is_open ≡ false → result ≡ Ok 0 }
+    {
         let Some(file) = &mut self.file else {
             return Ok(0);
         };
@@ -189,7 +216,15 @@ impl<R: Files> Opener for DiskFiles<R> {
         }
     }
 
-    fn fetch(&mut self, name: &str) -> Result<(), OpenError> {
+    fn fetch(&mut self, name: &str) -> Result<(), OpenError>
+        ensures missing { IsErrOf result OpenError.Missing → ⊥ }
+        ensures cause { HasCause self.old.open_faults self.new.open_faults (has_failed result) }
+        ensures counted { self.new.open_faults ≡ count_after self.old.open_faults (has_failed result) }
+        ensures named { OnTrue (has_failed result) (self.new.last_open_fault ≡ Some name.now) }
+        ensures last { OnFalse (has_failed result) (self.new.last_open_fault ≡ self.old.last_open_fault) }
+        ensures reads { self.new.read_faults ≡ self.old.read_faults }
+        ensures opened { self.new.is_open ≡ is_ok result }
+    {
         self.file = None;
         let Ok(kept) = String::from_str(self.alloc, name) else {
             return Err(OpenError::Memory);

@@ -3,46 +3,50 @@ use om_model::Memory;
 use std::fs;
 use std::fs::File;
 use std::process::Abort;
-use std::rt::Files;
 use std::test::Fail;
 
-// A call of the files and what it is to answer: at a take the bytes, or nothing
-// where it fails.
-#[derive(Drop)]
-enum Step {
-    Fetch(&'static str, Result<(), OpenError>),
-    Take(Option<&'static [u8]>),
-}
-
-fn expect_taken<S: Source>(rt: &impl Abort, source: &mut S, answers: &[Option<&[u8]>]) {
+// Takes with a buffer of two bytes: each call answers so, and these are the bytes.
+fn expect_taken<S: Source>(
+    rt: &impl Abort,
+    source: &mut S,
+    answers: &[Result<usize, Failed>],
+    bytes: &[u8],
+) {
+    let mut rest = bytes;
     for answer in answers {
         let mut buf = [0; 2];
         let taken = source.take(&mut buf);
-        compare(rt, taken, &buf, *answer);
+        assert_eq!(rt; taken, *answer);
+        rest = without_front(rt, rest, &buf, taken.unwrap_or(0));
     }
+    assert_eq!(rt; rest.len(), 0);
 }
 
-fn expect_steps<O: Opener>(rt: &impl Abort, files: &mut O, steps: &[Step]) {
-    for step in steps {
-        match step {
-            Step::Fetch(name, answer) => assert_eq!(rt; files.fetch(name), *answer),
-            Step::Take(answer) => {
-                let mut buf = [0; 2];
-                let taken = files.take(&mut buf);
-                compare(rt, taken, &buf, *answer);
-            }
-        }
+// Fetches a file, and takes as above.
+fn expect_file<O: Opener>(
+    rt: &impl Abort,
+    files: &mut O,
+    name: &str,
+    opened: Result<(), OpenError>,
+    answers: &[Result<usize, Failed>],
+    bytes: &[u8],
+) {
+    assert_eq!(rt; files.fetch(name), opened);
+    let mut rest = bytes;
+    for answer in answers {
+        let mut buf = [0; 2];
+        let taken = files.take(&mut buf);
+        assert_eq!(rt; taken, *answer);
+        rest = without_front(rt, rest, &buf, taken.unwrap_or(0));
     }
+    assert_eq!(rt; rest.len(), 0);
 }
 
-fn compare(rt: &impl Abort, taken: Result<usize, Failed>, buf: &[u8], answer: Option<&[u8]>) {
-    match taken {
-        Ok(n) => {
-            assert!(rt; n <= buf.len());
-            assert_eq!(rt; Some(&buf[..n]), answer);
-        }
-        Err(Failed) => assert_eq!(rt; None, answer),
-    }
+// The bytes behind the first n, which stand in the buffer's front.
+fn without_front<'a>(rt: &impl Abort, bytes: &'a [u8], buf: &[u8], n: usize) -> &'a [u8] {
+    assert!(rt; n <= bytes.len() && n <= buf.len());
+    assert_eq!(rt; &bytes[..n], &buf[..n]);
+    &bytes[n..]
 }
 
 fn expect_put<K: Sink>(rt: &impl Abort, sink: &mut K, answers: &[Result<usize, Failed>]) {
@@ -61,13 +65,16 @@ fn a_source_in_memory_gives_pieces_and_fails_where_it_is_told_to(
     rt: HostRuntime,
 ) -> Result<(), Fail> {
     let alloc = rt.alloc();
-    let failing = vec![in alloc; 1, 5]?;
-    let mut source = MemSource::new(b"abc".to_vec(alloc)?, 2, failing);
-    let answers = [Some(b"ab".as_slice()), None, Some(b"c"), Some(b""), Some(b""), None];
-    expect_taken(&rt, &mut source, &answers);
+    let mut source = MemSource::new(b"abc".to_vec(alloc)?, 2, vec![in alloc; 1, 4]?);
+    expect_taken(
+        &rt,
+        &mut source,
+        &[Ok(2), Err(Failed), Ok(1), Ok(0), Err(Failed)],
+        b"abc",
+    );
     assert_eq!(rt; source.faults(), 2);
     let mut source = MemSource::new(b"abc".to_vec(alloc)?, 1, vec![in alloc]?);
-    expect_taken(&rt, &mut source, &[Some(b"a"), Some(b"b"), Some(b"c"), Some(b"")]);
+    expect_taken(&rt, &mut source, &[Ok(1), Ok(1), Ok(1), Ok(0)], b"abc");
     assert_eq!(rt; source.faults(), 0);
     Ok(())
 }
@@ -112,26 +119,34 @@ fn files_in_memory_are_fetched_and_taken(rt: HostRuntime) -> Result<(), Fail> {
     }
     assert!(rt; MemFiles::have_no_name_twice(&pairs));
     let mut files = MemFiles::new(alloc, pairs, vec![in alloc; 2]?, vec![in alloc; 1]?);
-    let missing = [
-        Step::Fetch("b.ml", Ok(())),
-        Step::Take(Some(b"de")),
-        Step::Take(None),
-        Step::Take(Some(b"f")),
-        Step::Take(Some(b"")),
-        Step::Fetch("c.ml", Err(OpenError::Missing)),
-        Step::Take(Some(b"")),
-    ];
-    expect_steps(&rt, &mut files, &missing);
+    let takes = [Ok(2), Err(Failed), Ok(1), Ok(0)];
+    expect_file(&rt, &mut files, "b.ml", Ok(()), &takes, b"def");
+    expect_file(
+        &rt,
+        &mut files,
+        "c.ml",
+        Err(OpenError::Missing),
+        &[Ok(0)],
+        b"",
+    );
     assert_eq!(rt; files.last_open_fault(), None);
-    let failed = [
-        Step::Fetch("a.ml", Err(OpenError::Failed)),
-        Step::Take(Some(b"")),
-        Step::Fetch("a.ml", Ok(())),
-        Step::Take(Some(b"ab")),
-        Step::Fetch("a.ml", Ok(())),
-        Step::Take(Some(b"ab")),
-    ];
-    expect_steps(&rt, &mut files, &failed);
+    expect_file(
+        &rt,
+        &mut files,
+        "a.ml",
+        Err(OpenError::Failed),
+        &[Ok(0)],
+        b"",
+    );
+    expect_file(&rt, &mut files, "a.ml", Ok(()), &[Ok(2)], b"ab");
+    expect_file(
+        &rt,
+        &mut files,
+        "a.ml",
+        Ok(()),
+        &[Ok(2), Ok(1), Ok(0)],
+        b"abc",
+    );
     assert_eq!(rt; files.last_open_fault(), Some("a.ml"));
     assert_eq!(rt; (files.open_faults(), files.read_faults()), (1, 1));
     Ok(())
@@ -150,30 +165,32 @@ fn a_name_that_stands_twice_is_found(rt: HostRuntime) -> Result<(), Fail> {
 
 #[test]
 fn a_source_over_a_file_gives_its_bytes(rt: HostRuntime) -> Result<(), Fail> {
-    fs::write(&rt, "in", b"abc")?;
-    let mut source = StdSource::new(File::open(&rt, "in")?);
-    expect_taken(&rt, &mut source, &[Some(b"ab"), Some(b"c"), Some(b"")]);
+    fs::write(&rt, "read.bytes", b"abc")?;
+    let mut source = StdSource::new(File::open(&rt, "read.bytes")?);
+    expect_taken(&rt, &mut source, &[Ok(2), Ok(1), Ok(0)], b"abc");
     assert_eq!(rt; source.faults(), 0);
 
     // A file that is open for writing alone cannot be read.
-    let mut source = StdSource::new(File::create(&rt, "out")?);
-    expect_taken(&rt, &mut source, &[None, None]);
+    let mut source = StdSource::new(File::create(&rt, "read.bytes")?);
+    expect_taken(&rt, &mut source, &[Err(Failed), Err(Failed)], b"");
     assert_eq!(rt; source.faults(), 2);
+    fs::remove_file(&rt, "read.bytes")?;
     Ok(())
 }
 
 #[test]
 fn a_sink_over_a_file_keeps_its_bytes(rt: HostRuntime) -> Result<(), Fail> {
-    let mut sink = StdSink::new(File::create(&rt, "out")?);
+    let mut sink = StdSink::new(File::create(&rt, "put.bytes")?);
     expect_put(&rt, &mut sink, &[Ok(3)]);
     assert_eq!(rt; put_all(&mut sink, b"d"), Ok(()));
     assert_eq!(rt; sink.faults(), 0);
-    assert_eq!(rt; fs::read_to_string(&rt, "out")?.as_str(), "abcd");
+    assert_eq!(rt; fs::read_to_string(&rt, "put.bytes")?.as_str(), "abcd");
 
     // A file that is open for reading alone cannot be written.
-    let mut sink = StdSink::new(File::open(&rt, "out")?);
+    let mut sink = StdSink::new(File::open(&rt, "put.bytes")?);
     expect_put(&rt, &mut sink, &[Err(Failed), Err(Failed)]);
     assert_eq!(rt; sink.faults(), 2);
+    fs::remove_file(&rt, "put.bytes")?;
     Ok(())
 }
 
@@ -188,22 +205,16 @@ fn a_writer_that_takes_nothing_is_a_fault(rt: HostRuntime) {
 
 #[test]
 fn files_on_the_disk_are_fetched_and_taken(rt: HostRuntime) -> Result<(), Fail> {
-    fs::write(&rt, "a.ml", b"abc")?;
-    rt.create_dir("folder")?;
+    fs::write(&rt, "a.bytes", b"abc")?;
     let mut files = DiskFiles::new(rt.alloc(), &rt);
-    let steps = [
-        Step::Take(Some(b"")),
-        Step::Fetch("a.ml", Ok(())),
-        Step::Take(Some(b"ab")),
-        Step::Fetch("b.ml", Err(OpenError::Failed)),
-        Step::Take(Some(b"")),
-        // A folder can be opened and not read.
-        Step::Fetch("folder", Ok(())),
-        Step::Take(None),
-    ];
-    expect_steps(&rt, &mut files, &steps);
-    assert_eq!(rt; files.last_open_fault(), Some("b.ml"));
+    expect_file(&rt, &mut files, "a.bytes", Ok(()), &[Ok(2)], b"ab");
+    let missing = Err(OpenError::Failed);
+    expect_file(&rt, &mut files, "b.bytes", missing, &[Ok(0)], b"");
+    // A folder can be opened and not read.
+    expect_file(&rt, &mut files, ".", Ok(()), &[Err(Failed)], b"");
+    assert_eq!(rt; files.last_open_fault(), Some("b.bytes"));
     assert_eq!(rt; (files.open_faults(), files.read_faults()), (1, 1));
+    fs::remove_file(&rt, "a.bytes")?;
     Ok(())
 }
 
@@ -214,9 +225,15 @@ fn errors_convert_and_print(rt: HostRuntime) -> Result<(), Fail> {
     let failed = OpenError::Failed;
     let memory = OpenError::from(Memory);
     let text = format!(in alloc; "{missing}, {failed}, {memory}")?;
-    assert_eq!(rt; text.as_str(), "there is no such file, the file cannot be opened, out of memory");
+    assert_eq!(rt;
+        text.as_str(),
+        "there is no such file, the file cannot be opened, out of memory"
+    );
     let fault = WriteError::from(Failed);
     let memory = WriteError::from(Memory);
-    assert_eq!(rt; format!(in alloc; "{fault}, {memory}")?.as_str(), "write fault, out of memory");
+    assert_eq!(rt;
+        format!(in alloc; "{fault}, {memory}")?.as_str(),
+        "write fault, out of memory"
+    );
     Ok(())
 }

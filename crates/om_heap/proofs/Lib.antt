@@ -1,2 +1,3 @@
 pub mod HeapLemmas
+pub mod WriteLemmas
 mod StoredLemmas

@@ -36,7 +36,10 @@ pub enum Kind {
 /// As many words no heap has, counted as on 64 bits.
 const WORD_LIMIT: u64 = 1 << 60;
 
-/// A graph that grows: contracts see the list of its objects.
+/// A graph, which contracts see as the list of its objects.
+///
+/// A call that appends answers the object's number, or `Memory` with all as before. It does so too where the objects
+/// would have 2^60 words or more together, counted as on 64 bits.
 #[derive(Drop)]
 pub struct Heap {
     objects: Vec<Stored>,
@@ -69,7 +72,7 @@ impl Heap {
         }
     }
 
-    /// How many objects there are.
+    /// How many objects there are. It also tells what holds of each heap.
     pub fn count(&self) -> u64
         ensures count { result ≡ length self.now }
         ensures heap { IsHeap self.now }
@@ -300,20 +303,26 @@ mod tests {
     }
 
     #[test]
-    fn doubles_and_customs_are_kept(rt: HostRuntime) -> Result<(), Fail> {
+    fn doubles_are_filled(rt: HostRuntime) -> Result<(), Fail> {
         let mut heap = Heap::new(rt.alloc());
         assert_eq!(rt; heap.add_double(5)?, 0);
         assert_eq!(rt; heap.add_doubles(2)?, 1);
-        assert_eq!(rt; heap.add_doubles_of([8, 9].to_vec(rt.alloc())?)?, 2);
         heap.fill_double(0, 0, 6);
         heap.fill_double(1, 1, 7);
         assert_eq!(rt; heap.double(0, 0), 6);
+        assert_eq!(rt; heap.double(1, 0), 0);
         assert_eq!(rt; heap.double(1, 1), 7);
-        assert_eq!(rt; heap.double(2, 0), 8);
-        assert_eq!(rt; heap.kind(2), Kind::Doubles(2));
-        assert_eq!(rt; heap.add_custom(Custom::I32(-1))?, 3);
-        assert_eq!(rt; heap.kind(3), Kind::Custom(Custom::I32(-1)));
-        assert_eq!(rt; heap.count(), 4);
+        Ok(())
+    }
+
+    #[test]
+    fn arrays_and_customs_are_kept(rt: HostRuntime) -> Result<(), Fail> {
+        let mut heap = Heap::new(rt.alloc());
+        assert_eq!(rt; heap.add_doubles_of([8, 9].to_vec(rt.alloc())?)?, 0);
+        assert_eq!(rt; heap.add_custom(Custom::I32(-1))?, 1);
+        assert_eq!(rt; heap.double(0, 1), 9);
+        assert_eq!(rt; heap.kind(0), Kind::Doubles(2));
+        assert_eq!(rt; heap.kind(1), Kind::Custom(Custom::I32(-1)));
         Ok(())
     }
 }

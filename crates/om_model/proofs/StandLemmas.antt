@@ -2,14 +2,15 @@
 use Rattle.std.proofs.Common.{◌≡◌, ℕ, zero, suc, ◌+◌, ◌<◌, ◌≤◌, ◌⊎◌, List, [], ◌∷◌, ◌++◌, length, take, drop, map, Option, Some, None, inl, inr, refl, sym, ◌∙◌, ap, subst, arith, length-append, append_assoc, take_at}
 use Rattle.std.proofs.lemmas.Bool.{cases_lt}
 use Rattle.std.proofs.lemmas.List.{take-append-drop, length-drop}
-use Rattle.std.specs.List.{concat}
+use Rattle.std.specs.List.{AllZip, concat}
 use Rattle.om_model.specs.declared.refusal.ReadRefusal.{ReadRefusal}
 use Rattle.om_model.specs.Bytes.{AreBytes}
 use Rattle.om_model.specs.Raw.{raw_length, raw_measure}
 use Rattle.om_model.specs.Words.{pending}
 use Rattle.om_model.specs.Header.{header_length}
 use Rattle.om_model.specs.Step.{first_refusal, header_steps, token_steps}
-use Rattle.om_model.specs.Tree.{Tree}
+use Rattle.om_model.specs.Token.{Spells}
+use Rattle.om_model.specs.Tree.{Tree, tokens}
 use Rattle.om_model.specs.Front.{context, IsOpen, TokensPass, HeaderPasses, IsRefused}
 use Rattle.om_model.specs.Judgement.{Judgement, front, value, refused, Judges}
 use Rattle.om_model.proofs.RawLemmas.{one-le-raw_length}
@@ -26,9 +27,10 @@ pub record Stands (limit : ℕ) (bytes header : List ℕ) (tokens : List (List �
   pub is_open : IsOpen tokens
 
 -- a value that begins the bytes
-pub record BeginsValue (limit : ℕ) (bytes : List ℕ) (n : ℕ) : Type 0 where
+pub record BeginsValue (limit : ℕ) (bytes : List ℕ) (n : ℕ) (pieces : List (List ℕ)) : Type 0 where
   pub tree : Tree
   pub judges : Judges limit bytes (value n tree)
+  pub spells : AllZip Spells (tokens tree) pieces
 
 -- ---- at a token
 
@@ -95,7 +97,7 @@ AreBytes-take n bytes a = AreBytes-front (take n bytes) (drop n bytes) (subst (�
 -- and one that ends a value
 pub Stands-value : (limit : ℕ) (bytes header : List ℕ) (tokens : List (List ℕ)) (rest : List ℕ) → AreBytes bytes → Stands limit bytes header tokens rest
     → PassesNext header tokens rest → pending (map raw_measure (with_next tokens rest)) ≡ 0
-    → BeginsValue limit bytes (length header + length (concat (with_next tokens rest)))
+    → BeginsValue limit bytes (length header + length (concat (with_next tokens rest))) (with_next tokens rest)
 Stands-value limit bytes header tokens rest a s p none =
     let whole = with_next tokens rest in
     let u = behind_next rest in
@@ -107,6 +109,7 @@ Stands-value limit bytes header tokens rest a s p none =
     record {
       tree = v.tree;
       judges = (omega (arith, ap length e, length-append (header ++ concat whole) u, length-append header (concat whole)), v.spelled);
+      spells = v.spells;
     }
 
 -- ---- at the header

@@ -10,12 +10,15 @@ pub mod Raw
 pub mod Step
 pub mod Front
 pub mod Judgement
+pub mod Preorder
+pub mod Laws
+pub mod LexText
+pub mod Lexeme
+pub mod TagHash
 pub mod Status
 pub mod RefusalText
 pub mod Stream
 pub mod Outcome
-pub mod Preorder
-pub mod Laws
 pub mod PathText
 pub mod Shapes
 pub mod Typing

@@ -73,9 +73,12 @@ abbrev pub base_text : Base → List ℕ
 base_text bases.Int = codes "int"
 base_text bases.Text = codes "string"
 
--- the base, and a space and `list` so many times
+-- so many times a space and `list`
+abbrev pub lists_text : ℕ → List ℕ
+lists_text n = flat_map (λ list. list) (replicate n (codes " list"))
+
 abbrev pub list_type_text : ListType → List ℕ
-list_type_text t = base_text t.base ++ flat_map (λ list. list) (replicate t.lists (codes " list"))
+list_type_text t = base_text t.base ++ lists_text t.lists
 
 -- the text of a type that is accepted: of at most 199 lists
 pub record IsListTypeText (text : List ℕ) (t : ListType) : Type 0 where

@@ -1,5 +1,5 @@
--- Which values have a type: those that some list of objects and types justifies. Nothing is traversed (the idea is that
--- of Henry, Mauny, Chailloux and Manoury 2012, section 3; that a mutable object has one type is the rule of `ref` in OCaml).
+-- Which values have a type: those that some list of objects and types justifies. Nothing is traversed (this project's own,
+-- after Henry, Mauny, Chailloux and Manoury 2012).
 use Rattle.std.specs.Prelude.{ℕ, List, [], Option, slice_get, option_and_then, IsSomeAnd, Contains}
 use Rattle.om_model.specs.declared.value.Val.{Val}
 use Rattle.om_model.specs.declared.value.Val.TheVariants as vals

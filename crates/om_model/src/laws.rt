@@ -2,6 +2,7 @@
 
 ghost use Rattle.om_model.specs.Laws.{HasOneJudgement, NoSpellingBeginsAnother, SpellsOneToken};
 ghost use Rattle.om_model.specs.Lawful.{AreLawful};
+ghost use Rattle.om_model.specs.Laws.{HasOneJudgement, NoSpellingBeginsAnother, SpellsOneToken};
 ghost use Rattle.om_model.specs.ListShapes.{list_shapes};
 ghost use Rattle.om_model.specs.VerdictLaws.{FaultsExcludeTypes};
 

@@ -6,6 +6,7 @@ pub mod code;
 pub mod fault;
 pub mod header;
 pub mod laws;
+pub mod lexeme;
 pub mod list;
 pub mod list_type;
 pub mod path;

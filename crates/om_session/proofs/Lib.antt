@@ -1,3 +1,6 @@
+pub mod ListTexts
+pub mod SearchLemmas
+pub mod KindTexts
 pub mod AccountLemmas
 pub mod CauseLemmas
 pub mod CheckLemmas
@@ -10,3 +13,4 @@ pub mod TakeLemmas
 pub mod TypeLemmas
 pub mod ValueLemmas
 pub mod WordLemmas
+pub mod ReadLemmas

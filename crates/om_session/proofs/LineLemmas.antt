@@ -11,7 +11,7 @@ use Rattle.om_model.specs.Stream.{IsTail}
 use Rattle.om_model.specs.Outcome.{line}
 use Rattle.om_edge.specs.declared.sink.WriteError.{WriteError}
 use Rattle.om_edge.specs.declared.sink.WriteError.TheVariants as errors
-use Rattle.om_session.specs.declared.stand_in.Value.{Value}
+use Rattle.om_read.specs.declared.value.Value.{Value}
 use Rattle.om_session.specs.declared.values.StreamEnd.{StreamEnd}
 use Rattle.om_session.specs.Call.{Seen}
 use Rattle.om_session.specs.Given.{Puts}

@@ -1,3 +1,5 @@
+pub mod Verdict
+pub mod Search
 pub mod Call
 pub mod Check
 pub mod Fetch

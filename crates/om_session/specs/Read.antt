@@ -6,9 +6,9 @@ use Rattle.om_model.specs.Graph.{IsValue}
 use Rattle.om_model.specs.Tree.{Tree, root, objects_of}
 use Rattle.om_model.specs.Spelled.{SpelledUnder}
 use Rattle.om_model.specs.Front.{IsFront, IsRefused}
-use Rattle.om_session.specs.declared.stand_in.Value.{Value}
-use Rattle.om_session.specs.declared.stand_in.Whole.{Whole}
-use Rattle.om_session.specs.declared.stand_in.Whole.TheVariants.{Done, Cut}
+use Rattle.om_read.specs.declared.value.Value.{Value}
+use Rattle.om_read.specs.declared.value.Whole.{Whole}
+use Rattle.om_read.specs.declared.value.Whole.TheVariants.{Done, Cut}
 
 -- the value is the tree's, numbered from 0
 pub record IsValueOf (value : Value) (tree : Tree) : Type 0 where

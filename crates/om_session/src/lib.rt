@@ -1,15 +1,18 @@
 //! The top call: the words, the files, the type, and the values of the input one by one.
 #![tactic(auto)]
 
+mod check;
 mod fetch;
 mod gather;
+mod list_type;
 mod refusal_text;
+mod read;
 mod report;
-mod stand_in;
 mod stop;
 mod top;
 mod types;
 mod values;
+mod verdict;
 mod words;
 
 pub use top::run;

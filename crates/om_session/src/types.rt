@@ -8,7 +8,7 @@ ghost use Rattle.om_session.specs.Types.{GivesType, FindsTypeIn};
 
 use crate::fetch::{Fetch, fetch_file};
 use crate::gather::{Gathered, Until};
-use crate::stand_in::read_list_type;
+use crate::list_type::read_list_type;
 use crate::stop::Stop;
 use om_edge::Opener;
 use om_model::list_type::ListType;
@@ -27,9 +27,8 @@ fn read_type<'a>(gathered: &Gathered, type_text: &str) -> Result<ListType, Stop<
         return Err(Stop::Declarations);
     }
     match read_list_type(type_text.as_bytes()) {
-        Ok(Some(ty)) => Ok(ty),
-        Ok(None) => Err(Stop::RequestedType),
-        Err(_) => Err(Stop::Memory),
+        Some(ty) => Ok(ty),
+        None => Err(Stop::RequestedType),
     }
 }
 

@@ -4,11 +4,13 @@ ghost use Rattle.std.specs.Prelude.{◌≡◌, ◌<◌, ◌≤◌, ℕ, List, le
 ghost use Rattle.om_session.specs.Call.{seen};
 ghost use Rattle.om_session.specs.Values.{PutsNext, PutsValues, checks};
 
+use crate::read::read_front;
 use crate::report::put_line;
-use crate::stand_in::{Whole, read_value, verdict_line};
+use crate::verdict::verdict_line;
 use om_edge::{Sink, WriteError};
 use om_model::list_type::ListType;
 use om_model::refusal::ReadRefusal;
+use om_read::Whole;
 use std::alloc::Global;
 
 /// So many words on 64 bits a value may have.
@@ -47,9 +49,9 @@ fn put_next<K: Sink>(
     requires { 0 < length bytes.now }
     ensures { PutsNext ty bytes.now (seen K.written K.faults out.old out.new) result }
 {
-    match read_value(alloc, bytes, WORD_LIMIT) {
+    match read_front(alloc, bytes, WORD_LIMIT) {
         Ok(Whole::Done { value, taken }) => {
-            let Ok(line) = verdict_line(alloc, &value, ty) else {
+            let Ok(line) = verdict_line(alloc, &value.heap, value.root, ty) else {
                 return Err(WriteError::Memory);
             };
             match put_line(out, line.text.as_slice()) {

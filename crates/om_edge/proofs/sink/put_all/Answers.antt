@@ -1,4 +1,4 @@
-use Rattle.std.proofs.Common.{sym, subst}
+use Rattle.std.proofs.Common.{arith}
 use Rattle.std.proofs.lemmas.List.{take_rest}
 use Rattle.om_edge.proofs.Put.{HasPut-more}
 use Rattle.om_edge.proofs.sink.put_all.Goals as goal
@@ -7,4 +7,4 @@ pub loop-at-preserved : goal.loop-at-preserved
 loop-at-preserved g c =
     let call = rw take_rest at c.in_ok-at.ensures.appends in
     HasPut-more g.K.Sink.written g.K.Sink.faults c.args.sink.now c.loop-at.sink c.put.new.self c.args.bytes.now c.loop-at.at c.in_ok-at.field-0
-      c.loop-at.invariant c.loop-at-test.true call c.in_ok-at.ensures.cause.kept
+    c.loop-at.invariant (omega arith) call c.in_ok-at.ensures.cause.kept

@@ -1,4 +1,4 @@
-use Rattle.std.proofs.Common.{◌≡◌, true, false, sym, ap, subst}
+use Rattle.std.proofs.Common.{◌≡◌, true, false, refl, sym, ap, subst}
 use Rattle.std.specs.Prelude.{◌==◌}
 use Rattle.om_model.specs.ListShapes.{IsListTypeText}
 use Rattle.om_model.specs.Outcome.{fault_of, read_fault, too_long}
@@ -19,20 +19,20 @@ pub returns-then-not-is_empty : goal.returns-then-not-is_empty
 returns-then-not-is_empty c = λ file.
     let bytes = c.args.gathered.now.bytes in
     reads_declarations file c.args.type_text.now (taken_of c.args.gathered.now) (ap until_of c.in-End.is)
-    (some_bytes bytes.items (subst (λ n. false ≡ (n == 0)) bytes.ok.0 c.if-not-is_empty.ensures))
+        (some_bytes bytes.items (subst (λ n. false ≡ (n == 0)) bytes.ok.0 c.if-not-is_empty.ensures))
 
-pub returns-in-Ok-Some : goal.returns-in-Ok-Some
-returns-in-Ok-Some c = λ file.
+pub returns-in-Some : goal.returns-in-Some
+returns-in-Some c = λ file.
     let bytes = c.args.gathered.now.bytes in
     reads_type file c.args.type_text.now (taken_of c.args.gathered.now) (ap until_of c.in-End.is)
-    (no_bytes bytes.items (subst (λ n. true ≡ (n == 0)) bytes.ok.0 c.if-not-is_empty.ensures))
-    c.in-Ok-Some.ty (subst (λ text. IsListTypeText text c.in-Ok-Some.ty) c.as_bytes.ensures.value ((c.in-Ok-Some.ensures c.in-Ok-Some.ty).0 c.in-Ok-Some.field-0-is))
+        (no_bytes bytes.items (subst (λ n. true ≡ (n == 0)) bytes.ok.0 c.if-not-is_empty.ensures))
+        c.in-Some.ty (subst (λ text. IsListTypeText text c.in-Some.ty) c.as_bytes.ensures.value ((c.in-Some.ensures c.in-Some.ty).0 refl))
 
-pub returns-in-Ok-None : goal.returns-in-Ok-None
-returns-in-Ok-None c = λ file.
+pub returns-in-None : goal.returns-in-None
+returns-in-None c = λ file.
     let bytes = c.args.gathered.now.bytes in
     reads_no_type file c.args.type_text.now (taken_of c.args.gathered.now) (ap until_of c.in-End.is)
-    (no_bytes bytes.items (subst (λ n. true ≡ (n == 0)) bytes.ok.0 c.if-not-is_empty.ensures))
-    (λ t is_text.
-    let found = (c.in-Ok-None.ensures t).1 (subst (λ text. IsListTypeText text t) (sym c.as_bytes.ensures.value) is_text) in
-    let none = c.in-Ok-None.field-0-is in cc (found, none))
+        (no_bytes bytes.items (subst (λ n. true ≡ (n == 0)) bytes.ok.0 c.if-not-is_empty.ensures))
+        (λ t is_text.
+            let found = (c.in-None.ensures t).1 (subst (λ text. IsListTypeText text t) (sym c.as_bytes.ensures.value) is_text) in
+            cc found)

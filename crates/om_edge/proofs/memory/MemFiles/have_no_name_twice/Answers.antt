@@ -15,10 +15,12 @@ pub returns-then-ne : goal.returns-then-ne
 returns-then-ne c =
     let pairs = c.args.pairs.now in
     let pair = c.index-pairs-i.result in
-    let other : c.place_of.result ≢ Some c.loop-i.i = search rules in
-    (λ no. cc, λ apart.
-      let first = first_of_its_name pairs c.loop-i.i pair (omega arith) c.index-pairs-i.is apart in
-      absurd (other (c.place_of.ensures ∙ ap (λ name. position (is_named name) pairs) c.as_str.ensures.value ∙ first)))
+    let other : c.place_of.result ≢ Some c.loop-i.i = search rules in (
+      λ no. cc,
+      λ apart.
+          let first = first_of_its_name pairs c.loop-i.i pair (omega arith) c.index-pairs-i.is apart in
+          absurd (other (c.place_of.ensures ∙ ap (λ name. position (is_named name) pairs) c.as_str.ensures.value ∙ first)),
+    )
 
 pub returns : goal.returns
 returns c = (λ _. apart_at_all c.args.pairs.now c.loop-i.i (omega arith) c.loop-i.invariant, λ _. search rules)

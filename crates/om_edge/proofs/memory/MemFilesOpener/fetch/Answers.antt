@@ -7,7 +7,7 @@ returns-in-Some-clause-opened c =
     let pairs = c.self.inside.pairs.items in
     let name = c.args.name.now in
     let at : position (is_named name) pairs ≡ Some c.in-Some.field-0 =
-        ap (position (is_named name)) (sym c.deref.ensures.value) ∙ sym c.place_of-self-inside.ensures ∙ c.in-Some.is in
+    ap (position (is_named name)) (sym c.deref.ensures.value) ∙ sym c.place_of-self-inside.ensures ∙ c.in-Some.is in
     let found = found_at pairs name c.in-Some.field-0 at in
     rw (← c.self.view_is, c.in-Some.is) record { found = rw found.1; whole = sym found.1 }
 
@@ -16,5 +16,5 @@ returns-clause-missing c = λ _.
     let pairs = c.self.inside.pairs.items in
     let name = c.args.name.now in
     let at : position (is_named name) pairs ≡ None =
-        ap (position (is_named name)) (sym c.deref.ensures.value) ∙ sym c.place_of-self-inside.ensures ∙ c.in-None.is in
+    ap (position (is_named name)) (sym c.deref.ensures.value) ∙ sym c.place_of-self-inside.ensures ∙ c.in-None.is in
     rw (← c.self.view_is) (not_found pairs name at)

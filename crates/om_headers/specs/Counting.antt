@@ -1,0 +1,12 @@
+-- The objects whose words are counted.
+use Rattle.std.specs.Prelude.{ℕ, ◌^◌, ◌<◌, ◌≤◌}
+use Rattle.om_model.specs.declared.code.Measure.{Measure}
+use Rattle.om_model.specs.declared.code.Measure.TheVariants.{Block, Bytes, Double, Doubles, Custom}
+
+-- the number is below 2 ^ 60, and a custom has at most eight bytes of data
+abbrev pub IsCountable : Measure → Type 0
+IsCountable (Block n) = n < 2 ^ 60
+IsCountable (Bytes n) = n < 2 ^ 60
+IsCountable Double = Unit {0}
+IsCountable (Doubles n) = n < 2 ^ 60
+IsCountable (Custom a b) = (a ≤ 8) × (b ≤ 8)

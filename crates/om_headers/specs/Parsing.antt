@@ -1,0 +1,38 @@
+-- What the first bytes of a value say of its header (`intern.c`).
+use Rattle.std.specs.Prelude.{ℕ, ◌+◌, ◌-◌, ◌<◌, ◌≤◌, ◌≡◌, ◌≢◌, ◌⊎◌, ◌==◌, ◌||◌, nat_lt, List, length, Result, Ok, Err, if◌then◌else◌}
+use Rattle.om_headers.specs.declared.HeaderStep.{HeaderStep}
+use Rattle.om_headers.specs.declared.HeaderStep.TheVariants as steps
+use Rattle.om_headers.specs.declared.HeadFault.{HeadFault}
+use Rattle.om_headers.specs.declared.HeadFault.TheVariants as faults
+use Rattle.om_model.specs.Header.{magic, small_magic, big_magic, compressed_magic, header_length, head_of}
+
+-- what the header states, or how many bytes are missing to its end
+abbrev pub rest_step : List ℕ → HeaderStep
+rest_step bytes =
+    if nat_lt (length bytes) (header_length bytes) then steps.More (header_length bytes - length bytes)
+    else steps.Head (head_of bytes)
+
+-- the magic is judged as soon as it is there
+abbrev pub header_step : List ℕ → Result HeaderStep HeadFault
+header_step bytes =
+    if nat_lt (length bytes) 4 then Ok (steps.More (4 - length bytes))
+    else if magic bytes == compressed_magic then Err faults.Compressed
+    else if (magic bytes == small_magic) || (magic bytes == big_magic) then Ok (rest_step bytes)
+    else Err (faults.BadMagic (magic bytes))
+
+-- ---- what each answer says
+
+abbrev pub HasMagic : List ℕ → Type 0
+HasMagic bytes = (magic bytes ≡ small_magic) ⊎ (magic bytes ≡ big_magic)
+
+-- first the magic is wanted, and then the header that it begins
+abbrev pub wanted : List ℕ → ℕ
+wanted bytes = if nat_lt (length bytes) 4 then 4 else header_length bytes
+
+abbrev pub IsStep : List ℕ → HeaderStep → Type 0
+IsStep bytes (steps.More n) = (4 ≤ length bytes → HasMagic bytes) × (0 < n) × (length bytes + n ≡ wanted bytes)
+IsStep bytes (steps.Head head) = HasMagic bytes × (header_length bytes ≤ length bytes) × (head ≡ head_of bytes)
+
+abbrev pub IsFault : List ℕ → HeadFault → Type 0
+IsFault bytes (faults.BadMagic m) = (4 ≤ length bytes) × (m ≡ magic bytes) × (m ≢ small_magic) × (m ≢ big_magic) × (m ≢ compressed_magic)
+IsFault bytes faults.Compressed = (4 ≤ length bytes) × (magic bytes ≡ compressed_magic)

@@ -1,0 +1,21 @@
+//! The words of objects.
+
+ghost use Rattle.std.specs.Prelude.{◌≡◌};
+ghost use Rattle.om_model.specs.Words.{words32, words64};
+ghost use Rattle.om_headers.specs.Counting.{IsCountable};
+
+use om_model::code::Measure;
+
+/// The words that the object takes with its header word, on 32 and on 64 bits (`extern.c`).
+pub fn words_of(measure: Measure) -> (u64, u64)
+    requires { IsCountable measure }
+    ensures { result ≡ (words32 measure, words64 measure) }
+{
+    match measure {
+        Measure::Block(fields) => (1 + fields, 1 + fields),
+        Measure::Bytes(bytes) => (1 + (bytes + 4) / 4, 1 + (bytes + 8) / 8),
+        Measure::Double => (3, 2),
+        Measure::Doubles(doubles) => (1 + 2 * doubles, 1 + doubles),
+        Measure::Custom(bytes32, bytes64) => (2 + (bytes32 + 3) / 4, 2 + (bytes64 + 7) / 8),
+    }
+}

@@ -1,0 +1,13 @@
+pub mod WordLaws
+pub mod NumberLaws
+pub mod CommentLaws
+pub mod SymbolLaws
+pub mod CharLaws
+pub mod NameLaws
+pub mod FormLaws
+pub mod FrontLaws
+pub mod TakenLaws
+pub mod InsideLaws
+pub mod StepLaws
+pub mod FaultLaws
+pub mod PartLaws

@@ -1,0 +1,56 @@
+//! Classes of bytes.
+
+ghost use Rattle.std.specs.Prelude.{◌≡◌, ◌<◌, IsTrue};
+ghost use Rattle.std.specs.Char.{is_ascii_hexdigit};
+ghost use Rattle.std.specs.List.{prefix_len};
+ghost use Rattle.om_model.specs.Lexeme.{is_separator, starts_lower, starts_name, is_name_byte, value_of_digit};
+
+/// Space, tab, line feed, form feed or carriage return.
+pub fn is_separator(b: u8) -> bool
+    ensures { result ≡ is_separator b }
+{
+    b == b' ' || b == b'\t' || b == b'\n' || b == 0x0c || b == b'\r'
+}
+
+/// Whether a name in lower case may begin so.
+pub fn starts_lower(b: u8) -> bool
+    ensures { result ≡ starts_lower b }
+{
+    b.is_ascii_lowercase() || b == b'_'
+}
+
+/// Whether a name may begin so.
+pub fn starts_name(b: u8) -> bool
+    ensures { result ≡ starts_name b }
+{
+    starts_lower(b) || b.is_ascii_uppercase()
+}
+
+/// Whether a name may go on so.
+pub fn is_name_byte(b: u8) -> bool
+    ensures { result ≡ is_name_byte b }
+{
+    b.is_ascii_alphanumeric() || b == b'_' || b == b'\''
+}
+
+/// How many bytes at the front may stand in a name.
+pub fn name_len(text: &[u8]) -> usize
+    ensures { result ≡ prefix_len is_name_byte text.now }
+{
+    text.iter().take_while(|b| is_name_byte(**b)).count()
+}
+
+/// What a digit of either case stands for.
+pub fn digit_value(b: u8) -> u8
+    requires { IsTrue (is_ascii_hexdigit b) }
+    ensures value { result ≡ value_of_digit b }
+    ensures small { result < 16 }
+{
+    if b < b':' {
+        b - b'0'
+    } else if b < b'G' {
+        b - b'A' + 10
+    } else {
+        b - b'a' + 10
+    }
+}

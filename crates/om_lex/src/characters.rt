@@ -1,0 +1,140 @@
+//! Characters and strings.
+
+ghost use Rattle.std.specs.Prelude.{◌≡◌, ◌≢◌, ◌≤◌, length, IsOk, IfSome};
+ghost use Rattle.om_model.specs.Lexeme.{named_char};
+ghost use Rattle.om_model.specs.LexText.{Answers};
+ghost use Rattle.om_lex.specs.Scan.{hexadecimal_at, decimal_at, escape_at, char_at, char_found, quote_form, string_at, found_at};
+
+use crate::bytes::digit_value;
+use crate::found::Found;
+use crate::words::variable;
+use om_model::lexeme::{LexFault, LexemeKind};
+use om_model::list::List;
+use std::alloc::Global;
+
+/// What a backslash and this byte stand for.
+fn named_char(b: u8) -> Option<u8>
+    ensures { result ≡ named_char b }
+{
+    match b {
+        b'\\' | b'"' | b'\'' | b' ' => Some(b),
+        b'n' => Some(b'\n'),
+        b't' => Some(b'\t'),
+        b'b' => Some(8),
+        b'r' => Some(b'\r'),
+        _ => None,
+    }
+}
+
+/// Two hexadecimal digits behind a backslash and an `x`. This and the next ones also tell the bytes of the whole escape.
+#[tactic(auto, unfolding(crate::specs::Scan::hexadecimal_at))]
+fn hexadecimal_at(text: &[u8]) -> Option<(u8, usize)>
+    ensures { result ≡ char_found (hexadecimal_at text.now) }
+{
+    let [high, low, ..] = text else {
+        return None;
+    };
+    if high.is_ascii_hexdigit() && low.is_ascii_hexdigit() {
+        Some((16 * digit_value(*high) + digit_value(*low), 4))
+    } else {
+        None
+    }
+}
+
+/// Three decimal digits behind a backslash.
+#[tactic(auto, unfolding(crate::specs::Scan::decimal_at))]
+fn decimal_at(text: &[u8]) -> Option<(u8, usize)>
+    ensures { result ≡ char_found (decimal_at text.now) }
+{
+    let [a, b, c, ..] = text else {
+        return None;
+    };
+    if !(a.is_ascii_digit() && b.is_ascii_digit() && c.is_ascii_digit()) {
+        return None;
+    }
+    let value = 100 * u16::from(*a - b'0') + 10 * u16::from(*b - b'0') + u16::from(*c - b'0');
+    if value <= 255 {
+        Some((value as u8, 4))
+    } else {
+        None
+    }
+}
+
+/// The escape whose backslash stands before the text.
+#[tactic(auto, unfolding(crate::specs::Scan::escape_at))]
+fn escape_at(text: &[u8]) -> Option<(u8, usize)>
+    ensures { result ≡ char_found (escape_at text.now) }
+{
+    let [first, rest @ ..] = text else {
+        return None;
+    };
+    match named_char(*first) {
+        Some(value) => Some((value, 2)),
+        None => {
+            if *first == b'x' {
+                hexadecimal_at(rest)
+            } else {
+                decimal_at(text)
+            }
+        }
+    }
+}
+
+/// The character at the front, inside these quotes: what it stands for, and how many bytes it takes.
+#[tactic(auto, unfolding(crate::specs::Scan::char_at))]
+fn char_at(quote: u8, text: &[u8]) -> Option<(u8, usize)>
+    ensures { result ≡ char_found (char_at quote text.now) }
+{
+    let [first, rest @ ..] = text else {
+        return None;
+    };
+    if *first == b'\\' {
+        escape_at(rest)
+    } else if *first == quote || *first == b'\n' {
+        None
+    } else {
+        Some((*first, 1))
+    }
+}
+
+/// The character or variable whose quote stands before the text: a character first.
+#[tactic(auto, unfolding(crate::specs::Scan::quote_form, crate::specs::Scan::character_form))]
+pub fn quoted(alloc: Global, text: &[u8]) -> Result<Found, LexFault>
+    ensures { Answers (λ w. w) result (found_at (quote_form text.now)) }
+{
+    if let Some((value, len)) = char_at(b'\'', text) {
+        if len < text.len() && text[len] == b'\'' {
+            return Ok(Found {
+                kind: LexemeKind::Character(value),
+                len: len + 2,
+            });
+        }
+    }
+    variable(alloc, text)
+}
+
+/// The string whose quote stands before the text.
+pub fn string(alloc: Global, text: &[u8]) -> Result<Found, LexFault>
+    ensures { Answers (λ w. w) result (string_at text.now) }
+{
+    let mut value = Vec::new(alloc);
+    let mut at: usize = 0;
+    while let Some((byte, len)) = char_at(b'"', &text[at..]) {
+        value.push(byte)?;
+        at += len;
+    }
+    if at >= text.len() {
+        return Err(LexFault::OpenString(0));
+    }
+    let end = text[at];
+    if end == b'"' {
+        Ok(Found {
+            kind: LexemeKind::Text(List::of(value)),
+            len: at + 2,
+        })
+    } else if end == b'\\' {
+        Err(LexFault::BadByte(at + 2))
+    } else {
+        Err(LexFault::OpenString(0))
+    }
+}

@@ -1,0 +1,16 @@
+//! The lexemes of declarations, types and literals.
+#![tactic(auto)]
+
+mod bytes;
+mod characters;
+mod comments;
+mod found;
+mod numbers;
+mod scan;
+mod symbols;
+mod words;
+
+pub use scan::{one_outcome, tokens};
+
+#[cfg(test)]
+mod tests;

@@ -1,0 +1,127 @@
+//! The parts of a text, one after the other.
+
+ghost use Rattle.std.specs.Prelude.{◌≡◌, ◌+◌, ◌<◌, ◌^◌, ℕ, IfOk, IfErr, List, length};
+ghost use Rattle.om_model.specs.declared.lexeme.Lexeme.{Lexeme};
+ghost use Rattle.om_model.specs.declared.lexeme.LexFault.{LexFault};
+ghost use Rattle.om_model.specs.LexText.{Lexes, Faults, Answers, UnlessMemory, SpansWithin, HasOneOutcome};
+ghost use Rattle.om_lex.specs.Scan.{lexeme_at, step_at, place_of, moved};
+
+use crate::bytes::{is_separator, starts_name};
+use crate::characters::{quoted, string};
+use crate::comments::closing;
+use crate::found::{Found, Step};
+use crate::numbers::{double, integer};
+use crate::symbols::symbol;
+use crate::words::{tag, word};
+use om_model::lexeme::{LexFault, Lexeme, Span};
+use std::alloc::Global;
+
+/// The lexeme at the front.
+#[tactic(auto, unfolding(crate::specs::Scan::lexeme_at, crate::specs::Scan::form_at))]
+fn lexeme_at(alloc: Global, text: &[u8]) -> Result<Found, LexFault>
+    ensures { Answers (λ w. w) result (lexeme_at text.now) }
+{
+    let [first, rest @ ..] = text else {
+        return Err(LexFault::BadByte(0));
+    };
+    match *first {
+        b'"' => string(alloc, rest),
+        b'\'' => quoted(alloc, rest),
+        b'`' => tag(alloc, rest),
+        b'$' => double(rest),
+        b'-' => integer(true, rest),
+        _ => {
+            if starts_name(*first) {
+                word(alloc, text)
+            } else if first.is_ascii_digit() {
+                integer(false, text)
+            } else {
+                symbol(*first, rest)
+            }
+        }
+    }
+}
+
+/// The separator, comment or lexeme at the front.
+#[tactic(auto, unfolding(crate::specs::Scan::step_at))]
+fn step_at(alloc: Global, text: &[u8]) -> Result<Step, LexFault>
+    ensures { Answers (λ s. s) result (step_at text.now) }
+{
+    let [first, rest @ ..] = text else {
+        return Err(LexFault::BadByte(0));
+    };
+    if is_separator(*first) {
+        return Ok(Step::Gap(1));
+    }
+    if let [b'*', inside @ ..] = rest {
+        if *first == b'(' {
+            return match closing(inside) {
+                None => Err(LexFault::OpenComment(0)),
+                Some(len) => Ok(Step::Gap(len + 2)),
+            };
+        }
+    }
+    Ok(Step::Word(lexeme_at(alloc, text)?))
+}
+
+/// A fault of what begins at a place, seen from the text's beginning.
+fn moved(fault: LexFault, by: usize) -> LexFault
+    requires { place_of fault + by < 2 ^ 64 }
+    ensures { result ≡ moved by fault }
+{
+    match fault {
+        LexFault::BadByte(place) => LexFault::BadByte(place + by),
+        LexFault::OpenString(place) => LexFault::OpenString(place + by),
+        LexFault::OpenComment(place) => LexFault::OpenComment(place + by),
+        LexFault::TooBig(place) => LexFault::TooBig(place + by),
+        LexFault::Memory => LexFault::Memory,
+    }
+}
+
+/// The lexemes of a text, one step after the other.
+fn scan(alloc: Global, text: &[u8]) -> Result<Vec<Lexeme>, LexFault>
+    ensures lexemes { IfOk result (λ v. Lexes text.now v.items) }
+    ensures fault { IfErr result (UnlessMemory (Faults text.now)) }
+{
+    let mut lexemes = Vec::new(alloc);
+    let mut at: usize = 0;
+    while at < text.len() {
+        match step_at(alloc, &text[at..]) {
+            Ok(Step::Gap(len)) => at += len,
+            Ok(Step::Word(word)) => {
+                let span = Span {
+                    first: at,
+                    len: word.len,
+                };
+                at += word.len;
+                lexemes.push(Lexeme {
+                    kind: word.kind,
+                    span,
+                })?;
+            }
+            Err(fault) => return Err(moved(fault, at)),
+        }
+    }
+    Ok(lexemes)
+}
+
+/// The lexemes of a text in their order, or its first fault.
+pub fn tokens(alloc: Global, text: &[u8]) -> Result<Vec<Lexeme>, LexFault>
+    // What is answered are the text's lexemes, and a fault that is answered stands behind whole parts.
+    ensures lexemes { IfOk result (λ v. Lexes text.now v.items) }
+    ensures fault { IfErr result (UnlessMemory (Faults text.now)) }
+
+    // Its lexemes stand one after the other.
+    ensures spans { IfOk result (λ v. SpansWithin 0 v.items (length text.now)) }
+
+    // A text that has lexemes, or a fault, gets no others, unless memory runs out.
+    ensures only_lexemes { (lexemes : List Lexeme) → Lexes text.now lexemes → Answers (λ v. v.items) result (Ok lexemes) }
+    ensures only_fault { (fault : LexFault) → Faults text.now fault → Answers (λ v. v.items) result (Err fault) }
+{
+    scan(alloc, text)
+}
+
+/// Each text has lexemes or a fault, and no others.
+pub fn one_outcome()
+    ensures { (text : List ℕ) → HasOneOutcome text }
+{}

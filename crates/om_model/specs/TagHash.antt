@@ -1,0 +1,15 @@
+-- The number of a polymorphic variant's tag (`caml_hash_variant` of OCaml's runtime, `hash.c`).
+use Rattle.std.specs.Prelude.{ℕ, ℤ, pos, ◌-ℤ◌, ◌+◌, ◌*◌, ◌^◌, ◌%◌, List, [], ◌∷◌, length, nat_lt, if◌then◌else◌}
+
+-- the bytes as digits in base 223, the last one of weight 1, with no bound
+abbrev pub number_of_tag : List ℕ → ℕ
+number_of_tag [] = 0
+number_of_tag (byte ∷ bytes) = byte * 223 ^ length bytes + number_of_tag bytes
+
+-- 31 bits as a signed number: those above 0x3FFFFFFF are negative
+abbrev pub signed_31 : ℕ → ℤ
+signed_31 bits = if nat_lt 0x3FFFFFFF bits then pos bits -ℤ pos (2 ^ 31) else pos bits
+
+-- the low 31 bits, signed
+abbrev pub tag_hash : List ℕ → ℤ
+tag_hash tag = signed_31 (number_of_tag tag % 2 ^ 31)

@@ -1,0 +1,12 @@
+pub mod Sums
+pub mod Sizes
+pub mod Judging
+pub mod Fields
+pub mod Built
+pub mod Opened
+pub mod Stacks
+pub mod Absorbed
+pub mod Heads
+pub mod Nexts
+pub mod Standing
+pub mod Contents

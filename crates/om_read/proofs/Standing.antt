@@ -1,0 +1,173 @@
+-- Where a reader stands in the bytes of a value, and what its answers say.
+use Rattle.std.proofs.Common.{ℕ, ◌≡◌, ◌≢◌, ◌⊎◌, inl, inr, ◌+◌, ◌-◌, ◌<◌, ◌≤◌, List, [], ◌∷◌, ◌++◌, length, take, drop, map, Option, Some, None, Result, Ok, Err, arith, refl, ap, sym, ◌∙◌, subst, length-append}
+use Rattle.std.specs.List.{concat}
+use Rattle.std.proofs.lemmas.List.{length-take-le, length-drop, drop-drop}
+use Rattle.std.proofs.lemmas.List.Elements.{All-nil}
+use Rattle.om_model.specs.declared.refusal.ReadRefusal.{ReadRefusal}
+use Rattle.om_model.specs.declared.refusal.ReadRefusal.TheVariants as refusals
+use Rattle.om_model.specs.Bytes.{AreBytes}
+use Rattle.om_model.specs.Words.{pending}
+use Rattle.om_model.specs.Raw.{raw_length, raw_measure}
+use Rattle.om_model.specs.Token.{Token, IsToken}
+use Rattle.om_model.specs.Tree.{Tree, tokens, root, objects_of, IsTree}
+use Rattle.om_model.specs.Header.{header_length}
+use Rattle.om_model.specs.Front.{context, IsOpen}
+use Rattle.om_model.specs.Step.{Context}
+use Rattle.om_model.specs.Judgement.{Judgement, front, value, refused, Judges}
+use Rattle.om_model.proofs.RawLemmas.{one-le-raw_length}
+use Rattle.om_model.proofs.NextLemmas.{next_passes, next_refused, header_refused, header_is_refused, header_goes_on}
+use Rattle.om_model.proofs.StandLemmas.{Stands, BeginsValue, Stands-header, Stands-front, Stands-refused, Stands-next, Stands-value}
+use Rattle.om_model.proofs.SpellValues.{tokens-same}
+use Rattle.om_model.proofs.JudgementLaws.{Judges-same}
+use Rattle.om_read.specs.declared.stop.Stop.{Stop}
+use Rattle.om_read.specs.declared.stop.Stop.TheVariants.{Wait, Refused}
+use Rattle.om_read.specs.declared.place.Place.{Place}
+use Rattle.om_read.specs.declared.value.Value.{Value}
+use Rattle.om_read.specs.declared.value.Whole.{Whole}
+use Rattle.om_read.specs.declared.value.Whole.TheVariants.{Done, Cut}
+use Rattle.om_read.specs.Place.{IsSumOf}
+use Rattle.om_read.specs.Head.{JudgedHeader}
+use Rattle.om_read.specs.Build.{Building, start, building, absorb_all}
+use Rattle.om_read.specs.Reading.{Leads, NextOf, with_next, Reads, Answers, AnswersTo, answer_of}
+use Rattle.om_read.proofs.Built.{absorb_start}
+use Rattle.om_read.proofs.Nexts.{context_after}
+
+-- where a reader stands
+pub record IsAt (limit : ℕ) (bytes : List ℕ) (place : Place) (built : Building) : Type 0 where
+  pub header : List ℕ
+  pub before : List (List ℕ)
+  pub stands : Stands limit bytes header before (drop (place.start + place.taken) bytes)
+  pub leads : Leads header before place built
+
+-- ---- the header
+
+pub at_start : (limit : ℕ) (bytes : List ℕ) (place : Place) → JudgedHeader limit bytes (Ok place) → IsAt limit bytes place start
+at_start limit bytes place h =
+    let len = length-take-le (header_length bytes) bytes h.1 in
+    let at : header_length bytes ≡ place.start + place.taken = omega (arith, h.2.start, h.2.taken) in
+    record {
+      header = take (header_length bytes) bytes;
+      before = [];
+      stands = subst (λ n. Stands limit bytes (take (header_length bytes) bytes) [] (drop n bytes)) at (Stands-header limit bytes h.0 h.1);
+      leads = record { tokens = []; sums = h.2; spells = tt; are_tokens = All-nil IsToken; builds = refl };
+    }
+
+pub header_cut : (limit : ℕ) (bytes : List ℕ) → JudgedHeader limit bytes (Err Wait) → Reads limit bytes (Ok Cut)
+header_cut limit bytes h = inl (header_goes_on limit bytes h.0 h.1)
+
+pub header_refuses : (limit : ℕ) (bytes : List ℕ) (r : ReadRefusal) → JudgedHeader limit bytes (Err (Refused r)) → Reads limit bytes (Err r)
+header_refuses limit bytes r h = λ _. let x = header_refused limit bytes r h in (x.count, (x.within, header_is_refused limit bytes r x))
+
+pub header_stops : (limit : ℕ) (bytes : List ℕ) (stop : Stop) → JudgedHeader limit bytes (Err stop) → Reads limit bytes (answer_of stop)
+header_stops limit bytes Wait h = header_cut limit bytes h
+header_stops limit bytes (Refused r) h = header_refuses limit bytes r h
+
+-- ---- a token
+
+module _ (limit : ℕ) (bytes : List ℕ) (place : Place) (built : Building) (here : IsAt limit bytes place built) where
+  pub at_place : place.start + place.taken ≡ length here.header + length (concat here.before)
+  at_place = omega (arith, here.leads.sums.start, here.leads.sums.taken)
+
+  pub within : place.start + place.taken ≤ length bytes
+  within =
+      let e = ap length here.stands.bytes_are in
+      let p = length-append here.header (concat here.before ++ drop (place.start + place.taken) bytes) in
+      let q = length-append (concat here.before) (drop (place.start + place.taken) bytes) in
+      omega (arith, at_place)
+
+  pub is_open : 0 < place.pending
+  is_open = omega (arith, here.leads.sums.pending, here.stands.is_open)
+
+  pub at_cut : (built' : Building) → NextOf here.header here.before (drop (place.start + place.taken) bytes) built' (Err Wait) → Reads limit bytes (Ok Cut)
+  at_cut built' h = Stands-front limit bytes here.header here.before (drop (place.start + place.taken) bytes) here.stands h.0 h.1
+
+  pub at_refused : (built' : Building) (r : ReadRefusal) → NextOf here.header here.before (drop (place.start + place.taken) bytes) built' (Err (Refused r)) → Reads limit bytes (Err r)
+  at_refused built' r h = λ ne.
+      let rest = drop (place.start + place.taken) bytes in
+      let x = next_refused here.header here.before rest r (h ne) in
+      (length here.header + (length (concat here.before) + x.count), Stands-refused limit bytes here.header here.before rest r here.stands x)
+
+  pub at_stop : (built' : Building) (stop : Stop) → NextOf here.header here.before (drop (place.start + place.taken) bytes) built' (Err stop) → Reads limit bytes (answer_of stop)
+  at_stop built' Wait h = at_cut built' h
+  at_stop built' (Refused r) h = at_refused built' r h
+
+  -- ---- the next place
+
+  module _ (next : Place) (built' : Building) (h : NextOf here.header here.before (drop (place.start + place.taken) bytes) built' (Ok next)) where
+    pub start_stays : next.start ≡ place.start
+    start_stays = sym h.2.sums.start ∙ here.leads.sums.start
+
+    pub goes_on : next.taken ≡ place.taken + raw_length (drop (place.start + place.taken) bytes)
+    goes_on =
+        let rest = drop (place.start + place.taken) bytes in
+        let e = ap (λ (c : Context). c.taken) (context_after here.header here.before rest h.1) in
+        omega (arith, e, h.2.sums.taken, here.leads.sums.taken)
+
+    pub falls : length bytes - (next.start + next.taken) < length bytes - (place.start + place.taken)
+    falls =
+        let l = length-drop (place.start + place.taken) bytes in
+        omega (arith, start_stays, goes_on, one-le-raw_length (drop (place.start + place.taken) bytes), h.1)
+
+    pub at_next : 0 < next.pending → IsAt limit bytes next built'
+    at_next some =
+        let rest = drop (place.start + place.taken) bytes in
+        let p = next_passes here.header here.before rest h.0 h.1 in
+        let is_open : IsOpen (with_next here.before rest) = omega (arith, h.2.sums.pending) in
+        let behind : drop (raw_length rest) rest ≡ drop (next.start + next.taken) bytes =
+            let n : place.start + place.taken + raw_length rest ≡ next.start + next.taken = omega (arith, start_stays, goes_on) in
+            drop-drop (raw_length rest) (place.start + place.taken) bytes ∙ ap (λ k. drop k bytes) n in
+        record {
+          header = here.header;
+          before = with_next here.before rest;
+          stands = subst (Stands limit bytes here.header (with_next here.before rest)) behind (Stands-next limit bytes here.header here.before rest here.stands p is_open);
+          leads = h.2;
+        }
+
+    pub at_end : AreBytes bytes → next.pending ≡ 0
+        → (tree : Tree) × Judges limit bytes (value (next.start + next.taken) tree) × (built' ≡ building (objects_of tree 0) [] (Some (root tree 0)))
+    at_end a none =
+        let rest = drop (place.start + place.taken) bytes in
+        let p = next_passes here.header here.before rest h.0 h.1 in
+        let zero : pending (map raw_measure (with_next here.before rest)) ≡ 0 = h.2.sums.pending ∙ none in
+        let v = Stands-value limit bytes here.header here.before rest a here.stands p zero in
+        let n_is : length here.header + length (concat (with_next here.before rest)) ≡ next.start + next.taken = omega (arith, h.2.sums.start, h.2.sums.taken) in
+        let same = tokens-same (tokens v.tree) h.2.tokens (with_next here.before rest) v.spells h.2.spells in
+        (v.tree, subst (λ n. Judges limit bytes (value n v.tree)) n_is v.judges,
+            h.2.builds ∙ ap (absorb_all start) (sym same) ∙ absorb_start v.tree v.judges.1.spells.is_tree)
+
+-- ---- one answer
+
+memory_or_not : (r : ReadRefusal) → (r ≡ refusals.Memory) ⊎ (r ≢ refusals.Memory)
+memory_or_not refusals.Memory = inl refl
+memory_or_not (refusals.BadMagic a) = inr (λ e. cc)
+memory_or_not refusals.Compressed = inr (λ e. cc)
+memory_or_not (refusals.TooLarge a b d) = inr (λ e. cc)
+memory_or_not (refusals.BadCode a b) = inr (λ e. cc)
+memory_or_not (refusals.PointerCode a b) = inr (λ e. cc)
+memory_or_not (refusals.OtherCustom a b) = inr (λ e. cc)
+memory_or_not (refusals.BadTag a b) = inr (λ e. cc)
+memory_or_not (refusals.BadShared a b d) = inr (λ e. cc)
+memory_or_not (refusals.NoTable a) = inr (λ e. cc)
+memory_or_not (refusals.BadNative a b) = inr (λ e. cc)
+memory_or_not (refusals.IntRange a b) = inr (λ e. cc)
+memory_or_not (refusals.ZeroArray a) = inr (λ e. cc)
+memory_or_not (refusals.Overlong a b d) = inr (λ e. cc)
+memory_or_not (refusals.SizeMismatch a b d f) = inr (λ e. cc)
+memory_or_not (refusals.CountMismatch a b d) = inr (λ e. cc)
+memory_or_not (refusals.LengthMismatch a b) = inr (λ e. cc)
+
+-- what an answer says makes it the answer
+pub answers_from_says : (limit : ℕ) (bytes : List ℕ) (result : Result Whole ReadRefusal) → Reads limit bytes result → (j : Judgement) → Judges limit bytes j → Answers j result
+answers_from_says limit bytes (Ok (Done read taken)) h j k =
+    let same : value taken h.0 ≡ j = Judges-same limit bytes (value taken h.0) j h.1 k in
+    inr (subst (λ x. AnswersTo x (Ok (Done read taken))) same (read, refl, h.2, h.3))
+answers_from_says limit bytes (Ok Cut) h j k =
+    let same : front ≡ j = Judges-same limit bytes front j h k in inr (subst (λ x. AnswersTo x (Ok Cut)) same refl)
+answers_from_says limit bytes (Err r) h j k =
+    elim (memory_or_not r) [
+      | inl e ↦ inl (ap Err e)
+      | inr ne ↦
+          let x = h ne in
+          let same : refused x.0 r ≡ j = Judges-same limit bytes (refused x.0 r) j x.1 k in
+          inr (subst (λ y. AnswersTo y (Err r)) same refl)
+    ]

@@ -1,0 +1,23 @@
+use Rattle.std.proofs.Common.{rules, ◌≡◌, ap, subst, sym, ◌∙◌, arith, length-drop}
+use Rattle.std.proofs.lemmas.Result.{on_ok_weaker}
+use Rattle.om_model.specs.declared.code.CodeKind.{CodeKind}
+use Rattle.om_model.specs.Token.{SpellsBehind}
+use Rattle.om_read.specs.Build.{absorb}
+use Rattle.om_read.proofs.Contents.{doubles_whole}
+use Rattle.om_read.proofs.decode.decode.Goals as goal
+
+pub doubles-requires-clause-small : goal.doubles-requires-clause-small
+doubles-requires-clause-small c =
+    let whole = doubles_whole c.args.kind c.in-Doubles.width c.in-Doubles.little c.args.rest.now _ c.in-Doubles.is c.requires.spelled in
+    omega (arith, length-drop c.in-Doubles.width c.args.rest.now)
+
+pub doubles-requires-clause-whole : goal.doubles-requires-clause-whole
+doubles-requires-clause-whole c =
+    let whole = doubles_whole c.args.kind c.in-Doubles.width c.in-Doubles.little c.args.rest.now _ c.in-Doubles.is c.requires.spelled in
+    let width : c.from-in-Doubles.result ≡ c.in-Doubles.width = search rules in
+    cc (whole, width)
+
+pub returns-in-Custom : goal.returns-in-Custom
+returns-in-Custom c =
+    on_ok_weaker c.custom.result (λ e t s.
+    e ∙ ap (absorb c.args.builder.now) (sym (c.custom_value.ensures t (subst (λ (k : CodeKind). SpellsBehind k c.args.rest.now t) c.in-Custom.is s)))) c.custom.ensures

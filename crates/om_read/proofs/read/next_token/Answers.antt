@@ -1,0 +1,83 @@
+use Rattle.std.proofs.Common.{rules, arith, ◌≡◌, ◌+◌, ◌-◌, ◌<◌, ◌≤◌, ◌^◌, length, take, subst, sym, ap, ◌∙◌, List, ℕ}
+use Rattle.std.specs.Prelude.{IsErr}
+use Rattle.std.proofs.lemmas.List.{length-take-le}
+use Rattle.om_model.specs.Raw.{raw_length, raw_measure}
+use Rattle.om_model.specs.Token.{Token, Spells}
+use Rattle.om_model.specs.Tree.{RefersBack}
+use Rattle.om_model.specs.Words.{of_object, fields}
+use Rattle.om_model.specs.Front.{context}
+use Rattle.om_model.proofs.Numbers.{are_bytes}
+use Rattle.om_model.proofs.RawLemmas.{raw_measure-take}
+use Rattle.om_read.specs.Place.{Judged}
+use Rattle.om_read.specs.Build.{absorb}
+use Rattle.om_read.proofs.Nexts.{next_taken, next_fields, built_well, next_spelled, next_leads, nothing_left, judged_next}
+use Rattle.om_read.proofs.read.next_token.Goals as goal
+use Rattle.om_read.proofs.read.next_token.Goals.{In_ok-next}
+
+pub returns-then-is_empty : goal.returns-then-is_empty
+returns-then-is_empty c = λ header before h. nothing_left (context header before) c.args.rest.now (search rules)
+
+pub returns-in_err-next : goal.returns-in_err-next
+returns-in_err-next c = λ header before h.
+    let j = c.judge.ensures (context header before) h.sums in
+    let k : Judged (context header before) c.args.rest.now c.from_residual.result = search rules in
+    let e : IsErr c.from_residual.result = search rules in
+    judged_next header before c.args.rest.now c.args.builder.now c.from_residual.result e k
+
+-- the bytes that the token has
+length_is : (c : In_ok-next) → c.in_ok-next.next.taken ≡ c.args.place.now.taken + raw_length c.args.rest.now
+length_is c =
+    let h = c.requires.leads.2 in
+    let at = context c.requires.leads.0 c.requires.leads.1 in
+    let j = c.in_ok-next.ensures at h.sums in
+    next_taken at c.args.rest.now c.args.place.now c.in_ok-next.next h.sums j.2
+
+whole : (c : In_ok-next) → raw_length c.args.rest.now ≤ length c.args.rest.now
+whole c = (c.in_ok-next.ensures (context c.requires.leads.0 c.requires.leads.1) c.requires.leads.2.sums).1
+
+pub overflow_sub-len : goal.overflow_sub-len
+overflow_sub-len c = omega (arith, length_is (goal.at.overflow_sub-len c).In_ok-next)
+
+pub slice_bounds-add-end : goal.slice_bounds-add-end
+slice_bounds-add-end c =
+    let d = (goal.at.slice_bounds-add-end c).In_ok-next in
+    sym (length-take-le (c.in_ok-next.next.taken - c.args.place.now.taken) c.args.rest.now (omega (arith, length_is d, whole d)))
+
+pub add-requires-clause-well : goal.add-requires-clause-well
+add-requires-clause-well c = built_well c.requires.leads.0 c.requires.leads.1 c.args.place.now c.args.builder.now c.requires.leads.2
+
+pub add-requires-clause-small : goal.add-requires-clause-small
+add-requires-clause-small c =
+    let d = (goal.at.add-requires-clause-small c).In_ok-next in
+    let rest = c.args.rest.now in
+    let next = c.in_ok-next.next in
+    let len : raw_length rest ≡ next.taken - c.args.place.now.taken = omega (arith, length_is d) in
+    let few : next.pending < 2 ^ 53 = omega (arith, next.room, next.short) in
+    let at = context c.requires.leads.0 c.requires.leads.1 in
+    let j = c.in_ok-next.ensures at c.requires.leads.2.sums in
+    let fits : of_object fields (raw_measure rest) < 2 ^ 53 = next_fields at rest c.args.place.now next c.requires.leads.2.sums j.2 c.requires.«open» few in
+    subst (λ n. of_object fields (raw_measure (take n rest)) < 2 ^ 53) len
+        (subst (λ m. of_object fields m < 2 ^ 53) (sym (raw_measure-take (raw_length rest) rest (omega arith))) fits)
+
+pub add-requires-clause-spelled : goal.add-requires-clause-spelled
+add-requires-clause-spelled c =
+    let d = (goal.at.add-requires-clause-spelled c).In_ok-next in
+    let rest = c.args.rest.now in
+    let len : raw_length rest ≡ c.in_ok-next.next.taken - c.args.place.now.taken = omega (arith, length_is d) in
+    let bytes = are_bytes rest (λ i. omega (arith, c.type_inv.rest i)) in
+    let h = c.requires.leads.2 in
+    let j = c.in_ok-next.ensures (context c.requires.leads.0 c.requires.leads.1) h.sums in
+    subst (λ n. (t : Token) × Spells t (take n rest) × RefersBack t (length c.args.builder.now.objects)) len
+        (next_spelled c.requires.leads.0 c.requires.leads.1 c.args.place.now c.args.builder.now rest bytes h j.0 j.1)
+
+pub returns : goal.returns
+returns c = λ header before h.
+    let d = (goal.at.returns c).In_ok-next in
+    let rest = c.args.rest.now in
+    let next = c.in_ok-next.next in
+    let len : next.taken - c.args.place.now.taken ≡ raw_length rest = omega (arith, length_is d) in
+    let bytes = are_bytes rest (λ i. omega (arith, c.type_inv.rest i)) in
+    let j = c.in_ok-next.ensures (context header before) h.sums in
+    let adds : (t : Token) → Spells t (take (next.taken - c.args.place.now.taken) rest) → c.add.new.builder ≡ absorb c.args.builder.now t = search rules in
+    (j.0, j.1, next_leads header before c.args.place.now next c.args.builder.now c.add.new.builder rest bytes h j.0 j.1 j.2
+        (subst (λ n. (t : Token) → Spells t (take n rest) → c.add.new.builder ≡ absorb c.args.builder.now t) len adds))

@@ -1,0 +1,5 @@
+use Rattle.om_read.proofs.Standing.{answers_from_says}
+use Rattle.om_read.proofs.read.read_value.Goals as goal
+
+pub returns-clause-answers : goal.returns-clause-answers
+returns-clause-answers c = answers_from_says c.args.limit c.args.bytes.now c.read_whole.result c.read_whole.ensures

@@ -1,0 +1,105 @@
+-- A graph built from tokens that come one at a time, in preorder: what a reader holds, and what a token adds to it.
+use Rattle.std.specs.Prelude.{ℕ, ◌+◌, ◌-◌, ◌<◌, ◌≡◌, ◌==◌, if◌then◌else◌, List, [], ◌∷◌, ◌++◌, length, fold, sum_by, replicate, slice_index_or, slice_set, HoldsAt, All, Option, Some, None, pos}
+use Rattle.om_model.specs.declared.value.Val.{Val}
+use Rattle.om_model.specs.declared.value.Val.TheVariants as vals
+use Rattle.om_model.specs.declared.value.Obj.{Obj}
+use Rattle.om_model.specs.declared.value.Obj.TheVariants as objects
+use Rattle.om_model.specs.Words.{of_object, fields, pending}
+use Rattle.om_model.specs.Token.{Token, integer, atom, shared, block, leaf, measure_of}
+use Rattle.om_model.specs.Tree.{value_of, object_of}
+use Rattle.om_heap.specs.Heap.{set_field}
+use Rattle.om_read.specs.declared.build.OpenBlock.{OpenBlock}
+
+-- ---- what is built
+
+-- the objects so far, the open blocks, innermost first, and the root once it has come
+pub record Building : Type 0 where
+  pub objects : List Obj
+  pub open_blocks : List OpenBlock
+  pub root : Option Val
+
+abbrev pub building : List Obj → List OpenBlock → Option Val → Building
+building all open_blocks root = record { objects = all; open_blocks = open_blocks; root = root }
+
+abbrev pub start : Building
+start = building [] [] None
+
+-- ---- a value comes
+
+-- a full block is no longer open
+abbrev pub still_open : OpenBlock → List OpenBlock → List OpenBlock
+still_open b outer = if b.next == b.size then outer else b ∷ outer
+
+abbrev pub advanced : OpenBlock → ℕ → OpenBlock
+advanced b n = record b { next = b.next + n }
+
+-- it is the root, or the next field of the innermost open block
+abbrev pub place : Val → List Obj → List OpenBlock → Option Val → Building
+place v all [] root = building all [] (Some v)
+place v all (b ∷ outer) root = building (set_field all b.object b.next v) (still_open (advanced b 1) outer) root
+
+-- ---- a token comes
+
+-- the fields of a block that are still to come
+abbrev pub blank_fields : Token → List Val
+blank_fields token = replicate (of_object fields (measure_of token)) (vals.Int (pos 0))
+
+-- the object that it makes
+abbrev pub blank : Token → List Obj
+blank token = object_of token (blank_fields token)
+
+-- the block that it opens, which becomes object c
+abbrev pub opened : Token → ℕ → List OpenBlock
+opened (integer z) c = []
+opened (atom tag) c = []
+opened (shared offset) c = []
+opened (block tag size) c = record { object = c; next = 0; size = size } ∷ []
+opened (leaf object) c = []
+
+-- its object is made, its value is placed, and the block that it opens becomes the innermost
+abbrev pub absorb : Building → Token → Building
+absorb state token =
+    let c = length state.objects in
+    let placed = place (value_of token c) (state.objects ++ blank token) state.open_blocks state.root in
+    record placed { open_blocks = opened token c ++ placed.open_blocks }
+
+abbrev pub absorb_all : Building → List Token → Building
+absorb_all state tokens = fold absorb state tokens
+
+-- ---- what holds of it
+
+-- how many values are still to come: the root, and fields of the open blocks
+abbrev pub root_to_come : Option Val → ℕ
+root_to_come None = 1
+root_to_come (Some v) = 0
+
+abbrev pub fields_to_come : List OpenBlock → ℕ
+fields_to_come blocks = sum_by (λ b. b.size - b.next) blocks
+
+abbrev pub to_come : Building → ℕ
+to_come state = root_to_come state.root + fields_to_come state.open_blocks
+
+abbrev pub HasSize : ℕ → Obj → Type 0
+HasSize size (objects.Block tag values) = length values ≡ size
+HasSize size (objects.Bytes bytes) = ⊥
+HasSize size (objects.Double bits) = ⊥
+HasSize size (objects.Doubles all) = ⊥
+HasSize size (objects.I32 z) = ⊥
+HasSize size (objects.I64 z) = ⊥
+HasSize size (objects.Native z) = ⊥
+
+-- an open block's object is a block of its size, and its next field is one of those
+pub record IsOpenIn (all : List Obj) (b : OpenBlock) : Type 0 where
+  pub object : b.object < length all
+  pub next : b.next < b.size
+  pub size : HoldsAt (HasSize b.size) all b.object
+
+-- open blocks, each with a later object than those further out
+abbrev pub AreOpen : List Obj → List OpenBlock → Type 0
+AreOpen all [] = Unit {0}
+AreOpen all (b ∷ outer) = IsOpenIn all b × All (λ o. o.object < b.object) outer × AreOpen all outer
+
+-- the root comes first
+pub record WellOpen (state : Building) : Type 0 where
+  pub are_open : AreOpen state.objects state.open_blocks
+  pub rooted : state.root ≡ None → state.open_blocks ≡ []

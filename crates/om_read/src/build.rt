@@ -1,0 +1,188 @@
+//! The graph that tokens build, one token after another.
+
+ghost use Rattle.std.specs.Prelude.{◌≡◌, ◌≤◌, ◌<◌, ◌^◌, length, OnOk, vec_len, IsSome, Some};
+
+use crate::value::Value;
+use om_heap::Heap;
+use om_model::Memory;
+use om_model::code::Custom;
+use om_model::value::Val;
+use std::alloc::Global;
+use std::marker::Model;
+
+/// A block some of whose fields are still to come: the number of its object, its next field and how many it has.
+#[derive(Clone, Copy)]
+pub struct OpenBlock {
+    pub object: u64,
+    pub next: u64,
+    pub size: u64,
+}
+
+/// The objects so far, the open blocks, the innermost last, and the root once it has come.
+#[derive(Drop)]
+pub struct Builder {
+    heap: Heap,
+    open: Vec<OpenBlock>,
+    root: Option<Val>,
+}
+
+impl Model for Builder {
+    ghost use Rattle.std.specs.Prelude.{reverse};
+    ghost use Rattle.om_read.specs.Build.{Building, building};
+
+    ghost Value = { Building };
+
+    ghost view = { λ b. building b.heap (reverse b.open.items) b.root };
+}
+
+impl Builder {
+    ghost use Rattle.om_model.specs.Token.{integer as integer_token, atom as atom_token, shared as shared_token, block as block_token, leaf};
+    ghost use Rattle.om_model.specs.declared.value.Obj.TheVariants as objects;
+    ghost use Rattle.om_heap.specs.Heap.{custom_object};
+    ghost use Rattle.om_read.specs.Build.{start, place as place_of, absorb, WellOpen};
+    ghost use Rattle.om_model.specs.Graph.{IsValue, IsInteger};
+
+    /// Nothing is built.
+    pub fn new(alloc: Global) -> Builder
+        ensures { result ≡ start }
+    {
+        Builder {
+            heap: Heap::new(alloc),
+            open: Vec::new(alloc),
+            root: None,
+        }
+    }
+
+    /// The value comes: it is the root, or the next field of the innermost open block.
+    fn place(&mut self, v: Val)
+        requires well { WellOpen self.old }
+        requires valid { IsValue (length self.old.objects) v }
+        ensures { self.new ≡ place_of v self.old.objects self.old.open_blocks self.old.root }
+    {
+        let depth = self.open.len();
+        if depth == 0 {
+            self.root = Some(v);
+            return;
+        }
+        let block = self.open[depth - 1];
+        self.heap.set(block.object, block.next, v);
+        if block.next + 1 == block.size {
+            self.open.truncate(depth - 1);
+        } else {
+            self.open[depth - 1] = OpenBlock {
+                object: block.object,
+                next: block.next + 1,
+                size: block.size,
+            };
+        }
+    }
+
+    /// An integer.
+    #[tactic(auto, using(crate::proofs::Absorbed::absorbed_integer))]
+    pub fn integer(&mut self, value: i64)
+        requires well { WellOpen self.old }
+        requires range { IsInteger value }
+        ensures { self.new ≡ absorb self.old (integer_token value) }
+    {
+        self.place(Val::Int(value));
+    }
+
+    /// An atom.
+    #[tactic(auto, using(crate::proofs::Absorbed::absorbed_atom))]
+    pub fn atom(&mut self, tag: u8)
+        requires well { WellOpen self.old }
+        requires range { tag ≤ 243 }
+        ensures { self.new ≡ absorb self.old (atom_token tag) }
+    {
+        self.place(Val::Atom(tag));
+    }
+
+    /// A reference to the object so many places before the next one.
+    #[tactic(auto, using(crate::proofs::Absorbed::absorbed_shared))]
+    pub fn shared(&mut self, offset: u64)
+        requires well { WellOpen self.old }
+        requires some { 1 ≤ offset }
+        requires there { offset ≤ length self.old.objects }
+        ensures { self.new ≡ absorb self.old (shared_token offset) }
+    {
+        let count = self.heap.count();
+        self.place(Val::Ref(count - offset));
+    }
+
+    /// A block, whose fields are to come.
+    pub fn block(&mut self, tag: u8, size: u64) -> Result<(), Memory>
+        requires well { WellOpen self.old }
+        requires range { tag ≤ 243 }
+        requires some { 0 < size }
+        requires small { size < 2 ^ 53 }
+        ensures { OnOk result (self.new ≡ absorb self.old (block_token tag size)) }
+    {
+        let object = self.heap.add_block(tag, size)?;
+        self.place(Val::Ref(object));
+        let block = OpenBlock {
+            object,
+            next: 0,
+            size,
+        };
+        match self.open.push(block) {
+            Ok(()) => Ok(()),
+            Err(_) => Err(Memory),
+        }
+    }
+
+    /// A string.
+    pub fn bytes(&mut self, content: &[u8]) -> Result<(), Memory>
+        requires well { WellOpen self.old }
+        requires small { length content.now < 2 ^ 53 }
+        ensures { OnOk result (self.new ≡ absorb self.old (leaf (objects.Bytes content.now))) }
+    {
+        let object = self.heap.add_bytes_of(content)?;
+        self.place(Val::Ref(object));
+        Ok(())
+    }
+
+    /// A double.
+    pub fn double(&mut self, bits: u64) -> Result<(), Memory>
+        requires { WellOpen self.old }
+        ensures { OnOk result (self.new ≡ absorb self.old (leaf (objects.Double bits))) }
+    {
+        let object = self.heap.add_double(bits)?;
+        self.place(Val::Ref(object));
+        Ok(())
+    }
+
+    /// An array of doubles.
+    pub fn doubles(&mut self, all: Vec<u64>) -> Result<(), Memory>
+        requires well { WellOpen self.old }
+        requires some { 0 < vec_len all }
+        requires small { vec_len all < 2 ^ 53 }
+        ensures { OnOk result (self.new ≡ absorb self.old (leaf (objects.Doubles all.items))) }
+    {
+        let object = self.heap.add_doubles_of(all)?;
+        self.place(Val::Ref(object));
+        Ok(())
+    }
+
+    /// A custom.
+    pub fn custom(&mut self, value: Custom) -> Result<(), Memory>
+        requires { WellOpen self.old }
+        ensures { OnOk result (self.new ≡ absorb self.old (leaf (custom_object value))) }
+    {
+        let object = self.heap.add_custom(value)?;
+        self.place(Val::Ref(object));
+        Ok(())
+    }
+
+    /// The graph and its root.
+    pub fn finish(self) -> Value
+        requires { IsSome self.root }
+        ensures heap { result.heap ≡ self.objects }
+        ensures root { self.root ≡ Some result.root }
+    {
+        let Builder { heap, open: _, root } = self;
+        Value {
+            heap,
+            root: root.unwrap(),
+        }
+    }
+}

@@ -1,0 +1,110 @@
+//! Whole tokens, added to the graph one after another.
+
+ghost use Rattle.std.specs.Prelude.{◌≡◌, ◌≤◌, ◌<◌, ◌*◌, ◌/◌, ◌%◌, ◌^◌, ℕ, List, length, OnOk};
+ghost use Rattle.om_model.specs.declared.value.Obj.TheVariants as objects;
+ghost use Rattle.om_model.specs.Bytes.{number, SpellsDoubles};
+ghost use Rattle.om_model.specs.Code.{IsKind};
+ghost use Rattle.om_model.specs.Raw.{measure_behind};
+ghost use Rattle.om_model.specs.Token.{Token, leaf, block_or_atom as block_or_atom_token, word_token, SpellsBehind};
+ghost use Rattle.om_model.specs.Words.{of_object, fields};
+ghost use Rattle.om_read.specs.Build.{absorb, WellOpen};
+ghost use Rattle.om_read.specs.Contents.{SpellsTokenBehind};
+
+use crate::build::Builder;
+use crate::content::{behind, custom_value, doubles_of};
+use crate::token::number_at;
+use om_model::Memory;
+use om_model::bytes::{big_endian, double, signed};
+use om_model::code::CodeKind;
+use std::alloc::Global;
+
+/// A block, or an atom where it has no fields.
+fn block_or_atom(builder: &mut Builder, tag: u8, size: u64) -> Result<(), Memory>
+    requires well { WellOpen builder.old }
+    requires range { tag ≤ 243 }
+    requires small { size < 2 ^ 53 }
+    ensures { OnOk result (builder.new ≡ absorb builder.old (block_or_atom_token tag size)) }
+{
+    if size == 0 {
+        builder.atom(tag);
+        Ok(())
+    } else {
+        builder.block(tag, size)
+    }
+}
+
+/// A block or an atom, by its header word.
+fn word(builder: &mut Builder, bytes: &[u8]) -> Result<(), Memory>
+    requires well { WellOpen builder.old }
+    requires few { length bytes.now ≤ 8 }
+    requires range { number bytes.now % 256 ≤ 243 }
+    requires small { number bytes.now / 1024 < 2 ^ 53 }
+    ensures { OnOk result (builder.new ≡ absorb builder.old (word_token (number bytes.now))) }
+{
+    let header = big_endian(bytes);
+    block_or_atom(builder, (header % 256) as u8, header / 1024)
+}
+
+/// An array of so many doubles.
+fn doubles(
+    alloc: Global,
+    builder: &mut Builder,
+    bytes: &[u8],
+    count: u64,
+    little: bool,
+) -> Result<(), Memory>
+    requires well { WellOpen builder.old }
+    requires some { 0 < count }
+    requires small { count < 2 ^ 53 }
+    requires whole { length bytes.now ≡ 8 * count }
+    ensures { OnOk result ((all : List ℕ) → SpellsDoubles little all bytes.now → builder.new ≡ absorb builder.old (leaf (objects.Doubles all))) }
+{
+    let all = doubles_of(alloc, bytes, count as usize, little)?;
+    builder.doubles(all)
+}
+
+/// The token of this kind, behind whose code stands `rest`, comes.
+pub fn decode(
+    alloc: Global,
+    builder: &mut Builder,
+    kind: CodeKind,
+    rest: &[u8],
+) -> Result<(), Memory>
+    requires well { WellOpen builder.old }
+    requires known { IsKind kind }
+    requires small { length rest.now < 2 ^ 53 }
+    requires size { of_object fields (measure_behind kind rest.now) < 2 ^ 53 }
+    requires spelled { SpellsTokenBehind kind rest.now (length builder.old.objects) }
+    ensures { OnOk result ((t : Token) → SpellsBehind kind rest.now t → builder.new ≡ absorb builder.old t) }
+{
+    match kind {
+        CodeKind::SmallBlock(tag, size) => block_or_atom(builder, tag, u64::from(size)),
+        CodeKind::SmallInt(value) => {
+            builder.integer(i64::from(value));
+            Ok(())
+        }
+        CodeKind::SmallString(_) => builder.bytes(rest),
+        CodeKind::Int(_) => {
+            builder.integer(signed(rest));
+            Ok(())
+        }
+        CodeKind::Shared(_) => {
+            builder.shared(big_endian(rest));
+            Ok(())
+        }
+        CodeKind::Block(_) => word(builder, rest),
+        CodeKind::Str(width) => builder.bytes(behind(rest, usize::from(width))),
+        CodeKind::Double(little) => builder.double(double(rest, little)),
+        CodeKind::Doubles(width, little) => {
+            let count = number_at(rest, width);
+            doubles(
+                alloc,
+                builder,
+                behind(rest, usize::from(width)),
+                count,
+                little,
+            )
+        }
+        CodeKind::Custom => builder.custom(custom_value(rest)),
+    }
+}

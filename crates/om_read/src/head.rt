@@ -1,0 +1,54 @@
+//! The steps of a header.
+
+ghost use Rattle.std.specs.Prelude.{◌≡◌};
+ghost use Rattle.om_read.specs.Head.{JudgedHeader, Begins};
+
+use crate::place::Place;
+use crate::stop::Stop;
+use om_headers::{HeadFault, HeaderStep, parse};
+use om_model::header::Head;
+use om_model::refusal::{ReadRefusal, Stated};
+
+/// More bytes than this no value's data may have.
+const LENGTH_LIMIT: u64 = (1 << 48) - 1;
+
+/// Judges the header, by all the bytes that are there: the place behind it, once it is whole and passes.
+pub fn judge_header(bytes: &[u8], limit: u64) -> Result<Place, Stop>
+    ensures { JudgedHeader limit bytes.now result }
+{
+    match parse(bytes) {
+        Err(HeadFault::BadMagic(magic)) => Err(Stop::Refused(ReadRefusal::BadMagic(magic))),
+        Err(HeadFault::Compressed) => Err(Stop::Refused(ReadRefusal::Compressed)),
+        Ok(HeaderStep::More(_)) => Err(Stop::Wait),
+        Ok(HeaderStep::Head(head)) => begin(head, limit),
+    }
+}
+
+/// The place behind a header, which states no more than may be, and some data.
+fn begin(head: Head, limit: u64) -> Result<Place, Stop>
+    ensures { Begins limit head result }
+{
+    let start = if head.big { 32 } else { 20 };
+    if limit < head.w64 {
+        return Err(Stop::Refused(ReadRefusal::TooLarge(Stated::Words, head.w64, limit)));
+    }
+    if LENGTH_LIMIT < head.length {
+        return Err(Stop::Refused(ReadRefusal::TooLarge(
+            Stated::Length,
+            head.length,
+            LENGTH_LIMIT,
+        )));
+    }
+    if head.length == 0 {
+        return Err(Stop::Refused(ReadRefusal::Overlong(start, 1, 0)));
+    }
+    Ok(Place {
+        head,
+        start,
+        taken: 0,
+        objects: 0,
+        pending: 1,
+        w32: 0,
+        w64: 0,
+    })
+}

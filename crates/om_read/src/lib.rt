@@ -1,0 +1,16 @@
+//! Reads a value from bytes: the steps of its header and its tokens, and the graph that they build (`intern.c`).
+#![tactic(auto)]
+
+mod build;
+mod content;
+mod decode;
+mod head;
+mod place;
+mod read;
+mod stop;
+mod stub;
+mod token;
+mod value;
+
+pub use read::read_value;
+pub use value::{Value, Whole};

@@ -1,0 +1,98 @@
+//! Values from bytes.
+
+ghost use Rattle.std.specs.Prelude.{◌≡◌, ◌<◌, ◌^◌, ◌≤◌, ℕ, List, length, OnOk};
+ghost use Rattle.om_model.specs.Words.{of_object, fields};
+ghost use Rattle.om_model.specs.Raw.{raw_measure};
+ghost use Rattle.om_model.specs.Token.{Token, Spells, IsToken};
+ghost use Rattle.om_model.specs.Tree.{RefersBack};
+ghost use Rattle.om_read.specs.Build.{WellOpen, absorb};
+ghost use Rattle.om_read.specs.Reading.{Leads, NextOf, Reads, Answers, answer_of};
+ghost use Rattle.om_model.specs.Judgement.{Judgement, Judges};
+
+use crate::build::Builder;
+use crate::content::behind;
+use crate::decode::decode;
+use crate::head::judge_header;
+use crate::place::Place;
+use crate::stop::Stop;
+use crate::value::Whole;
+use om_codes::code_kind;
+use om_model::Memory;
+use om_model::refusal::ReadRefusal;
+use std::alloc::Global;
+
+/// Adds what a whole token spells.
+fn add(alloc: Global, builder: &mut Builder, token: &[u8]) -> Result<(), Memory>
+    requires well { WellOpen builder.old }
+    requires short { length token.now < 2 ^ 53 }
+    requires small { of_object fields (raw_measure token.now) < 2 ^ 53 }
+    requires spelled { (t : Token) × Spells t token.now × RefersBack t (length builder.old.objects) }
+    ensures { OnOk result ((t : Token) → Spells t token.now → builder.new ≡ absorb builder.old t) }
+{
+    match code_kind(token[0]) {
+        Ok(kind) => decode(alloc, builder, kind, behind(token, 1)),
+        Err(_) => unreachable!(),
+    }
+}
+
+/// Judges the next token, and adds what it spells.
+fn next_token(alloc: Global, builder: &mut Builder, place: &Place, rest: &[u8]) -> Result<Place, Stop>
+    requires open { 0 < place.now.pending }
+    requires leads { (header : List ℕ) × (before : List (List ℕ)) × Leads header before place.now builder.old }
+    ensures { (header : List ℕ) (before : List (List ℕ)) → Leads header before place.now builder.old → NextOf header before rest.now builder.new result }
+{
+    if rest.is_empty() {
+        return Err(Stop::Wait);
+    }
+    let next = place.judge(rest)?;
+    let len = (next.taken - place.taken) as usize;
+    if add(alloc, builder, &rest[..len]).is_err() {
+        return Err(Stop::Refused(ReadRefusal::Memory));
+    }
+    Ok(next)
+}
+
+/// The answer where the steps end early.
+fn stopped(stop: Stop) -> Result<Whole, ReadRefusal>
+    ensures { result ≡ answer_of stop }
+{
+    match stop {
+        Stop::Wait => Ok(Whole::Cut),
+        Stop::Refused(refusal) => Err(refusal),
+    }
+}
+
+/// Reads one token after another, behind the header.
+fn read_whole(alloc: Global, bytes: &[u8], limit: u64) -> Result<Whole, ReadRefusal>
+    ensures { Reads limit bytes.now result }
+{
+    let mut place = match judge_header(bytes, limit) {
+        Ok(place) => place,
+        Err(stop) => return stopped(stop),
+    };
+    let mut builder = Builder::new(alloc);
+    loop {
+        let rest = behind(bytes, (place.start + place.taken) as usize);
+        let next = match next_token(alloc, &mut builder, &place, rest) {
+            Ok(next) => next,
+            Err(stop) => return stopped(stop),
+        };
+        if next.pending == 0 {
+            return Ok(Whole::Done {
+                taken: next.start + next.taken,
+                value: builder.finish(),
+            });
+        }
+        place = next;
+    }
+}
+
+/// Reads the value that the bytes begin with, of at most `limit` words on 64 bits (`intern.c`).
+pub fn read_value(alloc: Global, bytes: &[u8], limit: u64) -> Result<Whole, ReadRefusal>
+    // What an answer says.
+    ensures says { Reads limit bytes.now result }
+    // It is the answer to what becomes of the bytes, unless memory runs out.
+    ensures answers { (judgement : Judgement) → Judges limit bytes.now judgement → Answers judgement result }
+{
+    read_whole(alloc, bytes, limit)
+}

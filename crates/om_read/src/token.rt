@@ -1,0 +1,151 @@
+//! The steps of a token, in their order.
+
+ghost use Rattle.std.specs.Prelude.{◌≡◌, ◌≤◌, ◌<◌, ◌+◌, ◌*◌, ◌^◌, length, take, suc, slice_index, Ok};
+ghost use Rattle.om_model.specs.Bytes.{number};
+ghost use Rattle.om_model.specs.Code.{custom_of, kind_of, native_bytes, IsKind};
+ghost use Rattle.om_model.specs.Raw.{fixed_bytes, field_bytes, variable_bytes, measure_behind, custom_bytes, custom_measure, block_measure};
+ghost use Rattle.om_model.specs.Words.{of_object, fields};
+
+use crate::stub::ident;
+use om_model::bytes::big_endian;
+use om_model::code::{CodeKind, CustomKind, Measure};
+
+/// How many bytes each token of the kind has behind its code.
+pub fn fixed_len(kind: CodeKind) -> u64
+    ensures { result ≡ fixed_bytes kind }
+{
+    match kind {
+        CodeKind::SmallBlock(_, _) | CodeKind::SmallInt(_) | CodeKind::SmallString(_) => 0,
+        CodeKind::Int(width)
+        | CodeKind::Shared(width)
+        | CodeKind::Block(width)
+        | CodeKind::Str(width)
+        | CodeKind::Doubles(width, _) => u64::from(width),
+        CodeKind::Double(_) => 8,
+        CodeKind::Custom => 3,
+    }
+}
+
+/// How many of them its steps read.
+pub fn field_len(kind: CodeKind) -> usize
+    ensures { result ≡ field_bytes kind }
+{
+    match kind {
+        CodeKind::SmallBlock(_, _)
+        | CodeKind::SmallInt(_)
+        | CodeKind::SmallString(_)
+        | CodeKind::Double(_) => 0,
+        CodeKind::Int(width) => {
+            if width == 8 {
+                8
+            } else {
+                0
+            }
+        }
+        CodeKind::Shared(width)
+        | CodeKind::Block(width)
+        | CodeKind::Str(width)
+        | CodeKind::Doubles(width, _) => usize::from(width),
+        CodeKind::Custom => 3,
+    }
+}
+
+/// The number of the first `width` bytes.
+pub fn number_at(rest: &[u8], width: u8) -> u64
+    requires few { width ≤ 8 }
+    requires whole { width ≤ length rest.now }
+    ensures { result ≡ number (take width rest.now) }
+{
+    big_endian(&rest[..usize::from(width)])
+}
+
+/// The custom that the first three bytes name.
+pub fn custom_at(rest: &[u8]) -> Option<CustomKind>
+    requires { 3 ≤ length rest.now }
+    ensures { result ≡ custom_of (take 3 rest.now) }
+{
+    ident([rest[0], rest[1], rest[2]])
+}
+
+/// How many bytes the number of a `Nativeint` takes behind this kind byte, or 0 at another kind.
+pub fn native_len(kind: u8) -> u64
+    ensures { result ≡ native_bytes kind }
+{
+    match kind {
+        1 => 4,
+        2 => 8,
+        _ => 0,
+    }
+}
+
+/// How many bytes a custom has behind its identifier, by the byte there.
+pub fn custom_len(custom: Option<CustomKind>, kind: u8) -> u64
+    ensures { result ≡ custom_bytes custom kind }
+{
+    match custom {
+        None => 0,
+        Some(CustomKind::Int32) => 4,
+        Some(CustomKind::Int64) => 8,
+        Some(CustomKind::Native) => 1 + native_len(kind),
+    }
+}
+
+/// How many bytes the token has behind those that each of its kind has.
+pub fn variable_len(kind: CodeKind, rest: &[u8]) -> u128
+    requires known { IsKind kind }
+    requires whole { field_bytes kind ≤ length rest.now }
+    ensures { result ≡ variable_bytes kind rest.now }
+{
+    match kind {
+        CodeKind::SmallString(len) => u128::from(len),
+        CodeKind::Str(width) => u128::from(number_at(rest, width)),
+        CodeKind::Doubles(width, _) => 8 * u128::from(number_at(rest, width)),
+        CodeKind::Custom => {
+            let kind = if rest.len() > 3 { rest[3] } else { 0 };
+            u128::from(custom_len(custom_at(rest), kind))
+        }
+        _ => 0,
+    }
+}
+
+/// The measure of a block of so many fields: none of an atom.
+pub fn block_measure_of(size: u64) -> Option<Measure>
+    ensures { result ≡ block_measure size }
+{
+    if size == 0 {
+        None
+    } else {
+        Some(Measure::Block(size))
+    }
+}
+
+/// The measure of a custom.
+pub fn custom_measure_of(custom: Option<CustomKind>) -> Option<Measure>
+    ensures { result ≡ custom_measure custom }
+{
+    match custom {
+        None => None,
+        Some(CustomKind::Int32) => Some(Measure::Custom(4, 4)),
+        Some(CustomKind::Int64) => Some(Measure::Custom(8, 8)),
+        Some(CustomKind::Native) => Some(Measure::Custom(4, 8)),
+    }
+}
+
+/// The measure of the object that the token makes, if it makes one.
+pub fn measure_at(kind: CodeKind, rest: &[u8]) -> Option<Measure>
+    requires known { IsKind kind }
+    requires whole { field_bytes kind ≤ length rest.now }
+    ensures measure { result ≡ measure_behind kind rest.now }
+    ensures few { of_object fields result < 2 ^ 60 }
+{
+    match kind {
+        CodeKind::SmallBlock(_, size) => block_measure_of(u64::from(size)),
+        CodeKind::SmallInt(_) | CodeKind::Int(_) | CodeKind::Shared(_) => None,
+        CodeKind::SmallString(len) => Some(Measure::Bytes(u64::from(len))),
+        CodeKind::Block(width) => block_measure_of(number_at(rest, width) / 1024),
+        CodeKind::Str(width) => Some(Measure::Bytes(number_at(rest, width))),
+        CodeKind::Double(_) => Some(Measure::Double),
+        CodeKind::Doubles(width, _) => Some(Measure::Doubles(number_at(rest, width))),
+        CodeKind::Custom => custom_measure_of(custom_at(rest)),
+    }
+}
