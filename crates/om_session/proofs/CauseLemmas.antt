@@ -7,10 +7,10 @@ use Rattle.om_model.specs.Stream.{End, clean, refused, cut, Stream}
 use Rattle.om_model.specs.Tree.{Tree}
 use Rattle.om_model.specs.Outcome.{Taken, Until, at_end, at_fault, at_length, unasked, whole, Found, opened, missing, failed, unfetched, Given, Stop, usage, declarations, read_fault, too_long, status_of, Ending, stopped, or_no, Request, check, Task, Language, ReadsFile, ReadsTypeOf, Prepares, Says, SaysValues, Closes, says, stops, TreatsAll, fault_of, limit_of, Asks}
 use Rattle.om_edge.specs.Faults.{HasCause, RoseOrLast}
-use Rattle.om_edge.specs.Files.{bytes_of}
+use Rattle.om_edge.specs.Files.{File, bytes_of}
 use Rattle.om_session.specs.Call.{Call}
-use Rattle.om_session.specs.Given.{TakesFrom, Fetched, IsMeasured, is_fault, has_read_fault}
-use Rattle.om_session.specs.Run.{MayEnd, PutsLine, Completes, Breaks, Account, IsUsage, IsFileOf, CannotOpen, OnlyUsage, OnlyReadFault, OnlyWriteFault, OnlyOpenFault, OnlyTooLong, IfUsage, IsUnsaid, TellsWriteFault, TellsOpenFault, TellsReadFault, IsTyped, IsRefusedType, OnlyTypes, OnlyValue}
+use Rattle.om_session.specs.Given.{IsFoundOf, TakesFrom, Fetched, IsMeasured, is_fault, has_read_fault}
+use Rattle.om_session.specs.Run.{MayEnd, PutsLine, Completes, Breaks, Account, IsUsage, IsFileOf, CannotOpen, OnlyUsage, OnlyReadFault, OnlyWriteFault, OnlyOpenFault, OnlyTooLong, IfUsage, IsUnsaid, TellsWriteFault, TellsOpenFault, TellsReadFault, IsTyped, IsRefusedType, OnlyTypes, OnlyValue, IfMissing}
 use Rattle.std.proofs.lemmas.Option.{IfSome_then}
 use Rattle.om_session.proofs.HeadlineLemmas.{no_stop}
 
@@ -347,3 +347,33 @@ module _ {D T : Type 0} (language : Language D T) (words : List (List ℕ)) (cal
 
   pub only_value : OnlyValue words call
   only_value e = value_of (subst (λ s. Why words call a.given (IsRefusedType language) s) e account_why)
+
+  -- where the map has not FILE, it cannot be opened
+  missing_at : (f : List ℕ) → Fetched call.files f (a.given.file f) → IsSomeAnd call.files.before.map (λ all. bytes_of all f ≡ None) → (ending : Ending)
+      → (o : Found) → a.given.file f ≡ o → (text : Result (List ℕ) Stop) → ReadsFile f o text
+      → ((s : Stop) → text ≡ Err s → ending.status ≡ status_of s) → ending.status ≡ statuses.OpenFault
+  missing_at f fetched none ending (opened taken) same text r told =
+      absurd (not_opened_of call.files.before.map none (subst (λ o. Fetched call.files f o) same fetched).map) where
+        not_opened_of : (map : Option (List File)) → IsSomeAnd map (λ all. bytes_of all f ≡ None) → IfSome map (λ all. IsFoundOf (bytes_of all f) (opened taken)) → ⊥
+        not_opened_of None h found = h
+        not_opened_of (Some all) h found = subst (λ o. IsSomeAnd o (λ bytes. (rest : List ℕ) × TakesFrom bytes taken rest)) h found
+  missing_at f fetched none ending missing same (Ok bytes) r told = absurd (cc r)
+  missing_at f fetched none ending missing same (Err s) r told = told s refl ∙ ap status_of r
+  missing_at f fetched none ending failed same (Ok bytes) r told = absurd (cc r)
+  missing_at f fetched none ending failed same (Err s) r told = told s refl ∙ ap status_of r
+  missing_at f fetched none ending unfetched same (Ok bytes) r told = absurd (cc r)
+  missing_at f fetched none ending unfetched same (Err s) r told = absurd r
+
+  missing_says : (name : List ℕ) → IsFileOf words name → IsSomeAnd call.files.before.map (λ all. bytes_of all name ≡ None)
+      → (ending : Ending) → Says language words a.given ending → ending.status ≡ statuses.OpenFault
+  missing_says name (request, type, other, typed) none ending (prepared, (Err stop, h, rest), said) = absurd (h.0 request other)
+  missing_says name (check g u, type, other, typed) none ending (prepared, (Ok (check f t), asks, (found_type, (found, (text, r, more), e), rest)), said) =
+      let one = asks.0 in let two = other.0 in
+      let same : g ≡ f = cc in
+      let pair : ◌≡◌ {A = List ℕ × List ℕ} (g, u) (name, type) = cc in
+      let file : name ≡ f = sym (ap (λ p. p.0) pair) ∙ same in
+      missing_at f (a.files.asked (check f t) asks) (subst (λ n. IsSomeAnd call.files.before.map (λ all. bytes_of all n ≡ None)) file none) ending
+      (a.given.file f) refl text r (λ s same. stop_status ending found found_type prepared (check f t) s (rw same at more) e rest said)
+
+  pub if_missing : IfMissing words call
+  if_missing name is none = said_status (λ s. s ≡ statuses.OpenFault) (missing_says name is none)

@@ -4,9 +4,11 @@ pub mod KindTexts
 pub mod AccountLemmas
 pub mod CauseLemmas
 pub mod CheckLemmas
+pub mod CompleteLemmas
 pub mod HeadlineLemmas
 pub mod LineLemmas
 pub mod PutLemmas
+pub mod StreamLemmas
 pub mod TakeLemmas
 pub mod TypeLemmas
 pub mod ValueLemmas

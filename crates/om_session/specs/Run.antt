@@ -1,8 +1,10 @@
 -- What is promised of a call of `run`. One account of the call carries all: what the outside gave, how a run ends with
 -- that, and how much of it was put. The others follow from it.
-use Rattle.std.specs.Prelude.{ℕ, ◌^◌, ◌<◌, ◌≤◌, ◌≡◌, ◌≢◌, ◌⊎◌, true, List, [], length, All, Some, None, IsSomeAnd, IfSome, Ok, Err}
+use Rattle.std.specs.Prelude.{ℕ, ◌^◌, ◌<◌, ◌≤◌, ◌≡◌, ◌≢◌, ◌⊎◌, true, List, [], length, Some, None, IsSomeAnd, IfSome, Ok, Err}
 use Rattle.om_model.specs.declared.status.Status.{Status}
 use Rattle.om_model.specs.declared.status.Status.TheVariants.{Well, Usage, ReadFault, WriteFault, OpenFault, Memory, TooLong, Types, Value}
+use Rattle.std.specs.List.{AllByRecursion}
+use Rattle.om_model.specs.Bytes.{AreBytes}
 use Rattle.om_model.specs.Tree.{Tree}
 use Rattle.om_model.specs.Stream.{SpellAll, End, clean, Stream}
 use Rattle.om_model.specs.Outcome.{unasked, Found, Given, Stop, Request, Language, Ending, Task, Asks, typed_by, limit_of, Prepares, found_of, Says, SaysFirst, Outcome, stopped, out_of_memory}
@@ -178,7 +180,8 @@ pub record IsAllWell {D T : Type 0} (language : Language D T) (words : List (Lis
   pub typed : task.type ≡ Some type
   pub trees : List Tree
   pub spelled : SpellAll (limit_of task.request) input trees []
-  pub have_type : All (λ tree. (line : List ℕ) × language.SaysVerdict type tree line true) trees
+  pub have_type : AllByRecursion (λ tree. (line : List ℕ) × language.SaysVerdict type tree line true) trees
+  pub bytes : AreBytes input
 
 -- where all is well, the run ends well, or memory ran out
 abbrev pub IsComplete : {D T : Type 0} → Language D T → List (List ℕ) → Call → Type 0

@@ -5,7 +5,7 @@ ghost use Rattle.om_model.specs.Outcome.{Asks, check as check_of};
 ghost use Rattle.om_session.specs.Call.{call, seen, seen_files};
 ghost use Rattle.om_session.specs.Check.{ClosesAs, ChecksValues};
 ghost use Rattle.om_session.specs.Lists.{lists};
-ghost use Rattle.om_session.specs.Run.{Account, Headline, OnlyUsage, IfUsage, OnlyTypes, OnlyValue, OnlyReadFault, OnlyWriteFault, OnlyOpenFault, OnlyTooLong, TellsReadFault, TellsOpenFault, TellsWriteFault};
+ghost use Rattle.om_session.specs.Run.{Account, Headline, IsComplete, OnlyUsage, IfUsage, OnlyTypes, OnlyValue, OnlyReadFault, OnlyWriteFault, OnlyOpenFault, IfMissing, OnlyTooLong, TellsReadFault, TellsOpenFault, TellsWriteFault};
 ghost use Rattle.om_session.specs.Words.{texts};
 
 use crate::gather::{Until, gather};
@@ -14,6 +14,7 @@ use crate::types::find_type;
 use crate::values::{Said, StreamEnd, put_values};
 use crate::words::{Command, read_words};
 use om_edge::{Opener, Sink, Source, WriteError};
+use om_model::laws::{faults_exclude_types, one_judgement};
 use om_model::list_type::ListType;
 use om_model::status::Status;
 use std::alloc::Global;
@@ -123,6 +124,11 @@ pub fn run<S: Source, O: Opener, K: Sink, E: Sink>(
         (seen_files O.files O.open_faults O.last_open_fault O.read_faults files.old files.new)
         (seen K.written K.faults out.old out.new) (seen E.written E.faults err.old err.new) result) }
 
+    // Where all is well, the run ends well.
+    ensures complete { IsComplete lists (texts words.now) (call (seen S.left S.faults input.old input.new)
+        (seen_files O.files O.open_faults O.last_open_fault O.read_faults files.old files.new)
+        (seen K.written K.faults out.old out.new) (seen E.written E.faults err.old err.new) result) }
+
     // The causes of the statuses.
     ensures usage_only { OnlyUsage (texts words.now) (call (seen S.left S.faults input.old input.new)
         (seen_files O.files O.open_faults O.last_open_fault O.read_faults files.old files.new)
@@ -145,6 +151,9 @@ pub fn run<S: Source, O: Opener, K: Sink, E: Sink>(
     ensures open_fault_only { OnlyOpenFault (texts words.now) (call (seen S.left S.faults input.old input.new)
         (seen_files O.files O.open_faults O.last_open_fault O.read_faults files.old files.new)
         (seen K.written K.faults out.old out.new) (seen E.written E.faults err.old err.new) result) }
+    ensures missing_if { IfMissing (texts words.now) (call (seen S.left S.faults input.old input.new)
+        (seen_files O.files O.open_faults O.last_open_fault O.read_faults files.old files.new)
+        (seen K.written K.faults out.old out.new) (seen E.written E.faults err.old err.new) result) }
     ensures too_long_only { OnlyTooLong (texts words.now) (call (seen S.left S.faults input.old input.new)
         (seen_files O.files O.open_faults O.last_open_fault O.read_faults files.old files.new)
         (seen K.written K.faults out.old out.new) (seen E.written E.faults err.old err.new) result) }
@@ -160,5 +169,7 @@ pub fn run<S: Source, O: Opener, K: Sink, E: Sink>(
         (seen_files O.files O.open_faults O.last_open_fault O.read_faults files.old files.new)
         (seen K.written K.faults out.old out.new) (seen E.written E.faults err.old err.new) result) }
 {
+    one_judgement();
+    faults_exclude_types();
     run_command(alloc, words, input, files, out, err)
 }

@@ -1,0 +1,170 @@
+-- Where all is well, a run ends well.
+use Rattle.std.proofs.Common.{◌≡◌, ◌≢◌, ◌⊎◌, ℕ, zero, suc, get_or, ◌+◌, ◌*◌, Bool, true, false, List, [], ◌∷◌, ◌++◌, length, replicate, Option, Some, None, Result, Ok, Err, inl, inr, refl, sym, ap, ◌∙◌, subst, length-append, arith}
+use Rattle.std.specs.Prelude.{codes, flat_map, MatchResult}
+use Rattle.std.specs.List.{AllByRecursion}
+use Rattle.om_model.specs.declared.status.Status.{Status}
+use Rattle.om_model.specs.declared.status.Status.TheVariants as statuses
+use Rattle.om_model.specs.declared.list_type.Base.{Base}
+use Rattle.om_model.specs.declared.list_type.Base.TheVariants as bases
+use Rattle.om_model.specs.declared.list_type.ListType.{ListType}
+use Rattle.om_model.specs.ListShapes.{base_text}
+use Rattle.om_model.specs.VerdictLaws.{FaultsExcludeTypes}
+use Rattle.om_model.specs.Laws.{HasOneJudgement}
+use Rattle.om_model.specs.Tree.{Tree, root, objects_of}
+use Rattle.om_model.specs.Stream.{clean}
+use Rattle.om_model.specs.Outcome.{whole, at_end, Found, opened, Stop, Ending, stopped, Request, check, Task, Language, ReadsFile, ReadsTypeOf, Prepares, SaysValues, Closes, says, stops, Treats, TreatsAll, limit_of, found_of}
+use Rattle.om_edge.specs.Files.{File, bytes_of}
+use Rattle.om_session.specs.Call.{Call}
+use Rattle.om_session.specs.Lists.{lists}
+use Rattle.om_session.specs.Run.{Account, IsAllWell, IsComplete, HasOutcome}
+use Rattle.om_session.proofs.HeadlineLemmas.{no_stop, headline}
+use Rattle.om_session.proofs.StreamLemmas.{stream_once}
+
+-- a text is read in one way
+pub record IsLawful {D T : Type 0} (language : Language D T) : Type 0 where
+  pub declarations_once : (text : List ℕ) (d : D) (refusal : List ℕ) → language.ReadsDeclarations text (Ok d) → language.ReadsDeclarations text (Err refusal) → ⊥
+  pub same_declarations : (text : List ℕ) (d e : D) → language.ReadsDeclarations text (Ok d) → language.ReadsDeclarations text (Ok e) → d ≡ e
+  pub type_once : (d : D) (text : List ℕ) (t : T) (refusal : List ℕ) → language.ReadsType d text (Ok t) → language.ReadsType d text (Err refusal) → ⊥
+  pub same_type : (d : D) (text : List ℕ) (t u : T) → language.ReadsType d text (Ok t) → language.ReadsType d text (Ok u) → t ≡ u
+  pub verdict_once : (t : T) (tree : Tree) (line other : List ℕ) → language.SaysVerdict t tree line true → language.SaysVerdict t tree other false → ⊥
+
+-- ---- lists
+
+lists_length : (n : ℕ) → length (flat_map (λ list. list) (replicate n (codes " list"))) ≡ 5 * n
+lists_length zero = refl
+lists_length (suc n) =
+    let more : length (codes " list" ++ flat_map (λ list. list) (replicate n (codes " list"))) ≡ 5 + length (flat_map (λ list. list) (replicate n (codes " list"))) =
+    length-append (codes " list") (flat_map (λ list. list) (replicate n (codes " list"))) in
+    let rest = lists_length n in omega (arith, more, rest)
+
+base_once : (b c : Base) (m n : ℕ) → base_text b ++ flat_map (λ list. list) (replicate m (codes " list")) ≡ base_text c ++ flat_map (λ list. list) (replicate n (codes " list"))
+    → (b ≡ c) × (m ≡ n)
+base_once bases.Int bases.Int m n e =
+    let one = length-append (codes "int") (flat_map (λ list. list) (replicate m (codes " list"))) in
+    let other = length-append (codes "int") (flat_map (λ list. list) (replicate n (codes " list"))) in
+    (refl, omega (arith, one, other, lists_length m, lists_length n, ap length e))
+base_once bases.Text bases.Text m n e =
+    let one = length-append (codes "string") (flat_map (λ list. list) (replicate m (codes " list"))) in
+    let other = length-append (codes "string") (flat_map (λ list. list) (replicate n (codes " list"))) in
+    (refl, omega (arith, one, other, lists_length m, lists_length n, ap length e))
+base_once bases.Int bases.Text m n e = let first : ◌≡◌ {A = ℕ} 105 115 = ap (λ xs. get_or xs 0 0) e in absurd (omega (arith, first))
+base_once bases.Text bases.Int m n e = let first : ◌≡◌ {A = ℕ} 115 105 = ap (λ xs. get_or xs 0 0) e in absurd (omega (arith, first))
+
+abbrev list_type : Base → ℕ → ListType
+list_type b n = record { base = b; lists = n }
+
+pub lists_lawful : FaultsExcludeTypes → IsLawful lists
+lists_lawful law = record {
+  declarations_once = λ text d refusal none some. some.0 none;
+  same_declarations = λ text d e none none'. refl;
+  type_once = λ d text t refusal is_text unread. unread.0 t is_text;
+  same_type = λ d text t u one other.
+      let e = base_once t.base u.base t.lists u.lists (sym one.spelled ∙ other.spelled) in
+      ap (λ b. list_type b t.lists) e.0 ∙ ap (λ n. list_type u.base n) e.1;
+  verdict_once = λ t tree line other has no_line. law (objects_of tree 0) (root tree 0) t no_line.fault no_line.is_fault has.0;
+}
+
+-- ---- the stages
+
+abbrev task_of : {T : Type 0} → Request → Option T → Task T
+task_of request type = record { request = request; type = type }
+
+module _ {D T : Type 0} (language : Language D T) (lawful : IsLawful language) (file : List ℕ → Found) where
+  types_once : (f u : List ℕ) (t : T) (r : Result T Stop) → ReadsTypeOf language file (f, u) (Ok t) → ReadsTypeOf language file (f, u) r → Ok t ≡ r
+  types_once f u t r (Err s, h, same) other = absurd (cc same)
+  types_once f u t r (Ok text, h, (Err s, g, same)) other = absurd (cc same)
+  types_once f u t r (Ok text, h, (Ok d, g, is)) (Err s, fault, same) =
+      let k : ReadsFile f (opened (whole text)) (Err s) = subst (λ o. ReadsFile f o (Err s)) h fault in absurd (cc k)
+  types_once f u t r (Ok text, h, (Ok d, g, is)) (Ok bytes, h', (Err s, (refusal, refuses, e), same)) =
+      let all : whole text ≡ whole bytes = cc in
+      absurd (lawful.declarations_once bytes d refusal (subst (λ b. language.ReadsDeclarations b (Ok d)) (ap (λ t. t.bytes) all) g) refuses)
+  types_once f u t (Err s) (Ok text, h, (Ok d, g, is)) (Ok bytes, h', (Ok e, g', (refusal, refuses, k))) =
+      let all : whole text ≡ whole bytes = cc in
+      let same : d ≡ e = lawful.same_declarations bytes d e (subst (λ b. language.ReadsDeclarations b (Ok d)) (ap (λ t. t.bytes) all) g) g' in
+      absurd (lawful.type_once e u t refusal (subst (λ d. language.ReadsType d u (Ok t)) same is) refuses)
+  types_once f u t (Ok v) (Ok text, h, (Ok d, g, is)) (Ok bytes, h', (Ok e, g', is')) =
+      let all : whole text ≡ whole bytes = cc in
+      let same : d ≡ e = lawful.same_declarations bytes d e (subst (λ b. language.ReadsDeclarations b (Ok d)) (ap (λ t. t.bytes) all) g) g' in
+      ap (λ t. Ok t) (lawful.same_type e u t v (subst (λ d. language.ReadsType d u (Ok t)) same is) is')
+
+  prepares_once : (words : List (List ℕ)) (task : Task T) (r : Result (Task T) Stop) → Prepares language words file (Ok task) → Prepares language words file r → Ok task ≡ r
+  prepares_once words task r (Err s, h, same) other = absurd (cc same)
+  prepares_once words task r (Ok (check f u), asks, (Err s, h, same)) other = absurd (cc same)
+  prepares_once words task r (Ok (check f u), asks, (Ok type, h, same)) (Err s, (none, e), told) = absurd (none (check f u) asks)
+  prepares_once words task r (Ok (check f u), asks, (Ok type, (Err s, reads, same), told)) (Ok (check g v), other, (found, (r3, reads', same'), told')) = absurd (cc same)
+  prepares_once words task r (Ok (check f u), asks, (Ok type, (Ok t, reads, same), told)) (Ok (check g v), other, (found, (r3, reads', same'), told')) =
+      let one = asks.0 in let two = other.0 in
+      let names : g ≡ f = cc in
+      let types : v ≡ u = cc in
+      let moved : ReadsTypeOf language file (f, u) r3 = subst (λ u. ReadsTypeOf language file (f, u) r3) types (subst (λ f. ReadsTypeOf language file (f, v) r3) names reads') in
+      let once : Ok t ≡ r3 = types_once f u t r3 reads moved in
+      same_task found r3 once same' told' where
+        same_task : (found : Result (Option T) Stop) (r3 : Result T Stop) → Ok t ≡ r3
+            → MatchResult r3 (λ x. found ≡ Ok (Some x)) (λ stop. found ≡ Err stop)
+            → MatchResult found (λ x. r ≡ Ok (record { request = check g v; type = x })) (λ stop. r ≡ Err stop) → Ok task ≡ r
+        same_task found (Err s) e h k = absurd (cc e)
+        same_task (Err s) (Ok x) e h k = absurd (cc h)
+        same_task (Ok y) (Ok x) e h k =
+            let one = asks.0 in let two = other.0 in
+            let names : f ≡ g = cc in
+            let types : u ≡ v = cc in
+            let is : task ≡ record { request = check f u; type = type } = cc in
+            let ours : type ≡ Some t = cc in
+            let theirs : y ≡ Some x = cc in
+            let both : t ≡ x = cc in
+            ap (λ t. Ok t) is ∙ (ap (λ o. Ok (task_of (check f u) o)) (ours ∙ (ap (λ t. Some t) both ∙ sym theirs))
+            ∙ (ap (λ n. Ok (task_of (check n u) y)) names ∙ (ap (λ n. Ok (task_of (check g n) y)) types ∙ sym k)))
+
+-- ---- the values
+
+is_memory : (s : Status) → (s ≡ statuses.Memory) ⊎ (s ≢ statuses.Memory)
+is_memory statuses.Memory = inl refl
+is_memory statuses.Well = inr (λ e. cc e)
+is_memory statuses.No = inr (λ e. cc e)
+is_memory statuses.Usage = inr (λ e. cc e)
+is_memory statuses.Types = inr (λ e. cc e)
+is_memory statuses.Value = inr (λ e. cc e)
+is_memory statuses.Script = inr (λ e. cc e)
+is_memory statuses.ReadFault = inr (λ e. cc e)
+is_memory statuses.WriteFault = inr (λ e. cc e)
+is_memory statuses.OpenFault = inr (λ e. cc e)
+is_memory statuses.TooLong = inr (λ e. cc e)
+
+module _ {D T : Type 0} (language : Language D T) (lawful : IsLawful language) (type : T) where
+  verdict_of : (request : Request) (o : Option T) (k : ℕ) (tree : Tree) (text : List ℕ) (well : Bool) → o ≡ Some type → Treats language request o k tree (says text well)
+      → (verdict : List ℕ) × language.SaysVerdict type tree verdict well
+  verdict_of (check f u) None k tree text well e h = absurd (cc e)
+  verdict_of (check f u) (Some t) k tree text well e h = let same : t ≡ type = cc in (h.0, subst (λ t. language.SaysVerdict t tree h.0 well) same h.1)
+
+  treats_well : (task : Task T) → task.type ≡ Some type → (C : Ending → Type 0) → ((e : Ending) → C e → e.status ≡ statuses.Well) → (k : ℕ) (trees : List Tree) (e : Ending)
+      → AllByRecursion (λ tree. (line : List ℕ) × language.SaysVerdict type tree line true) trees → TreatsAll language task C k trees e → e.status ≡ statuses.Well
+  treats_well task typed C well k [] e all h = well e h
+  treats_well task typed C well k (tree ∷ trees) e all (says text true, treats, (rest, goes, same)) =
+      ap (λ e. e.status) same ∙ treats_well task typed C well (suc k) trees rest all.1 goes
+  treats_well task typed C well k (tree ∷ trees) e all (says text false, treats, (rest, goes, same)) =
+      let v = verdict_of task.request task.type k tree text false typed treats in absurd (lawful.verdict_once type tree all.0.0 v.0 all.0.1 v.1)
+  treats_well task typed C well k (tree ∷ trees) e all (stops stop, treats, same) = absurd (no_stop language task.request task.type k tree stop treats)
+
+  finishes_well : (request : Request) (trees : List Tree) (e : Ending) → Closes request trees at_end clean e → e.status ≡ statuses.Well
+  finishes_well (check f u) trees e h = ap (λ e. e.status) h
+
+module _ {D T : Type 0} (language : Language D T) (lawful : IsLawful language) (law : HasOneJudgement) (words : List (List ℕ)) (call : Call) where
+  ends_well : (input : List ℕ) (files : List File) → (all : IsAllWell language words input files) → (o : HasOutcome language words call input files) → call.status ≡ statuses.Well
+  ends_well input files all o = o.status ∙ from o.outcome.0 (prepares_once language lawful (λ name. found_of (bytes_of files name)) words all.task o.outcome.0 all.prepared o.outcome.1) o.outcome.2 where
+    from : (prepared : Result (Task T) Stop) → Ok all.task ≡ prepared
+        → MatchResult prepared (λ task. SaysValues language task (whole input) o.ending) (λ stop. o.ending ≡ stopped stop) → o.ending.status ≡ statuses.Well
+    from (Err s) e h = absurd (cc e)
+    from (Ok task) e h =
+        let same : task ≡ all.task = cc in
+        let v = subst (λ task. SaysValues language task (whole input) o.ending) same h in
+        let once = stream_once law (limit_of all.task.request) input all.trees v.0 v.1 all.bytes all.spelled v.2 in
+        let goes = subst (λ trees. TreatsAll language all.task (Closes all.task.request trees at_end v.1) 0 trees o.ending) (sym once.0) v.3 in
+        let ends = subst (λ end. TreatsAll language all.task (Closes all.task.request all.trees at_end end) 0 all.trees o.ending) once.1 goes in
+        treats_well language lawful all.type all.task all.typed (Closes all.task.request all.trees at_end clean)
+        (λ e closes. finishes_well language lawful all.type all.task.request all.trees e closes) 0 all.trees o.ending all.have_type ends
+
+  pub complete : Account language words call → IsComplete language words call
+  complete a input files honest all = decide (is_memory call.status) where
+    decide : (call.status ≡ statuses.Memory) ⊎ (call.status ≢ statuses.Memory) → (call.status ≡ statuses.Well) ⊎ (call.status ≡ statuses.Memory)
+    decide (inl memory) = inr memory
+    decide (inr some) = inl (ends_well input files all (headline language words call a input files honest some))
