@@ -58,9 +58,9 @@ pub fn double(bytes: &[u8], little: bool) -> u64
 mod tests {
     use super::*;
 
-    // Integers and doubles as OCaml 4.13 writes them behind their codes.
+    // By hand: the magic, integers at the ends of their ranges, and 1.0.
     #[test]
-    fn reads_what_ocaml_writes(rt: HostRuntime) {
+    fn reads_numbers(rt: HostRuntime) {
         let magic = [0x84, 0x95, 0xa6, 0xbe];
         assert_eq!(rt; big_endian(&magic), 2224400062);
         assert_eq!(rt; little_endian(&magic), 3198588292);

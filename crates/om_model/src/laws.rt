@@ -1,6 +1,5 @@
 //! Laws over the definitions. The functions do nothing: what each ensures is the law.
 
-ghost use Rattle.om_model.specs.Laws.{HasOneJudgement, NoSpellingBeginsAnother, SpellsOneToken};
 ghost use Rattle.om_model.specs.Lawful.{AreLawful};
 ghost use Rattle.om_model.specs.Laws.{HasOneJudgement, NoSpellingBeginsAnother, SpellsOneToken};
 ghost use Rattle.om_model.specs.ListShapes.{list_shapes};

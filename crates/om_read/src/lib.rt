@@ -8,7 +8,6 @@ mod head;
 mod place;
 mod read;
 mod stop;
-mod stub;
 mod token;
 mod value;
 

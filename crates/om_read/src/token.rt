@@ -6,7 +6,7 @@ ghost use Rattle.om_model.specs.Code.{custom_of, kind_of, native_bytes, IsKind};
 ghost use Rattle.om_model.specs.Raw.{fixed_bytes, field_bytes, variable_bytes, measure_behind, custom_bytes, custom_measure, block_measure};
 ghost use Rattle.om_model.specs.Words.{of_object, fields};
 
-use crate::stub::ident;
+use om_customs::ident;
 use om_model::bytes::big_endian;
 use om_model::code::{CodeKind, CustomKind, Measure};
 
