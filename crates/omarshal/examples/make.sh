@@ -2,11 +2,11 @@
 # Has OCaml write the streams anew and compares them with those that stand in streams/.
 # With the word --keep it puts the new ones in their place.
 set -eu
-cd "$(dirname "$0")"
 if ! command -v ocaml >/dev/null 2>&1; then
     echo "skipped: no ocaml"
     exit 0
 fi
+cd "$(dirname "$0")"
 new=$(mktemp -d)
 trap 'rm -rf "$new"' EXIT
 ocaml streams.ml "$new"
