@@ -6,6 +6,10 @@ if ! command -v ocaml >/dev/null 2>&1; then
     echo "skipped: no ocaml"
     exit 0
 fi
+if ! command -v python3 >/dev/null 2>&1; then
+    echo "skipped: no python3"
+    exit 0
+fi
 here=$(cd "$(dirname "$0")" && pwd)
 program=${1:-$here/../crates/omarshal/out/omarshal}
 if [ ! -x "$program" ]; then
