@@ -198,8 +198,11 @@ impl<R: Files> Opener for DiskFiles<R> {
         ensures takes { TakesFront None None result buf.new }
         ensures cause { HasCause self.old.read_faults self.new.read_faults (is_err result) }
         ensures counted { self.new ≡ record {
-            is_open = self.old.is_open; open_faults = self.old.open_faults; last_open_fault = self.old.last_open_fault;
-            read_faults = count_after self.old.read_faults (is_err result) } }
+          is_open = self.old.is_open;
+          open_faults = self.old.open_faults;
+          last_open_fault = self.old.last_open_fault;
+          read_faults = count_after self.old.read_faults (is_err result);
+        } }
 
         // With no file there is no byte.
         ensures closed { self.old.is_open ≡ false → result ≡ Ok 0 }
