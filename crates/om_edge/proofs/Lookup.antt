@@ -1,5 +1,5 @@
 -- A look-up in the pairs by their place, and what the map of their names and bytes has.
-use Rattle.std.proofs.Common.{◌≡◌, ◌≢◌, inl, inr, ℕ, ◌<◌, ◌+◌, ◌≤◌, not, Bool, true, false, cond, ltb, List, [], ◌∷◌, map, length, get_or, Option, Some, None, IsSome, String, Vec, string_bytes, bytes_eq, position, find, option_map, refl, sym, ap, ◌∙◌, arith, rules}
+use Rattle.std.proofs.Common.{◌≡◌, ◌≢◌, inl, inr, ℕ, ◌<◌, ◌+◌, ◌≤◌, not, Bool, true, false, cond, ltb, List, [], ◌∷◌, map, length, get_or, Some, None, String, Vec, string_bytes, bytes_eq, position, option_map, refl, sym, ap, ◌∙◌, arith}
 use Rattle.std.specs.declared.alloc.Global.{Global}
 use Rattle.std.specs.List.{position_or_len, slice_get}
 use Rattle.std.proofs.lemmas.Option.{cond_some, slice_get-get_or, slice_get_past}

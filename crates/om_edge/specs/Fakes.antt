@@ -17,7 +17,11 @@ FailsNext plan = Contains plan.failing plan.calls
 
 -- the plan after one more call, by whether it failed
 abbrev pub after_call : Plan → Bool → Plan
-after_call plan failed = record { failing = plan.failing; calls = min (plan.calls + 1) last_count; faults = count_after plan.faults failed }
+after_call plan failed = record {
+  failing = plan.failing;
+  calls = min (plan.calls + 1) last_count;
+  faults = count_after plan.faults failed;
+}
 
 -- with no numbers no call is one that fails
 pub no_call_fails : (plan : Plan) → plan.failing ≡ [] → ¬ FailsNext plan

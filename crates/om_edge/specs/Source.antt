@@ -8,7 +8,8 @@ pub record Moves (bytes : List ℕ) (n : ℕ) (buffer : List ℕ) (after : Optio
   pub rest : after ≡ Some (drop n bytes)
   pub ends : 0 < length buffer → (n ≡ 0 ↔ bytes ≡ [])
 
--- The answer n is within the buffer, and where the bytes are told, the next n of them have moved. A failed call moves none.
+-- The answer n is within the buffer, and where the bytes are told, the next n of them have moved.
+-- A failed call moves none.
 pub record TakesFront {E : Type 0} (before after : Option (List ℕ)) (result : Result ℕ E) (buffer : List ℕ) : Type 0 where
   pub within : IfOk result (λ n. n ≤ length buffer)
   pub moved : IfOk result (λ n. IfSome before (λ bytes. Moves bytes n buffer after))
@@ -16,6 +17,6 @@ pub record TakesFront {E : Type 0} (before after : Option (List ℕ)) (result : 
   pub told : is_some after ≡ is_some before
 
 -- what an answer of n did, where the bytes are known
-pub moves_at : {E : Type 0} (before after : Option (List ℕ)) (n : ℕ) (buffer bytes : List ℕ) → TakesFront {E = E} before after (Ok n) buffer
-    → before ≡ Some bytes → Moves bytes n buffer after
+pub moves_at : {E : Type 0} (before after : Option (List ℕ)) (n : ℕ) (buffer bytes : List ℕ)
+    → TakesFront {E = E} before after (Ok n) buffer → before ≡ Some bytes → Moves bytes n buffer after
 moves_at before after n buffer bytes call told = rw told at call.moved

@@ -62,7 +62,8 @@ pub trait Opener {
     fn fetch(&mut self, name: &str) -> Result<(), OpenError>
         ensures opened { OnOk result (IfSome (files self.old) (λ all. Opens all name.now (left self.new))) }
         ensures refused { OnErr result (IsSome (files self.old) → left self.new ≡ Some []) }
-        ensures missing { IsErrOf result OpenError.Missing → IsSomeAnd (files self.old) (λ all. bytes_of all name.now ≡ None) }
+        ensures missing { IsErrOf result OpenError.Missing →
+            IsSomeAnd (files self.old) (λ all. bytes_of all name.now ≡ None) }
         ensures cause { HasCause (open_faults self.old) (open_faults self.new) (has_failed result) }
         ensures named { OnTrue (has_failed result) (last_open_fault self.new ≡ Some name.now) }
         ensures last { OnFalse (has_failed result) (last_open_fault self.new ≡ last_open_fault self.old) }

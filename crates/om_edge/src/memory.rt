@@ -1,6 +1,6 @@
 //! Fakes in memory. They tell their bytes, and fail at the calls that they are made to fail at.
 
-ghost use Rattle.std.specs.Prelude.{◌≡◌, ◌⊎◌, ◌↔◌, ◌<◌, ◌≤◌, min, List, [], length, take, Option, None, Some, Result, is_err, IsErr, IsErrOf, IsTrue, OnOk, OnErr, IfOk, IfSome, option_copied, position, bytes_eq, string_bytes, slice_index_or};
+ghost use Rattle.std.specs.Prelude.{◌≡◌, ◌⊎◌, ◌↔◌, ◌<◌, ◌≤◌, min, [], length, take, Option, None, Some, Result, is_err, IsErr, IsErrOf, IsTrue, OnOk, OnErr, IfOk, option_copied, position, bytes_eq, string_bytes, slice_index_or};
 ghost use Rattle.std.specs.Bool.{OnTrue, OnFalse};
 ghost use Rattle.om_edge.specs.Faults.{HasCause};
 ghost use Rattle.om_edge.specs.Source.{TakesFront};
@@ -331,7 +331,8 @@ impl Opener for MemFiles {
         ensures reads { self.new.reads ≡ self.old.reads }
 
         // Which calls fail, unless memory runs out first.
-        ensures fails { FailsNext self.old.fetches → IsErrOf result OpenError.Failed ⊎ IsErrOf result OpenError.Memory }
+        ensures fails { FailsNext self.old.fetches →
+            IsErrOf result OpenError.Failed ⊎ IsErrOf result OpenError.Memory }
         ensures planned { IsErrOf result OpenError.Failed → FailsNext self.old.fetches }
         ensures counted { self.new.fetches ≡ after_call self.old.fetches (has_failed result) }
     {

@@ -50,8 +50,10 @@ pub trait Sink {
 
 /// Puts all the bytes, in as many calls as the sink asks for.
 pub fn put_all<K: Sink>(sink: &mut K, bytes: &[u8]) -> Result<(), Failed>
-    ensures all { OnOk result (IfSome (K.written sink.old) (λ written. K.written sink.new ≡ Some (written ++ bytes.now))) }
-    ensures part { OnErr result (IfSome (K.written sink.old) (λ written. AppendsPart written bytes.now (K.written sink.new))) }
+    ensures all { OnOk result (IfSome (K.written sink.old)
+        (λ written. K.written sink.new ≡ Some (written ++ bytes.now))) }
+    ensures part { OnErr result (IfSome (K.written sink.old)
+        (λ written. AppendsPart written bytes.now (K.written sink.new))) }
     ensures told { is_some (K.written sink.new) ≡ is_some (K.written sink.old) }
     ensures cause { HasCause (K.faults sink.old) (K.faults sink.new) (is_err result) }
 
