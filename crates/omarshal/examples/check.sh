@@ -1,6 +1,7 @@
 #!/bin/sh
 # Runs the built program on each stream of streams/ and compares what it puts on out and on err, and its status, with
-# the table below. A test of the crate cannot do this: it runs in an empty folder, and no macro takes a file's bytes.
+# the table below. A test of the crate cannot do this: it runs in an empty folder, and no macro takes a file's bytes. So
+# src/tests.rt has some of the streams as text.
 # The argument is the program; with none it is the one that `rt run` or `rt ci` built.
 set -eu
 cd "$(dirname "$0")"

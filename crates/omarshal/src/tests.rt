@@ -1,0 +1,194 @@
+//! Streams that OCaml 4.13.1 wrote. They are some of those in `examples/streams`, which `examples/streams.ml` makes, and
+//! stand here as text since a test reads no files of the repository.
+
+use super::*;
+use om_edge::{MemSink, MemSource, Opener};
+use std::alloc::Global;
+use std::fs;
+use std::process::Abort;
+use std::test::Fail;
+
+// Checks the values of a stream at a type, and compares what is put on out and err, and the status.
+fn expect_check<O: Opener>(
+    rt: &impl Abort,
+    alloc: Global,
+    files: &mut O,
+    stream: &[u8],
+    ty: &str,
+    out: &str,
+    err: &str,
+    status: Status,
+) -> Result<(), Fail> {
+    let words = [
+        String::from_str(alloc, "check")?,
+        String::from_str(alloc, "empty.ml")?,
+        String::from_str(alloc, ty)?,
+    ];
+    let mut input = MemSource::new(stream.to_vec(alloc)?, 7, vec![in alloc]?);
+    let mut said = MemSink::new(alloc, 1000, vec![in alloc]?).expect(rt, "there is memory");
+    let mut told = MemSink::new(alloc, 1000, vec![in alloc]?).expect(rt, "there is memory");
+    let got = run(
+        alloc,
+        words.as_slice(),
+        &mut input,
+        files,
+        &mut said,
+        &mut told,
+    );
+    assert_eq!(rt; said.written(), out.as_bytes());
+    assert_eq!(rt; told.written(), err.as_bytes());
+    assert_eq!(rt; got, status);
+    Ok(())
+}
+
+#[test]
+fn streams_of_ocaml(rt: HostRuntime) -> Result<(), Fail> {
+    fs::write(&rt, "empty.ml", b"")?;
+    let mut files = DiskFiles::new(rt.alloc(), &rt);
+    for (stream, ty, out, err, status) in [
+        (
+            b"\x84\x95\xa6\xbe\x00\x00\x00\x01\x00\x00\x00\x00\x00\x00\x00\x00\x00\x00\x00\x00j".as_slice(),
+            "int",
+            "yes\n",
+            "",
+            Status::Well,
+        ),
+        (
+            b"\x84\x95\xa6\xbe\x00\x00\x00\x09\x00\x00\x00\x00\x00\x00\x00\x00\x00\x00\x00\x00\x03\xc0\x00\x00\x00\x00\x00\x00\x00",
+            "int",
+            "yes\n",
+            "",
+            Status::Well,
+        ),
+        (
+            b"\x84\x95\xa6\xbe\x00\x00\x00\xa8\x00\x00\x00\x1c\x00\x00\x00T\x00\x00\x00T\xa0@\xa0A\xa0\x00\xff\xa0\x00\xfe\xa0\x7f\xa0\x00@\xa0\x00\xc0\xa0\x00\xbf\xa0\x00\x7f\xa0\x01\x00\x80\xa0\x00\x80\xa0\x01\xff\x7f\xa0\x01\x7f\xff\xa0\x02\x00\x00\x80\x00\xa0\x01\x80\x00\xa0\x02\xff\xff\x7f\xff\xa0\x02?\xff\xff\xff\xa0\x03\x00\x00\x00\x00@\x00\x00\x00\xa0\x02\xc0\x00\x00\x00\xa0\x03\xff\xff\xff\xff\xbf\xff\xff\xff\xa0\x03\x00\x00\x00\x00\x7f\xff\xff\xff\xa0\x03\x00\x00\x00\x00\x80\x00\x00\x00\xa0\x03\xff\xff\xff\xff\x80\x00\x00\x00\xa0\x03\xff\xff\xff\xff\x7f\xff\xff\xff\xa0\x03\x1f\xff\xff\xff\xff\xff\xff\xff\xa0\x03 \x00\x00\x00\x00\x00\x00\x00\xa0\x03\xe0\x00\x00\x00\x00\x00\x00\x00\xa0\x03\xdf\xff\xff\xff\xff\xff\xff\xff@",
+            "int list",
+            "yes\n",
+            "",
+            Status::Well,
+        ),
+        (
+            b"\x84\x95\xa6\xbe\x00\x00\x00\x06\x00\x00\x00\x01\x00\x00\x00\x03\x00\x00\x00\x02%hello",
+            "string",
+            "yes\n",
+            "",
+            Status::Well,
+        ),
+        (
+            b"\x84\x95\xa6\xbe\x00\x00\x00\x0d\x00\x00\x00\x06\x00\x00\x00\x12\x00\x00\x00\x12\xa0\xa0A@\xa0@\xa0\xa0B\xa0C@@",
+            "int list list",
+            "yes\n",
+            "",
+            Status::Well,
+        ),
+        (
+            b"\x84\x95\xa6\xbe\x00\x00\x00\x0e\x00\x00\x00\x06\x00\x00\x00\x11\x00\x00\x00\x11\xa0\xa0A@\xa0\xa0B\xa0#two@@",
+            "int list list",
+            "no .1.0.1.0: expected int, found string\n",
+            "",
+            Status::No,
+        ),
+        (
+            b"\x84\x95\xa6\xbe\x00\x00\x00\x08\x00\x00\x00\x03\x00\x00\x00\x09\x00\x00\x00\x09\xa0A\xa0B\xa0C\x04\x03",
+            "int list",
+            "yes\n",
+            "",
+            Status::Well,
+        ),
+        (
+            b"\x84\x95\xa6\xbe\x00\x00\x00\x0e\x00\x00\x00\x04\x00\x00\x00\x0c\x00\x00\x00\x0b\xa0%abcde\xa0\x04\x02\xa0\x04\x03@",
+            "string list",
+            "yes\n",
+            "",
+            Status::Well,
+        ),
+        (
+            b"\x84\x95\xa6\xbe\x00\x00\x00\x16\x00\x00\x00\x00\x00\x00\x00\x12\x00\x00\x00\x0f\xa0%abcde\xa0%abcde\xa0%abcde@",
+            "string list",
+            "yes\n",
+            "",
+            Status::Well,
+        ),
+        (
+            b"\x84\x95\xa6\xbe\x00\x00\x00\x12\x00\x00\x00\x01\x00\x00\x00\x05\x00\x00\x00\x03\x0e\x02\x00\x00\x00\x00\x00\x00\xf0?\x00\x00\x00\x00\x00\x00\x00\xc0",
+            "int",
+            "no .: expected int, found float array of 2\n",
+            "",
+            Status::No,
+        ),
+        (
+            b"\x84\x95\xa6\xbe\x00\x00\x00\x1a\x00\x00\x00\x01\x00\x00\x00\x07\x00\x00\x00\x04\x0e\x03\x00\x00\x00\x00\x00\x00\xf0?\x00\x00\x00\x00\x00\x00\x00@\x00\x00\x00\x00\x00\x00\x08@",
+            "int list",
+            "no .: expected int list, found float array of 3\n",
+            "",
+            Status::No,
+        ),
+        (
+            b"\x84\x95\xa6\xbe\x00\x00\x00!\x00\x00\x00\x06\x00\x00\x00\x13\x00\x00\x00\x12\xa0\x19_i\x00\x00\x00\x00\x01\xa0\x19_j\x00\x00\x00\x00\x00\x00\x00\x00\x02\xa0\x19_n\x00\x01\x00\x00\x00\x03@",
+            "int list",
+            "no .0: expected int, found int32\n",
+            "",
+            Status::No,
+        ),
+        (
+            b"\x84\x95\xa6\xbe\x00\x00\x00\x0d\x00\x00\x00\x01\x00\x00\x00\x03\x00\x00\x00\x03\x19_n\x00\x02\x124Vx\x9a\xbc\xde\xf0",
+            "int",
+            "no .: expected int, found nativeint\n",
+            "",
+            Status::No,
+        ),
+        (
+            b"\x84\x95\xa6\xbe\x00\x00\x00\x07\x00\x00\x00\x01\x00\x00\x00\x03\x00\x00\x00\x03\x08\x00\x00\x08\x10AB",
+            "int",
+            "no .: expected int, found block 16 of 2\n",
+            "",
+            Status::No,
+        ),
+        (
+            b"\x84\x95\xa6\xbe\x00\x00\x00\x01\x00\x00\x00\x00\x00\x00\x00\x00\x00\x00\x00\x00\x80",
+            "int list",
+            "no .: expected int list, found atom 0\n",
+            "",
+            Status::No,
+        ),
+        (
+            b"\x84\x95\xa6\xbe\x00\x00\x00\x01\x00\x00\x00\x00\x00\x00\x00\x00\x00\x00\x00\x00A\x84\x95\xa6\xbe\x00\x00\x00\x04\x00\x00\x00\x01\x00\x00\x00\x02\x00\x00\x00\x02#two\x84\x95\xa6\xbe\x00\x00\x00\x01\x00\x00\x00\x00\x00\x00\x00\x00\x00\x00\x00\x00C",
+            "int",
+            "yes\nno .: expected int, found string\nyes\n",
+            "",
+            Status::No,
+        ),
+        (
+            b"\x84\x95\xa6\xbe\x00\x00\x00\x01\x00\x00\x00\x00\x00\x00\x00\x00\x00\x00\x00\x00A\x84\x95\xa6\xbe\x00\x00\x00\x04\x00\x00\x00\x01\x00\x00\x00\x02\x00\x00\x00\x02#two\x84\x95\xa6\xbe\x00\x00\x00\x01\x00\x00\x00\x00\x00\x00\x00\x00\x00\x00\x00\x00C",
+            "string",
+            "no .: expected string, found int 1\nyes\nno .: expected string, found int 3\n",
+            "",
+            Status::No,
+        ),
+        (
+            b"\x84\x95\xa6\xbe\x00\x00\x00\x03\x00\x00\x00\x01\x00\x00\x00\x03\x00\x00\x00\x03\xa0A@\x84\x95\xa6\xbe\x00\x00\x00\x01\x00\x00\x00\x00\x00\x00\x00\x00\x00\x00\x00\x00@\x84\x95\xa6\xbe\x00\x00\x00\x08\x00\x00\x00\x03\x00\x00\x00\x09\x00\x00\x00\x09\xa0A\xa0B\xa0C\x04\x03",
+            "int list",
+            "yes\nyes\nyes\n",
+            "",
+            Status::Well,
+        ),
+        (
+            b"\x84\x95\xa6\xbe\x00\x00\x00\x11\x00\x00\x00\x02\x00\x00\x00\x07\x00\x00\x00\x06\x08\x00\x00\x08\xf8)Not_found\x00\xf9",
+            "int",
+            "",
+            "omarshal: value 0: BadTag(248) at 20\n",
+            Status::Value,
+        ),
+        (
+            b"\x84\x95\xa6\xbe\x00\x00\x00\x07\x00\x00\x00\x03\x00\x00\x00\x09\x00\x00\x00\x09\xa0A\xa0B\xa0C@\x84\x95\xa6\xbe\x00\x00\x00\x07\x00\x00",
+            "int list",
+            "yes\n",
+            "omarshal: value 1: Truncated(10)\n",
+            Status::Value,
+        ),
+    ] {
+        expect_check(&rt, rt.alloc(), &mut files, stream, ty, out, err, status)?;
+    }
+    fs::remove_file(&rt, "empty.ml")?;
+    Ok(())
+}
