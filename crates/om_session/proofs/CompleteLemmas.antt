@@ -87,7 +87,7 @@ module _ {D T : Type 0} (language : Language D T) (lawful : IsLawful language) (
       let same : d ≡ e = lawful.same_declarations bytes d e (subst (λ b. language.ReadsDeclarations b (Ok d)) (ap (λ t. t.bytes) all) g) g' in
       ap (λ t. Ok t) (lawful.same_type e u t v (subst (λ d. language.ReadsType d u (Ok t)) same is) is')
 
-  prepares_once : (words : List (List ℕ)) (task : Task T) (r : Result (Task T) Stop) → Prepares language words file (Ok task) → Prepares language words file r → Ok task ≡ r
+  pub prepares_once : (words : List (List ℕ)) (task : Task T) (r : Result (Task T) Stop) → Prepares language words file (Ok task) → Prepares language words file r → Ok task ≡ r
   prepares_once words task r (Err s, h, same) other = absurd (cc same)
   prepares_once words task r (Ok (check f u), asks, (Err s, h, same)) other = absurd (cc same)
   prepares_once words task r (Ok (check f u), asks, (Ok type, h, same)) (Err s, (none, e), told) = absurd (none (check f u) asks)

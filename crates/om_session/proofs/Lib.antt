@@ -14,3 +14,4 @@ pub mod TypeLemmas
 pub mod ValueLemmas
 pub mod WordLemmas
 pub mod ReadLemmas
+pub mod DecidedLemmas

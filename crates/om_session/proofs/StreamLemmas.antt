@@ -47,39 +47,54 @@ module _ (law : HasOneJudgement) (limit : ℕ) where
   nothing_refused n refusal (inl r) = empty n r.front r.last r.bytes_are
   nothing_refused n refusal (inr r) = empty n r.front r.last r.bytes_are
 
-  -- bytes that are values to their end are no other values, and nothing stands behind them
-  pub stream_once : (bytes : List ℕ) (trees others : List Tree) (end : End) → AreBytes bytes → SpellAll limit bytes trees [] → Stream bytes limit others end
-      → (trees ≡ others) × (end ≡ clean)
-  stream_once bytes [] [] clean are_bytes none (tail, same, is_tail) = (refl, refl)
-  stream_once bytes [] [] (refused refusal) are_bytes none (tail, same, (n, fits, r)) =
-      absurd (nothing_refused n refusal (subst (λ b. IsRefused limit (take n b) refusal) (sym same ∙ none) r))
-  stream_once bytes [] [] (cut n) are_bytes none (tail, same, (some, size, f)) =
-      let zero : length tail ≡ 0 = ap length (sym same ∙ none) in absurd (omega arith)
-  stream_once bytes [] (t ∷ others) end are_bytes none (tail, (first, more, same, spelled, rest), is_tail) =
+  -- where a value stands, no tail begins
+  value_or_tail : (first more tail : List ℕ) (t : Tree) (e : End) → AreBytes tail → SpelledUnder limit first t → tail ≡ first ++ more → IsTail limit tail e → ⊥
+  value_or_tail first more tail t clean are_bytes spelled same h =
       let some : 0 < length first = spelled_some limit first t spelled in
       let size : length (first ++ more) ≡ length first + length more = length-append first more in
-      let zero : length (first ++ more) ≡ 0 = ap length (sym same ∙ none) in absurd (omega arith)
-  stream_once bytes (t ∷ trees) [] end are_bytes (first, more, same, spelled, rest) (tail, all, is_tail) =
-      absurd (no_tail end is_tail) where
-        at_front : Judges limit tail (value (length first) t)
-        at_front = subst (λ b. Judges limit b (value (length first) t)) (sym same ∙ all) (judged first more t spelled)
+      let zero : length (first ++ more) ≡ 0 = ap length (sym same ∙ h) in absurd (omega arith)
+  value_or_tail first more tail t (refused refusal) are_bytes spelled same (n, fits, r) =
+      let at_front = subst (λ b. Judges limit b (value (length first) t)) (sym same) (judged first more t spelled) in
+      let e = not_both (value (length first) t) (j.refused n refusal) tail are_bytes at_front (fits, r) in cc e
+  value_or_tail first more tail t (cut n) are_bytes spelled same (some, size, f) =
+      let at_front = subst (λ b. Judges limit b (value (length first) t)) (sym same) (judged first more t spelled) in
+      let e = not_both (value (length first) t) j.front tail are_bytes at_front f in cc e
 
-        tail_bytes : AreBytes tail
-        tail_bytes = subst AreBytes all are_bytes
+  -- a tail has one end
+  tail_once : (tail : List ℕ) (e e' : End) → AreBytes tail → IsTail limit tail e → IsTail limit tail e' → e ≡ e'
+  tail_once tail clean clean are_bytes h h' = refl
+  tail_once tail clean (refused r) are_bytes h (n, fits, is) = absurd (nothing_refused n r (subst (λ b. IsRefused limit (take n b) r) h is))
+  tail_once tail clean (cut n) are_bytes h (some, size, f) = let zero : length tail ≡ 0 = ap length h in absurd (omega arith)
+  tail_once tail (refused r) clean are_bytes (n, fits, is) h = absurd (nothing_refused n r (subst (λ b. IsRefused limit (take n b) r) h is))
+  tail_once tail (refused r) (refused r') are_bytes (n, fits, is) (n', fits', is') =
+      let e = not_both (j.refused n r) (j.refused n' r') tail are_bytes (fits, is) (fits', is') in
+      let same : r ≡ r' = cc in ap (λ r. refused r) same
+  tail_once tail (refused r) (cut n') are_bytes (n, fits, is) (some, size, f) =
+      let e = not_both (j.refused n r) j.front tail are_bytes (fits, is) f in cc e
+  tail_once tail (cut n) clean are_bytes (some, size, f) h = let zero : length tail ≡ 0 = ap length h in absurd (omega arith)
+  tail_once tail (cut n) (refused r) are_bytes (some, size, f) (n', fits, is) =
+      let e = not_both (j.refused n' r) j.front tail are_bytes (fits, is) f in cc e
+  tail_once tail (cut n) (cut n') are_bytes (some, size, f) (some', size', f') = ap (λ n. cut n) (sym size ∙ size')
 
-        no_tail : (e : End) → IsTail limit tail e → ⊥
-        no_tail clean h =
-            let some : 0 < length first = spelled_some limit first t spelled in
-            let size : length (first ++ more) ≡ length first + length more = length-append first more in
-            let zero : length (first ++ more) ≡ 0 = ap length (sym same ∙ (all ∙ h)) in omega arith
-        no_tail (refused refusal) (n, fits, r) =
-            let e = not_both (value (length first) t) (j.refused n refusal) tail tail_bytes at_front (fits, r) in cc e
-        no_tail (cut n) (some, size, f) =
-            let e = not_both (value (length first) t) j.front tail tail_bytes at_front f in cc e
-  stream_once bytes (t ∷ trees) (u ∷ others) end are_bytes (first, more, same, spelled, rest) (tail, (first', more', same', spelled', rest'), is_tail) =
+  -- bytes are one stream of values, with one end
+  pub streams_once : (bytes : List ℕ) (trees others : List Tree) (end other : End) → AreBytes bytes
+      → Stream bytes limit trees end → Stream bytes limit others other → (trees ≡ others) × (end ≡ other)
+  streams_once bytes [] [] end other are_bytes (tail, same, is) (tail', same', is') =
+      (refl, tail_once tail end other (subst AreBytes same are_bytes) is (subst (λ t. IsTail limit t other) (sym same' ∙ same) is'))
+  streams_once bytes [] (t ∷ others) end other are_bytes (tail, same, is) (tail', (first, more, same', spelled, rest), is') =
+      absurd (value_or_tail first more tail t end (subst AreBytes same are_bytes) spelled (sym same ∙ same') is)
+  streams_once bytes (t ∷ trees) [] end other are_bytes (tail, (first, more, same', spelled, rest), is) (tail', same, is') =
+      absurd (value_or_tail first more tail' t other (subst AreBytes same are_bytes) spelled (sym same ∙ same') is')
+  streams_once bytes (t ∷ trees) (u ∷ others) end other are_bytes (tail, (first, more, same, spelled, rest), is) (tail', (first', more', same', spelled', rest'), is') =
       let whole : AreBytes (first ++ more) = subst AreBytes same are_bytes in
       let one = one_value first more first' more' t u whole (sym same ∙ same') spelled spelled' in
       let behind : more ≡ more' =
       sym (drop-append_seam first more) ∙ (ap (λ n. drop n (first ++ more)) one.1 ∙ (ap (λ b. drop (length first') b) (sym same ∙ same') ∙ drop-append_seam first' more')) in
-      let next = stream_once more trees others end (bytes_behind first more whole) rest (tail, subst (λ m. SpellAll limit m others tail) (sym behind) rest', is_tail) in
+      let next = streams_once more trees others end other (bytes_behind first more whole) (tail, rest, is) (tail', subst (λ m. SpellAll limit m others tail') (sym behind) rest', is') in
       (let head : t ≡ u = one.0 in let tails : trees ≡ others = next.0 in cc, next.1)
+
+  -- bytes that are values to their end are no other values, and nothing stands behind them
+  pub stream_once : (bytes : List ℕ) (trees others : List Tree) (end : End) → AreBytes bytes → SpellAll limit bytes trees [] → Stream bytes limit others end
+      → (trees ≡ others) × (end ≡ clean)
+  stream_once bytes trees others end are_bytes all other =
+      let once = streams_once bytes trees others clean end are_bytes ([], all, refl) other in (once.0, sym once.1)

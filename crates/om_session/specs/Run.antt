@@ -188,3 +188,12 @@ abbrev pub IsComplete : {D T : Type 0} → Language D T → List (List ℕ) → 
 IsComplete language words call =
     (input : List ℕ) (files : List File) → IsHonest call input files → IsAllWell language words input files
     → (call.status ≡ Well) ⊎ (call.status ≡ Memory)
+
+-- ---- exactly
+
+-- Unless memory runs out, an honest call has the status of each outcome that there is: so each of them comes exactly where
+-- an outcome has it.
+abbrev pub IsDecided : {D T : Type 0} → Language D T → List (List ℕ) → Call → Type 0
+IsDecided language words call =
+    (input : List ℕ) (files : List File) → IsHonest call input files → AreBytes input → call.status ≢ Memory
+    → (ending : Ending) → Outcome language words (bytes_of files) input ending → call.status ≡ ending.status

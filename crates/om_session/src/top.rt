@@ -5,7 +5,7 @@ ghost use Rattle.om_model.specs.Outcome.{Asks, check as check_of};
 ghost use Rattle.om_session.specs.Call.{call, seen, seen_files};
 ghost use Rattle.om_session.specs.Check.{ClosesAs, ChecksValues};
 ghost use Rattle.om_session.specs.Lists.{lists};
-ghost use Rattle.om_session.specs.Run.{Account, Headline, IsComplete, OnlyUsage, IfUsage, OnlyTypes, OnlyValue, OnlyReadFault, OnlyWriteFault, OnlyOpenFault, IfMissing, OnlyTooLong, TellsReadFault, TellsOpenFault, TellsWriteFault};
+ghost use Rattle.om_session.specs.Run.{Account, Headline, IsComplete, IsDecided, OnlyUsage, IfUsage, OnlyTypes, OnlyValue, OnlyReadFault, OnlyWriteFault, OnlyOpenFault, IfMissing, OnlyTooLong, TellsReadFault, TellsOpenFault, TellsWriteFault};
 ghost use Rattle.om_session.specs.Words.{texts};
 
 use crate::gather::{Until, gather};
@@ -126,6 +126,11 @@ pub fn run<S: Source, O: Opener, K: Sink, E: Sink>(
 
     // Where all is well, the run ends well.
     ensures complete { IsComplete lists (texts words.now) (call (seen S.left S.faults input.old input.new)
+        (seen_files O.files O.open_faults O.last_open_fault O.read_faults files.old files.new)
+        (seen K.written K.faults out.old out.new) (seen E.written E.faults err.old err.new) result) }
+
+    // Unless memory runs out, an honest call has the status of each outcome: each comes exactly where an outcome has it.
+    ensures decided { IsDecided lists (texts words.now) (call (seen S.left S.faults input.old input.new)
         (seen_files O.files O.open_faults O.last_open_fault O.read_faults files.old files.new)
         (seen K.written K.faults out.old out.new) (seen E.written E.faults err.old err.new) result) }
 

@@ -1,6 +1,7 @@
 use Rattle.om_session.specs.Lists.{lists}
 use Rattle.om_session.specs.Words.{texts}
 use Rattle.om_session.proofs.CompleteLemmas.{lists_lawful, complete}
+use Rattle.om_session.proofs.DecidedLemmas.{decided}
 use Rattle.om_session.proofs.HeadlineLemmas.{headline}
 use Rattle.om_session.proofs.CauseLemmas.{if_missing, only_types, only_value, only_usage, if_usage, only_read_fault, only_write_fault, only_open_fault, only_too_long, tells_read_fault, tells_open_fault, tells_write_fault}
 use Rattle.om_session.proofs.top.run.Goals as goal
@@ -47,3 +48,7 @@ returns-clause-missing_if g c = if_missing lists (texts c.args.words.now) _ c.ru
 pub returns-clause-complete : goal.returns-clause-complete
 returns-clause-complete g c =
     complete lists (lists_lawful c.faults_exclude_types.ensures) c.one_judgement.ensures (texts c.args.words.now) _ c.run_command.ensures
+
+pub returns-clause-decided : goal.returns-clause-decided
+returns-clause-decided g c =
+    decided lists (lists_lawful c.faults_exclude_types.ensures) c.one_judgement.ensures (texts c.args.words.now) _ c.run_command.ensures
