@@ -1,6 +1,5 @@
-//! Whole runs over a source, files and sinks in memory. A row says what a run finds outside, and how it must end: the
-//! status, what stands on out and on err, and how many calls failed. Each row is run with the input in pieces of 1 byte,
-//! of 7 and of 4096, and must end alike.
+//! Whole runs over a source, files and sinks in memory. Each row is run with the input in pieces of 1 byte, of 7 and of
+//! 4096, and must end alike.
 
 ghost use Rattle.std.specs.Prelude.{◌<◌};
 
@@ -11,18 +10,23 @@ use std::alloc::{AllocError, Global};
 use std::process::Abort;
 use std::test::Fail;
 
-/// What a run finds outside. The calls of the numbers listed fail, counted from 0.
-#[derive(Clone, Copy)]
-struct Outside<'a> {
+/// What a run is given, and how it must end. One call of each kind may fail, by its number from 0.
+#[derive(Drop)]
+struct Row {
+    words: Vec<String>,
     /// The bytes of `t.ml`, if there is such a file.
-    file: Option<&'a str>,
-    failing_fetches: &'a [u64],
-    failing_reads: &'a [u64],
-    input: &'a [u8],
-    failing_takes: &'a [u64],
+    file: Option<Vec<u8>>,
+    input: Vec<u8>,
+    failing_fetch: Option<u64>,
+    failing_read: Option<u64>,
+    failing_take: Option<u64>,
     /// So many bytes fit on out and on err.
     out_room: usize,
     err_room: usize,
+    status: Status,
+    out: Vec<u8>,
+    err: Vec<u8>,
+    faults: Faults,
 }
 
 /// How many calls failed: those that fetch a file, that read it, and that take from the input.
@@ -33,18 +37,6 @@ struct Faults {
     takes: u64,
 }
 
-/// What a row shows, its words, what they find, and how the run must end.
-#[derive(Clone, Copy)]
-struct Row<'a> {
-    shows: &'a str,
-    words: &'a [&'a str],
-    outside: Outside<'a>,
-    status: Status,
-    out: &'a str,
-    err: &'a str,
-    faults: Faults,
-}
-
 const INTEGER: &str = "8495a6be 00000001 00000000 00000000 00000000 41";
 
 const STRING: &str = "8495a6be 00000004 00000001 00000002 00000002 23616263";
@@ -52,27 +44,6 @@ const STRING: &str = "8495a6be 00000004 00000001 00000002 00000002 23616263";
 const LIST: &str = "8495a6be 00000005 00000002 00000006 00000006 a041a04240";
 
 const BYTE_BEHIND: &str = "8495a6be 00000002 00000000 00000000 00000000 4141";
-
-const AT_INT: [&str; 3] = ["check", "t.ml", "int"];
-
-const NO_FAULTS: Faults = Faults {
-    fetches: 0,
-    reads: 0,
-    takes: 0,
-};
-
-// An empty `t.ml`, this input, room for all texts, and no call that fails.
-fn healthy(input: &[u8]) -> Outside<'_> {
-    Outside {
-        file: Some(""),
-        failing_fetches: &[],
-        failing_reads: &[],
-        input,
-        failing_takes: &[],
-        out_room: 4096,
-        err_room: 4096,
-    }
-}
 
 fn digit(text: u8) -> u8
     ensures { result < 16 }
@@ -84,80 +55,114 @@ fn digit(text: u8) -> u8
     }
 }
 
-// The bytes that hexadecimal digits spell. The spaces between them are for the reader.
-fn unhex(alloc: Global, texts: &[&str]) -> Result<Vec<u8>, AllocError> {
-    let mut bytes = Vec::new(alloc);
-    for text in texts {
-        let mut high = None;
-        for byte in text.as_bytes() {
-            if *byte == b' ' {
-                continue;
-            }
-            match high {
-                None => high = Some(digit(*byte)),
-                Some(first) => {
-                    bytes.push(first << 4 | digit(*byte))?;
-                    high = None;
-                }
+// Adds the bytes that hexadecimal digits spell. The spaces between them are for the reader.
+fn push_hex(bytes: &mut Vec<u8>, hex: &str) -> Result<(), AllocError> {
+    let mut high = None;
+    for text in hex.as_bytes() {
+        if *text == b' ' {
+            continue;
+        }
+        match high {
+            None => high = Some(digit(*text)),
+            Some(first) => {
+                bytes.push(first << 4 | digit(*text))?;
+                high = None;
             }
         }
     }
-    Ok(bytes)
+    Ok(())
 }
 
-fn strings(alloc: Global, words: &[&str]) -> Result<Vec<String>, AllocError> {
-    let mut strings = Vec::new(alloc);
-    for word in words {
-        strings.push(String::from_str(alloc, word)?)?;
+fn push_word(alloc: Global, words: &mut Vec<String>, word: &str) -> Result<(), AllocError> {
+    words.push(String::from_str(alloc, word)?)?;
+    Ok(())
+}
+
+// `check` with a FILE and a TYPE.
+fn check_words(alloc: Global, file: &str, type_text: &str) -> Result<Vec<String>, AllocError> {
+    let mut words = Vec::new(alloc);
+    push_word(alloc, &mut words, "check")?;
+    push_word(alloc, &mut words, file)?;
+    push_word(alloc, &mut words, type_text)?;
+    Ok(words)
+}
+
+fn one_or_none(alloc: Global, number: Option<u64>) -> Result<Vec<u64>, AllocError> {
+    let mut numbers = Vec::new(alloc);
+    if let Some(number) = number {
+        numbers.push(number)?;
     }
-    Ok(strings)
+    Ok(numbers)
+}
+
+// Checks an input at a type, with an empty `t.ml`, room for all texts, and no call that fails.
+fn check_row(
+    alloc: Global,
+    type_text: &str,
+    input: &str,
+    status: Status,
+    out: &str,
+    err: &str,
+) -> Result<Row, AllocError> {
+    let mut bytes = Vec::new(alloc);
+    push_hex(&mut bytes, input)?;
+    Ok(Row {
+        words: check_words(alloc, "t.ml", type_text)?,
+        file: Some(Vec::new(alloc)),
+        input: bytes,
+        failing_fetch: None,
+        failing_read: None,
+        failing_take: None,
+        out_room: 4096,
+        err_room: 4096,
+        status,
+        out: out.as_bytes().to_vec(alloc)?,
+        err: err.as_bytes().to_vec(alloc)?,
+        faults: Faults {
+            fetches: 0,
+            reads: 0,
+            takes: 0,
+        },
+    })
 }
 
 // Runs a row once, with at most so many bytes of input in a call.
 fn expect_in_pieces(
     rt: &impl Abort,
     alloc: Global,
-    row: Row<'_>,
+    shows: &str,
+    row: &Row,
     piece: usize,
 ) -> Result<(), AllocError> {
-    let outside = row.outside;
     let mut pairs = Vec::new(alloc);
-    if let Some(text) = outside.file {
-        let bytes = text.as_bytes().to_vec(alloc)?;
+    if let Some(bytes) = &row.file {
+        let bytes = bytes.as_slice().to_vec(alloc)?;
         pairs.push((String::from_str(alloc, "t.ml")?, bytes))?;
     }
     assert!(rt; MemFiles::have_no_name_twice(&pairs));
-    let fetches = outside.failing_fetches.to_vec(alloc)?;
-    let reads = outside.failing_reads.to_vec(alloc)?;
+    let fetches = one_or_none(alloc, row.failing_fetch)?;
+    let reads = one_or_none(alloc, row.failing_read)?;
     let mut files = MemFiles::new(alloc, pairs, fetches, reads);
     assert!(rt; piece >= 1);
-    let takes = outside.failing_takes.to_vec(alloc)?;
-    let mut input = MemSource::new(outside.input.to_vec(alloc)?, piece, takes);
-    let out = MemSink::new(alloc, outside.out_room, Vec::new(alloc));
+    let takes = one_or_none(alloc, row.failing_take)?;
+    let mut input = MemSource::new(row.input.as_slice().to_vec(alloc)?, piece, takes);
+    let out = MemSink::new(alloc, row.out_room, Vec::new(alloc));
     let mut out = out.expect(rt, "there is memory");
-    let err = MemSink::new(alloc, outside.err_room, Vec::new(alloc));
+    let err = MemSink::new(alloc, row.err_room, Vec::new(alloc));
     let mut err = err.expect(rt, "there is memory");
 
-    let words = strings(alloc, row.words)?;
-    let status = run(
-        alloc,
-        words.as_slice(),
-        &mut input,
-        &mut files,
-        &mut out,
-        &mut err,
-    );
+    let words = row.words.as_slice();
+    let status = run(alloc, words, &mut input, &mut files, &mut out, &mut err);
 
-    let shows = row.shows;
     assert_eq!(rt; status, row.status, "{shows}, in pieces of {piece}");
     assert_eq!(rt;
         out.written(),
-        row.out.as_bytes(),
+        row.out.as_slice(),
         "out: {shows}, in pieces of {piece}"
     );
     assert_eq!(rt;
         err.written(),
-        row.err.as_bytes(),
+        row.err.as_slice(),
         "err: {shows}, in pieces of {piece}"
     );
     let faults = Faults {
@@ -169,9 +174,9 @@ fn expect_in_pieces(
     Ok(())
 }
 
-fn expect_row(rt: &impl Abort, alloc: Global, row: Row<'_>) -> Result<(), AllocError> {
+fn expect_row(rt: &impl Abort, alloc: Global, shows: &str, row: &Row) -> Result<(), AllocError> {
     for piece in [1, 7, 4096] {
-        expect_in_pieces(rt, alloc, row, piece)?;
+        expect_in_pieces(rt, alloc, shows, row, piece)?;
     }
     Ok(())
 }
@@ -471,17 +476,8 @@ fn values_are_checked_or_refused(rt: HostRuntime) -> Result<(), Fail> {
         ),
     ];
     for (shows, type_text, input, status, out, err) in table {
-        let input = unhex(rt.alloc(), &[input])?;
-        let row = Row {
-            shows,
-            words: &["check", "t.ml", type_text],
-            outside: healthy(input.as_slice()),
-            status,
-            out,
-            err,
-            faults: NO_FAULTS,
-        };
-        expect_row(&rt, rt.alloc(), row)?;
+        let row = check_row(rt.alloc(), type_text, input, status, out, err)?;
+        expect_row(&rt, rt.alloc(), shows, &row)?;
     }
     Ok(())
 }
@@ -492,52 +488,55 @@ fn values_stand_behind_one_another(rt: HostRuntime) -> Result<(), Fail> {
     let table = [
         (
             "two values that have the type",
-            [INTEGER, INTEGER, ""],
+            INTEGER,
+            INTEGER,
+            "",
             Status::Well,
             "yes\nyes\n",
             "",
         ),
         (
             "a later yes heals no earlier no",
-            [STRING, INTEGER, ""],
+            STRING,
+            INTEGER,
+            "",
             Status::No,
             "no .: expected int, found string\nyes\n",
             "",
         ),
         (
             "the last value may be the one that has not the type",
-            [INTEGER, INTEGER, LIST],
+            INTEGER,
+            INTEGER,
+            LIST,
             Status::No,
             "yes\nyes\nno .: expected int, found block 0 of 2\n",
             "",
         ),
         (
             "a refusal weighs more than a no",
-            [STRING, BYTE_BEHIND, INTEGER],
+            STRING,
+            BYTE_BEHIND,
+            INTEGER,
             Status::Value,
             "no .: expected int, found string\n",
             "omarshal: value 1: LengthMismatch(1) at 21\n",
         ),
         (
             "the end in the magic of the third value",
-            [INTEGER, LIST, "8495"],
+            INTEGER,
+            LIST,
+            "8495",
             Status::Value,
             "yes\nno .: expected int, found block 0 of 2\n",
             "omarshal: value 2: Truncated(2)\n",
         ),
     ];
-    for (shows, values, status, out, err) in table {
-        let input = unhex(rt.alloc(), &values)?;
-        let row = Row {
-            shows,
-            words: &AT_INT,
-            outside: healthy(input.as_slice()),
-            status,
-            out,
-            err,
-            faults: NO_FAULTS,
-        };
-        expect_row(&rt, rt.alloc(), row)?;
+    for (shows, first, second, third, status, out, err) in table {
+        let mut row = check_row(rt.alloc(), "int", first, status, out, err)?;
+        push_hex(&mut row.input, second)?;
+        push_hex(&mut row.input, third)?;
+        expect_row(&rt, rt.alloc(), shows, &row)?;
     }
     Ok(())
 }
@@ -547,20 +546,12 @@ fn values_stand_behind_one_another(rt: HostRuntime) -> Result<(), Fail> {
 fn each_front_of_a_value_is_cut(rt: HostRuntime) -> Result<(), Fail> {
     let alloc = rt.alloc();
     let wide = "8495a6bf 0000002a 0000000000000001 0000000000000000 0000000000000000 41";
-    for (type_text, value) in [("int list", LIST), ("int", wide)] {
-        let input = unhex(alloc, &[value])?;
-        for n in 1..input.len() {
+    for (type_text, value, len) in [("int list", LIST, 25), ("int", wide, 33)] {
+        for n in 1..len {
             let err = format!(in alloc; "omarshal: value 0: Truncated({n})\n")?;
-            let row = Row {
-                shows: "a front of a value",
-                words: &["check", "t.ml", type_text],
-                outside: healthy(&input[..n]),
-                status: Status::Value,
-                out: "",
-                err: err.as_str(),
-                faults: NO_FAULTS,
-            };
-            expect_row(&rt, alloc, row)?;
+            let mut row = check_row(alloc, type_text, value, Status::Value, "", err.as_str())?;
+            row.input.truncate(n);
+            expect_row(&rt, alloc, "a front", &row)?;
         }
     }
     Ok(())
@@ -569,41 +560,43 @@ fn each_front_of_a_value_is_cut(rt: HostRuntime) -> Result<(), Fail> {
 // All is at hand to fail: words that are not plain call nothing.
 #[test]
 fn words_that_are_not_plain_are_refused_unread(rt: HostRuntime) -> Result<(), Fail> {
-    let integer = unhex(rt.alloc(), &[INTEGER])?;
-    let table: [&[&str]; 15] = [
-        &[],
-        &["check"],
-        &["check", "t.ml"],
-        &["check", "t.ml", "int", "int"],
-        &["Check", "t.ml", "int"],
-        &["", "t.ml", "int"],
-        &["show", "t.ml", "int"],
-        &["t.ml", "check", "int"],
-        &["check", "", "int"],
-        &["check", "t.ml", ""],
-        &["check", "-t.ml", "int"],
-        &["check", "t.ml", "-int"],
-        &["check", "--", "int"],
-        &["check", "--limit", "5", "t.ml", "int"],
-        &["--help"],
-    ];
-    for words in table {
-        let row = Row {
-            shows: "words that are not plain",
-            words,
-            outside: Outside {
-                file: None,
-                failing_fetches: &[0],
-                failing_reads: &[0],
-                failing_takes: &[0],
-                ..healthy(integer.as_slice())
-            },
-            status: Status::Usage,
-            out: "",
-            err: "omarshal: usage\n",
-            faults: NO_FAULTS,
-        };
-        expect_row(&rt, rt.alloc(), row)?;
+    let alloc = rt.alloc();
+    // The words stand between commas, which none of them holds. An empty text has no words.
+    for text in [
+        "",
+        "check",
+        "check,t.ml",
+        "check,t.ml,int,int",
+        "Check,t.ml,int",
+        ",t.ml,int",
+        "show,t.ml,int",
+        "t.ml,check,int",
+        "check,,int",
+        "check,t.ml,",
+        "check,-t.ml,int",
+        "check,t.ml,-int",
+        "check,--,int",
+        "check,--limit,5,t.ml,int",
+        "--help",
+    ] {
+        let mut row = check_row(
+            alloc,
+            "int",
+            INTEGER,
+            Status::Usage,
+            "",
+            "omarshal: usage\n",
+        )?;
+        row.words = Vec::new(alloc);
+        if !text.is_empty() {
+            for word in text.split(',') {
+                push_word(alloc, &mut row.words, word)?;
+            }
+        }
+        row.failing_fetch = Some(0);
+        row.failing_read = Some(0);
+        row.failing_take = Some(0);
+        expect_row(&rt, alloc, text, &row)?;
     }
     Ok(())
 }
@@ -611,7 +604,8 @@ fn words_that_are_not_plain_are_refused_unread(rt: HostRuntime) -> Result<(), Fa
 // The input is at hand to fail: a type that is refused takes nothing from it.
 #[test]
 fn other_types_are_refused_before_the_input(rt: HostRuntime) -> Result<(), Fail> {
-    let integer = unhex(rt.alloc(), &[INTEGER])?;
+    let alloc = rt.alloc();
+    let err = "omarshal: type: NotYet\n";
     for type_text in [
         "foo",
         "Int",
@@ -629,19 +623,9 @@ fn other_types_are_refused_before_the_input(rt: HostRuntime) -> Result<(), Fail>
         "(int)",
         "int*string",
     ] {
-        let row = Row {
-            shows: type_text,
-            words: &["check", "t.ml", type_text],
-            outside: Outside {
-                failing_takes: &[0],
-                ..healthy(integer.as_slice())
-            },
-            status: Status::Types,
-            out: "",
-            err: "omarshal: type: NotYet\n",
-            faults: NO_FAULTS,
-        };
-        expect_row(&rt, rt.alloc(), row)?;
+        let mut row = check_row(alloc, type_text, INTEGER, Status::Types, "", err)?;
+        row.failing_take = Some(0);
+        expect_row(&rt, alloc, type_text, &row)?;
     }
     Ok(())
 }
@@ -650,7 +634,7 @@ fn other_types_are_refused_before_the_input(rt: HostRuntime) -> Result<(), Fail>
 #[test]
 fn a_type_has_at_most_199_lists(rt: HostRuntime) -> Result<(), Fail> {
     let alloc = rt.alloc();
-    let zero = unhex(alloc, &["8495a6be 00000001 00000000 00000000 00000000 40"])?;
+    let zero = "8495a6be 00000001 00000000 00000000 00000000 40";
     let no = "no .: expected string, found int 0\n";
     let refused = "omarshal: type: NotYet\n";
     for (lists, status, out, err) in [
@@ -665,28 +649,17 @@ fn a_type_has_at_most_199_lists(rt: HostRuntime) -> Result<(), Fail> {
         for _ in 0..lists {
             type_text.push_str(" list")?;
         }
-        let row = Row {
-            shows: type_text.as_str(),
-            words: &["check", "t.ml", type_text.as_str()],
-            outside: healthy(zero.as_slice()),
-            status,
-            out,
-            err,
-            faults: NO_FAULTS,
-        };
-        expect_row(&rt, alloc, row)?;
+        let row = check_row(alloc, type_text.as_str(), zero, status, out, err)?;
+        expect_row(&rt, alloc, type_text.as_str(), &row)?;
     }
     Ok(())
 }
 
-// What is shown, the name, the bytes of the file, the fetches and the reads that fail, the type, the status, the line,
-// and how many fetches and reads failed. The input is at hand to fail, and nothing is taken from it.
+// What is shown, the name, the bytes of the file, the fetch and the read that fail, the type, the status, and the line.
+// The input is at hand to fail, and nothing is taken from it.
 #[test]
 fn files_are_refused_before_the_input(rt: HostRuntime) -> Result<(), Fail> {
-    let integer = unhex(rt.alloc(), &[INTEGER])?;
-    let none: &[u64] = &[];
-    let first: &[u64] = &[0];
-    let second: &[u64] = &[1];
+    let alloc = rt.alloc();
     let missing = "omarshal: cannot open t.ml\n";
     let not_yet = "omarshal: types: NotYet\n";
     let fault = "omarshal: read fault\n";
@@ -695,155 +668,116 @@ fn files_are_refused_before_the_input(rt: HostRuntime) -> Result<(), Fail> {
             "there is no file",
             "t.ml",
             None,
-            none,
-            none,
+            None,
+            None,
             "int",
             Status::OpenFault,
             missing,
-            0,
-            0,
         ),
         (
             "a missing file comes before the type",
             "t.ml",
             None,
-            none,
-            none,
+            None,
+            None,
             "foo",
             Status::OpenFault,
             missing,
-            0,
-            0,
         ),
         (
             "another name",
             "u.ml",
             Some(""),
-            none,
-            none,
+            None,
+            None,
             "int",
             Status::OpenFault,
             "omarshal: cannot open u.ml\n",
-            0,
-            0,
         ),
         (
             "the file cannot be opened",
             "t.ml",
             Some(""),
-            first,
-            none,
+            Some(0),
+            None,
             "int",
             Status::OpenFault,
             missing,
-            1,
-            0,
         ),
         (
             "the file cannot be read",
             "t.ml",
             Some(""),
-            none,
-            first,
+            None,
+            Some(0),
             "int",
             Status::ReadFault,
             fault,
-            0,
-            1,
         ),
         (
             "the file cannot be read to its end",
             "t.ml",
             Some("x"),
-            none,
-            second,
+            None,
+            Some(1),
             "int",
             Status::ReadFault,
             fault,
-            0,
-            1,
         ),
         (
             "a fault of the file comes before the type",
             "t.ml",
             Some(""),
-            none,
-            first,
+            None,
+            Some(0),
             "foo",
             Status::ReadFault,
             fault,
-            0,
-            1,
         ),
         (
             "a declaration",
             "t.ml",
             Some("type t = int"),
-            none,
-            none,
+            None,
+            None,
             "t",
             Status::Types,
             not_yet,
-            0,
-            0,
         ),
         (
             "a space",
             "t.ml",
             Some(" "),
-            none,
-            none,
+            None,
+            None,
             "int",
             Status::Types,
             not_yet,
-            0,
-            0,
         ),
         (
             "the file comes before the type",
             "t.ml",
             Some("\n"),
-            none,
-            none,
+            None,
+            None,
             "foo",
             Status::Types,
             not_yet,
-            0,
-            0,
         ),
     ];
-    for (
-        shows,
-        name,
-        file,
-        failing_fetches,
-        failing_reads,
-        type_text,
-        status,
-        err,
-        fetches,
-        reads,
-    ) in table {
-        let row = Row {
-            shows,
-            words: &["check", name, type_text],
-            outside: Outside {
-                file,
-                failing_fetches,
-                failing_reads,
-                failing_takes: &[0],
-                ..healthy(integer.as_slice())
-            },
-            status,
-            out: "",
-            err,
-            faults: Faults {
-                fetches,
-                reads,
-                takes: 0,
-            },
+    for (shows, name, file, fetch, read, type_text, status, err) in table {
+        let mut row = check_row(alloc, type_text, INTEGER, status, "", err)?;
+        row.words = check_words(alloc, name, type_text)?;
+        row.file = match file {
+            Some(text) => Some(text.as_bytes().to_vec(alloc)?),
+            None => None,
         };
-        expect_row(&rt, rt.alloc(), row)?;
+        row.failing_fetch = fetch;
+        row.failing_read = read;
+        row.failing_take = Some(0);
+        row.faults.fetches = u64::from(fetch.is_some());
+        row.faults.reads = u64::from(read.is_some());
+        expect_row(&rt, alloc, shows, &row)?;
     }
     Ok(())
 }
@@ -852,7 +786,6 @@ fn files_are_refused_before_the_input(rt: HostRuntime) -> Result<(), Fail> {
 #[test]
 fn a_fault_of_the_input_is_told_behind_the_values(rt: HostRuntime) -> Result<(), Fail> {
     let alloc = rt.alloc();
-    let two = unhex(alloc, &[INTEGER, INTEGER])?;
     for (piece, take, out) in [
         (1, 0, ""),
         (1, 20, ""),
@@ -862,29 +795,18 @@ fn a_fault_of_the_input_is_told_behind_the_values(rt: HostRuntime) -> Result<(),
         (7, 0, ""),
         (7, 2, ""),
         (7, 3, "yes\n"),
-        (7, 4, "yes\n"),
         (7, 5, "yes\n"),
         (7, 6, "yes\nyes\n"),
         (21, 1, "yes\n"),
         (4096, 0, ""),
         (4096, 1, "yes\nyes\n"),
     ] {
-        let row = Row {
-            shows: "a take that fails",
-            words: &AT_INT,
-            outside: Outside {
-                failing_takes: &[take],
-                ..healthy(two.as_slice())
-            },
-            status: Status::ReadFault,
-            out,
-            err: "omarshal: read fault\n",
-            faults: Faults {
-                takes: 1,
-                ..NO_FAULTS
-            },
-        };
-        expect_in_pieces(&rt, alloc, row, piece)?;
+        let err = "omarshal: read fault\n";
+        let mut row = check_row(alloc, "int", INTEGER, Status::ReadFault, out, err)?;
+        push_hex(&mut row.input, INTEGER)?;
+        row.failing_take = Some(take);
+        row.faults.takes = 1;
+        expect_in_pieces(&rt, alloc, "a take that fails", &row, piece)?;
     }
     Ok(())
 }
@@ -899,37 +821,24 @@ fn a_fault_of_the_input_comes_before_a_refusal_and_a_no(rt: HostRuntime) -> Resu
         ("a cut", "8495a6", ""),
         ("nothing", "", ""),
     ] {
-        let input = unhex(alloc, &[value])?;
-        let take = input.len() as u64;
-        let row = Row {
-            shows,
-            words: &AT_INT,
-            outside: Outside {
-                failing_takes: &[take],
-                ..healthy(input.as_slice())
-            },
-            status: Status::ReadFault,
-            out,
-            err: "omarshal: read fault\n",
-            faults: Faults {
-                takes: 1,
-                ..NO_FAULTS
-            },
-        };
-        expect_in_pieces(&rt, alloc, row, 1)?;
+        let err = "omarshal: read fault\n";
+        let mut row = check_row(alloc, "int", value, Status::ReadFault, out, err)?;
+        row.failing_take = Some(row.input.len() as u64);
+        row.faults.takes = 1;
+        expect_in_pieces(&rt, alloc, shows, &row, 1)?;
     }
     Ok(())
 }
 
-// What is shown, the values, the room on out and on err, and what fits.
+// What is shown, two values, the room on out and on err, and what fits.
 #[test]
 fn a_full_sink_is_a_write_fault(rt: HostRuntime) -> Result<(), Fail> {
-    let alloc = rt.alloc();
     let table = [
-        ("out has no room", [INTEGER, INTEGER], 0, 4096, "", ""),
+        ("out has no room", INTEGER, INTEGER, 0, 4096, "", ""),
         (
             "out has room for a part of a text",
-            [INTEGER, INTEGER],
+            INTEGER,
+            INTEGER,
             2,
             4096,
             "ye",
@@ -937,7 +846,8 @@ fn a_full_sink_is_a_write_fault(rt: HostRuntime) -> Result<(), Fail> {
         ),
         (
             "out has no room for a line feed",
-            [INTEGER, INTEGER],
+            INTEGER,
+            INTEGER,
             3,
             4096,
             "yes",
@@ -945,7 +855,8 @@ fn a_full_sink_is_a_write_fault(rt: HostRuntime) -> Result<(), Fail> {
         ),
         (
             "out has room for one of two lines",
-            [INTEGER, INTEGER],
+            INTEGER,
+            INTEGER,
             4,
             4096,
             "yes\n",
@@ -953,7 +864,8 @@ fn a_full_sink_is_a_write_fault(rt: HostRuntime) -> Result<(), Fail> {
         ),
         (
             "a full out comes before a later refusal",
-            [INTEGER, BYTE_BEHIND],
+            INTEGER,
+            BYTE_BEHIND,
             0,
             4096,
             "",
@@ -961,7 +873,8 @@ fn a_full_sink_is_a_write_fault(rt: HostRuntime) -> Result<(), Fail> {
         ),
         (
             "err has no room",
-            [INTEGER, BYTE_BEHIND],
+            INTEGER,
+            BYTE_BEHIND,
             4096,
             0,
             "yes\n",
@@ -969,7 +882,8 @@ fn a_full_sink_is_a_write_fault(rt: HostRuntime) -> Result<(), Fail> {
         ),
         (
             "err has room for a part of a line",
-            [INTEGER, BYTE_BEHIND],
+            INTEGER,
+            BYTE_BEHIND,
             4096,
             14,
             "yes\n",
@@ -977,29 +891,20 @@ fn a_full_sink_is_a_write_fault(rt: HostRuntime) -> Result<(), Fail> {
         ),
         (
             "err has no room for a line feed",
-            [INTEGER, "84"],
+            INTEGER,
+            "84",
             4096,
             31,
             "yes\n",
             "omarshal: value 1: Truncated(1)",
         ),
     ];
-    for (shows, values, out_room, err_room, out, err) in table {
-        let input = unhex(alloc, &values)?;
-        let row = Row {
-            shows,
-            words: &AT_INT,
-            outside: Outside {
-                out_room,
-                err_room,
-                ..healthy(input.as_slice())
-            },
-            status: Status::WriteFault,
-            out,
-            err,
-            faults: NO_FAULTS,
-        };
-        expect_row(&rt, alloc, row)?;
+    for (shows, first, second, out_room, err_room, out, err) in table {
+        let mut row = check_row(rt.alloc(), "int", first, Status::WriteFault, out, err)?;
+        push_hex(&mut row.input, second)?;
+        row.out_room = out_room;
+        row.err_room = err_room;
+        expect_row(&rt, rt.alloc(), shows, &row)?;
     }
     Ok(())
 }
@@ -1007,8 +912,7 @@ fn a_full_sink_is_a_write_fault(rt: HostRuntime) -> Result<(), Fail> {
 // A line that fits to its last byte is put, and where there is no line, no room is asked for.
 #[test]
 fn a_sink_may_be_filled_to_its_last_byte(rt: HostRuntime) -> Result<(), Fail> {
-    let alloc = rt.alloc();
-    let table = [
+    for (value, out_room, err_room, status, out, err) in [
         (INTEGER, 4, 0, Status::Well, "yes\n", ""),
         (
             "84",
@@ -1019,23 +923,11 @@ fn a_sink_may_be_filled_to_its_last_byte(rt: HostRuntime) -> Result<(), Fail> {
             "omarshal: value 0: Truncated(1)\n",
         ),
         ("", 0, 0, Status::Well, "", ""),
-    ];
-    for (value, out_room, err_room, status, out, err) in table {
-        let input = unhex(alloc, &[value])?;
-        let row = Row {
-            shows: "just enough room",
-            words: &AT_INT,
-            outside: Outside {
-                out_room,
-                err_room,
-                ..healthy(input.as_slice())
-            },
-            status,
-            out,
-            err,
-            faults: NO_FAULTS,
-        };
-        expect_row(&rt, alloc, row)?;
+    ] {
+        let mut row = check_row(rt.alloc(), "int", value, status, out, err)?;
+        row.out_room = out_room;
+        row.err_room = err_room;
+        expect_row(&rt, rt.alloc(), "just enough room", &row)?;
     }
     Ok(())
 }
