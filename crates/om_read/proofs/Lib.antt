@@ -4,6 +4,7 @@ pub mod Judging
 pub mod Fields
 pub mod Built
 pub mod Opened
+pub mod Rooms
 pub mod Stacks
 pub mod Absorbed
 pub mod Heads

@@ -5,7 +5,7 @@ use Rattle.std.proofs.lemmas.List.{map-append, length-take-le}
 use Rattle.std.proofs.lemmas.List.Elements.{All-push}
 use Rattle.om_model.specs.declared.code.Measure.{Measure}
 use Rattle.om_model.specs.Bytes.{AreBytes}
-use Rattle.om_model.specs.Words.{of_object, fields, objects, pending}
+use Rattle.om_model.specs.Words.{of_object, fields, objects, pending, all_words64}
 use Rattle.om_model.specs.Raw.{raw_length, raw_measure}
 use Rattle.om_model.specs.Token.{Token, IsToken, Spells}
 use Rattle.om_model.specs.Tree.{RefersBack}
@@ -22,9 +22,12 @@ use Rattle.om_read.specs.declared.place.Place.{Place}
 use Rattle.om_read.specs.declared.stop.Stop.{Stop}
 use Rattle.om_read.specs.declared.stop.Stop.TheVariants.{Wait, Refused}
 use Rattle.om_read.specs.Place.{IsSumOf, Judged, after}
-use Rattle.om_read.specs.Build.{Building, start, absorb, WellOpen}
+use Rattle.om_read.specs.Build.{Building, Bounded, start, absorb, absorb_in, WellOpen, Fits}
 use Rattle.om_read.specs.Reading.{Leads, NextOf, with_next}
+use Rattle.om_heap.specs.Heap.{heap_words}
 use Rattle.om_read.proofs.Opened.{WellOpen-from_start, length-from_start, absorb_all_push}
+use Rattle.om_read.proofs.Rooms.{heap_words-from_start}
+use Rattle.om_read.proofs.Sums.{more_words64}
 
 -- ---- where the next token leads
 
@@ -63,22 +66,38 @@ AllZip-push R (a ∷ xs) [] x y h r = absurd h
 AllZip-push R (a ∷ xs) (b ∷ ys) x y h r = (h.0, AllZip-push R xs ys x y h.1 r)
 
 -- as many objects are there as the tokens made
-pub objects_built : (header : List ℕ) (before : List (List ℕ)) (place : Place) (built : Building) → Leads header before place built
-    → length built.objects ≡ objects (map raw_measure before)
-objects_built header before place built h =
+pub objects_built : (header : List ℕ) (before : List (List ℕ)) (place : Place) (state : Bounded) → Leads header before place state
+    → length state.built.objects ≡ objects (map raw_measure before)
+objects_built header before place state h =
     ap (λ (b : Building). length b.objects) h.builds ∙ length-from_start h.tokens h.are_tokens ∙ ap objects (sym (raw_measures-spelled h.tokens before h.spells))
 
-pub built_well : (header : List ℕ) (before : List (List ℕ)) (place : Place) (built : Building) → Leads header before place built → WellOpen built
-built_well header before place built h = subst WellOpen (sym h.builds) (WellOpen-from_start h.tokens h.are_tokens)
+-- the objects have the words of the tokens
+words_built : (header : List ℕ) (before : List (List ℕ)) (place : Place) (state : Bounded) → Leads header before place state
+    → heap_words state.built.objects ≡ all_words64 (map raw_measure before)
+words_built header before place state h =
+    ap (λ (b : Building). heap_words b.objects) h.builds ∙ heap_words-from_start h.tokens h.are_tokens ∙ ap all_words64 (sym (raw_measures-spelled h.tokens before h.spells))
+
+-- the next one has room
+pub next_fits : (header : List ℕ) (before : List (List ℕ)) (place next : Place) (state : Bounded) (rest : List ℕ) → Leads header before place state
+    → IsSumOf next (after (context header before) rest) → next.w64 ≤ next.head.w64 → Fits state (raw_measure rest)
+next_fits header before place next state rest h sums within =
+    let words = words_built header before place state h in
+    let more = more_words64 (map raw_measure before) (raw_measure rest) (all_words64 (map raw_measure before)) refl in
+    let same : next.head ≡ place.head = sym sums.head ∙ h.sums.head in
+    let room : state.room ≡ next.head.w64 = h.room ∙ ap (λ x. x.w64) (sym same) in
+    omega (arith, sums.w64)
+
+pub built_well : (header : List ℕ) (before : List (List ℕ)) (place : Place) (state : Bounded) → Leads header before place state → WellOpen state.built
+built_well header before place state h = subst WellOpen (sym h.builds) (WellOpen-from_start h.tokens h.are_tokens)
 
 -- the next token spells one that refers back
-pub next_spelled : (header : List ℕ) (before : List (List ℕ)) (place : Place) (built : Building) (rest : List ℕ) → AreBytes rest → Leads header before place built
+pub next_spelled : (header : List ℕ) (before : List (List ℕ)) (place : Place) (state : Bounded) (rest : List ℕ) → AreBytes rest → Leads header before place state
     → first_refusal (length rest) (token_steps (context header before) rest) ≡ None → raw_length rest ≤ length rest
-    → (t : Token) × Spells t (take (raw_length rest) rest) × RefersBack t (length built.objects)
-next_spelled header before place built rest bytes h none whole =
+    → (t : Token) × Spells t (take (raw_length rest) rest) × RefersBack t (length state.built.objects)
+next_spelled header before place state rest bytes h none whole =
     let p = next_passes header before rest none whole in
     let s = SpelledThere-passes header before (take (raw_length rest) rest) (AreBytes-take (raw_length rest) rest bytes) p.raw p.passes in
-    (s.token, s.spells, subst (RefersBack s.token) (sym (objects_built header before place built h)) s.refers_back)
+    (s.token, s.spells, subst (RefersBack s.token) (sym (objects_built header before place state h)) s.refers_back)
 
 -- what is spelled is a token
 pub Spells-token : (t : Token) (piece : List ℕ) → Spells t piece → IsToken t
@@ -86,11 +105,11 @@ Spells-token t [] s = absurd s
 Spells-token t (code ∷ rest) s = s.0
 
 -- and it leads on
-pub next_leads : (header : List ℕ) (before : List (List ℕ)) (place next : Place) (built built' : Building) (rest : List ℕ) → AreBytes rest → Leads header before place built
+pub next_leads : (header : List ℕ) (before : List (List ℕ)) (place next : Place) (state state' : Bounded) (rest : List ℕ) → AreBytes rest → Leads header before place state
     → first_refusal (length rest) (token_steps (context header before) rest) ≡ None → raw_length rest ≤ length rest → IsSumOf next (after (context header before) rest)
-    → ((t : Token) → Spells t (take (raw_length rest) rest) → built' ≡ absorb built t)
-    → Leads header (with_next before rest) next built'
-next_leads header before place next built built' rest bytes h none whole sums adds =
+    → ((t : Token) → Spells t (take (raw_length rest) rest) → state' ≡ absorb_in state t)
+    → Leads header (with_next before rest) next state'
+next_leads header before place next state state' rest bytes h none whole sums adds =
     let p = next_passes header before rest none whole in
     let s = SpelledThere-passes header before (take (raw_length rest) rest) (AreBytes-take (raw_length rest) rest bytes) p.raw p.passes in
     record {
@@ -98,7 +117,8 @@ next_leads header before place next built built' rest bytes h none whole sums ad
       sums = subst (IsSumOf next) (context_after header before rest whole) sums;
       spells = AllZip-push Spells h.tokens before s.token (take (raw_length rest) rest) h.spells s.spells;
       are_tokens = All-push IsToken h.tokens s.token h.are_tokens (Spells-token s.token (take (raw_length rest) rest) s.spells);
-      builds = adds s.token s.spells ∙ ap (λ b. absorb b s.token) h.builds ∙ sym (absorb_all_push start h.tokens s.token);
+      builds = ap (λ (b : Bounded). b.built) (adds s.token s.spells) ∙ ap (λ b. absorb b s.token) h.builds ∙ sym (absorb_all_push start h.tokens s.token);
+      room = ap (λ (b : Bounded). b.room) (adds s.token s.spells) ∙ h.room ∙ ap (λ x. x.w64) (sym h.sums.head ∙ sums.head);
     }
 
 -- ---- what is not whole, or refused
@@ -108,8 +128,8 @@ unfolding token_steps
 nothing_left c [] e = (refl, omega arith)
 nothing_left c (b ∷ rest) e = absurd (omega arith)
 
-pub judged_next : (header : List ℕ) (before : List (List ℕ)) (rest : List ℕ) (built : Building) (x : Result Place Stop) → IsErr x
-    → Judged (context header before) rest x → NextOf header before rest built x
-judged_next header before rest built (Ok place) e j = cc
-judged_next header before rest built (Err Wait) e j = j
-judged_next header before rest built (Err (Refused r)) e j = λ _. j
+pub judged_next : (header : List ℕ) (before : List (List ℕ)) (rest : List ℕ) (state : Bounded) (x : Result Place Stop) → IsErr x
+    → Judged (context header before) rest x → NextOf header before rest state x
+judged_next header before rest state (Ok place) e j = cc
+judged_next header before rest state (Err Wait) e j = j
+judged_next header before rest state (Err (Refused r)) e j = λ _. j

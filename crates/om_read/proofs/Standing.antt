@@ -25,29 +25,31 @@ use Rattle.om_read.specs.declared.place.Place.{Place}
 use Rattle.om_read.specs.declared.value.Whole.{Whole}
 use Rattle.om_read.specs.declared.value.Whole.TheVariants.{Done, Cut}
 use Rattle.om_read.specs.Head.{JudgedHeader}
-use Rattle.om_read.specs.Build.{Building, start, building, absorb_all}
+use Rattle.om_read.specs.Build.{Bounded, empty, start, building, absorb_all}
 use Rattle.om_read.specs.Reading.{Leads, NextOf, with_next, Reads, Answers, AnswersTo, answer_of}
 use Rattle.om_read.proofs.Built.{absorb_start}
 use Rattle.om_read.proofs.Nexts.{context_after}
 
--- where a reader stands
-pub record IsAt (limit : ℕ) (bytes : List ℕ) (place : Place) (built : Building) : Type 0 where
+-- where a reader stands, behind a header that states no more words than the limit
+pub record IsAt (limit : ℕ) (bytes : List ℕ) (place : Place) (state : Bounded) : Type 0 where
   pub header : List ℕ
   pub before : List (List ℕ)
   pub stands : Stands limit bytes header before (drop (place.start + place.taken) bytes)
-  pub leads : Leads header before place built
+  pub leads : Leads header before place state
+  pub limited : place.head.w64 ≤ limit
 
 -- ---- the header
 
-pub at_start : (limit : ℕ) (bytes : List ℕ) (place : Place) → JudgedHeader limit bytes (Ok place) → IsAt limit bytes place start
-at_start limit bytes place h =
+pub at_start : (limit : ℕ) (bytes : List ℕ) (place : Place) → JudgedHeader limit bytes (Ok place) → place.head.w64 ≤ limit → IsAt limit bytes place (empty place.head.w64)
+at_start limit bytes place h limited =
     let len = length-take-le (header_length bytes) bytes h.1 in
     let at : header_length bytes ≡ place.start + place.taken = omega (arith, h.2.start, h.2.taken) in
     record {
       header = take (header_length bytes) bytes;
       before = [];
       stands = subst (λ n. Stands limit bytes (take (header_length bytes) bytes) [] (drop n bytes)) at (Stands-header limit bytes h.0 h.1);
-      leads = record { tokens = []; sums = h.2; spells = tt; are_tokens = All-nil IsToken; builds = refl };
+      leads = record { tokens = []; sums = h.2; spells = tt; are_tokens = All-nil IsToken; builds = refl; room = refl };
+      limited = limited;
     }
 
 pub header_cut : (limit : ℕ) (bytes : List ℕ) → JudgedHeader limit bytes (Err Wait) → Reads limit bytes (Ok Cut)
@@ -62,7 +64,7 @@ header_stops limit bytes (Refused r) h = header_refuses limit bytes r h
 
 -- ---- a token
 
-module _ (limit : ℕ) (bytes : List ℕ) (place : Place) (built : Building) (here : IsAt limit bytes place built) where
+module _ (limit : ℕ) (bytes : List ℕ) (place : Place) (state : Bounded) (here : IsAt limit bytes place state) where
   pub at_place : place.start + place.taken ≡ length here.header + length (concat here.before)
   at_place = omega (arith, here.leads.sums.start, here.leads.sums.taken)
 
@@ -76,22 +78,22 @@ module _ (limit : ℕ) (bytes : List ℕ) (place : Place) (built : Building) (he
   pub is_open : 0 < place.pending
   is_open = omega (arith, here.leads.sums.pending, here.stands.is_open)
 
-  pub at_cut : (built' : Building) → NextOf here.header here.before (drop (place.start + place.taken) bytes) built' (Err Wait) → Reads limit bytes (Ok Cut)
-  at_cut built' h = Stands-front limit bytes here.header here.before (drop (place.start + place.taken) bytes) here.stands h.0 h.1
+  pub at_cut : (state' : Bounded) → NextOf here.header here.before (drop (place.start + place.taken) bytes) state' (Err Wait) → Reads limit bytes (Ok Cut)
+  at_cut state' h = Stands-front limit bytes here.header here.before (drop (place.start + place.taken) bytes) here.stands h.0 h.1
 
-  pub at_refused : (built' : Building) (r : ReadRefusal) → NextOf here.header here.before (drop (place.start + place.taken) bytes) built' (Err (Refused r)) → Reads limit bytes (Err r)
-  at_refused built' r h = λ ne.
+  pub at_refused : (state' : Bounded) (r : ReadRefusal) → NextOf here.header here.before (drop (place.start + place.taken) bytes) state' (Err (Refused r)) → Reads limit bytes (Err r)
+  at_refused state' r h = λ ne.
       let rest = drop (place.start + place.taken) bytes in
       let x = next_refused here.header here.before rest r (h ne) in
       (length here.header + (length (concat here.before) + x.count), Stands-refused limit bytes here.header here.before rest r here.stands x)
 
-  pub at_stop : (built' : Building) (stop : Stop) → NextOf here.header here.before (drop (place.start + place.taken) bytes) built' (Err stop) → Reads limit bytes (answer_of stop)
-  at_stop built' Wait h = at_cut built' h
-  at_stop built' (Refused r) h = at_refused built' r h
+  pub at_stop : (state' : Bounded) (stop : Stop) → NextOf here.header here.before (drop (place.start + place.taken) bytes) state' (Err stop) → Reads limit bytes (answer_of stop)
+  at_stop state' Wait h = at_cut state' h
+  at_stop state' (Refused r) h = at_refused state' r h
 
   -- ---- the next place
 
-  module _ (next : Place) (built' : Building) (h : NextOf here.header here.before (drop (place.start + place.taken) bytes) built' (Ok next)) where
+  module _ (next : Place) (state' : Bounded) (h : NextOf here.header here.before (drop (place.start + place.taken) bytes) state' (Ok next)) where
     pub start_stays : next.start ≡ place.start
     start_stays = sym h.2.sums.start ∙ here.leads.sums.start
 
@@ -106,7 +108,7 @@ module _ (limit : ℕ) (bytes : List ℕ) (place : Place) (built : Building) (he
         let l = length-drop (place.start + place.taken) bytes in
         omega (arith, start_stays, goes_on, one-le-raw_length (drop (place.start + place.taken) bytes), h.1)
 
-    pub at_next : 0 < next.pending → IsAt limit bytes next built'
+    pub at_next : 0 < next.pending → IsAt limit bytes next state'
     at_next some =
         let rest = drop (place.start + place.taken) bytes in
         let p = next_passes here.header here.before rest h.0 h.1 in
@@ -119,10 +121,11 @@ module _ (limit : ℕ) (bytes : List ℕ) (place : Place) (built : Building) (he
           before = with_next here.before rest;
           stands = subst (Stands limit bytes here.header (with_next here.before rest)) behind (Stands-next limit bytes here.header here.before rest here.stands p is_open);
           leads = h.2;
+          limited = subst (λ x. x.w64 ≤ limit) (sym here.leads.sums.head ∙ h.2.sums.head) here.limited;
         }
 
     pub at_end : AreBytes bytes → next.pending ≡ 0
-        → (tree : Tree) × Judges limit bytes (value (next.start + next.taken) tree) × (built' ≡ building (objects_of tree 0) [] (Some (root tree 0)))
+        → (tree : Tree) × Judges limit bytes (value (next.start + next.taken) tree) × (state'.built ≡ building (objects_of tree 0) [] (Some (root tree 0)))
     at_end a none =
         let rest = drop (place.start + place.taken) bytes in
         let p = next_passes here.header here.before rest h.0 h.1 in

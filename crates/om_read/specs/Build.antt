@@ -1,14 +1,15 @@
 -- A graph built from tokens that come one at a time, in preorder: what a reader holds, and what a token adds to it
 -- (`intern.c` fills blocks so, from a stack of its own).
-use Rattle.std.specs.Prelude.{ℕ, ◌+◌, ◌-◌, ◌<◌, ◌≡◌, ◌==◌, if◌then◌else◌, List, [], ◌∷◌, ◌++◌, length, fold, sum_by, replicate, HoldsAt, All, Option, Some, None, pos}
+use Rattle.std.specs.Prelude.{ℕ, ◌+◌, ◌-◌, ◌<◌, ◌≤◌, ◌≡◌, ◌==◌, if◌then◌else◌, List, [], ◌∷◌, ◌++◌, length, fold, sum_by, replicate, HoldsAt, All, Option, Some, None, pos}
 use Rattle.om_model.specs.declared.value.Val.{Val}
 use Rattle.om_model.specs.declared.value.Val.TheVariants as vals
 use Rattle.om_model.specs.declared.value.Obj.{Obj}
 use Rattle.om_model.specs.declared.value.Obj.TheVariants as objects
-use Rattle.om_model.specs.Words.{of_object, fields}
+use Rattle.om_model.specs.declared.code.Measure.{Measure}
+use Rattle.om_model.specs.Words.{of_object, fields, words64}
 use Rattle.om_model.specs.Token.{Token, integer, atom, shared, block, leaf, measure_of}
 use Rattle.om_model.specs.Tree.{value_of, object_of}
-use Rattle.om_heap.specs.Heap.{set_field}
+use Rattle.om_heap.specs.Heap.{set_field, heap_words}
 use Rattle.om_read.specs.declared.build.OpenBlock.{OpenBlock}
 
 -- ---- what is built
@@ -113,3 +114,30 @@ AreOpen all (b ∷ outer) = IsOpenIn all b × All (λ o. o.object < b.object) ou
 pub record WellOpen (state : Building) : Type 0 where
   pub are_open : AreOpen state.objects state.open_blocks
   pub rooted : state.root ≡ None → state.open_blocks ≡ []
+
+-- ---- how large it may become
+
+-- what is built, and how many words on 64 bits its objects may have
+pub record Bounded : Type 0 where
+  pub built : Building
+  pub room : ℕ
+
+-- the two together
+abbrev pub in_room : Building → ℕ → Bounded
+in_room built room = record { built = built; room = room }
+
+-- nothing is built
+abbrev pub empty : ℕ → Bounded
+empty room = in_room start room
+
+-- a value comes
+abbrev pub place_in : Val → Bounded → Bounded
+place_in v state = in_room (place v state.built.objects state.built.open_blocks state.built.root) state.room
+
+-- a token comes
+abbrev pub absorb_in : Bounded → Token → Bounded
+absorb_in state token = in_room (absorb state.built token) state.room
+
+-- with one object more, if there is one of this measure, the words are still no more than they may be
+abbrev pub Fits : Bounded → Option Measure → Type 0
+Fits state measure = heap_words state.built.objects + of_object words64 measure ≤ state.room

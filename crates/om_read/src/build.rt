@@ -18,46 +18,54 @@ pub struct OpenBlock {
     pub size: u64,
 }
 
-/// The objects so far, the open blocks, the innermost last, and the root once it has come.
+/// The objects so far, the open blocks, the innermost last, the root once it has come, and how many words on 64 bits
+/// the objects may have.
 #[derive(Drop)]
 pub struct Builder {
     heap: Heap,
     open_blocks: Vec<OpenBlock>,
     root: Option<Val>,
+    room: u64,
 }
 
 impl Model for Builder {
-    ghost use Rattle.std.specs.Prelude.{reverse};
-    ghost use Rattle.om_read.specs.Build.{Building, building};
+    ghost use Rattle.std.specs.Prelude.{◌≤◌, reverse};
+    ghost use Rattle.om_heap.specs.Heap.{heap_words};
+    ghost use Rattle.om_read.specs.Build.{Bounded, building, in_room};
 
-    ghost Value = { Building };
+    ghost Value = { Bounded };
 
-    ghost view = { λ b. building b.heap (reverse b.open_blocks.items) b.root };
+    ghost view = { λ b. in_room (building b.heap (reverse b.open_blocks.items) b.root) b.room };
+
+    ghost invariant = { λ b. heap_words b.heap ≤ b.room };
 }
 
 impl Builder {
     ghost use Rattle.om_model.specs.Token.{integer as integer_token, atom as atom_token, shared as shared_token, block as block_token, leaf};
     ghost use Rattle.om_model.specs.declared.value.Obj.TheVariants as objects;
     ghost use Rattle.om_heap.specs.Heap.{custom_object};
-    ghost use Rattle.om_read.specs.Build.{start, place as place_of, absorb, WellOpen};
+    ghost use Rattle.om_model.specs.declared.code.Measure.TheVariants as measures;
+    ghost use Rattle.om_model.specs.Token.{leaf_measure};
+    ghost use Rattle.om_read.specs.Build.{empty, place_in, absorb_in, WellOpen, Fits};
     ghost use Rattle.om_model.specs.Graph.{IsValue, IsInteger};
 
-    /// Nothing is built.
-    pub fn new(alloc: Global) -> Builder
-        ensures { result ≡ start }
+    /// Nothing is built, and the objects may have so many words.
+    pub fn new(alloc: Global, room: u64) -> Builder
+        ensures { result ≡ empty room }
     {
         Builder {
             heap: Heap::new(alloc),
             open_blocks: Vec::new(alloc),
             root: None,
+            room,
         }
     }
 
     /// The value comes: it is the root, or the next field of the innermost open block.
     fn place(&mut self, v: Val)
-        requires well { WellOpen self.old }
-        requires valid { IsValue (length self.old.objects) v }
-        ensures { self.new ≡ place_of v self.old.objects self.old.open_blocks self.old.root }
+        requires well { WellOpen self.old.built }
+        requires valid { IsValue (length self.old.built.objects) v }
+        ensures { self.new ≡ place_in v self.old }
     {
         let depth = self.open_blocks.len();
         if depth == 0 {
@@ -80,9 +88,9 @@ impl Builder {
     /// An integer.
     #[tactic(auto, using(crate::proofs::Absorbed::absorbed_integer))]
     pub fn integer(&mut self, value: i64)
-        requires well { WellOpen self.old }
+        requires well { WellOpen self.old.built }
         requires range { IsInteger value }
-        ensures { self.new ≡ absorb self.old (integer_token value) }
+        ensures { self.new ≡ absorb_in self.old (integer_token value) }
     {
         self.place(Val::Int(value));
     }
@@ -90,9 +98,9 @@ impl Builder {
     /// An atom.
     #[tactic(auto, using(crate::proofs::Absorbed::absorbed_atom))]
     pub fn atom(&mut self, tag: u8)
-        requires well { WellOpen self.old }
+        requires well { WellOpen self.old.built }
         requires range { tag ≤ 243 }
-        ensures { self.new ≡ absorb self.old (atom_token tag) }
+        ensures { self.new ≡ absorb_in self.old (atom_token tag) }
     {
         self.place(Val::Atom(tag));
     }
@@ -100,10 +108,10 @@ impl Builder {
     /// A reference to the object so many places before the next one.
     #[tactic(auto, using(crate::proofs::Absorbed::absorbed_shared))]
     pub fn shared(&mut self, offset: u64)
-        requires well { WellOpen self.old }
+        requires well { WellOpen self.old.built }
         requires some { 1 ≤ offset }
-        requires there { offset ≤ length self.old.objects }
-        ensures { self.new ≡ absorb self.old (shared_token offset) }
+        requires there { offset ≤ length self.old.built.objects }
+        ensures { self.new ≡ absorb_in self.old (shared_token offset) }
     {
         let count = self.heap.count();
         self.place(Val::Ref(count - offset));
@@ -111,11 +119,12 @@ impl Builder {
 
     /// A block, whose fields are to come.
     pub fn block(&mut self, tag: u8, size: u64) -> Result<(), Memory>
-        requires well { WellOpen self.old }
+        requires well { WellOpen self.old.built }
         requires range { tag ≤ 243 }
         requires some { 0 < size }
         requires small { size < 2 ^ 53 }
-        ensures { OnOk result (self.new ≡ absorb self.old (block_token tag size)) }
+        requires fits { Fits self.old (Some (measures.Block size)) }
+        ensures { OnOk result (self.new ≡ absorb_in self.old (block_token tag size)) }
     {
         let object = self.heap.add_block(tag, size)?;
         self.place(Val::Ref(object));
@@ -132,9 +141,10 @@ impl Builder {
 
     /// A string.
     pub fn bytes(&mut self, content: &[u8]) -> Result<(), Memory>
-        requires well { WellOpen self.old }
+        requires well { WellOpen self.old.built }
         requires small { length content.now < 2 ^ 53 }
-        ensures { OnOk result (self.new ≡ absorb self.old (leaf (objects.Bytes content.now))) }
+        requires fits { Fits self.old (Some (measures.Bytes (length content.now))) }
+        ensures { OnOk result (self.new ≡ absorb_in self.old (leaf (objects.Bytes content.now))) }
     {
         let object = self.heap.add_bytes_of(content)?;
         self.place(Val::Ref(object));
@@ -143,8 +153,9 @@ impl Builder {
 
     /// A double.
     pub fn double(&mut self, bits: u64) -> Result<(), Memory>
-        requires { WellOpen self.old }
-        ensures { OnOk result (self.new ≡ absorb self.old (leaf (objects.Double bits))) }
+        requires well { WellOpen self.old.built }
+        requires fits { Fits self.old (Some measures.Double) }
+        ensures { OnOk result (self.new ≡ absorb_in self.old (leaf (objects.Double bits))) }
     {
         let object = self.heap.add_double(bits)?;
         self.place(Val::Ref(object));
@@ -153,10 +164,11 @@ impl Builder {
 
     /// An array of doubles.
     pub fn doubles(&mut self, all: Vec<u64>) -> Result<(), Memory>
-        requires well { WellOpen self.old }
+        requires well { WellOpen self.old.built }
         requires some { 0 < vec_len all }
         requires small { vec_len all < 2 ^ 53 }
-        ensures { OnOk result (self.new ≡ absorb self.old (leaf (objects.Doubles all.items))) }
+        requires fits { Fits self.old (Some (measures.Doubles (vec_len all))) }
+        ensures { OnOk result (self.new ≡ absorb_in self.old (leaf (objects.Doubles all.items))) }
     {
         let object = self.heap.add_doubles_of(all)?;
         self.place(Val::Ref(object));
@@ -165,8 +177,9 @@ impl Builder {
 
     /// A custom.
     pub fn custom(&mut self, value: Custom) -> Result<(), Memory>
-        requires { WellOpen self.old }
-        ensures { OnOk result (self.new ≡ absorb self.old (leaf (custom_object value))) }
+        requires well { WellOpen self.old.built }
+        requires fits { Fits self.old (leaf_measure (custom_object value)) }
+        ensures { OnOk result (self.new ≡ absorb_in self.old (leaf (custom_object value))) }
     {
         let object = self.heap.add_custom(value)?;
         self.place(Val::Ref(object));
@@ -175,14 +188,15 @@ impl Builder {
 
     /// The graph and its root.
     pub fn finish(self) -> Value
-        requires { IsSome self.root }
-        ensures heap { result.heap ≡ self.objects }
-        ensures root { self.root ≡ Some result.root }
+        requires { IsSome self.built.root }
+        ensures heap { result.heap ≡ self.built.objects }
+        ensures root { self.built.root ≡ Some result.root }
     {
         let Builder {
             heap,
             open_blocks: _,
             root,
+            room: _,
         } = self;
         Value {
             heap,

@@ -1,13 +1,14 @@
 //! What a whole token adds to the graph (`intern.c`).
 
-ghost use Rattle.std.specs.Prelude.{◌≡◌, ◌≤◌, ◌<◌, ◌*◌, ◌/◌, ◌%◌, ◌^◌, ℕ, List, length, OnOk};
+ghost use Rattle.std.specs.Prelude.{◌≡◌, ◌≤◌, ◌<◌, ◌*◌, ◌/◌, ◌%◌, ◌^◌, ℕ, List, length, OnOk, Some};
 ghost use Rattle.om_model.specs.declared.value.Obj.TheVariants as objects;
 ghost use Rattle.om_model.specs.Bytes.{number, SpellsDoubles};
 ghost use Rattle.om_model.specs.Code.{IsKind};
-ghost use Rattle.om_model.specs.Raw.{measure_behind};
+ghost use Rattle.om_model.specs.declared.code.Measure.TheVariants as measures;
+ghost use Rattle.om_model.specs.Raw.{measure_behind, block_measure};
 ghost use Rattle.om_model.specs.Token.{Token, leaf, block_or_atom as block_or_atom_token, word_token, SpellsBehind};
 ghost use Rattle.om_model.specs.Words.{of_object, fields};
-ghost use Rattle.om_read.specs.Build.{absorb, WellOpen};
+ghost use Rattle.om_read.specs.Build.{absorb_in, WellOpen, Fits};
 ghost use Rattle.om_read.specs.Contents.{SpellsTokenBehind};
 
 use crate::build::Builder;
@@ -20,10 +21,11 @@ use std::alloc::Global;
 
 /// A block, or an atom where it has no fields.
 fn block_or_atom(builder: &mut Builder, tag: u8, size: u64) -> Result<(), Memory>
-    requires well { WellOpen builder.old }
+    requires well { WellOpen builder.old.built }
     requires range { tag ≤ 243 }
     requires small { size < 2 ^ 53 }
-    ensures { OnOk result (builder.new ≡ absorb builder.old (block_or_atom_token tag size)) }
+    requires fits { Fits builder.old (block_measure size) }
+    ensures { OnOk result (builder.new ≡ absorb_in builder.old (block_or_atom_token tag size)) }
 {
     if size == 0 {
         builder.atom(tag);
@@ -35,11 +37,12 @@ fn block_or_atom(builder: &mut Builder, tag: u8, size: u64) -> Result<(), Memory
 
 /// A block or an atom, by its header word.
 fn word(builder: &mut Builder, bytes: &[u8]) -> Result<(), Memory>
-    requires well { WellOpen builder.old }
+    requires well { WellOpen builder.old.built }
     requires few { length bytes.now ≤ 8 }
     requires range { number bytes.now % 256 ≤ 243 }
     requires small { number bytes.now / 1024 < 2 ^ 53 }
-    ensures { OnOk result (builder.new ≡ absorb builder.old (word_token (number bytes.now))) }
+    requires fits { Fits builder.old (block_measure (number bytes.now / 1024)) }
+    ensures { OnOk result (builder.new ≡ absorb_in builder.old (word_token (number bytes.now))) }
 {
     let header = big_endian(bytes);
     block_or_atom(builder, (header % 256) as u8, header / 1024)
@@ -53,11 +56,12 @@ fn doubles(
     count: u64,
     little: bool,
 ) -> Result<(), Memory>
-    requires well { WellOpen builder.old }
+    requires well { WellOpen builder.old.built }
     requires some { 0 < count }
     requires small { count < 2 ^ 53 }
+    requires fits { Fits builder.old (Some (measures.Doubles count)) }
     requires whole { length bytes.now ≡ 8 * count }
-    ensures { OnOk result ((all : List ℕ) → SpellsDoubles little all bytes.now → builder.new ≡ absorb builder.old (leaf (objects.Doubles all))) }
+    ensures { OnOk result ((all : List ℕ) → SpellsDoubles little all bytes.now → builder.new ≡ absorb_in builder.old (leaf (objects.Doubles all))) }
 {
     let all = doubles_of(alloc, bytes, count as usize, little)?;
     builder.doubles(all)
@@ -70,12 +74,13 @@ pub fn decode(
     kind: CodeKind,
     rest: &[u8],
 ) -> Result<(), Memory>
-    requires well { WellOpen builder.old }
+    requires well { WellOpen builder.old.built }
     requires known { IsKind kind }
     requires small { length rest.now < 2 ^ 53 }
     requires size { of_object fields (measure_behind kind rest.now) < 2 ^ 53 }
-    requires spelled { SpellsTokenBehind kind rest.now (length builder.old.objects) }
-    ensures { OnOk result ((t : Token) → SpellsBehind kind rest.now t → builder.new ≡ absorb builder.old t) }
+    requires fits { Fits builder.old (measure_behind kind rest.now) }
+    requires spelled { SpellsTokenBehind kind rest.now (length builder.old.built.objects) }
+    ensures { OnOk result ((t : Token) → SpellsBehind kind rest.now t → builder.new ≡ absorb_in builder.old t) }
 {
     match kind {
         CodeKind::SmallBlock(tag, size) => block_or_atom(builder, tag, u64::from(size)),

@@ -1,6 +1,6 @@
 //! The steps of a header (`intext.h` lays it out).
 
-ghost use Rattle.std.specs.Prelude.{◌≡◌};
+ghost use Rattle.std.specs.Prelude.{◌≤◌, IfOk};
 ghost use Rattle.om_read.specs.Head.{JudgedHeader, Begins};
 
 use crate::place::Place;
@@ -14,7 +14,8 @@ const LENGTH_LIMIT: u64 = (1 << 48) - 1;
 
 /// Judges the header, by all the bytes that are there: the place behind it, once it is whole and passes.
 pub fn judge_header(bytes: &[u8], limit: u64) -> Result<Place, Stop>
-    ensures { JudgedHeader limit bytes.now result }
+    ensures judged { JudgedHeader limit bytes.now result }
+    ensures limited { IfOk result (λ place. place.head.w64 ≤ limit) }
 {
     match parse(bytes) {
         Err(HeadFault::BadMagic(magic)) => Err(Stop::Refused(ReadRefusal::BadMagic(magic))),
@@ -26,7 +27,8 @@ pub fn judge_header(bytes: &[u8], limit: u64) -> Result<Place, Stop>
 
 /// The place behind a header, which states no more than may be, and some data.
 fn begin(head: Head, limit: u64) -> Result<Place, Stop>
-    ensures { Begins limit head result }
+    ensures begins { Begins limit head result }
+    ensures limited { IfOk result (λ place. place.head.w64 ≤ limit) }
 {
     let start = if head.big { 32 } else { 20 };
     if limit < head.w64 {

@@ -31,6 +31,7 @@ pub struct Place {
     ghost few: { objects ≤ taken },
     ghost words32: { w32 ≤ 3 * taken + pending },
     ghost words64: { w64 ≤ 3 * taken + pending },
+    ghost within: { w64 ≤ head.w64 },
 }
 
 impl Place {
@@ -222,7 +223,8 @@ impl Place {
 
     /// A sum of words exceeds what the header states.
     fn exceeded(&self, w32: u64, w64: u64) -> Option<ReadRefusal>
-        ensures { (c : Context) → IsSumOf self.now c → (all : List (Option Measure)) → all_words32 all ≡ w32 → all_words64 all ≡ w64 →
+        ensures within { result ≡ None → w64 ≤ self.now.head.w64 }
+        ensures refusal { (c : Context) → IsSumOf self.now c → (all : List (Option Measure)) → all_words32 all ≡ w32 → all_words64 all ≡ w64 →
             result ≡ or_else (words32_refusal nat_lt (place c) c.head all) (words64_refusal nat_lt (place c) c.head all) }
     {
         if !self.head.big && self.head.w32 < w32 {

@@ -5,8 +5,8 @@ ghost use Rattle.om_model.specs.Words.{of_object, fields};
 ghost use Rattle.om_model.specs.Raw.{raw_measure};
 ghost use Rattle.om_model.specs.Token.{Token, Spells, IsToken};
 ghost use Rattle.om_model.specs.Tree.{RefersBack};
-ghost use Rattle.om_read.specs.Build.{WellOpen, absorb};
-ghost use Rattle.om_read.specs.Reading.{Leads, NextOf, Reads, Answers, answer_of};
+ghost use Rattle.om_read.specs.Build.{WellOpen, absorb_in, Fits};
+ghost use Rattle.om_read.specs.Reading.{Leads, NextOf, Reads, Answers, IsBounded, answer_of};
 ghost use Rattle.om_model.specs.Judgement.{Judgement, Judges};
 
 use crate::build::Builder;
@@ -21,13 +21,14 @@ use om_model::Memory;
 use om_model::refusal::ReadRefusal;
 use std::alloc::Global;
 
-/// Adds what a whole token spells.
+/// Adds what a whole token spells, whose object has room in the graph.
 fn add(alloc: Global, builder: &mut Builder, token: &[u8]) -> Result<(), Memory>
-    requires well { WellOpen builder.old }
+    requires well { WellOpen builder.old.built }
     requires short { length token.now < 2 ^ 53 }
     requires small { of_object fields (raw_measure token.now) < 2 ^ 53 }
-    requires spelled { (t : Token) × Spells t token.now × RefersBack t (length builder.old.objects) }
-    ensures { OnOk result ((t : Token) → Spells t token.now → builder.new ≡ absorb builder.old t) }
+    requires fits { Fits builder.old (raw_measure token.now) }
+    requires spelled { (t : Token) × Spells t token.now × RefersBack t (length builder.old.built.objects) }
+    ensures { OnOk result ((t : Token) → Spells t token.now → builder.new ≡ absorb_in builder.old t) }
 {
     match code_kind(token[0]) {
         Ok(kind) => decode(alloc, builder, kind, behind(token, 1)),
@@ -75,8 +76,9 @@ fn read_whole(alloc: Global, bytes: &[u8], limit: u64) -> Result<Whole, ReadRefu
         Ok(place) => place,
         Err(stop) => return stopped(stop),
     };
-    let mut builder = Builder::new(alloc);
+    let mut builder = Builder::new(alloc, place.head.w64);
     loop {
+        prove!(place.head.w64 <= limit);
         let rest = behind(bytes, (place.start + place.taken) as usize);
         let next = match next_token(alloc, &mut builder, &place, rest) {
             Ok(next) => next,
@@ -98,6 +100,8 @@ pub fn read_value(alloc: Global, bytes: &[u8], limit: u64) -> Result<Whole, Read
     ensures says { Reads limit bytes.now result }
     // It is the answer to what becomes of the bytes, unless memory runs out.
     ensures answers { (judgement : Judgement) → Judges limit bytes.now judgement → Answers judgement result }
+    // A value has as many words as its header states, and no more than the limit.
+    ensures bounded { IsBounded limit bytes.now result }
 {
     read_whole(alloc, bytes, limit)
 }

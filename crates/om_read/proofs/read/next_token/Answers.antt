@@ -9,8 +9,8 @@ use Rattle.om_model.specs.Front.{context}
 use Rattle.om_model.proofs.Numbers.{are_bytes}
 use Rattle.om_model.proofs.RawLemmas.{raw_measure-take}
 use Rattle.om_read.specs.Place.{Judged}
-use Rattle.om_read.specs.Build.{absorb}
-use Rattle.om_read.proofs.Nexts.{next_taken, next_fields, built_well, next_spelled, next_leads, nothing_left, judged_next}
+use Rattle.om_read.specs.Build.{absorb_in, Fits}
+use Rattle.om_read.proofs.Nexts.{next_taken, next_fields, built_well, next_spelled, next_leads, next_fits, nothing_left, judged_next}
 use Rattle.om_read.proofs.read.next_token.Goals as goal
 use Rattle.om_read.proofs.read.next_token.Goals.{In_ok-next}
 
@@ -59,6 +59,18 @@ add-requires-clause-small c =
     subst (λ n. of_object fields (raw_measure (take n rest)) < 2 ^ 53) len
     (subst (λ m. of_object fields m < 2 ^ 53) (sym (raw_measure-take (raw_length rest) rest (omega arith))) fits)
 
+pub add-requires-clause-fits : goal.add-requires-clause-fits
+add-requires-clause-fits c =
+    let d = (goal.at.add-requires-clause-fits c).In_ok-next in
+    let rest = c.args.rest.now in
+    let next = c.in_ok-next.next in
+    let len : raw_length rest ≡ next.taken - c.args.place.now.taken = omega (arith, length_is d) in
+    let h = c.requires.leads in
+    let j = c.in_ok-next.ensures (context h.0 h.1) h.2.sums in
+    let fits = next_fits h.0 h.1 c.args.place.now next c.args.builder.now rest h.2 j.2 next.within in
+    subst (λ n. Fits c.args.builder.now (raw_measure (take n rest))) len
+    (subst (Fits c.args.builder.now) (sym (raw_measure-take (raw_length rest) rest (omega arith))) fits)
+
 pub add-requires-clause-spelled : goal.add-requires-clause-spelled
 add-requires-clause-spelled c =
     let d = (goal.at.add-requires-clause-spelled c).In_ok-next in
@@ -67,7 +79,7 @@ add-requires-clause-spelled c =
     let bytes = are_bytes rest (λ i. omega (arith, c.type_inv.rest i)) in
     let h = c.requires.leads.2 in
     let j = c.in_ok-next.ensures (context c.requires.leads.0 c.requires.leads.1) h.sums in
-    subst (λ n. (t : Token) × Spells t (take n rest) × RefersBack t (length c.args.builder.now.objects)) len
+    subst (λ n. (t : Token) × Spells t (take n rest) × RefersBack t (length c.args.builder.now.built.objects)) len
     (next_spelled c.requires.leads.0 c.requires.leads.1 c.args.place.now c.args.builder.now rest bytes h j.0 j.1)
 
 pub returns : goal.returns
@@ -78,9 +90,9 @@ returns c = λ header before h.
     let len : next.taken - c.args.place.now.taken ≡ raw_length rest = omega (arith, length_is d) in
     let bytes = are_bytes rest (λ i. omega (arith, c.type_inv.rest i)) in
     let j = c.in_ok-next.ensures (context header before) h.sums in
-    let adds : (t : Token) → Spells t (take (next.taken - c.args.place.now.taken) rest) → c.add.new.builder ≡ absorb c.args.builder.now t = search rules in (
+    let adds : (t : Token) → Spells t (take (next.taken - c.args.place.now.taken) rest) → c.add.new.builder ≡ absorb_in c.args.builder.now t = search rules in (
       j.0,
       j.1,
       next_leads header before c.args.place.now next c.args.builder.now c.add.new.builder rest bytes h j.0 j.1 j.2
-          (subst (λ n. (t : Token) → Spells t (take n rest) → c.add.new.builder ≡ absorb c.args.builder.now t) len adds),
+          (subst (λ n. (t : Token) → Spells t (take n rest) → c.add.new.builder ≡ absorb_in c.args.builder.now t) len adds),
     )

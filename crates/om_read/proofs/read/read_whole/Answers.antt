@@ -11,32 +11,32 @@ use Rattle.om_read.proofs.read.read_whole.Goals.{In-Ok-next_token}
 pub returns-in-Err : goal.returns-in-Err
 returns-in-Err c = subst (Reads c.args.limit c.args.bytes.now) (sym c.stopped.ensures) (header_stops c.args.limit c.args.bytes.now c.in-Err.stop (search rules))
 
-pub loop-next-init : goal.loop-next-init
-loop-next-init c = subst (IsAt c.args.limit c.args.bytes.now c.in-Ok.place) (sym c.new-builder.ensures) (at_start c.args.limit c.args.bytes.now c.in-Ok.place (search rules))
+pub loop-alloc-init : goal.loop-alloc-init
+loop-alloc-init c = subst (IsAt c.args.limit c.args.bytes.now c.in-Ok.place) (sym c.new-builder.ensures) (at_start c.args.limit c.args.bytes.now c.in-Ok.place (search rules) (search rules))
 
 pub returns-in-Err-next_token : goal.returns-in-Err-next_token
 returns-in-Err-next_token c =
-    let here = c.loop-next.invariant in
+    let here = c.loop-alloc.invariant in
     let built = c.next_token.new.builder in
     let h = subst (λ rest. NextOf here.header here.before rest built (Err c.in-Err-next_token.stop)) c.behind-rest.ensures (c.in-Err-next_token.ensures here.header here.before here.leads) in
     subst (Reads c.args.limit c.args.bytes.now) (sym c.stopped-in-Err-next_token.ensures)
-    (at_stop c.args.limit c.args.bytes.now c.loop-next.place c.loop-next.builder here built c.in-Err-next_token.stop h)
+    (at_stop c.args.limit c.args.bytes.now c.loop-alloc.place c.loop-alloc.builder here built c.in-Err-next_token.stop h)
 
 -- where the next token leads
 next_of : (c : In-Ok-next_token)
-    → NextOf c.loop-next.invariant.header c.loop-next.invariant.before (drop (c.loop-next.place.start + c.loop-next.place.taken) c.args.bytes.now) c.next_token.new.builder
+    → NextOf c.loop-alloc.invariant.header c.loop-alloc.invariant.before (drop (c.loop-alloc.place.start + c.loop-alloc.place.taken) c.args.bytes.now) c.next_token.new.builder
     (Ok c.in-Ok-next_token.next)
 next_of c =
-    let here = c.loop-next.invariant in
+    let here = c.loop-alloc.invariant in
     subst (λ rest. NextOf here.header here.before rest c.next_token.new.builder (Ok c.in-Ok-next_token.next)) c.behind-rest.ensures
     (c.in-Ok-next_token.ensures here.header here.before here.leads)
 
 -- a whole value
 ended : (c : In-Ok-next_token) → c.in-Ok-next_token.next.pending ≡ 0
     → (tree : Tree) × Judges c.args.limit c.args.bytes.now (value (c.in-Ok-next_token.next.start + c.in-Ok-next_token.next.taken) tree)
-    × (c.next_token.new.builder ≡ building (objects_of tree 0) [] (Some (root tree 0)))
+    × (c.next_token.new.builder.built ≡ building (objects_of tree 0) [] (Some (root tree 0)))
 ended c none =
-    at_end c.args.limit c.args.bytes.now c.loop-next.place c.loop-next.builder c.loop-next.invariant c.in-Ok-next_token.next c.next_token.new.builder (next_of c)
+    at_end c.args.limit c.args.bytes.now c.loop-alloc.place c.loop-alloc.builder c.loop-alloc.invariant c.in-Ok-next_token.next c.next_token.new.builder (next_of c)
     (are_bytes c.args.bytes.now (λ i. omega (arith, c.type_inv.bytes i))) none
 
 pub finish-requires : goal.finish-requires
@@ -49,12 +49,12 @@ returns-then-next-eq0 c =
     let same : c.finish.result.root ≡ root e.0 0 = cc in
     (e.0, e.1, same, c.finish.ensures.heap ∙ ap (λ (b : Building). b.objects) e.2)
 
-pub loop-next-smaller : goal.loop-next-smaller
-loop-next-smaller c =
-    falls c.args.limit c.args.bytes.now c.loop-next.place c.loop-next.builder c.loop-next.invariant c.in-Ok-next_token.next c.next_token.new.builder
-    (next_of (goal.at.loop-next-smaller c).In-Ok-next_token)
+pub loop-alloc-smaller : goal.loop-alloc-smaller
+loop-alloc-smaller c =
+    falls c.args.limit c.args.bytes.now c.loop-alloc.place c.loop-alloc.builder c.loop-alloc.invariant c.in-Ok-next_token.next c.next_token.new.builder
+    (next_of (goal.at.loop-alloc-smaller c).In-Ok-next_token)
 
-pub loop-next-preserved : goal.loop-next-preserved
-loop-next-preserved c =
-    at_next c.args.limit c.args.bytes.now c.loop-next.place c.loop-next.builder c.loop-next.invariant c.in-Ok-next_token.next c.next_token.new.builder
-    (next_of (goal.at.loop-next-preserved c).In-Ok-next_token) (omega arith)
+pub loop-alloc-preserved : goal.loop-alloc-preserved
+loop-alloc-preserved c =
+    at_next c.args.limit c.args.bytes.now c.loop-alloc.place c.loop-alloc.builder c.loop-alloc.invariant c.in-Ok-next_token.next c.next_token.new.builder
+    (next_of (goal.at.loop-alloc-preserved c).In-Ok-next_token) (omega arith)
