@@ -9,6 +9,8 @@ mod read;
 mod refusal_text;
 mod report;
 mod stop;
+#[cfg(test)]
+mod tests;
 mod top;
 mod types;
 mod values;

@@ -1,0 +1,268 @@
+//! Whole runs over a source, files and sinks in memory. Each row is run with the input in pieces of 1 byte, of 7 and of
+//! 4096, and must end alike.
+
+ghost use Rattle.std.specs.Prelude.{◌<◌, ◌≤◌};
+
+mod failing_calls;
+mod refusals;
+mod requests;
+mod verdicts;
+
+use crate::run;
+use om_edge::{MemFiles, MemSink, MemSource};
+use om_model::status::Status;
+use std::alloc::{AllocError, Global};
+use std::process::Abort;
+
+/// Checks an input at a type, with an empty `t.ml`, room for all texts, and no call that fails.
+struct Case {
+    shows: &'static str,
+    type_text: &'static str,
+    /// The bytes, by hexadecimal digits.
+    input: &'static str,
+    status: Status,
+    out: &'static str,
+    err: &'static str,
+}
+
+/// What a run is given, and how it must end. One call of each kind may fail, by its number from 0.
+#[derive(Drop)]
+struct Row {
+    words: Vec<String>,
+    /// The bytes of `t.ml`, if there is such a file.
+    file: Option<Vec<u8>>,
+    input: Vec<u8>,
+    failing_fetch: Option<u64>,
+    failing_read: Option<u64>,
+    failing_take: Option<u64>,
+    /// So many bytes fit on out and on err.
+    out_room: usize,
+    err_room: usize,
+    status: Status,
+    out: Vec<u8>,
+    err: Vec<u8>,
+    faults: Faults,
+}
+
+/// How many calls failed: those that fetch a file, that read it, and that take from the input.
+#[derive(Clone, Copy, Debug, PartialEq, Eq)]
+struct Faults {
+    fetches: u64,
+    reads: u64,
+    takes: u64,
+}
+
+/// What stands around a run.
+#[derive(Drop)]
+struct Outside {
+    input: MemSource,
+    files: MemFiles,
+    out: MemSink,
+    err: MemSink,
+}
+
+const INTEGER: &str = "8495a6be 00000001 00000000 00000000 00000000 41";
+
+const STRING: &str = "8495a6be 00000004 00000001 00000002 00000002 23616263";
+
+const LIST: &str = "8495a6be 00000005 00000002 00000006 00000006 a041a04240";
+
+const BYTE_BEHIND: &str = "8495a6be 00000002 00000000 00000000 00000000 4141";
+
+const ALL_FITS: usize = 4096;
+
+fn digit(text: u8) -> u8
+    ensures { result < 16 }
+{
+    match text {
+        b'0'..=b'9' => text - b'0',
+        b'a'..=b'f' => text - b'a' + 10,
+        _ => 0,
+    }
+}
+
+// Adds the bytes that hexadecimal digits spell. The spaces between them are for the reader.
+fn push_hex(bytes: &mut Vec<u8>, hex: &str) -> Result<(), AllocError> {
+    let mut high = None;
+    for text in hex.as_bytes() {
+        if *text == b' ' {
+            continue;
+        }
+        match high {
+            None => high = Some(digit(*text)),
+            Some(first) => {
+                bytes.push(first << 4 | digit(*text))?;
+                high = None;
+            }
+        }
+    }
+    Ok(())
+}
+
+fn push_word(alloc: Global, words: &mut Vec<String>, word: &str) -> Result<(), AllocError> {
+    words.push(String::from_str(alloc, word)?)?;
+    Ok(())
+}
+
+// `check` with a FILE and a TYPE.
+fn check_words(alloc: Global, file: &str, type_text: &str) -> Result<Vec<String>, AllocError> {
+    let mut words = Vec::new(alloc);
+    push_word(alloc, &mut words, "check")?;
+    push_word(alloc, &mut words, file)?;
+    push_word(alloc, &mut words, type_text)?;
+    Ok(words)
+}
+
+fn one_or_none(alloc: Global, number: Option<u64>) -> Result<Vec<u64>, AllocError> {
+    let mut numbers = Vec::new(alloc);
+    if let Some(number) = number {
+        numbers.push(number)?;
+    }
+    Ok(numbers)
+}
+
+fn row_of(alloc: Global, case: &Case) -> Result<Row, AllocError> {
+    check_row(
+        alloc,
+        case.type_text,
+        case.input,
+        case.status,
+        case.out,
+        case.err,
+    )
+}
+
+// Checks an input at a type, as a case does.
+fn check_row(
+    alloc: Global,
+    type_text: &str,
+    input: &str,
+    status: Status,
+    out: &str,
+    err: &str,
+) -> Result<Row, AllocError> {
+    let mut bytes = Vec::new(alloc);
+    push_hex(&mut bytes, input)?;
+    Ok(Row {
+        words: check_words(alloc, "t.ml", type_text)?,
+        file: Some(Vec::new(alloc)),
+        input: bytes,
+        failing_fetch: None,
+        failing_read: None,
+        failing_take: None,
+        out_room: ALL_FITS,
+        err_room: ALL_FITS,
+        status,
+        out: out.as_bytes().to_vec(alloc)?,
+        err: err.as_bytes().to_vec(alloc)?,
+        faults: Faults {
+            fetches: 0,
+            reads: 0,
+            takes: 0,
+        },
+    })
+}
+
+// `t.ml`, or no file.
+fn files_of(rt: &impl Abort, alloc: Global, row: &Row) -> Result<MemFiles, AllocError> {
+    let mut pairs = Vec::new(alloc);
+    if let Some(bytes) = &row.file {
+        let bytes = bytes.as_slice().to_vec(alloc)?;
+        pairs.push((String::from_str(alloc, "t.ml")?, bytes))?;
+    }
+    assert!(rt; MemFiles::have_no_name_twice(&pairs));
+    let fetches = one_or_none(alloc, row.failing_fetch)?;
+    let reads = one_or_none(alloc, row.failing_read)?;
+    Ok(MemFiles::new(alloc, pairs, fetches, reads))
+}
+
+// The input, of which a call gives at most so many bytes.
+fn input_of(alloc: Global, row: &Row, piece: usize) -> Result<MemSource, AllocError>
+    requires { 1 ≤ piece }
+{
+    let takes = one_or_none(alloc, row.failing_take)?;
+    let bytes = row.input.as_slice().to_vec(alloc)?;
+    Ok(MemSource::new(bytes, piece, takes))
+}
+
+fn sink_of(rt: &impl Abort, alloc: Global, room: usize) -> MemSink {
+    MemSink::new(alloc, room, Vec::new(alloc)).expect(rt, "there is memory")
+}
+
+fn outside_of(
+    rt: &impl Abort,
+    alloc: Global,
+    row: &Row,
+    piece: usize,
+) -> Result<Outside, AllocError> {
+    assert!(rt; piece >= 1);
+    Ok(Outside {
+        input: input_of(alloc, row, piece)?,
+        files: files_of(rt, alloc, row)?,
+        out: sink_of(rt, alloc, row.out_room),
+        err: sink_of(rt, alloc, row.err_room),
+    })
+}
+
+fn run_outside(alloc: Global, words: &[String], outside: &mut Outside) -> Status {
+    run(
+        alloc,
+        words,
+        &mut outside.input,
+        &mut outside.files,
+        &mut outside.out,
+        &mut outside.err,
+    )
+}
+
+fn faults_of(outside: &Outside) -> Faults {
+    Faults {
+        fetches: outside.files.open_faults(),
+        reads: outside.files.read_faults(),
+        takes: outside.input.faults(),
+    }
+}
+
+// Runs a row once, with at most so many bytes of input in a call.
+fn expect_in_pieces(
+    rt: &impl Abort,
+    alloc: Global,
+    shows: &str,
+    row: &Row,
+    piece: usize,
+) -> Result<(), AllocError> {
+    let mut outside = outside_of(rt, alloc, row, piece)?;
+    let status = run_outside(alloc, row.words.as_slice(), &mut outside);
+    assert_eq!(rt; status, row.status, "{shows}, in pieces of {piece}");
+    assert_eq!(rt;
+        outside.out.written(),
+        row.out.as_slice(),
+        "out: {shows}, in pieces of {piece}"
+    );
+    assert_eq!(rt;
+        outside.err.written(),
+        row.err.as_slice(),
+        "err: {shows}, in pieces of {piece}"
+    );
+    assert_eq!(rt;
+        faults_of(&outside),
+        row.faults,
+        "{shows}, in pieces of {piece}"
+    );
+    Ok(())
+}
+
+fn expect_row(rt: &impl Abort, alloc: Global, shows: &str, row: &Row) -> Result<(), AllocError> {
+    expect_in_pieces(rt, alloc, shows, row, 1)?;
+    expect_in_pieces(rt, alloc, shows, row, 7)?;
+    expect_in_pieces(rt, alloc, shows, row, 4096)?;
+    Ok(())
+}
+
+fn expect_cases(rt: &impl Abort, alloc: Global, cases: &[Case]) -> Result<(), AllocError> {
+    for case in cases {
+        let row = row_of(alloc, case)?;
+        expect_row(rt, alloc, case.shows, &row)?;
+    }
+    Ok(())
+}

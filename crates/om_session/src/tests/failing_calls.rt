@@ -1,0 +1,204 @@
+//! Calls that fail behind the type: those that take from the input, and those that put on out and on err.
+
+use super::{
+    ALL_FITS, BYTE_BEHIND, INTEGER, STRING, check_row, expect_in_pieces, expect_row, push_hex,
+};
+use om_model::status::Status;
+use std::alloc::{AllocError, Global};
+use std::process::Abort;
+use std::test::Fail;
+
+/// So many bytes in a call, the number of the take that fails, and what stands on out.
+static TAKES: [(usize, u64, &str); 13] = [
+    (1, 0, ""),
+    (1, 20, ""),
+    (1, 21, "yes\n"),
+    (1, 41, "yes\n"),
+    (1, 42, "yes\nyes\n"),
+    (7, 0, ""),
+    (7, 2, ""),
+    (7, 3, "yes\n"),
+    (7, 5, "yes\n"),
+    (7, 6, "yes\nyes\n"),
+    (21, 1, "yes\n"),
+    (4096, 0, ""),
+    (4096, 1, "yes\nyes\n"),
+];
+
+fn expect_failed_take(
+    rt: &impl Abort,
+    alloc: Global,
+    piece: usize,
+    take: u64,
+    out: &str,
+) -> Result<(), AllocError> {
+    let err = "omarshal: read fault\n";
+    let mut row = check_row(alloc, "int", INTEGER, Status::ReadFault, out, err)?;
+    push_hex(&mut row.input, INTEGER)?;
+    row.failing_take = Some(take);
+    row.faults.takes = 1;
+    expect_in_pieces(rt, alloc, "a take that fails", &row, piece)
+}
+
+// Two integers of 21 bytes each, and one take that fails. The values whose bytes came before it have their lines.
+#[test]
+fn a_fault_of_the_input_is_told_behind_the_values(rt: HostRuntime) -> Result<(), Fail> {
+    for (piece, take, out) in &TAKES {
+        expect_failed_take(&rt, rt.alloc(), *piece, *take, out)?;
+    }
+    Ok(())
+}
+
+// The take behind all bytes fails.
+fn expect_fault_behind(
+    rt: &impl Abort,
+    alloc: Global,
+    shows: &str,
+    value: &str,
+    out: &str,
+) -> Result<(), AllocError> {
+    let err = "omarshal: read fault\n";
+    let mut row = check_row(alloc, "int", value, Status::ReadFault, out, err)?;
+    row.failing_take = Some(row.input.len() as u64);
+    row.faults.takes = 1;
+    expect_in_pieces(rt, alloc, shows, &row, 1)
+}
+
+// The fault is told, and not what stands in front of it.
+#[test]
+fn a_fault_of_the_input_comes_before_a_refusal_and_a_no(rt: HostRuntime) -> Result<(), Fail> {
+    let no = "no .: expected int, found string\n";
+    expect_fault_behind(&rt, rt.alloc(), "a no", STRING, no)?;
+    expect_fault_behind(&rt, rt.alloc(), "a refusal", BYTE_BEHIND, "")?;
+    expect_fault_behind(&rt, rt.alloc(), "a cut", "8495a6", "")?;
+    expect_fault_behind(&rt, rt.alloc(), "nothing", "", "")?;
+    Ok(())
+}
+
+/// Two values, the room on out and on err, and what fits.
+struct SinkCase {
+    shows: &'static str,
+    first: &'static str,
+    second: &'static str,
+    out_room: usize,
+    err_room: usize,
+    out: &'static str,
+    err: &'static str,
+}
+
+static FULL_SINKS: [SinkCase; 8] = [
+    SinkCase {
+        shows: "out has no room",
+        first: INTEGER,
+        second: INTEGER,
+        out_room: 0,
+        err_room: ALL_FITS,
+        out: "",
+        err: "",
+    },
+    SinkCase {
+        shows: "out has room for a part of a text",
+        first: INTEGER,
+        second: INTEGER,
+        out_room: 2,
+        err_room: ALL_FITS,
+        out: "ye",
+        err: "",
+    },
+    SinkCase {
+        shows: "out has no room for a line feed",
+        first: INTEGER,
+        second: INTEGER,
+        out_room: 3,
+        err_room: ALL_FITS,
+        out: "yes",
+        err: "",
+    },
+    SinkCase {
+        shows: "out has room for one of two lines",
+        first: INTEGER,
+        second: INTEGER,
+        out_room: 4,
+        err_room: ALL_FITS,
+        out: "yes\n",
+        err: "",
+    },
+    SinkCase {
+        shows: "a full out comes before a later refusal",
+        first: INTEGER,
+        second: BYTE_BEHIND,
+        out_room: 0,
+        err_room: ALL_FITS,
+        out: "",
+        err: "",
+    },
+    SinkCase {
+        shows: "err has no room",
+        first: INTEGER,
+        second: BYTE_BEHIND,
+        out_room: ALL_FITS,
+        err_room: 0,
+        out: "yes\n",
+        err: "",
+    },
+    SinkCase {
+        shows: "err has room for a part of a line",
+        first: INTEGER,
+        second: BYTE_BEHIND,
+        out_room: ALL_FITS,
+        err_room: 14,
+        out: "yes\n",
+        err: "omarshal: valu",
+    },
+    SinkCase {
+        shows: "err has no room for a line feed",
+        first: INTEGER,
+        second: "84",
+        out_room: ALL_FITS,
+        err_room: 31,
+        out: "yes\n",
+        err: "omarshal: value 1: Truncated(1)",
+    },
+];
+
+fn expect_full_sink(rt: &impl Abort, alloc: Global, case: &SinkCase) -> Result<(), AllocError> {
+    let status = Status::WriteFault;
+    let mut row = check_row(alloc, "int", case.first, status, case.out, case.err)?;
+    push_hex(&mut row.input, case.second)?;
+    row.out_room = case.out_room;
+    row.err_room = case.err_room;
+    expect_row(rt, alloc, case.shows, &row)
+}
+
+#[test]
+fn a_full_sink_is_a_write_fault(rt: HostRuntime) -> Result<(), Fail> {
+    for case in &FULL_SINKS {
+        expect_full_sink(&rt, rt.alloc(), case)?;
+    }
+    Ok(())
+}
+
+// There is just as much room as the texts have bytes.
+fn expect_filled(
+    rt: &impl Abort,
+    alloc: Global,
+    value: &str,
+    status: Status,
+    out: &str,
+    err: &str,
+) -> Result<(), AllocError> {
+    let mut row = check_row(alloc, "int", value, status, out, err)?;
+    row.out_room = out.len();
+    row.err_room = err.len();
+    expect_row(rt, alloc, "just enough room", &row)
+}
+
+// A line that fits to its last byte is put, and where there is no line, no room is asked for.
+#[test]
+fn a_sink_may_be_filled_to_its_last_byte(rt: HostRuntime) -> Result<(), Fail> {
+    let cut = "omarshal: value 0: Truncated(1)\n";
+    expect_filled(&rt, rt.alloc(), INTEGER, Status::Well, "yes\n", "")?;
+    expect_filled(&rt, rt.alloc(), "84", Status::Value, "", cut)?;
+    expect_filled(&rt, rt.alloc(), "", Status::Well, "", "")?;
+    Ok(())
+}

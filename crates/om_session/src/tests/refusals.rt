@@ -1,0 +1,243 @@
+//! Bytes that are no value.
+
+use super::{Case, LIST, check_row, expect_cases, expect_row};
+use om_model::status::Status;
+use std::alloc::{AllocError, Global};
+use std::process::Abort;
+use std::test::Fail;
+
+static REFUSALS: [Case; 25] = [
+    Case {
+        shows: "three bytes",
+        type_text: "int",
+        input: "8495a6",
+        status: Status::Value,
+        out: "",
+        err: "omarshal: value 0: Truncated(3)\n",
+    },
+    Case {
+        shows: "a value, and one that is cut",
+        type_text: "int",
+        input: "8495a6be 00000001 00000000 00000000 00000000 41 8495a6be 00000005 00000002 00000006 00000006 a041",
+        status: Status::Value,
+        out: "yes\n",
+        err: "omarshal: value 1: Truncated(22)\n",
+    },
+    Case {
+        shows: "a reference to nothing",
+        type_text: "int",
+        input: "8495a6be 00000002 00000000 00000000 00000000 0400",
+        status: Status::Value,
+        out: "",
+        err: "omarshal: value 0: BadShared(0, 0) at 20\n",
+    },
+    Case {
+        shows: "an integer of 64 bits",
+        type_text: "int",
+        input: "8495a6be 00000009 00000000 00000000 00000000 034000000000000000",
+        status: Status::Value,
+        out: "",
+        err: "omarshal: value 0: IntRange(4611686018427387904) at 20\n",
+    },
+    Case {
+        shows: "a reference without a count of objects",
+        type_text: "int",
+        input: "8495a6be 00000004 00000000 00000003 00000003 a0410401",
+        status: Status::Value,
+        out: "",
+        err: "omarshal: value 0: NoTable at 22\n",
+    },
+    Case {
+        shows: "a block longer than the data",
+        type_text: "int",
+        input: "8495a6be 00000006 00000001 00000001 00000001 084000000041",
+        status: Status::Value,
+        out: "",
+        err: "omarshal: value 0: Overlong(1048576, 1) at 20\n",
+    },
+    Case {
+        shows: "no data",
+        type_text: "int",
+        input: "8495a6be 00000000 00000000 00000000 00000000",
+        status: Status::Value,
+        out: "",
+        err: "omarshal: value 0: Overlong(1, 0) at 20\n",
+    },
+    Case {
+        shows: "a code pointer",
+        type_text: "int",
+        input: "8495a6be 00000001 00000000 00000000 00000000 10",
+        status: Status::Value,
+        out: "",
+        err: "omarshal: value 0: PointerCode(10) at 20\n",
+    },
+    Case {
+        shows: "a code of no meaning",
+        type_text: "int",
+        input: "8495a6be 00000001 00000000 00000000 00000000 1a",
+        status: Status::Value,
+        out: "",
+        err: "omarshal: value 0: BadCode(1a) at 20\n",
+    },
+    Case {
+        shows: "a compressed value",
+        type_text: "int",
+        input: "8495a6bd",
+        status: Status::Value,
+        out: "",
+        err: "omarshal: value 0: Compressed\n",
+    },
+    Case {
+        shows: "a byte behind the value",
+        type_text: "int",
+        input: "8495a6be 00000002 00000000 00000000 00000000 4141",
+        status: Status::Value,
+        out: "",
+        err: "omarshal: value 0: LengthMismatch(1) at 21\n",
+    },
+    Case {
+        shows: "another count of words on 32 bits",
+        type_text: "int",
+        input: "8495a6be 00000001 00000000 00000005 00000000 41",
+        status: Status::Value,
+        out: "",
+        err: "omarshal: value 0: SizeMismatch(w32, 5, 0) at 21\n",
+    },
+    Case {
+        shows: "another count of words on 64 bits",
+        type_text: "int",
+        input: "8495a6be 00000004 00000001 00000002 00000001 23616263",
+        status: Status::Value,
+        out: "",
+        err: "omarshal: value 0: SizeMismatch(w64, 1, 2) at 20\n",
+    },
+    Case {
+        shows: "another count of objects",
+        type_text: "int",
+        input: "8495a6be 00000004 00000009 00000002 00000002 23616263",
+        status: Status::Value,
+        out: "",
+        err: "omarshal: value 0: CountMismatch(9, 1) at 24\n",
+    },
+    Case {
+        shows: "a native integer of no known width",
+        type_text: "int",
+        input: "8495a6be 00000009 00000001 00000003 00000003 195f6e000300000005",
+        status: Status::Value,
+        out: "",
+        err: "omarshal: value 0: BadNative(3) at 20\n",
+    },
+    Case {
+        shows: "a native integer cut by the data",
+        type_text: "int",
+        input: "8495a6be 00000005 00000001 00000003 00000003 195f6e0001",
+        status: Status::Value,
+        out: "",
+        err: "omarshal: value 0: Overlong(4, 0) at 20\n",
+    },
+    Case {
+        shows: "a block with the tag of an abstract object",
+        type_text: "int",
+        input: "8495a6be 00000006 00000001 00000002 00000002 08000004f441",
+        status: Status::Value,
+        out: "",
+        err: "omarshal: value 0: BadTag(244) at 20\n",
+    },
+    Case {
+        shows: "an empty array of doubles",
+        type_text: "int",
+        input: "8495a6be 00000002 00000000 00000000 00000000 0e00",
+        status: Status::Value,
+        out: "",
+        err: "omarshal: value 0: ZeroArray at 20\n",
+    },
+    Case {
+        shows: "an unknown custom",
+        type_text: "int",
+        input: "8495a6be 00000004 00000000 00000000 00000000 195f7800",
+        status: Status::Value,
+        out: "",
+        err: "omarshal: value 0: OtherCustom(19) at 20\n",
+    },
+    Case {
+        shows: "a custom of the old form",
+        type_text: "int",
+        input: "8495a6be 00000001 00000000 00000000 00000000 12",
+        status: Status::Value,
+        out: "",
+        err: "omarshal: value 0: OtherCustom(12) at 20\n",
+    },
+    Case {
+        shows: "an integer cut by the data",
+        type_text: "int",
+        input: "8495a6be 00000001 00000000 00000000 00000000 02",
+        status: Status::Value,
+        out: "",
+        err: "omarshal: value 0: Overlong(4, 0) at 20\n",
+    },
+    Case {
+        shows: "a big header and no data",
+        type_text: "int",
+        input: "8495a6bf 00000000 0000000000000000 0000000000000000 0000000000000000",
+        status: Status::Value,
+        out: "",
+        err: "omarshal: value 0: Overlong(1, 0) at 32\n",
+    },
+    Case {
+        shows: "another magic",
+        type_text: "int",
+        input: "8495a6bc",
+        status: Status::Value,
+        out: "",
+        err: "omarshal: value 0: BadMagic(8495a6bc)\n",
+    },
+    Case {
+        shows: "more words than the limit",
+        type_text: "int",
+        input: "8495a6be 00000001 00000000 00000000 08000001 41",
+        status: Status::Value,
+        out: "",
+        err: "omarshal: value 0: TooLarge(words, 134217729, 134217728)\n",
+    },
+    Case {
+        shows: "more data than the limit",
+        type_text: "int",
+        input: "8495a6bf 00000000 0001000000000000 0000000000000000 0000000000000000 41",
+        status: Status::Value,
+        out: "",
+        err: "omarshal: value 0: TooLarge(length, 281474976710656, 281474976710655)\n",
+    },
+];
+
+#[test]
+fn values_are_refused(rt: HostRuntime) -> Result<(), Fail> {
+    expect_cases(&rt, rt.alloc(), &REFUSALS)?;
+    Ok(())
+}
+
+// The first n bytes of a value are cut.
+fn expect_cut(
+    rt: &impl Abort,
+    alloc: Global,
+    type_text: &str,
+    value: &str,
+    n: usize,
+) -> Result<(), AllocError> {
+    let err = format!(in alloc; "omarshal: value 0: Truncated({n})\n")?;
+    let mut row = check_row(alloc, type_text, value, Status::Value, "", err.as_str())?;
+    row.input.truncate(n);
+    expect_row(rt, alloc, "a front", &row)
+}
+
+// Each front of a value, but the empty one and the whole value, is cut.
+#[test]
+fn each_front_of_a_value_is_cut(rt: HostRuntime) -> Result<(), Fail> {
+    let wide = "8495a6bf 0000002a 0000000000000001 0000000000000000 0000000000000000 41";
+    for n in 1..25 {
+        expect_cut(&rt, rt.alloc(), "int list", LIST, n)?;
+    }
+    for n in 1..33 {
+        expect_cut(&rt, rt.alloc(), "int", wide, n)?;
+    }
+    Ok(())
+}

@@ -1,0 +1,228 @@
+//! Values that have the type or not.
+
+use super::{
+    BYTE_BEHIND, Case, INTEGER, LIST, STRING, check_row, expect_cases, expect_row, push_hex,
+};
+use om_model::status::Status;
+use std::alloc::{AllocError, Global};
+use std::process::Abort;
+use std::test::Fail;
+
+static VALUES: [Case; 12] = [
+    Case {
+        shows: "an integer",
+        type_text: "int",
+        input: "8495a6be 00000001 00000000 00000000 00000000 41",
+        status: Status::Well,
+        out: "yes\n",
+        err: "",
+    },
+    Case {
+        shows: "a string where an integer is expected",
+        type_text: "int",
+        input: "8495a6be 00000004 00000001 00000002 00000002 23616263",
+        status: Status::No,
+        out: "no .: expected int, found string\n",
+        err: "",
+    },
+    Case {
+        shows: "a list of two",
+        type_text: "int list",
+        input: "8495a6be 00000005 00000002 00000006 00000006 a041a04240",
+        status: Status::Well,
+        out: "yes\n",
+        err: "",
+    },
+    Case {
+        shows: "a list of two, without a count of objects",
+        type_text: "int list",
+        input: "8495a6be 00000005 00000000 00000006 00000006 a041a04240",
+        status: Status::Well,
+        out: "yes\n",
+        err: "",
+    },
+    Case {
+        shows: "a list that goes round",
+        type_text: "int list",
+        input: "8495a6be 00000004 00000001 00000003 00000003 a0410401",
+        status: Status::Well,
+        out: "yes\n",
+        err: "",
+    },
+    Case {
+        shows: "an atom where a list is expected",
+        type_text: "int list",
+        input: "8495a6be 00000001 00000000 00000000 00000000 80",
+        status: Status::No,
+        out: "no .: expected int list, found atom 0\n",
+        err: "",
+    },
+    Case {
+        shows: "an integer behind a big header",
+        type_text: "int",
+        input: "8495a6bf 0000002a 0000000000000001 0000000000000000 0000000000000000 41",
+        status: Status::Well,
+        out: "yes\n",
+        err: "",
+    },
+    Case {
+        shows: "no value",
+        type_text: "int",
+        input: "",
+        status: Status::Well,
+        out: "",
+        err: "",
+    },
+    Case {
+        shows: "a double",
+        type_text: "int",
+        input: "8495a6be 00000009 00000001 00000003 00000002 0b3ff0000000000000",
+        status: Status::No,
+        out: "no .: expected int, found float\n",
+        err: "",
+    },
+    Case {
+        shows: "an array of doubles",
+        type_text: "int",
+        input: "8495a6be 00000012 00000001 00000005 00000003 0e02000000000000f03f0000000000000040",
+        status: Status::No,
+        out: "no .: expected int, found float array of 2\n",
+        err: "",
+    },
+    Case {
+        shows: "an int64",
+        type_text: "int",
+        input: "8495a6be 0000000c 00000001 00000004 00000003 195f6a000000000000000005",
+        status: Status::No,
+        out: "no .: expected int, found int64\n",
+        err: "",
+    },
+    Case {
+        shows: "a block behind a wide header word",
+        type_text: "int",
+        input: "8495a6be 0000000a 00000001 00000002 00000002 13000000000000070041",
+        status: Status::No,
+        out: "no .: expected int, found block 0 of 1\n",
+        err: "",
+    },
+];
+
+#[test]
+fn values_are_checked(rt: HostRuntime) -> Result<(), Fail> {
+    expect_cases(&rt, rt.alloc(), &VALUES)?;
+    Ok(())
+}
+
+/// Three values in their order, or fewer: there may be no text.
+struct Stream {
+    shows: &'static str,
+    first: &'static str,
+    second: &'static str,
+    third: &'static str,
+    status: Status,
+    out: &'static str,
+    err: &'static str,
+}
+
+static STREAMS: [Stream; 5] = [
+    Stream {
+        shows: "two values that have the type",
+        first: INTEGER,
+        second: INTEGER,
+        third: "",
+        status: Status::Well,
+        out: "yes\nyes\n",
+        err: "",
+    },
+    Stream {
+        shows: "a later yes heals no earlier no",
+        first: STRING,
+        second: INTEGER,
+        third: "",
+        status: Status::No,
+        out: "no .: expected int, found string\nyes\n",
+        err: "",
+    },
+    Stream {
+        shows: "the last value may be the one that has not the type",
+        first: INTEGER,
+        second: INTEGER,
+        third: LIST,
+        status: Status::No,
+        out: "yes\nyes\nno .: expected int, found block 0 of 2\n",
+        err: "",
+    },
+    Stream {
+        shows: "a refusal weighs more than a no",
+        first: STRING,
+        second: BYTE_BEHIND,
+        third: INTEGER,
+        status: Status::Value,
+        out: "no .: expected int, found string\n",
+        err: "omarshal: value 1: LengthMismatch(1) at 21\n",
+    },
+    Stream {
+        shows: "the end in the magic of the third value",
+        first: INTEGER,
+        second: LIST,
+        third: "8495",
+        status: Status::Value,
+        out: "yes\nno .: expected int, found block 0 of 2\n",
+        err: "omarshal: value 2: Truncated(2)\n",
+    },
+];
+
+fn expect_stream(rt: &impl Abort, alloc: Global, stream: &Stream) -> Result<(), AllocError> {
+    let mut row = check_row(
+        alloc,
+        "int",
+        stream.first,
+        stream.status,
+        stream.out,
+        stream.err,
+    )?;
+    push_hex(&mut row.input, stream.second)?;
+    push_hex(&mut row.input, stream.third)?;
+    expect_row(rt, alloc, stream.shows, &row)
+}
+
+#[test]
+fn values_stand_behind_one_another(rt: HostRuntime) -> Result<(), Fail> {
+    for stream in &STREAMS {
+        expect_stream(&rt, rt.alloc(), stream)?;
+    }
+    Ok(())
+}
+
+// The empty list, at a type of so many lists.
+fn expect_lists(
+    rt: &impl Abort,
+    alloc: Global,
+    lists: u8,
+    status: Status,
+    out: &str,
+    err: &str,
+) -> Result<(), AllocError> {
+    let zero = "8495a6be 00000001 00000000 00000000 00000000 40";
+    let mut type_text = String::from_str(alloc, "string")?;
+    for _ in 0..lists {
+        type_text.push_str(" list")?;
+    }
+    let row = check_row(alloc, type_text.as_str(), zero, status, out, err)?;
+    expect_row(rt, alloc, type_text.as_str(), &row)
+}
+
+// The empty list has each of them but `string` itself.
+#[test]
+fn a_type_has_at_most_199_lists(rt: HostRuntime) -> Result<(), Fail> {
+    let no = "no .: expected string, found int 0\n";
+    let refused = "omarshal: type: NotYet\n";
+    expect_lists(&rt, rt.alloc(), 0, Status::No, no, "")?;
+    for lists in [1, 2, 199] {
+        expect_lists(&rt, rt.alloc(), lists, Status::Well, "yes\n", "")?;
+    }
+    for lists in [200, 201] {
+        expect_lists(&rt, rt.alloc(), lists, Status::Types, "", refused)?;
+    }
+    Ok(())
+}
