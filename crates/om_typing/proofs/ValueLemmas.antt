@@ -1,0 +1,28 @@
+-- The values of a graph, and each of them with each type.
+use Rattle.std.proofs.Common.{ℕ, ◌≡◌, List, ◌∷◌, Some}
+use Rattle.std.specs.Prelude.{slice_get, map, flat_map, Contains}
+use Rattle.std.proofs.lemmas.Option.{option_and_then_some}
+use Rattle.om_model.specs.declared.value.Val.{Val}
+use Rattle.om_model.specs.declared.value.Obj.{Obj}
+use Rattle.om_model.specs.Typing.{values_of, field_at}
+use Rattle.om_model.proofs.FaultLemmas.{Contains-later}
+use Rattle.om_typing.proofs.Choices.{slice_get-Contains, Contains-mapped, Contains-flat_map}
+
+-- a root and all fields of blocks
+abbrev pub all_values : List Obj → Val → List Val
+all_values graph root = root ∷ flat_map values_of graph
+
+pub field_is_value : (graph : List Obj) (root : Val) (o i : ℕ) (w : Val) → field_at graph o i ≡ Some w → Contains (all_values graph root) w
+field_is_value graph root o i w field =
+    option_and_then_some (λ object. slice_get (values_of object) i) (slice_get graph o) w field (λ object at_o at_i.
+    Contains-later root (flat_map values_of graph) w
+    (Contains-flat_map values_of graph object w (slice_get-Contains graph o object at_o) (slice_get-Contains (values_of object) i w at_i)))
+
+-- each of the values with each of the types
+abbrev pub slots_of : {T : Type 0} → List Val → List T → List (Val × T)
+slots_of values types = flat_map (λ v. map (λ t. (v, t)) types) values
+
+pub slot_is_there : {T : Type 0} (values : List Val) (types : List T) (v : Val) (t : T) → Contains values v → Contains types t → Contains (slots_of values types) (v, t)
+slot_is_there {T} values types v t value type =
+    let pair = λ (w : Val) (u : T). let p : Val × T = (w, u) in p in
+    Contains-flat_map (λ w. map (pair w) types) values v (v, t) value (Contains-mapped (pair v) types t type)

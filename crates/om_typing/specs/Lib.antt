@@ -1,0 +1,3 @@
+pub mod Decidable
+pub mod Complete
+pub mod ListLaws
