@@ -1,2 +1,4 @@
 pub mod Kind
 pub mod Sums
+pub mod Refusal
+pub mod Step

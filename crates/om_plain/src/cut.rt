@@ -1,6 +1,6 @@
 //! Parts of bytes, of which there may be too few.
 
-ghost use Rattle.std.specs.Prelude.{◌≡◌, ◌≤◌, take, drop, slice_index, slice_range};
+ghost use Rattle.std.specs.Prelude.{◌≡◌, ◌≤◌, ◌-◌, length, take, drop, slice_index, slice_range};
 ghost use Rattle.om_model.specs.Bytes.{number, signed as signed_number};
 
 use om_model::bytes::{big_endian, signed};
@@ -26,7 +26,8 @@ pub fn behind(bytes: &[u8], n: usize) -> &[u8]
 /// The bytes from place `from` on, before place `to`.
 pub fn between(bytes: &[u8], from: usize, to: usize) -> &[u8]
     requires { from ≤ to }
-    ensures { result.now ≡ slice_range bytes.now from to }
+    ensures bytes { result.now ≡ slice_range bytes.now from to }
+    ensures few { length result.now ≤ to - from }
 {
     first(behind(bytes, from), to - from)
 }

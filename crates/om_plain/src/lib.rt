@@ -2,6 +2,13 @@
 #![tactic(auto)]
 
 mod code;
+mod context;
 mod cut;
+mod header;
 mod raw;
+mod refusal;
+mod step;
+mod token_step;
 mod words;
+
+pub use refusal::Refusal;
