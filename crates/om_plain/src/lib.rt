@@ -4,11 +4,14 @@
 mod code;
 mod context;
 mod cut;
+mod front;
 mod header;
 mod raw;
 mod refusal;
 mod step;
 mod token_step;
+mod value;
 mod words;
 
 pub use refusal::Refusal;
+pub use value::{Judged, judge};
