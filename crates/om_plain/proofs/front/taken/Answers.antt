@@ -1,0 +1,21 @@
+use Rattle.std.proofs.Common.{◌≡◌, ◌+◌, ◌<◌, length, arith, take, rules}
+use Rattle.std.specs.List.{concat}
+use Rattle.om_plain.proofs.Pieces.{length_more, length_within}
+use Rattle.om_plain.proofs.front.taken.Goals as goal
+
+pub overflow_add-taken : goal.overflow_add-taken
+overflow_add-taken c =
+    let pieces = c.args.tokens.now in
+    let i = c.loop-token.token-index in
+    let more = length_more pieces i c.token-item.result (search rules) c.token-item.is in
+    let within = length_within pieces (i + 1) in
+    let len : c.len.result ≡ length c.token-item.result = search rules in
+    omega arith
+
+pub loop-token-preserved : goal.loop-token-preserved
+loop-token-preserved c =
+    let pieces = c.args.tokens.now in
+    let i = c.loop-token.token-index in
+    let more = length_more pieces i c.token-item.result (search rules) c.token-item.is in
+    let len : c.len.result ≡ length c.token-item.result = search rules in
+    omega arith

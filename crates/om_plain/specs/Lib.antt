@@ -1,0 +1,6 @@
+pub mod Kind
+pub mod Sums
+pub mod Refusal
+pub mod Step
+pub mod Front
+pub mod Judged

@@ -1,0 +1,30 @@
+-- The refusals of the definitions.
+use Rattle.std.specs.Prelude.{Option, Some, None}
+use Rattle.om_model.specs.declared.refusal.ReadRefusal.{ReadRefusal}
+use Rattle.om_model.specs.declared.refusal.ReadRefusal.TheVariants as refusals
+use Rattle.om_plain.specs.declared.refusal.Refusal.{Refusal}
+use Rattle.om_plain.specs.declared.refusal.Refusal.TheVariants.{BadMagic, Compressed, TooLarge, BadCode, PointerCode, OtherCustom, BadTag, BadShared, NoTable, BadNative, IntRange, ZeroArray, Overlong, SizeMismatch, CountMismatch, LengthMismatch}
+
+-- the same with the same numbers
+abbrev pub refusal_of : Refusal → ReadRefusal
+refusal_of (BadMagic m) = refusals.BadMagic m
+refusal_of Compressed = refusals.Compressed
+refusal_of (TooLarge what stated limit) = refusals.TooLarge what stated limit
+refusal_of (BadCode p code) = refusals.BadCode p code
+refusal_of (PointerCode p code) = refusals.PointerCode p code
+refusal_of (OtherCustom p code) = refusals.OtherCustom p code
+refusal_of (BadTag p tag) = refusals.BadTag p tag
+refusal_of (BadShared p offset found) = refusals.BadShared p offset found
+refusal_of (NoTable p) = refusals.NoTable p
+refusal_of (BadNative p kind) = refusals.BadNative p kind
+refusal_of (IntRange p z) = refusals.IntRange p z
+refusal_of (ZeroArray p) = refusals.ZeroArray p
+refusal_of (Overlong p need left) = refusals.Overlong p need left
+refusal_of (SizeMismatch p sum stated found) = refusals.SizeMismatch p sum stated found
+refusal_of (CountMismatch p stated found) = refusals.CountMismatch p stated found
+refusal_of (LengthMismatch p left) = refusals.LengthMismatch p left
+
+-- where there is one
+abbrev pub refusal_in : Option Refusal → Option ReadRefusal
+refusal_in None = None
+refusal_in (Some refusal) = Some (refusal_of refusal)

@@ -1,0 +1,17 @@
+//! What becomes of bytes that should be a value, computed from the definitions step by step. Slow and plain.
+#![tactic(auto)]
+
+mod code;
+mod context;
+mod cut;
+mod front;
+mod header;
+mod raw;
+mod refusal;
+mod step;
+mod token_step;
+mod value;
+mod words;
+
+pub use refusal::Refusal;
+pub use value::{Judged, judge};

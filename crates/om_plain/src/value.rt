@@ -1,0 +1,106 @@
+//! What becomes of bytes that should be a value.
+
+ghost use Rattle.std.specs.Prelude.{◌≡◌, ◌≤◌, ◌<◌, ◌^◌, ◌++◌, ◌∷◌, [], ◌↔◌, take, length, IsTrue, IfOk, OnOk};
+ghost use Rattle.std.specs.List.{concat};
+ghost use Rattle.om_model.specs.Front.{header_refusal, IsOpen};
+ghost use Rattle.om_model.specs.Header.{header_length};
+ghost use Rattle.om_plain.specs.Judged.{IsJudged};
+
+use crate::cut::{behind, first};
+use crate::front::{context, header_refused, token_refused};
+use crate::header::header_length;
+use crate::raw::raw_length;
+use crate::refusal::Refusal;
+use crate::words::pending;
+use om_model::Memory;
+use om_model::list::List;
+use std::alloc::{AllocError, Global};
+
+/// A front, a value that the first `taken` bytes spell, or a refusal of the first `taken` bytes.
+#[derive(Drop)]
+pub enum Judged {
+    Front,
+    Value { taken: usize },
+    Refused { taken: usize, refusal: Refusal },
+}
+
+/// The tokens, and the first of the bytes left as one more.
+fn push(
+    alloc: Global,
+    tokens: &mut Vec<List<u8>>,
+    rest: &[u8],
+    len: usize,
+) -> Result<(), AllocError>
+    ensures { OnOk result (tokens.new.items ≡ tokens.old.items ++ take len rest.now ∷ []) }
+{
+    let token = Vec::from_slice(alloc, first(rest, len))?;
+    tokens.push(List::of(token))?;
+    Ok(())
+}
+
+/// Whether some value is still to come behind these tokens.
+fn is_open(alloc: Global, header: &[u8], tokens: &[List<u8>]) -> Result<bool, AllocError>
+    requires { length (concat tokens.now) < 2 ^ 64 }
+    ensures { IfOk result (λ open_behind. IsTrue open_behind ↔ IsOpen tokens.now) }
+{
+    let c = context(alloc, header, tokens)?;
+    Ok(0 < pending(&c.before))
+}
+
+/// Judges one token after another, behind the header.
+fn judge_tokens(alloc: Global, limit: u64, bytes: &[u8]) -> Result<Judged, AllocError>
+    requires passes { header_refusal limit bytes.now ≡ None }
+    requires whole { header_length bytes.now ≤ length bytes.now }
+    ensures { IfOk result (IsJudged limit bytes.now) }
+{
+    let start = header_length(bytes);
+    let header = first(bytes, start);
+    let mut tokens = Vec::new(alloc);
+    let mut rest = behind(bytes, start);
+    'next: loop {
+        let c = context(alloc, header, &tokens)?;
+        if let Some(decided) = token_refused(alloc, &c, rest)? {
+            return Ok(Judged::Refused {
+                taken: bytes.len() - rest.len() + decided.count,
+                refusal: decided.refusal,
+            });
+        }
+        let len = raw_length(rest);
+        if (rest.len() as u128) < len {
+            return Ok(Judged::Front);
+        }
+        push(alloc, &mut tokens, rest, len as usize)?;
+        rest = behind(rest, len as usize);
+        if !is_open(alloc, header, &tokens)? {
+            return Ok(Judged::Value {
+                taken: bytes.len() - rest.len(),
+            });
+        }
+    }
+}
+
+/// Judges the header, and then the tokens.
+fn judge_bytes(alloc: Global, limit: u64, bytes: &[u8]) -> Result<Judged, AllocError>
+    ensures { IfOk result (IsJudged limit bytes.now) }
+{
+    if let Some(decided) = header_refused(limit, bytes) {
+        return Ok(Judged::Refused {
+            taken: decided.count,
+            refusal: decided.refusal,
+        });
+    }
+    if bytes.len() < header_length(bytes) {
+        return Ok(Judged::Front);
+    }
+    judge_tokens(alloc, limit, bytes)
+}
+
+/// What becomes of bytes, computed from the definitions step by step. Slow: it cuts and sums anew at each token.
+pub fn judge(alloc: Global, limit: u64, bytes: &[u8]) -> Result<Judged, Memory>
+    ensures { IfOk result (IsJudged limit bytes.now) }
+{
+    match judge_bytes(alloc, limit, bytes) {
+        Ok(judged) => Ok(judged),
+        Err(_) => Err(Memory),
+    }
+}
