@@ -1,4 +1,4 @@
-(* Writes the streams of streams/ into the folder that its argument names. *)
+(* Writes the streams of data/ into the folder that its argument names. *)
 
 let folder = Sys.argv.(1)
 
