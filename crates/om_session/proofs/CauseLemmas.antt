@@ -5,11 +5,11 @@ use Rattle.om_model.specs.declared.status.Status.{Status}
 use Rattle.om_model.specs.declared.status.Status.TheVariants as statuses
 use Rattle.om_model.specs.Stream.{End, clean, refused, cut, Stream}
 use Rattle.om_model.specs.Tree.{Tree}
-use Rattle.om_model.specs.Outcome.{Taken, Until, at_end, at_fault, at_length, unasked, whole, Found, opened, missing, failed, unfetched, Given, Stop, usage, declarations, read_fault, too_long, status_of, Ending, stopped, or_no, Request, check, Task, Language, ReadsFile, ReadsTypeOf, Prepares, Says, SaysValues, Closes, says, stops, TreatsAll, fault_of, limit_of, Asks}
+use Rattle.om_model.specs.Outcome.{Taken, Until, at_end, at_fault, at_length, unasked, whole, Found, opened, missing, failed, unfetched, Given, Stop, usage, declarations, read_fault, too_long, status_of, Ending, stopped, or_no, Request, check, Task, Language, ReadsFile, ReadsTypeOf, Prepares, Says, SaysFirst, SaysValues, out_of_memory, text_of, err_line, Closes, says, stops, TreatsAll, fault_of, limit_of, Asks}
 use Rattle.om_edge.specs.Faults.{HasCause, RoseOrLast}
 use Rattle.om_edge.specs.Files.{File, bytes_of}
 use Rattle.om_session.specs.Call.{Call}
-use Rattle.om_session.specs.Given.{IsFoundOf, TakesFrom, Fetched, IsMeasured, is_fault, has_read_fault}
+use Rattle.om_session.specs.Given.{Puts, PutsPart, IsFoundOf, TakesFrom, Fetched, IsMeasured, is_fault, has_read_fault}
 use Rattle.om_session.specs.Run.{MayEnd, PutsLine, Completes, Breaks, Account, IsUsage, IsFileOf, CannotOpen, OnlyUsage, OnlyReadFault, OnlyWriteFault, OnlyOpenFault, OnlyTooLong, IfUsage, IsUnsaid, TellsWriteFault, TellsOpenFault, TellsReadFault, IsTyped, IsRefusedType, OnlyTypes, OnlyValue, IfMissing}
 use Rattle.std.proofs.lemmas.Option.{IfSome_then}
 use Rattle.om_session.proofs.HeadlineLemmas.{no_stop}
@@ -22,7 +22,7 @@ and_then : {X : Type 0} (o : Option X) (P Q : X → Type 0) → IsSomeAnd o P �
 and_then None P Q h implies = h
 and_then (Some x) P Q h implies = implies x h
 
-longer : (bytes : List ℕ) (taken : Taken) (rest : List ℕ) → TakesFrom bytes taken rest → 2 ^ 48 ≤ length taken.bytes → 2 ^ 48 ≤ length bytes
+pub longer : (bytes : List ℕ) (taken : Taken) (rest : List ℕ) → TakesFrom bytes taken rest → 2 ^ 48 ≤ length taken.bytes → 2 ^ 48 ≤ length bytes
 longer bytes taken rest t long =
     let all : length bytes ≡ length taken.bytes + length rest = ap length t.front ∙ length-append taken.bytes rest in
     omega arith
@@ -30,131 +30,143 @@ longer bytes taken rest t long =
 risen : (a b : ℕ) → b ≡ a → a < b → ⊥
 risen a b same less = omega arith
 
--- why a call ends with a status
-pub data Why (words : List (List ℕ)) (call : Call) (given : Given) (Refused : List ℕ → List ℕ → Type 0) : Status → Type 0 where
-  all_well : Why words call given Refused statuses.Well
-  some_no : Why words call given Refused statuses.No
-  not_plain : IsUsage words → Why words call given Refused statuses.Usage
-  not_there : (name : List ℕ) → IsFileOf words name → given.file name ≡ missing → Why words call given Refused statuses.OpenFault
-  not_opened : (name : List ℕ) → IsFileOf words name → given.file name ≡ failed → Why words call given Refused statuses.OpenFault
-  no_types : (name type text : List ℕ) → IsTyped words name type → given.file name ≡ opened (whole text) → Refused text type → Why words call given Refused statuses.Types
-  file_fault : (name : List ℕ) (taken : Taken) → IsFileOf words name → given.file name ≡ opened taken → taken.until ≡ at_fault → Why words call given Refused statuses.ReadFault
-  file_long : (name : List ℕ) (taken : Taken) → IsFileOf words name → given.file name ≡ opened taken → taken.until ≡ at_length → Why words call given Refused statuses.TooLong
-  no_value : (request : Request) → Asks words request → given.input.until ≡ at_end → (trees : List Tree) (end : End) → Stream given.input.bytes (limit_of request) trees end → end ≢ clean → Why words call given Refused statuses.Value
-  input_fault : given.input.until ≡ at_fault → Why words call given Refused statuses.ReadFault
-  input_long : given.input.until ≡ at_length → Why words call given Refused statuses.TooLong
-  memory : Why words call given Refused statuses.Memory
-  out_fault : RoseOrLast call.out.before.faults call.out.after.faults → Why words call given Refused statuses.WriteFault
-  err_fault : RoseOrLast call.err.before.faults call.err.after.faults → Why words call given Refused statuses.WriteFault
+-- the stages before the values are passed
+abbrev pub IsReady : {D T : Type 0} → Language D T → List (List ℕ) → Given → Type 0
+IsReady {D} {T} language words given = (task : Task T) × Prepares language words given.file (Ok task)
 
-module _ (words : List (List ℕ)) (call : Call) (given : Given) (Refused : List ℕ → List ℕ → Type 0) where
-  or_no_why : (s : Status) → Why words call given Refused s → Why words call given Refused (or_no s)
-  or_no_why s all_well = some_no
-  or_no_why s some_no = some_no
+-- memory ran out: out has the texts of some first values, and err the line that tells it
+abbrev pub IsSpent : {D T : Type 0} → Language D T → List (List ℕ) → Call → Given → Type 0
+IsSpent language words call given =
+    (text : List ℕ) × SaysFirst language words given text × Puts call.out text × Puts call.err (err_line (text_of out_of_memory))
+
+-- err failed within its line
+abbrev pub IsUnput : {D T : Type 0} → Language D T → List (List ℕ) → Call → Given → Type 0
+IsUnput language words call given = (ending : Ending) × MayEnd language words given ending × Puts call.out ending.out × PutsPart call.err ending.err
+
+-- why a call ends with a status
+pub data Why {D T : Type 0} (language : Language D T) (words : List (List ℕ)) (call : Call) (given : Given) : Status → Type 0 where
+  all_well : IsReady language words given → given.input.until ≡ at_end → Why language words call given statuses.Well
+  some_no : IsReady language words given → given.input.until ≡ at_end → Why language words call given statuses.No
+  not_plain : IsUsage words → Why language words call given statuses.Usage
+  not_there : (name : List ℕ) → IsFileOf words name → given.file name ≡ missing → Why language words call given statuses.OpenFault
+  not_opened : (name : List ℕ) → IsFileOf words name → given.file name ≡ failed → Why language words call given statuses.OpenFault
+  no_types : (name type text : List ℕ) → IsTyped words name type → given.file name ≡ opened (whole text) → IsRefusedType language text type → Why language words call given statuses.Types
+  file_fault : (name : List ℕ) (taken : Taken) → IsFileOf words name → given.file name ≡ opened taken → taken.until ≡ at_fault → Why language words call given statuses.ReadFault
+  file_long : (name : List ℕ) (taken : Taken) → IsFileOf words name → given.file name ≡ opened taken → taken.until ≡ at_length → Why language words call given statuses.TooLong
+  no_value : IsReady language words given → (request : Request) → Asks words request → given.input.until ≡ at_end → (trees : List Tree) (end : End) → Stream given.input.bytes (limit_of request) trees end → end ≢ clean → Why language words call given statuses.Value
+  input_fault : given.input.until ≡ at_fault → Why language words call given statuses.ReadFault
+  input_long : IsReady language words given → given.input.until ≡ at_length → Why language words call given statuses.TooLong
+  memory : IsSpent language words call given → Why language words call given statuses.Memory
+  out_fault : Breaks language words given call → Why language words call given statuses.WriteFault
+  err_fault : IsUnput language words call given → Why language words call given statuses.WriteFault
+
+module _ {D T : Type 0} (language : Language D T) (words : List (List ℕ)) (call : Call) (given : Given) where
+  or_no_why : (s : Status) → Why language words call given s → Why language words call given (or_no s)
+  or_no_why s (all_well ready e) = some_no ready e
+  or_no_why s (some_no ready e) = some_no ready e
   or_no_why s (not_plain none) = not_plain none
   or_no_why s (not_there name is none) = not_there name is none
   or_no_why s (not_opened name is none) = not_opened name is none
   or_no_why s (no_types name type text is found why) = no_types name type text is found why
   or_no_why s (file_fault name taken is found e) = file_fault name taken is found e
   or_no_why s (file_long name taken is found e) = file_long name taken is found e
-  or_no_why s (no_value request asks e trees end stream some) = no_value request asks e trees end stream some
+  or_no_why s (no_value ready request asks e trees end stream some) = no_value ready request asks e trees end stream some
   or_no_why s (input_fault e) = input_fault e
-  or_no_why s (input_long e) = input_long e
-  or_no_why s memory = memory
-  or_no_why s (out_fault rose) = out_fault rose
-  or_no_why s (err_fault rose) = err_fault rose
+  or_no_why s (input_long ready e) = input_long ready e
+  or_no_why s (memory spent) = memory spent
+  or_no_why s (out_fault breaks) = out_fault breaks
+  or_no_why s (err_fault unput) = err_fault unput
 
-  well_why : (well : Bool) (s : Status) → Why words call given Refused s → Why words call given Refused (if well then s else or_no s)
+  well_why : (well : Bool) (s : Status) → Why language words call given s → Why language words call given (if well then s else or_no s)
   well_why true s why = why
   well_why false s why = or_no_why s why
 
   -- FILE was not read to its end
-  file_why : (name : List ℕ) → IsFileOf words name → (found : Found) → given.file name ≡ found → (s : Stop) → ReadsFile name found (Err s) → Why words call given Refused (status_of s)
+  file_why : (name : List ℕ) → IsFileOf words name → (found : Found) → given.file name ≡ found → (s : Stop) → ReadsFile name found (Err s) → Why language words call given (status_of s)
   file_why name is (opened taken) e s r = until_why taken.until refl r where
-    until_why : (u : Until) → taken.until ≡ u → fault_of u ≡ Some s → Why words call given Refused (status_of s)
+    until_why : (u : Until) → taken.until ≡ u → fault_of u ≡ Some s → Why language words call given (status_of s)
     until_why at_end same r = absurd (cc r)
-    until_why at_fault same r = let stop : read_fault ≡ s = cc in subst (λ s. Why words call given Refused (status_of s)) stop (file_fault name taken is e same)
-    until_why at_length same r = let stop : too_long ≡ s = cc in subst (λ s. Why words call given Refused (status_of s)) stop (file_long name taken is e same)
+    until_why at_fault same r = let stop : read_fault ≡ s = cc in subst (λ s. Why language words call given (status_of s)) stop (file_fault name taken is e same)
+    until_why at_length same r = let stop : too_long ≡ s = cc in subst (λ s. Why language words call given (status_of s)) stop (file_long name taken is e same)
     until_why unasked same r = absurd (cc r)
-  file_why name is missing e s r = subst (λ s. Why words call given Refused (status_of s)) (sym r) (not_there name is e)
-  file_why name is failed e s r = subst (λ s. Why words call given Refused (status_of s)) (sym r) (not_opened name is e)
+  file_why name is missing e s r = subst (λ s. Why language words call given (status_of s)) (sym r) (not_there name is e)
+  file_why name is failed e s r = subst (λ s. Why language words call given (status_of s)) (sym r) (not_opened name is e)
   file_why name is unfetched e s r = absurd r
 
-  module _ {D T : Type 0} (language : Language D T) (is_refused : (text type : List ℕ) → IsRefusedType language text type → Refused text type) where
-    type_why : (f t : List ℕ) → IsTyped words f t → (s : Stop) → ReadsTypeOf language given.file (f, t) (Err s) → Why words call given Refused (status_of s)
-    type_why f t is s (Err stop, r, same) =
-        let e : stop ≡ s = cc in subst (λ s. Why words call given Refused (status_of s)) e (file_why f (is.0, t, is.1, is.2) (given.file f) refl stop r)
-    type_why f t is s (Ok text, r, (Err stop, (refusal, reads, e), same)) =
-        let told : declarations refusal ≡ s = cc in subst (λ s. Why words call given Refused (status_of s)) told (no_types f t text is r (is_refused text t (inl (refusal, reads))))
-    type_why f t is s (Ok text, r, (Ok decls, reads, (refusal, unread, e))) = subst (λ s. Why words call given Refused (status_of s)) (sym e) (no_types f t text is r (is_refused text t (inr (decls, refusal, reads, unread))))
+  type_why : (f t : List ℕ) → IsTyped words f t → (s : Stop) → ReadsTypeOf language given.file (f, t) (Err s) → Why language words call given (status_of s)
+  type_why f t is s (Err stop, r, same) =
+      let e : stop ≡ s = cc in subst (λ s. Why language words call given (status_of s)) e (file_why f (is.0, t, is.1, is.2) (given.file f) refl stop r)
+  type_why f t is s (Ok text, r, (Err stop, (refusal, reads, e), same)) =
+      let told : declarations refusal ≡ s = cc in subst (λ s. Why language words call given (status_of s)) told (no_types f t text is r (inl (refusal, reads)))
+  type_why f t is s (Ok text, r, (Ok decls, reads, (refusal, unread, e))) = subst (λ s. Why language words call given (status_of s)) (sym e) (no_types f t text is r (inr (decls, refusal, reads, unread)))
 
-    prepares_why : (s : Stop) → Prepares language words given.file (Err s) → Why words call given Refused (status_of s)
-    prepares_why s (Err stop, (none, e), same) =
-        let told : usage ≡ s = cc in subst (λ s. Why words call given Refused (status_of s)) told (not_plain none)
-    prepares_why s (Ok (check f t), asks, (Ok type, found, same)) = absurd (cc same)
-    prepares_why s (Ok (check f t), asks, (Err stop, (Ok type, reads, found), same)) = absurd (cc found)
-    prepares_why s (Ok (check f t), asks, (Err stop, (Err first, reads, e), same)) =
-        let told : first ≡ s = cc in
-        subst (λ s. Why words call given Refused (status_of s)) told (type_why f t (check f t, asks, refl) first reads)
+  prepares_why : (s : Stop) → Prepares language words given.file (Err s) → Why language words call given (status_of s)
+  prepares_why s (Err stop, (none, e), same) =
+      let told : usage ≡ s = cc in subst (λ s. Why language words call given (status_of s)) told (not_plain none)
+  prepares_why s (Ok (check f t), asks, (Ok type, found, same)) = absurd (cc same)
+  prepares_why s (Ok (check f t), asks, (Err stop, (Ok type, reads, found), same)) = absurd (cc found)
+  prepares_why s (Ok (check f t), asks, (Err stop, (Err first, reads, e), same)) =
+      let told : first ≡ s = cc in
+      subst (λ s. Why language words call given (status_of s)) told (type_why f t (check f t, asks, refl) first reads)
 
-    closes_why : (request : Request) (trees : List Tree) (u : Until) (end : End) (e : Ending) → Asks words request → Stream given.input.bytes (limit_of request) trees end → given.input.until ≡ u → Closes request trees u end e → Why words call given Refused e.status
-    closes_why (check f t) trees at_end clean e asks stream same h = subst (λ e. Why words call given Refused e.status) (sym h) all_well
-    closes_why request trees at_end (refused refusal) e asks stream same h = subst (λ e. Why words call given Refused e.status) (sym h) (no_value request asks same trees (refused refusal) stream (λ no_end. cc))
-    closes_why request trees at_end (cut n) e asks stream same h = subst (λ e. Why words call given Refused e.status) (sym h) (no_value request asks same trees (cut n) stream (λ no_end. cc))
-    closes_why request trees at_fault end e asks stream same h = subst (λ e. Why words call given Refused e.status) (sym h) (input_fault same)
-    closes_why request trees at_length end e asks stream same h = subst (λ e. Why words call given Refused e.status) (sym h) (input_long same)
-    closes_why request trees unasked end e asks stream same h = absurd h
+  closes_why : IsReady language words given → (request : Request) (trees : List Tree) (u : Until) (end : End) (e : Ending) → Asks words request → Stream given.input.bytes (limit_of request) trees end → given.input.until ≡ u → Closes request trees u end e → Why language words call given e.status
+  closes_why ready (check f t) trees at_end clean e asks stream same h = subst (λ e. Why language words call given e.status) (sym h) (all_well ready same)
+  closes_why ready request trees at_end (refused refusal) e asks stream same h = subst (λ e. Why language words call given e.status) (sym h) (no_value ready request asks same trees (refused refusal) stream (λ no_end. cc))
+  closes_why ready request trees at_end (cut n) e asks stream same h = subst (λ e. Why language words call given e.status) (sym h) (no_value ready request asks same trees (cut n) stream (λ no_end. cc))
+  closes_why ready request trees at_fault end e asks stream same h = subst (λ e. Why language words call given e.status) (sym h) (input_fault same)
+  closes_why ready request trees at_length end e asks stream same h = subst (λ e. Why language words call given e.status) (sym h) (input_long ready same)
+  closes_why ready request trees unasked end e asks stream same h = absurd h
 
-    treats_why : (task : Task T) (C : Ending → Type 0) → ((e : Ending) → C e → Why words call given Refused e.status) → (k : ℕ) (trees : List Tree) (e : Ending)
-        → TreatsAll language task C k trees e → Why words call given Refused e.status
-    treats_why task C why k [] e h = why e h
-    treats_why task C why k (tree ∷ trees) e (says text well, treats, (rest, goes, same)) =
-        subst (λ e. Why words call given Refused e.status) (sym same) (well_why well rest.status (treats_why task C why (suc k) trees rest goes))
-    treats_why task C why k (tree ∷ trees) e (stops stop, treats, same) = absurd (no_stop language task.request task.type k tree stop treats)
+  treats_why : (task : Task T) (C : Ending → Type 0) → ((e : Ending) → C e → Why language words call given e.status) → (k : ℕ) (trees : List Tree) (e : Ending)
+      → TreatsAll language task C k trees e → Why language words call given e.status
+  treats_why task C why k [] e h = why e h
+  treats_why task C why k (tree ∷ trees) e (says text well, treats, (rest, goes, same)) =
+      subst (λ e. Why language words call given e.status) (sym same) (well_why well rest.status (treats_why task C why (suc k) trees rest goes))
+  treats_why task C why k (tree ∷ trees) e (stops stop, treats, same) = absurd (no_stop language task.request task.type k tree stop treats)
 
-    task_asks : (task : Task T) → Prepares language words given.file (Ok task) → Asks words task.request
-    task_asks task (Err stop, h, same) = absurd (cc same)
-    task_asks task (Ok request, asks, (Err stop, h, same)) = absurd (cc same)
-    task_asks task (Ok request, asks, (Ok type, h, same)) =
-        let told : task ≡ record { request = request; type = type } = cc in subst (λ t. Asks words t.request) (sym told) asks
+  task_asks : (task : Task T) → Prepares language words given.file (Ok task) → Asks words task.request
+  task_asks task (Err stop, h, same) = absurd (cc same)
+  task_asks task (Ok request, asks, (Err stop, h, same)) = absurd (cc same)
+  task_asks task (Ok request, asks, (Ok type, h, same)) =
+      let told : task ≡ record { request = request; type = type } = cc in subst (λ t. Asks words t.request) (sym told) asks
 
-    says_why : (ending : Ending) → Says language words given ending → Why words call given Refused ending.status
-    says_why ending (Err stop, p, same) = subst (λ e. Why words call given Refused e.status) (sym same) (prepares_why stop p)
-    says_why ending (Ok task, p, (trees, end, stream, treats)) =
-        treats_why task (Closes task.request trees given.input.until end) (λ e h. closes_why task.request trees given.input.until end e (task_asks task p) stream refl h) 0 trees ending treats
+  says_why : (ending : Ending) → Says language words given ending → Why language words call given ending.status
+  says_why ending (Err stop, p, same) = subst (λ e. Why language words call given e.status) (sym same) (prepares_why stop p)
+  says_why ending (Ok task, p, (trees, end, stream, treats)) =
+      treats_why task (Closes task.request trees given.input.until end) (λ e h. closes_why (task, p) task.request trees given.input.until end e (task_asks task p) stream refl h) 0 trees ending treats
 
 module _ {D T : Type 0} (language : Language D T) (words : List (List ℕ)) (call : Call) (a : Account language words call) where
-  pub account_why : Why words call a.given (IsRefusedType language) call.status
+  pub account_why : Why language words call a.given call.status
   account_why = ends a.ends where
-    ends : Completes language words a.given call ⊎ Breaks language words a.given call → Why words call a.given (IsRefusedType language) call.status
-    ends (inr b) = subst (λ s. Why words call a.given (IsRefusedType language) s) (sym b.status) (out_fault b.out.cause.rose)
+    ends : Completes language words a.given call ⊎ Breaks language words a.given call → Why language words call a.given call.status
+    ends (inr b) = subst (λ s. Why language words call a.given s) (sym b.status) (out_fault b)
     ends (inl c) = put c.line where
-      put : PutsLine call.err call.status c.ending → Why words call a.given (IsRefusedType language) call.status
-      put (inr (part, same)) = subst (λ s. Why words call a.given (IsRefusedType language) s) (sym same) (err_fault part.cause.rose)
-      put (inl (line, same)) = subst (λ s. Why words call a.given (IsRefusedType language) s) (sym same) (may c.may_end) where
-        may : MayEnd language words a.given c.ending → Why words call a.given (IsRefusedType language) c.ending.status
-        may (inl said) = says_why words call a.given (IsRefusedType language) language (λ text type h. h) c.ending said
-        may (inr (text, first, e)) = subst (λ e. Why words call a.given (IsRefusedType language) e.status) (sym e) memory
+      put : PutsLine call.err call.status c.ending → Why language words call a.given call.status
+      put (inr (part, same)) = subst (λ s. Why language words call a.given s) (sym same) (err_fault (c.ending, c.may_end, c.out, part))
+      put (inl (line, same)) = subst (λ s. Why language words call a.given s) (sym same) (may c.may_end) where
+        may : MayEnd language words a.given c.ending → Why language words call a.given c.ending.status
+        may (inl said) = says_why language words call a.given c.ending said
+        may (inr (text, first, e)) = subst (λ e. Why language words call a.given e.status) (sym e) (memory (text, first, subst (λ e. Puts call.out e.out) e c.out, subst (λ e. Puts call.err e.err) e line))
 
-  file_fetched : (name : List ℕ) → IsFileOf words name → Fetched call.files name (a.given.file name)
+  pub file_fetched : (name : List ℕ) → IsFileOf words name → Fetched call.files name (a.given.file name)
   file_fetched name (request, type, asks, typed) = subst (λ o. IfSome o (λ t. Fetched call.files t.0 (a.given.file t.0))) typed (a.files.asked request asks)
 
   -- ---- the causes
 
-  usage_of : Why words call a.given (IsRefusedType language) statuses.Usage → IsUsage words
+  usage_of : Why language words call a.given statuses.Usage → IsUsage words
   usage_of (not_plain none) = none
 
   pub only_usage : OnlyUsage words call
-  only_usage e = usage_of (subst (λ s. Why words call a.given (IsRefusedType language) s) e account_why)
+  only_usage e = usage_of (subst (λ s. Why language words call a.given s) e account_why)
 
-  write_of : Why words call a.given (IsRefusedType language) statuses.WriteFault → RoseOrLast call.out.before.faults call.out.after.faults ⊎ RoseOrLast call.err.before.faults call.err.after.faults
-  write_of (out_fault rose) = inl rose
-  write_of (err_fault rose) = inr rose
+  write_of : Why language words call a.given statuses.WriteFault → RoseOrLast call.out.before.faults call.out.after.faults ⊎ RoseOrLast call.err.before.faults call.err.after.faults
+  write_of (out_fault breaks) = inl breaks.out.cause.rose
+  write_of (err_fault unput) = inr unput.3.cause.rose
 
   pub only_write_fault : OnlyWriteFault call
-  only_write_fault e = write_of (subst (λ s. Why words call a.given (IsRefusedType language) s) e account_why)
+  only_write_fault e = write_of (subst (λ s. Why language words call a.given s) e account_why)
 
-  read_of : Why words call a.given (IsRefusedType language) statuses.ReadFault
+  read_of : Why language words call a.given statuses.ReadFault
       → RoseOrLast call.input.before.faults call.input.after.faults ⊎ RoseOrLast call.files.before.read_faults call.files.after.read_faults
   read_of (input_fault e) = inl (rw e at a.input.cause).rose
   read_of (file_fault name taken is found e) =
@@ -163,9 +175,9 @@ module _ {D T : Type 0} (language : Language D T) (words : List (List ℕ)) (cal
       inr (rw e at cause).rose
 
   pub only_read_fault : OnlyReadFault call
-  only_read_fault e = read_of (subst (λ s. Why words call a.given (IsRefusedType language) s) e account_why)
+  only_read_fault e = read_of (subst (λ s. Why language words call a.given s) e account_why)
 
-  open_of : Why words call a.given (IsRefusedType language) statuses.OpenFault → (name : List ℕ) × IsFileOf words name × CannotOpen call.files name
+  open_of : Why language words call a.given statuses.OpenFault → (name : List ℕ) × IsFileOf words name × CannotOpen call.files name
   open_of (not_there name is found) =
       let f = subst (λ o. Fetched call.files name o) found (file_fetched name is) in
       (name, is, inr (some_and call.files.before.map (λ all. bytes_of all name ≡ None) (f.told refl) f.map))
@@ -174,12 +186,12 @@ module _ {D T : Type 0} (language : Language D T) (words : List (List ℕ)) (cal
       (name, is, inl (f.opening.rose, f.named refl))
 
   pub only_open_fault : OnlyOpenFault words call
-  only_open_fault e = open_of (subst (λ s. Why words call a.given (IsRefusedType language) s) e account_why)
+  only_open_fault e = open_of (subst (λ s. Why language words call a.given s) e account_why)
 
-  long_of : Why words call a.given (IsRefusedType language) statuses.TooLong
+  long_of : Why language words call a.given statuses.TooLong
       → IfSome call.input.before.bytes (λ bytes. 2 ^ 48 ≤ length bytes)
       ⊎ ((name : List ℕ) × IsFileOf words name × IfSome call.files.before.map (λ all. IsSomeAnd (bytes_of all name) (λ bytes. 2 ^ 48 ≤ length bytes)))
-  long_of (input_long e) =
+  long_of (input_long ready e) =
       let long = subst (λ u. IsMeasured u (length a.given.input.bytes)) e a.input.measured in
       inl (IfSome_then call.input.before.bytes a.input.told (λ bytes t. longer bytes a.given.input t.0 t.1 long))
   long_of (file_long name taken is found e) =
@@ -194,7 +206,7 @@ module _ {D T : Type 0} (language : Language D T) (words : List (List ℕ)) (cal
       )
 
   pub only_too_long : OnlyTooLong words call
-  only_too_long e = long_of (subst (λ s. Why words call a.given (IsRefusedType language) s) e account_why)
+  only_too_long e = long_of (subst (λ s. Why language words call a.given s) e account_why)
 
   -- ---- what has to be told
 
@@ -318,23 +330,23 @@ module _ {D T : Type 0} (language : Language D T) (words : List (List ℕ)) (cal
   }
 
   -- what is found of the name, where the map has it
-  contents_are : (o : Option (List ℕ)) (bytes : List ℕ) → IsSomeAnd o (λ all. (rest : List ℕ) × TakesFrom all (whole bytes) rest) → o ≡ Some bytes
+  pub contents_are : (o : Option (List ℕ)) (bytes : List ℕ) → IsSomeAnd o (λ all. (rest : List ℕ) × TakesFrom all (whole bytes) rest) → o ≡ Some bytes
   contents_are None bytes h = absurd h
   contents_are (Some all) bytes (rest, t) = ap (λ b. Some b) (t.front ∙ (ap (λ r. bytes ++ r) (t.ends refl) ∙ append-nil bytes))
 
-  types_of : Why words call a.given (IsRefusedType language) statuses.Types
+  types_of : Why language words call a.given statuses.Types
       → (name type text : List ℕ) × IsTyped words name type × IfSome call.files.before.map (λ all. bytes_of all name ≡ Some text) × IsRefusedType language text type
   types_of (no_types name type text is found why) =
       let f = subst (λ o. Fetched call.files name o) found (file_fetched name (is.0, type, is.1, is.2)) in
       (name, type, text, is, IfSome_then call.files.before.map f.map (λ all h. contents_are (bytes_of all name) text h), why)
 
   pub only_types : OnlyTypes language words call
-  only_types e = types_of (subst (λ s. Why words call a.given (IsRefusedType language) s) e account_why)
+  only_types e = types_of (subst (λ s. Why language words call a.given s) e account_why)
 
-  value_of : Why words call a.given (IsRefusedType language) statuses.Value
+  value_of : Why language words call a.given statuses.Value
       → (request : Request) × Asks words request × (input : List ℕ) × IfSome call.input.before.bytes (λ bytes. bytes ≡ input)
       × (trees : List Tree) × (end : End) × Stream input (limit_of request) trees end × (end ≢ clean)
-  value_of (no_value request asks e trees end stream some) = (
+  value_of (no_value ready request asks e trees end stream some) = (
     request,
     asks,
     a.given.input.bytes,
@@ -346,7 +358,7 @@ module _ {D T : Type 0} (language : Language D T) (words : List (List ℕ)) (cal
   )
 
   pub only_value : OnlyValue words call
-  only_value e = value_of (subst (λ s. Why words call a.given (IsRefusedType language) s) e account_why)
+  only_value e = value_of (subst (λ s. Why language words call a.given s) e account_why)
 
   -- where the map has not FILE, it cannot be opened
   missing_at : (f : List ℕ) → Fetched call.files f (a.given.file f) → IsSomeAnd call.files.before.map (λ all. bytes_of all f ≡ None) → (ending : Ending)

@@ -9,12 +9,12 @@ use Rattle.om_edge.specs.Faults.{RoseOrLast}
 use Rattle.om_edge.specs.Files.{File, bytes_of}
 use Rattle.om_session.specs.Call.{Seen, SeenFiles, Change, Call}
 use Rattle.om_session.specs.Given.{TakesFrom, Took, Fetched, IsFoundOf, IsMeasured}
-use Rattle.om_session.specs.Run.{FetchesFor, MayEnd, PutsLine, Completes, Breaks, Account, IsHonest, HasOutcome, Headline}
+use Rattle.om_session.specs.Run.{FetchesFor, MayEnd, PutsLine, Completes, Breaks, Account, IsWellRead, IsHonest, HasOutcome, Headline}
 
 -- ---- what was taken, where it is told and there is no fault
 
 -- the bytes taken up to the end are all
-all_taken : (bytes : List ℕ) (taken : Taken) (rest : List ℕ) → TakesFrom bytes taken rest → taken.until ≡ at_end → taken ≡ whole bytes
+pub all_taken : (bytes : List ℕ) (taken : Taken) (rest : List ℕ) → TakesFrom bytes taken rest → taken.until ≡ at_end → taken ≡ whole bytes
 all_taken bytes taken rest t e =
     let all : bytes ≡ taken.bytes = t.front ∙ (ap (λ r. taken.bytes ++ r) (t.ends e) ∙ append-nil taken.bytes) in
     ap (λ u. record { bytes = taken.bytes; until = u }) e ∙ ap whole (sym all)
@@ -70,7 +70,7 @@ module _ {D T : Type 0} (language : Language D T) (words : List (List ℕ)) (fil
   reads_same f t fetched result (text, r, more) =
       (text, subst (λ found. ReadsFile f found text) (found_same files all told short opens reads f (file f) text fetched r) r, more)
 
-  prepares_same : (prepared : Result (Task T) Stop) → Prepares language words file prepared → Prepares language words in_map prepared
+  pub prepares_same : (prepared : Result (Task T) Stop) → Prepares language words file prepared → Prepares language words in_map prepared
   prepares_same prepared (Err stop, none, rest) = (Err stop, none, rest)
   prepares_same prepared (Ok (check f t), asks, (found, (type, r, same), rest)) =
       (Ok (check f t), asks, (found, (type, reads_same f t (fetches.asked (check f t) asks) type r, same), rest))
@@ -103,27 +103,27 @@ module _ {D T : Type 0} (language : Language D T) (task : Task T) (source : Chan
         closes_not request trees end e h = h
 
 module _ {D T : Type 0} (language : Language D T) (words : List (List ℕ)) (call : Call) (a : Account language words call) where
-  says_same : (input : List ℕ) (files : List File) → IsHonest call input files → (ending : Ending) → Says language words a.given ending → Outcome language words (bytes_of files) input ending
+  pub says_same : (input : List ℕ) (files : List File) → IsWellRead call input files → (ending : Ending) → Says language words a.given ending → Outcome language words (bytes_of files) input ending
   says_same input files h ending (prepared, p, rest) = (
     prepared,
-    prepares_same language words call.files files h.files_told h.files_short h.no_fault.opens h.no_fault.reads a.given.file a.files prepared p,
+    prepares_same language words call.files files h.files_told h.files_short h.opens h.reads a.given.file a.files prepared p,
     goes prepared rest,
   ) where
     goes : (prepared : Result (Task T) Stop)
         → MatchResult prepared (λ task. SaysValues language task a.given.input ending) (λ stop. ending ≡ stopped stop)
         → MatchResult prepared (λ task. SaysValues language task (whole input) ending) (λ stop. ending ≡ stopped stop)
-    goes (Ok task) said = says_input language task call.input input h.input_told h.input_short h.no_fault.input a.given.input a.input ending a.given.input.until refl said
+    goes (Ok task) said = says_input language task call.input input h.input_told h.input_short h.takes a.given.input a.input ending a.given.input.until refl said
     goes (Err stop) same = same
 
   has_outcome : (input : List ℕ) (files : List File) → IsHonest call input files → call.status ≢ statuses.Memory
       → Completes language words a.given call ⊎ Breaks language words a.given call → HasOutcome language words call input files
-  has_outcome input files h not_memory (inr b) = absurd (h.no_fault.out b.out.cause.rose)
+  has_outcome input files h not_memory (inr b) = absurd (h.out b.out.cause.rose)
   has_outcome input files h not_memory (inl c) = put c.line where
     put : PutsLine call.err call.status c.ending → HasOutcome language words call input files
-    put (inr part) = absurd (h.no_fault.err part.0.cause.rose)
+    put (inr part) = absurd (h.err part.0.cause.rose)
     put (inl line) = may c.may_end where
       may : MayEnd language words a.given c.ending → HasOutcome language words call input files
-      may (inl said) = record { ending = c.ending; outcome = says_same input files h c.ending said; out = c.out; err = line.0; status = line.1 }
+      may (inl said) = record { ending = c.ending; outcome = says_same input files h.well_read c.ending said; out = c.out; err = line.0; status = line.1 }
       may (inr (text, first, same)) = absurd (not_memory (line.1 ∙ ap (λ e. e.status) same))
 
   pub headline : Headline language words call

@@ -3,6 +3,9 @@ pub mod SearchLemmas
 pub mod KindTexts
 pub mod AccountLemmas
 pub mod CauseLemmas
+pub mod ExactLemmas
+pub mod TotalLemmas
+pub mod FrontLemmas
 pub mod CheckLemmas
 pub mod CompleteLemmas
 pub mod HeadlineLemmas

@@ -20,7 +20,7 @@ empty n front last e =
     let zero : length (take {A = ℕ} n []) ≡ min n (length {A = ℕ} []) = length-take {A = ℕ} n [] in
     let same : length (take {A = ℕ} n []) ≡ length (front ++ last ∷ []) = ap length e in omega arith
 
-bytes_behind : (first more : List ℕ) → AreBytes (first ++ more) → AreBytes more
+pub bytes_behind : (first more : List ℕ) → AreBytes (first ++ more) → AreBytes more
 bytes_behind first more h = subst AreBytes (drop-append_seam first more) (All-drop (λ b. b < 256) (length first) (first ++ more) h)
 
 module _ (law : HasOneJudgement) (limit : ℕ) where

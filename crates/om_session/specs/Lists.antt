@@ -1,18 +1,16 @@
 -- The language of types so far: integers, strings and lists. A FILE has to be empty.
-use Rattle.std.specs.Prelude.{ℕ, ◌≡◌, ◌≢◌, Bool, true, false, List, [], Result, Ok, Err, codes}
+use Rattle.std.specs.Prelude.{ℕ, ◌≡◌, ◌≢◌, Bool, List, [], Result, Ok, Err, codes}
 use Rattle.om_model.specs.declared.value.Val.{Val}
 use Rattle.om_model.specs.declared.value.Obj.{Obj}
 use Rattle.om_model.specs.declared.list_type.ListType.{ListType}
 use Rattle.om_model.specs.Tree.{root, objects_of}
-use Rattle.om_model.specs.Typing.{HasType}
 use Rattle.om_model.specs.ListShapes.{list_shapes, list_type_text, IsListTypeText}
-use Rattle.om_model.specs.VerdictText.{IsNoLine}
 use Rattle.om_model.specs.Outcome.{Language}
+use Rattle.om_typing.specs.Complete as verdicts
 
 -- the verdict's line of a value, and whether it has the type
 abbrev pub IsLine : ListType → List Obj → Val → List ℕ → Bool → Type 0
-IsLine t graph v line true = HasType list_shapes graph v t × (line ≡ codes "yes")
-IsLine t graph v line false = IsNoLine list_shapes list_type_text graph v t line
+IsLine t graph v line well = verdicts.IsLine list_shapes list_type_text graph v t line well
 
 abbrev pub ReadsEmpty : List ℕ → Result (Unit {0}) (List ℕ) → Type 0
 ReadsEmpty text (Ok none) = text ≡ []

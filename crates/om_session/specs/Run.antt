@@ -1,13 +1,13 @@
 -- What is promised of a call of `run`. One account of the call carries all: what the outside gave, how a run ends with
 -- that, and how much of it was put. The others follow from it.
-use Rattle.std.specs.Prelude.{ℕ, ◌^◌, ◌<◌, ◌≤◌, ◌≡◌, ◌≢◌, ◌⊎◌, true, List, [], length, Some, None, IsSomeAnd, IfSome, Ok, Err}
+use Rattle.std.specs.Prelude.{ℕ, ◌^◌, ◌<◌, ◌≤◌, ◌≡◌, ◌≢◌, ◌⊎◌, true, List, [], ◌++◌, length, Some, None, IsSomeAnd, IfSome, Ok, Err}
 use Rattle.om_model.specs.declared.status.Status.{Status}
 use Rattle.om_model.specs.declared.status.Status.TheVariants.{Well, Usage, ReadFault, WriteFault, OpenFault, Memory, TooLong, Types, Value}
 use Rattle.std.specs.List.{AllByRecursion}
 use Rattle.om_model.specs.Bytes.{AreBytes}
 use Rattle.om_model.specs.Tree.{Tree}
 use Rattle.om_model.specs.Stream.{SpellAll, End, clean, Stream}
-use Rattle.om_model.specs.Outcome.{unasked, Found, Given, Stop, Request, Language, Ending, Task, Asks, typed_by, limit_of, Prepares, found_of, Says, SaysFirst, Outcome, stopped, out_of_memory}
+use Rattle.om_model.specs.Outcome.{unasked, Found, Given, Stop, Request, Language, Ending, Task, Asks, typed_by, limit_of, Prepares, found_of, Says, SaysFirst, Outcome, stopped, out_of_memory, text_of, err_line}
 use Rattle.om_edge.specs.Faults.{RoseOrLast}
 use Rattle.om_edge.specs.Files.{File, bytes_of}
 use Rattle.om_session.specs.Call.{Seen, SeenFiles, Change, Call}
@@ -57,21 +57,21 @@ pub record Account {D T : Type 0} (language : Language D T) (words : List (List 
 
 -- ---- the headline
 
--- no call failed
-pub record HasNoFault (call : Call) : Type 0 where
-  pub input : ¬ RoseOrLast call.input.before.faults call.input.after.faults
-  pub opens : ¬ RoseOrLast call.files.before.open_faults call.files.after.open_faults
-  pub reads : ¬ RoseOrLast call.files.before.read_faults call.files.after.read_faults
-  pub out : ¬ RoseOrLast call.out.before.faults call.out.after.faults
-  pub err : ¬ RoseOrLast call.err.before.faults call.err.after.faults
-
--- the input and the files are told, they are short enough, and no call failed
-pub record IsHonest (call : Call) (input : List ℕ) (files : List File) : Type 0 where
+-- the input and the files are told, they are short enough, and no call on them failed
+pub record IsWellRead (call : Call) (input : List ℕ) (files : List File) : Type 0 where
   pub input_told : call.input.before.bytes ≡ Some input
   pub files_told : call.files.before.map ≡ Some files
   pub input_short : length input < 2 ^ 48
   pub files_short : (name bytes : List ℕ) → bytes_of files name ≡ Some bytes → length bytes < 2 ^ 48
-  pub no_fault : HasNoFault call
+  pub takes : ¬ RoseOrLast call.input.before.faults call.input.after.faults
+  pub opens : ¬ RoseOrLast call.files.before.open_faults call.files.after.open_faults
+  pub reads : ¬ RoseOrLast call.files.before.read_faults call.files.after.read_faults
+
+-- nor did one on out or err
+pub record IsHonest (call : Call) (input : List ℕ) (files : List File) : Type 0 where
+  pub well_read : IsWellRead call input files
+  pub out : ¬ RoseOrLast call.out.before.faults call.out.after.faults
+  pub err : ¬ RoseOrLast call.err.before.faults call.err.after.faults
 
 -- the outcome of the words, the files and the input is what out, err and the status say
 pub record HasOutcome {D T : Type 0} (language : Language D T) (words : List (List ℕ)) (call : Call) (input : List ℕ) (files : List File) : Type 0 where
@@ -103,6 +103,14 @@ OnlyUsage words call = call.status ≡ Usage → IsUsage words
 abbrev pub IfUsage : List (List ℕ) → Call → Type 0
 IfUsage words call = IsUsage words → (call.status ≡ Usage) ⊎ IsUnsaid call.status
 
+-- 6 to 9: what comes of a call that failed, or of want of memory, comes in the place of all else
+abbrev pub IsOutside : Status → Type 0
+IsOutside status = (status ≡ ReadFault) ⊎ ((status ≡ OpenFault) ⊎ IsUnsaid status)
+
+-- the files are told, and have these bytes of the name
+abbrev pub TellsFile : Change SeenFiles → List ℕ → List ℕ → Type 0
+TellsFile files name bytes = IsSomeAnd files.before.map (λ all. bytes_of all name ≡ Some bytes)
+
 -- FILE and TYPE of plain words
 abbrev pub IsTyped : List (List ℕ) → List ℕ → List ℕ → Type 0
 IsTyped words name type = (request : Request) × Asks words request × (typed_by request ≡ Some (name, type))
@@ -117,6 +125,12 @@ IsRefusedType {D} language text type =
 abbrev pub OnlyTypes : {D T : Type 0} → Language D T → List (List ℕ) → Call → Type 0
 OnlyTypes language words call = call.status ≡ Types
     → (name type text : List ℕ) × IsTyped words name type × IfSome call.files.before.map (λ all. bytes_of all name ≡ Some text) × IsRefusedType language text type
+
+-- and where FILE is told, and is short enough, and it is refused, or TYPE
+abbrev pub IfTypes : {D T : Type 0} → Language D T → List (List ℕ) → Call → Type 0
+IfTypes language words call =
+    (name type text : List ℕ) → IsTyped words name type → TellsFile call.files name text → length text < 2 ^ 48 → IsRefusedType language text type
+    → (call.status ≡ Types) ⊎ IsOutside call.status
 
 -- 4: only where bytes stand behind the values of the whole input
 abbrev pub OnlyValue : List (List ℕ) → Call → Type 0
@@ -158,6 +172,12 @@ OnlyTooLong words call = call.status ≡ TooLong
     → IfSome call.input.before.bytes (λ bytes. 2 ^ 48 ≤ length bytes)
     ⊎ ((name : List ℕ) × IsFileOf words name × IfSome call.files.before.map (λ all. IsSomeAnd (bytes_of all name) (λ bytes. 2 ^ 48 ≤ length bytes)))
 
+-- and where FILE is told and has so many; or the words, FILE and TYPE are accepted, and the input is told and has so many
+pub record IfTooLong {D T : Type 0} (language : Language D T) (words : List (List ℕ)) (call : Call) : Type 0 where
+  pub file : (name bytes : List ℕ) → IsFileOf words name → TellsFile call.files name bytes → 2 ^ 48 ≤ length bytes → (call.status ≡ TooLong) ⊎ IsOutside call.status
+  pub input : (files : List File) (task : Task T) (bytes : List ℕ) → call.files.before.map ≡ Some files → Prepares language words (λ name. found_of (bytes_of files name)) (Ok task)
+      → call.input.before.bytes ≡ Some bytes → 2 ^ 48 ≤ length bytes → (call.status ≡ TooLong) ⊎ IsOutside call.status
+
 -- a failed call is not taken for one that went well: where a count rose, the status is 6, 7, 8 or 9
 pub record TellsWriteFault (call : Call) : Type 0 where
   pub out : call.out.before.faults < call.out.after.faults → call.status ≡ WriteFault
@@ -169,6 +189,38 @@ TellsOpenFault call = call.files.before.open_faults < call.files.after.open_faul
 pub record TellsReadFault (call : Call) : Type 0 where
   pub input : call.input.before.faults < call.input.after.faults → (call.status ≡ ReadFault) ⊎ IsUnsaid call.status
   pub file : call.files.before.read_faults < call.files.after.read_faults → (call.status ≡ ReadFault) ⊎ IsUnsaid call.status
+
+-- ---- where memory ran out, or out or err failed
+
+-- the text is a front of that of an outcome, or all of it
+pub record IsFrontOfOutcome {D T : Type 0} (language : Language D T) (words : List (List ℕ)) (input : List ℕ) (files : List File) (text : List ℕ) : Type 0 where
+  pub ending : Ending
+  pub rest : List ℕ
+  pub outcome : Outcome language words (bytes_of files) input ending
+  pub front : ending.out ≡ text ++ rest
+
+-- 9: out has a front of an outcome's text, and err the line that tells it
+abbrev pub IfMemory : {D T : Type 0} → Language D T → List (List ℕ) → Call → Type 0
+IfMemory language words call =
+    (input : List ℕ) (files : List File) → IsWellRead call input files → AreBytes input → call.status ≡ Memory
+    → (text : List ℕ) × IsFrontOfOutcome language words input files text × Puts call.out text × Puts call.err (err_line (text_of out_of_memory))
+
+-- 7 by out: it has a proper front of an outcome's text, and err has nothing
+abbrev pub OutBreaks : {D T : Type 0} → Language D T → List (List ℕ) → Call → List ℕ → List File → Type 0
+OutBreaks language words call input files =
+    (text : List ℕ) × IsFrontOfOutcome language words input files text × PutsPart call.out text × Puts call.err []
+
+-- 7 by err: it has a proper front of a line, of an outcome or where memory ran out, and out what belongs to it
+abbrev pub ErrBreaks : {D T : Type 0} → Language D T → List (List ℕ) → Call → List ℕ → List File → Type 0
+ErrBreaks language words call input files =
+    (ending : Ending) × Puts call.out ending.out × PutsPart call.err ending.err
+    × (Outcome language words (bytes_of files) input ending
+    ⊎ (IsFrontOfOutcome language words input files ending.out × (ending ≡ record (stopped out_of_memory) { out = ending.out })))
+
+abbrev pub IfWriteFault : {D T : Type 0} → Language D T → List (List ℕ) → Call → Type 0
+IfWriteFault language words call =
+    (input : List ℕ) (files : List File) → IsWellRead call input files → AreBytes input → call.status ≡ WriteFault
+    → OutBreaks language words call input files ⊎ ErrBreaks language words call input files
 
 -- ---- completeness
 

@@ -5,7 +5,7 @@ ghost use Rattle.om_model.specs.Outcome.{Asks, check as check_of};
 ghost use Rattle.om_session.specs.Call.{call, seen, seen_files};
 ghost use Rattle.om_session.specs.Check.{ClosesAs, ChecksValues};
 ghost use Rattle.om_session.specs.Lists.{lists};
-ghost use Rattle.om_session.specs.Run.{Account, Headline, IsComplete, IsDecided, OnlyUsage, IfUsage, OnlyTypes, OnlyValue, OnlyReadFault, OnlyWriteFault, OnlyOpenFault, IfMissing, OnlyTooLong, TellsReadFault, TellsOpenFault, TellsWriteFault};
+ghost use Rattle.om_session.specs.Run.{Account, Headline, IsComplete, IsDecided, OnlyUsage, IfUsage, OnlyTypes, IfTypes, OnlyValue, OnlyReadFault, OnlyWriteFault, OnlyOpenFault, IfMissing, OnlyTooLong, IfTooLong, IfMemory, IfWriteFault, TellsReadFault, TellsOpenFault, TellsWriteFault};
 ghost use Rattle.om_session.specs.Words.{texts};
 
 use crate::gather::{Until, gather};
@@ -17,6 +17,7 @@ use om_edge::{Opener, Sink, Source, WriteError};
 use om_model::laws::{faults_exclude_types, one_judgement};
 use om_model::list_type::ListType;
 use om_model::status::Status;
+use om_typing::each_has_a_line;
 use std::alloc::Global;
 
 // Why a run stops behind the values: first what befell the input, then what stands there.
@@ -144,6 +145,9 @@ pub fn run<S: Source, O: Opener, K: Sink, E: Sink>(
     ensures types_only { OnlyTypes lists (texts words.now) (call (seen S.left S.faults input.old input.new)
         (seen_files O.files O.open_faults O.last_open_fault O.read_faults files.old files.new)
         (seen K.written K.faults out.old out.new) (seen E.written E.faults err.old err.new) result) }
+    ensures types_if { IfTypes lists (texts words.now) (call (seen S.left S.faults input.old input.new)
+        (seen_files O.files O.open_faults O.last_open_fault O.read_faults files.old files.new)
+        (seen K.written K.faults out.old out.new) (seen E.written E.faults err.old err.new) result) }
     ensures value_only { OnlyValue (texts words.now) (call (seen S.left S.faults input.old input.new)
         (seen_files O.files O.open_faults O.last_open_fault O.read_faults files.old files.new)
         (seen K.written K.faults out.old out.new) (seen E.written E.faults err.old err.new) result) }
@@ -162,6 +166,17 @@ pub fn run<S: Source, O: Opener, K: Sink, E: Sink>(
     ensures too_long_only { OnlyTooLong (texts words.now) (call (seen S.left S.faults input.old input.new)
         (seen_files O.files O.open_faults O.last_open_fault O.read_faults files.old files.new)
         (seen K.written K.faults out.old out.new) (seen E.written E.faults err.old err.new) result) }
+    ensures too_long_if { IfTooLong lists (texts words.now) (call (seen S.left S.faults input.old input.new)
+        (seen_files O.files O.open_faults O.last_open_fault O.read_faults files.old files.new)
+        (seen K.written K.faults out.old out.new) (seen E.written E.faults err.old err.new) result) }
+
+    // Where memory ran out, or out or err failed, a front of what an outcome puts is put.
+    ensures memory_if { IfMemory lists (texts words.now) (call (seen S.left S.faults input.old input.new)
+        (seen_files O.files O.open_faults O.last_open_fault O.read_faults files.old files.new)
+        (seen K.written K.faults out.old out.new) (seen E.written E.faults err.old err.new) result) }
+    ensures write_fault_if { IfWriteFault lists (texts words.now) (call (seen S.left S.faults input.old input.new)
+        (seen_files O.files O.open_faults O.last_open_fault O.read_faults files.old files.new)
+        (seen K.written K.faults out.old out.new) (seen E.written E.faults err.old err.new) result) }
 
     // No failed call is taken for one that went well.
     ensures tells_read_fault { TellsReadFault (call (seen S.left S.faults input.old input.new)
@@ -176,5 +191,6 @@ pub fn run<S: Source, O: Opener, K: Sink, E: Sink>(
 {
     one_judgement();
     faults_exclude_types();
+    each_has_a_line();
     run_command(alloc, words, input, files, out, err)
 }
