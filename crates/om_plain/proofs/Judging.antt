@@ -8,12 +8,11 @@ use Rattle.om_model.specs.Words.{pending}
 use Rattle.om_model.specs.Raw.{raw_length, raw_measure}
 use Rattle.om_model.specs.Step.{Step, first_refusal, header_steps, token_steps}
 use Rattle.om_model.specs.Front.{context, header_refusal, token_refusal, IsOpen}
-use Rattle.om_model.specs.Tree.{Tree}
-use Rattle.om_model.specs.Judgement.{value, refused, Judges}
+use Rattle.om_model.specs.Judgement.{refused, Judges}
 use Rattle.om_model.proofs.ReadingLemmas.{concat-push}
 use Rattle.om_model.proofs.StepLemmas.{first_refusal-more, first_refusal-fewer}
 use Rattle.om_model.proofs.NextLemmas.{RefusedNext, RefusedHeader, token_refusal-take, header_refusal-take, next_refused, next_passes, header_refused, header_is_refused}
-use Rattle.om_model.proofs.StandLemmas.{Stands, with_next, behind_next, Stands-refused, Stands-next, Stands-value}
+use Rattle.om_model.proofs.StandLemmas.{Stands, BeginsValue, with_next, behind_next, Stands-refused, Stands-next, Stands-value}
 use Rattle.om_plain.specs.declared.front.Decided.{Decided}
 use Rattle.om_plain.specs.Refusal.{refusal_of}
 use Rattle.om_plain.specs.Front.{IsDecided}
@@ -83,9 +82,9 @@ module _ (limit : ℕ) (bytes header : List ℕ) (tokens : List (List ℕ)) (res
     next_stands is_open = Stands-next limit bytes header tokens rest here (next_passes header tokens rest none whole) is_open
 
     pub next_ends : AreBytes bytes → (IsOpen (with_next tokens rest) → ⊥)
-        → (tree : Tree) × Judges limit bytes (value (length bytes - length (behind_next rest)) tree)
+        → BeginsValue limit bytes (length bytes - length (behind_next rest)) (with_next tokens rest)
     next_ends a closed =
         let zero : pending (map raw_measure (with_next tokens rest)) ≡ 0 =
         elim (cases_lt 0 (pending (map raw_measure (with_next tokens rest)))) [ inl u ↦ absurd (closed u) | inr g ↦ omega arith ] in
-        let v = Stands-value limit bytes header tokens rest a here (next_passes header tokens rest none whole) zero in
-        (v.tree, subst (λ n. Judges limit bytes (value n v.tree)) next_length v.judges)
+        subst (λ n. BeginsValue limit bytes n (with_next tokens rest)) next_length
+        (Stands-value limit bytes header tokens rest a here (next_passes header tokens rest none whole) zero)

@@ -4,3 +4,4 @@ pub mod Refusal
 pub mod Step
 pub mod Front
 pub mod Judged
+pub mod Token

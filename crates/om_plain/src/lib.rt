@@ -9,9 +9,11 @@ mod header;
 mod raw;
 mod refusal;
 mod step;
+mod token;
 mod token_step;
 mod value;
 mod words;
 
 pub use refusal::Refusal;
+pub use token::Token;
 pub use value::{Judged, judge};

@@ -11,16 +11,18 @@ use crate::front::{context, header_refused, token_refused};
 use crate::header::header_length;
 use crate::raw::raw_length;
 use crate::refusal::Refusal;
+use crate::token::{Token, tokens_spelled};
 use crate::words::pending;
 use om_model::Memory;
 use om_model::list::List;
 use std::alloc::{AllocError, Global};
 
-/// A front, a value that the first `taken` bytes spell, or a refusal of the first `taken` bytes.
+/// A front, a value that the first `taken` bytes spell, with its tokens in preorder, or a refusal of the first `taken`
+/// bytes.
 #[derive(Drop)]
 pub enum Judged {
     Front,
-    Value { taken: usize },
+    Value { taken: usize, tokens: Vec<Token> },
     Refused { taken: usize, refusal: Refusal },
 }
 
@@ -74,6 +76,7 @@ fn judge_tokens(alloc: Global, limit: u64, bytes: &[u8]) -> Result<Judged, Alloc
         if !is_open(alloc, header, &tokens)? {
             return Ok(Judged::Value {
                 taken: bytes.len() - rest.len(),
+                tokens: tokens_spelled(alloc, &tokens)?,
             });
         }
     }

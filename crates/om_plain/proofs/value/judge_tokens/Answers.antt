@@ -1,12 +1,14 @@
-use Rattle.std.proofs.Common.{rules, arith, ◌≡◌, ◌≤◌, ◌<◌, ◌-◌, ◌^◌, ◌++◌, ◌∷◌, [], length, take, drop, None, subst, subst₂, sym, ◌∙◌, ap}
-use Rattle.std.specs.List.{concat}
+use Rattle.std.proofs.Common.{rules, arith, map, ◌≡◌, ◌≤◌, ◌<◌, ◌-◌, ◌^◌, ◌++◌, ◌∷◌, [], length, take, drop, None, subst, subst₂, sym, ◌∙◌, ap}
+use Rattle.std.specs.List.{concat, AllZip}
+use Rattle.om_model.specs.Token.{Spells}
+use Rattle.om_model.specs.Tree.{tokens}
+use Rattle.om_model.proofs.SpellValues.{tokens-same}
+use Rattle.om_plain.specs.Token.{token_of}
 use Rattle.om_model.specs.Raw.{raw_length}
 use Rattle.om_model.specs.Header.{header_length}
 use Rattle.om_model.specs.Front.{context, token_refusal, IsOpen}
-use Rattle.om_model.specs.Tree.{Tree}
-use Rattle.om_model.specs.Judgement.{value, Judges}
 use Rattle.om_model.proofs.Numbers.{are_bytes}
-use Rattle.om_model.proofs.StandLemmas.{Stands, with_next, behind_next, Stands-header}
+use Rattle.om_model.proofs.StandLemmas.{Stands, BeginsValue, with_next, behind_next, Stands-header}
 use Rattle.om_plain.specs.Front.{IsDecided, refusal_at}
 use Rattle.om_plain.specs.Step.{context_of}
 use Rattle.om_plain.proofs.Judging.{token_decided, next_length, next_stands, next_ends}
@@ -65,14 +67,26 @@ is_open-requires c =
     let short : length c.args.bytes.now < 2 ^ 64 = search rules in
     omega arith
 
+-- behind the last token: the value
+value_of : (c : After-deref-in-next) → (IsOpen c.push.new.tokens.items → ⊥)
+    → BeginsValue c.args.limit c.args.bytes.now (length c.args.bytes.now - length c.behind-rest-in-next.result.now) c.push.new.tokens.items
+value_of c closed =
+    subst₂ (λ xs ts. BeginsValue c.args.limit c.args.bytes.now (length c.args.bytes.now - length xs) ts) (rest_of c) (tokens_of c)
+    (next_ends c.args.limit c.args.bytes.now c.first-header.result.now c.next.tokens.items c.next.rest.now c.next.invariant (none_of c) (whole_of c)
+    (are_bytes c.args.bytes.now c.type_inv.bytes) (λ o. closed (subst IsOpen (tokens_of c) o)))
+
+pub tokens_spelled-requires : goal.tokens_spelled-requires
+tokens_spelled-requires c =
+    let v = value_of (goal.at.tokens_spelled-requires c).After-deref-in-next (search rules) in
+    (tokens v.tree, subst (AllZip Spells (tokens v.tree)) (sym c.deref-then-not-branch.ensures.value) v.spells)
+
 pub returns-then-not-branch : goal.returns-then-not-branch
 returns-then-not-branch c =
-    let d = (goal.at.returns-then-not-branch c).After-deref-in-next in
-    let closed : IsOpen c.push.new.tokens.items → ⊥ = search rules in
-    let bytes = are_bytes c.args.bytes.now c.type_inv.bytes in
-    subst (λ xs. (tree : Tree) × Judges c.args.limit c.args.bytes.now (value (length c.args.bytes.now - length xs) tree)) (rest_of d)
-    (next_ends c.args.limit c.args.bytes.now c.first-header.result.now c.next.tokens.items c.next.rest.now c.next.invariant (none_of d) (whole_of d) bytes
-    (λ o. closed (subst IsOpen (tokens_of d) o)))
+    let v = value_of (goal.at.returns-then-not-branch c).After-deref-in-next (search rules) in
+    let all = map token_of c.in_ok-tokens_spelled.field-0.items in
+    let spelled : AllZip Spells all c.deref-then-not-branch.result.now = search rules in
+    let pieces = c.push.new.tokens.items in
+    (v.tree, v.judges, tokens-same all (tokens v.tree) pieces (subst (AllZip Spells all) c.deref-then-not-branch.ensures.value spelled) v.spells)
 
 pub next-preserved : goal.next-preserved
 next-preserved c =
