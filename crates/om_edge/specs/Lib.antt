@@ -1,3 +1,4 @@
+pub mod Adapters
 pub mod Disk
 pub mod Fakes
 pub mod Faults

@@ -1,7 +1,8 @@
-//! Readers, writers and the file system. Each tells its faults, and nothing of its bytes.
+//! Readers, writers and the file system. Each tells its faults, and as a source or a sink nothing of its bytes.
 
 ghost use Rattle.std.specs.Prelude.{◌≡◌, ℕ, Option, None, Some, option_copied, is_ok, is_err, IsErrOf, false};
 ghost use Rattle.std.specs.Bool.{OnTrue, OnFalse};
+ghost use Rattle.std.specs.Io.KnownBytes.{ReadConsumes, WriteAppends};
 ghost use Rattle.om_edge.specs.Faults.{HasCause, count_after};
 ghost use Rattle.om_edge.specs.Source.{TakesFront};
 ghost use Rattle.om_edge.specs.Sink.{AppendsFront};
@@ -20,39 +21,38 @@ pub struct StdSource<R> {
     faults: u64,
 }
 
-impl<R> Model for StdSource<R> {
-    ghost use Rattle.std.specs.Prelude.{ℕ};
-
-    ghost Value = { ℕ };
-
-    ghost view = { λ s. s.faults };
-}
-
 impl<R> StdSource<R> {
+    ghost use Rattle.om_edge.specs.Adapters.{reader_of, read_faults_of};
+
     /// No call has failed.
     pub fn new(reader: R) -> StdSource<R>
-        ensures { result ≡ 0 }
+        ensures over { reader_of result ≡ reader }
+        ensures faults { read_faults_of result ≡ 0 }
     {
         StdSource { reader, faults: 0 }
     }
 
     /// How many calls failed.
     pub fn faults(&self) -> u64
-        ensures { result ≡ self.now }
+        ensures { result ≡ read_faults_of self.now }
     {
         self.faults
     }
 }
 
 impl<R: Read> Source for StdSource<R> {
+    ghost use Rattle.om_edge.specs.Adapters.{reader_of, read_faults_of};
+
     ghost left = { λ _. None };
 
-    ghost faults = { λ s. s };
+    ghost faults = { read_faults_of };
 
     fn take(&mut self, buf: &mut [u8]) -> Result<usize, Failed>
         ensures takes { TakesFront None None result buf.new }
-        ensures cause { HasCause self.old self.new (is_err result) }
-        ensures counted { self.new ≡ count_after self.old (is_err result) }
+        ensures cause { HasCause (read_faults_of self.old) (read_faults_of self.new) (is_err result) }
+        ensures counted { read_faults_of self.new ≡ count_after (read_faults_of self.old) (is_err result) }
+        // It gives what the reader gives, where the reader tells it.
+        ensures bytes { ReadConsumes (R.remaining (reader_of self.old)) (R.remaining (reader_of self.new)) result buf.new }
     {
         match self.reader.read(buf) {
             Ok(n) => Ok(n),
@@ -71,39 +71,38 @@ pub struct StdSink<W> {
     faults: u64,
 }
 
-impl<W> Model for StdSink<W> {
-    ghost use Rattle.std.specs.Prelude.{ℕ};
-
-    ghost Value = { ℕ };
-
-    ghost view = { λ s. s.faults };
-}
-
 impl<W> StdSink<W> {
+    ghost use Rattle.om_edge.specs.Adapters.{writer_of, write_faults_of};
+
     /// No call has failed.
     pub fn new(writer: W) -> StdSink<W>
-        ensures { result ≡ 0 }
+        ensures over { writer_of result ≡ writer }
+        ensures faults { write_faults_of result ≡ 0 }
     {
         StdSink { writer, faults: 0 }
     }
 
     /// How many calls failed.
     pub fn faults(&self) -> u64
-        ensures { result ≡ self.now }
+        ensures { result ≡ write_faults_of self.now }
     {
         self.faults
     }
 }
 
 impl<W: Write> Sink for StdSink<W> {
+    ghost use Rattle.om_edge.specs.Adapters.{writer_of, write_faults_of};
+
     ghost written = { λ _. None };
 
-    ghost faults = { λ s. s };
+    ghost faults = { write_faults_of };
 
     fn put(&mut self, piece: &[u8]) -> Result<usize, Failed>
         ensures appends { AppendsFront None None result piece.now }
-        ensures cause { HasCause self.old self.new (is_err result) }
-        ensures counted { self.new ≡ count_after self.old (is_err result) }
+        ensures cause { HasCause (write_faults_of self.old) (write_faults_of self.new) (is_err result) }
+        ensures counted { write_faults_of self.new ≡ count_after (write_faults_of self.old) (is_err result) }
+        // The writer takes what the answer says, where it tells what it holds.
+        ensures bytes { WriteAppends (W.contents (writer_of self.old)) (W.contents (writer_of self.new)) result piece.now }
     {
         match self.writer.write(piece) {
             Ok(n) if n > 0 || piece.is_empty() => Ok(n),

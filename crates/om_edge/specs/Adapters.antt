@@ -1,0 +1,16 @@
+-- What a clause reads of the adapters: what they are over, and how often a call failed.
+use Rattle.std.specs.Prelude.{ℕ}
+use Rattle.om_edge.specs.declared.real.StdSource.{StdSource}
+use Rattle.om_edge.specs.declared.real.StdSink.{StdSink}
+
+abbrev pub reader_of : {R : Type 0} → StdSource R → R
+reader_of source = source.reader
+
+abbrev pub read_faults_of : {R : Type 0} → StdSource R → ℕ
+read_faults_of source = source.faults
+
+abbrev pub writer_of : {W : Type 0} → StdSink W → W
+writer_of sink = sink.writer
+
+abbrev pub write_faults_of : {W : Type 0} → StdSink W → ℕ
+write_faults_of sink = sink.faults
