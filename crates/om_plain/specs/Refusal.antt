@@ -1,5 +1,5 @@
 -- The refusals of the definitions.
-use Rattle.std.specs.Prelude.{Option, Some, None}
+use Rattle.std.specs.Prelude.{◌^◌, ◌<◌, Option, Some, None}
 use Rattle.om_model.specs.declared.refusal.ReadRefusal.{ReadRefusal}
 use Rattle.om_model.specs.declared.refusal.ReadRefusal.TheVariants as refusals
 use Rattle.om_plain.specs.declared.refusal.Refusal.{Refusal}
@@ -28,3 +28,22 @@ refusal_of (LengthMismatch p left) = refusals.LengthMismatch p left
 abbrev pub refusal_in : Option Refusal → Option ReadRefusal
 refusal_in None = None
 refusal_in (Some refusal) = Some (refusal_of refusal)
+
+-- each number that may be large has 64 bits, but for the need of `Overlong`, and a magic has 32
+abbrev pub IsNarrow : Refusal → Type 0
+IsNarrow (BadMagic m) = m < 2 ^ 32
+IsNarrow Compressed = Unit {0}
+IsNarrow (TooLarge what stated limit) = Unit {0}
+IsNarrow (BadCode p code) = p < 2 ^ 64
+IsNarrow (PointerCode p code) = p < 2 ^ 64
+IsNarrow (OtherCustom p code) = p < 2 ^ 64
+IsNarrow (BadTag p tag) = p < 2 ^ 64
+IsNarrow (BadShared p offset found) = (p < 2 ^ 64) × (found < 2 ^ 64)
+IsNarrow (NoTable p) = p < 2 ^ 64
+IsNarrow (BadNative p kind) = p < 2 ^ 64
+IsNarrow (IntRange p z) = p < 2 ^ 64
+IsNarrow (ZeroArray p) = p < 2 ^ 64
+IsNarrow (Overlong p need left) = (p < 2 ^ 64) × (left < 2 ^ 64)
+IsNarrow (SizeMismatch p sum stated found) = (p < 2 ^ 64) × (found < 2 ^ 64)
+IsNarrow (CountMismatch p stated found) = (p < 2 ^ 64) × (found < 2 ^ 64)
+IsNarrow (LengthMismatch p left) = (p < 2 ^ 64) × (left < 2 ^ 64)

@@ -17,3 +17,6 @@ mod words;
 pub use refusal::Refusal;
 pub use token::Token;
 pub use value::{Judged, judge};
+
+#[cfg(test)]
+mod tests;

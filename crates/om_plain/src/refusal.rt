@@ -1,6 +1,9 @@
 //! Why bytes are no value, with numbers as large as the definitions have them.
 
-use om_model::refusal::{Stated, WordSum};
+ghost use Rattle.std.specs.Prelude.{◌≡◌, ◌<◌, ◌^◌, ◌↔◌, IfSome, IsSome};
+ghost use Rattle.om_plain.specs.Refusal.{refusal_of, IsNarrow};
+
+use om_model::refusal::{ReadRefusal, Stated, WordSum};
 
 /// A refusal. The first number is the place, where there is one.
 #[derive(Clone, Copy, Debug, PartialEq, Eq)]
@@ -37,4 +40,61 @@ pub enum Refusal {
     CountMismatch(u128, u64, u128),
     /// How many data bytes are left after the value.
     LengthMismatch(u128, u128),
+}
+
+impl Refusal {
+    /// The same refusal as a reader has it, where its numbers are as small as a reader's.
+    pub fn narrow(self) -> Option<ReadRefusal>
+        ensures same { IfSome result (λ refusal. refusal ≡ refusal_of self) }
+        ensures fits { IsSome result ↔ IsNarrow self }
+    {
+        match self {
+            Refusal::BadMagic(m) => Some(ReadRefusal::BadMagic(u32::try_from(m).ok()?)),
+            Refusal::Compressed => Some(ReadRefusal::Compressed),
+            Refusal::TooLarge(what, stated, limit) => Some(ReadRefusal::TooLarge(
+                what, stated, limit,
+            )),
+            Refusal::BadCode(p, code) => Some(ReadRefusal::BadCode(small(p)?, code)),
+            Refusal::PointerCode(p, code) => Some(ReadRefusal::PointerCode(small(p)?, code)),
+            Refusal::OtherCustom(p, code) => Some(ReadRefusal::OtherCustom(small(p)?, code)),
+            Refusal::BadTag(p, tag) => Some(ReadRefusal::BadTag(small(p)?, tag)),
+            Refusal::BadShared(p, offset, found) => Some(ReadRefusal::BadShared(
+                small(p)?,
+                offset,
+                small(found)?,
+            )),
+            Refusal::NoTable(p) => Some(ReadRefusal::NoTable(small(p)?)),
+            Refusal::BadNative(p, kind) => Some(ReadRefusal::BadNative(small(p)?, kind)),
+            Refusal::IntRange(p, value) => Some(ReadRefusal::IntRange(small(p)?, value)),
+            Refusal::ZeroArray(p) => Some(ReadRefusal::ZeroArray(small(p)?)),
+            Refusal::Overlong(p, need, left) => Some(ReadRefusal::Overlong(
+                small(p)?,
+                need,
+                small(left)?,
+            )),
+            Refusal::SizeMismatch(p, sum, stated, found) => Some(ReadRefusal::SizeMismatch(
+                small(p)?,
+                sum,
+                stated,
+                small(found)?,
+            )),
+            Refusal::CountMismatch(p, stated, found) => Some(ReadRefusal::CountMismatch(
+                small(p)?,
+                stated,
+                small(found)?,
+            )),
+            Refusal::LengthMismatch(p, left) => Some(ReadRefusal::LengthMismatch(
+                small(p)?,
+                small(left)?,
+            )),
+        }
+    }
+}
+
+/// The number in 64 bits.
+fn small(number: u128) -> Option<u64>
+    ensures same { IfSome result (λ n. n ≡ number) }
+    ensures fits { IsSome result ↔ (number < 2 ^ 64) }
+{
+    u64::try_from(number).ok()
 }

@@ -143,12 +143,10 @@ fn variable_steps(
         ),
         _ => Vec::from_slice(
             alloc,
-            &[
-                Step {
-                    ends: 1 + field_bytes(kind),
-                    refusal: overlong(c, variable_bytes(kind, rest), 1 + fixed_bytes(kind)),
-                },
-            ],
+            &[Step {
+                ends: 1 + field_bytes(kind),
+                refusal: overlong(c, variable_bytes(kind, rest), 1 + fixed_bytes(kind)),
+            }],
         ),
     }
 }
@@ -317,12 +315,10 @@ pub fn token_steps(alloc: Global, c: &Context, token: &[u8]) -> Result<Vec<Step>
         Ok(kind) => steps_behind(alloc, c, *code, kind, behind(token, 1)),
         Err(fault) => Vec::from_slice(
             alloc,
-            &[
-                Step {
-                    ends: 1,
-                    refusal: Some(code_refusal(fault, place(c), *code)),
-                },
-            ],
+            &[Step {
+                ends: 1,
+                refusal: Some(code_refusal(fault, place(c), *code)),
+            }],
         ),
     }
 }

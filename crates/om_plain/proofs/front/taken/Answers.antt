@@ -1,5 +1,4 @@
-use Rattle.std.proofs.Common.{◌≡◌, ◌+◌, ◌<◌, length, arith, take, rules}
-use Rattle.std.specs.List.{concat}
+use Rattle.std.proofs.Common.{◌≡◌, ◌+◌, length, arith, rules}
 use Rattle.om_plain.proofs.Pieces.{length_more, length_within}
 use Rattle.om_plain.proofs.front.taken.Goals as goal
 

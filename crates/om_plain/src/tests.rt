@@ -1,0 +1,218 @@
+ghost use Rattle.std.specs.Prelude.{◌<◌};
+
+use super::*;
+use om_model::value::Obj;
+use std::alloc::{AllocError, Global};
+use std::test::Fail;
+
+// The value of a hexadecimal digit.
+fn digit(text: u8) -> u8
+    ensures { result < 16 }
+{
+    match text {
+        b'0'..=b'9' => text - b'0',
+        b'a'..=b'f' => text - b'a' + 10,
+        _ => 0,
+    }
+}
+
+// The bytes that hexadecimal digits spell.
+fn bytes_of(alloc: Global, hex: &str) -> Result<Vec<u8>, AllocError> {
+    let digits = hex.as_bytes();
+    let mut bytes = Vec::new(alloc);
+    for i in 0..digits.len() / 2 {
+        bytes.push(16 * digit(digits[2 * i]) + digit(digits[2 * i + 1]))?;
+    }
+    Ok(bytes)
+}
+
+// A token as text.
+fn token_text(alloc: Global, token: &Token) -> Result<String, AllocError> {
+    match token {
+        Token::Integer(value) => format!(in alloc; " {value}"),
+        Token::Atom(tag) => format!(in alloc; " atom {tag}"),
+        Token::Shared(offset) => format!(in alloc; " back {offset}"),
+        Token::Block(tag, size) => format!(in alloc; " block {tag} {size}"),
+        Token::Leaf(object) => leaf_text(alloc, object),
+    }
+}
+
+// An object without fields as text.
+fn leaf_text(alloc: Global, object: &Obj) -> Result<String, AllocError> {
+    match object {
+        Obj::Bytes(bytes) => format!(in alloc; " {:?}", bytes.as_slice()),
+        Obj::Double(bits) => format!(in alloc; " {bits:016x}"),
+        Obj::Doubles(all) => format!(in alloc; " doubles {:?}", all.as_slice()),
+        Obj::I32(value) => format!(in alloc; " {value}l"),
+        Obj::I64(value) => format!(in alloc; " {value}L"),
+        Obj::Native(value) => format!(in alloc; " {value}n"),
+        Obj::Block(_, _) => format!(in alloc; " block"),
+    }
+}
+
+// An answer as text.
+fn answer_text(alloc: Global, answer: &Judged) -> Result<String, AllocError> {
+    match answer {
+        Judged::Front => format!(in alloc; "front"),
+        Judged::Value { taken, tokens } => {
+            let mut text = format!(in alloc; "value {taken}:")?;
+            for token in tokens {
+                text.push_str(token_text(alloc, token)?.as_str())?;
+            }
+            Ok(text)
+        }
+        Judged::Refused { taken, refusal } => {
+            let narrow = refusal.narrow();
+            format!(in alloc; "refused {taken}: {narrow:?}")
+        }
+    }
+}
+
+const LIMIT: u64 = 1 << 27;
+
+// By hand: a header, what stands behind it, and what becomes of both, with the number of bytes that decide it.
+#[test]
+fn worked_examples(rt: HostRuntime) -> Result<(), Fail> {
+    let alloc = rt.alloc();
+    let table = [
+        (
+            "8495a6be00000001000000000000000000000000",
+            "41",
+            "value 21: 1",
+        ),
+        (
+            "8495a6be00000004000000010000000200000002",
+            "23616263",
+            "value 24: [97, 98, 99]",
+        ),
+        (
+            "8495a6be00000005000000020000000600000006",
+            "a041a04240",
+            "value 25: block 0 2 1 block 0 2 2 0",
+        ),
+        (
+            "8495a6be00000005000000000000000600000006",
+            "a041a04240",
+            "value 25: block 0 2 1 block 0 2 2 0",
+        ),
+        (
+            "8495a6be00000004000000010000000300000003",
+            "a0410401",
+            "value 24: block 0 2 1 back 1",
+        ),
+        (
+            "8495a6be00000008000000010000000300000003",
+            "195f69000000002a",
+            "value 28: 42l",
+        ),
+        (
+            "8495a6be00000009000000010000000300000002",
+            "0c000000000000f03f",
+            "value 29: 3ff0000000000000",
+        ),
+        (
+            "8495a6be0000000a000000010000000300000002",
+            "0d013ff0000000000000",
+            "value 30: doubles [4607182418800017408]",
+        ),
+        (
+            "8495a6be0000000d000000010000000300000003",
+            "195f6e0002ffffffffffffffff",
+            "value 33: -1n",
+        ),
+        (
+            "8495a6bf0000002a000000000000000100000000000000000000000000000000",
+            "41",
+            "value 33: 1",
+        ),
+        ("", "", "front"),
+        ("8495a6", "", "front"),
+        ("8495a6be00000005000000020000000600000006", "a041", "front"),
+        ("8495a6bd", "", "refused 4: Some(Compressed)"),
+        ("8495a6bc41", "", "refused 4: Some(BadMagic(2224400060))"),
+        (
+            "8495a6be00000000000000000000000000000000",
+            "",
+            "refused 20: Some(Overlong(20, 1, 0))",
+        ),
+        (
+            "8495a6be00000001000000000000000000000000",
+            "10",
+            "refused 21: Some(PointerCode(20, 16))",
+        ),
+        (
+            "8495a6be00000001000000000000000000000000",
+            "1a",
+            "refused 21: Some(BadCode(20, 26))",
+        ),
+        (
+            "8495a6be00000002000000000000000000000000",
+            "0400",
+            "refused 22: Some(BadShared(20, 0, 0))",
+        ),
+        (
+            "8495a6be00000009000000000000000000000000",
+            "034000000000000000",
+            "refused 29: Some(IntRange(20, 4611686018427387904))",
+        ),
+        (
+            "8495a6be00000004000000000000000300000003",
+            "a0410401",
+            "refused 24: Some(NoTable(22))",
+        ),
+        (
+            "8495a6be00000006000000010000000100000001",
+            "084000000041",
+            "refused 25: Some(Overlong(20, 1048576, 1))",
+        ),
+        (
+            "8495a6be00000004000000010000000300000003",
+            "a001",
+            "refused 22: Some(Overlong(21, 1, 0))",
+        ),
+        (
+            "8495a6be00000009000000010000000200000002",
+            "0b",
+            "refused 21: Some(SizeMismatch(20, W32, 2, 3))",
+        ),
+        (
+            "8495a6be00000004000000010000000200000001",
+            "23616263",
+            "refused 21: Some(SizeMismatch(20, W64, 1, 2))",
+        ),
+        (
+            "8495a6be00000002000000000000000000000000",
+            "4141",
+            "refused 21: Some(LengthMismatch(21, 1))",
+        ),
+        (
+            "8495a6be00000001000000000000000500000000",
+            "41",
+            "refused 21: Some(SizeMismatch(21, W32, 5, 0))",
+        ),
+        (
+            "8495a6be00000004000000090000000200000002",
+            "23616263",
+            "refused 24: Some(CountMismatch(24, 9, 1))",
+        ),
+    ];
+    for (header, data, answer) in table {
+        let mut bytes = bytes_of(alloc, header)?;
+        bytes.extend_from_slice(&bytes_of(alloc, data)?)?;
+        let text = answer_text(alloc, &judge(alloc, LIMIT, &bytes)?)?;
+        assert_eq!(rt; text.as_str(), answer, "at {header} {data}");
+    }
+    Ok(())
+}
+
+// As many words as the limit may be.
+#[test]
+fn words_within_a_limit(rt: HostRuntime) -> Result<(), Fail> {
+    let alloc = rt.alloc();
+    let bytes = bytes_of(alloc, "8495a6be00000005000000020000000600000006a041a04240")?;
+    let five = answer_text(alloc, &judge(alloc, 5, &bytes)?)?;
+    assert_eq!(rt; five.as_str(), "refused 20: Some(TooLarge(Words, 6, 5))");
+    let six = answer_text(alloc, &judge(alloc, 6, &bytes)?)?;
+    assert_eq!(rt; six.as_str(), "value 25: block 0 2 1 block 0 2 2 0");
+    Ok(())
+}
