@@ -9,7 +9,7 @@ use Rattle.om_session.specs.Call.{Seen, SeenFiles, Change, call}
 use Rattle.om_session.specs.Check.{EndsValues, ChecksValues}
 use Rattle.om_session.specs.Given.{TakesFrom, Took, Fetched}
 use Rattle.om_session.specs.Lists.{lists}
-use Rattle.om_session.specs.Run.{FetchesFor, MayEnd, PutsLine, Completes, Breaks, Account, IsUsage}
+use Rattle.om_session.specs.Run.{nothing, FetchesFor, MayEnd, PutsLine, Completes, Breaks, Account, IsUsage}
 use Rattle.om_session.specs.Stops.{stop_of, Reports}
 use Rattle.om_session.specs.Types.{GivesType}
 use Rattle.om_session.specs.Values.{checks}
@@ -17,9 +17,6 @@ use Rattle.om_session.proofs.PutLemmas.{from_to}
 use Rattle.om_session.proofs.CheckLemmas.{puts_nothing}
 
 -- ---- nothing taken
-
-abbrev nothing : Taken
-nothing = record { bytes = []; until = unasked }
 
 nothing_told : (o : Option (List ℕ)) → IfSome o (λ bytes. (rest : List ℕ) × TakesFrom bytes nothing rest × (o ≡ Some rest))
 nothing_told None = tt
@@ -46,7 +43,7 @@ module _ (words : List (List ℕ)) (file : List ℕ → Found) (input out : Seen
     given = given;
     input = took_nothing input;
     files = fetches;
-    asked = λ read stop prepared. read refl;
+    asked = inl refl;
     ends = inl (record { ending = stopped s; may_end = may; out = puts_nothing out; line = line });
   }
 
@@ -105,31 +102,10 @@ module _ (words : List (List ℕ)) (file type_text : List ℕ) (asks : Asks word
   type_account stop gives input out err status r =
       stop_account words (λ name. found) input out files fetches err status (stop_of stop) (gives_err stop gives) r
 
-  -- what is read is not refused
-  reads_once : (t : ListType) (stop : Stop) → ReadsTypeOf lists (λ name. found) (file, type_text) (Ok t) → ReadsTypeOf lists (λ name. found) (file, type_text) (Err stop) → ⊥
-  reads_once t stop (Err s, r, same) other = absurd (cc same)
-  reads_once t stop (Ok text, r, (Err s, h, same)) other = absurd (cc same)
-  reads_once t stop (Ok text, r, (Ok none, empty, is_text)) (Err s, fault, same) =
-      let h : ReadsFile file (opened (whole text)) (Err s) = subst (λ o. ReadsFile file o (Err s)) r fault in absurd (cc h)
-  reads_once t stop (Ok text, r, (Ok none, empty, is_text)) (Ok bytes, r', (Err s, (refusal, (some, e), e'), same)) =
-      let all : whole text ≡ whole bytes = cc in some (sym (ap (λ t. t.bytes) all) ∙ empty)
-  reads_once t stop (Ok text, r, (Ok none, empty, is_text)) (Ok bytes, r', (Ok none', empty', (refusal, (unread, e), e'))) = unread t is_text
-
-  prepares_once : (t : ListType) → ReadsTypeOf lists (λ name. found) (file, type_text) (Ok t) → (stop : Stop) → Prepares lists words (λ name. found) (Err stop) → ⊥
-  prepares_once t reads stop (Err s, (none, e), same) = none (check file type_text) asks
-  prepares_once t reads stop (Ok (check f u), other, (Ok type, h, same)) = absurd (cc same)
-  prepares_once t reads stop (Ok (check f u), other, (Err s, (Ok type, h, e), same)) = absurd (cc e)
-  prepares_once t reads stop (Ok (check f u), other, (Err s, (Err first, refused, e), same)) =
-      let one = asks.0 in let two = other.0 in
-      let names : f ≡ file = cc in
-      let types : u ≡ type_text = cc in
-      let h : ReadsTypeOf lists (λ name. found) (file, u) (Err first) = subst (λ f. ReadsTypeOf lists (λ name. found) (f, u) (Err first)) names refused in
-      reads_once t first reads (subst (λ u. ReadsTypeOf lists (λ name. found) (file, u) (Err first)) types h)
-
   -- the values are checked at the type
   pub values_account : (t : ListType) → GivesType file type_text found (Ok t) → (input out err : Change Seen) (status : Status)
       → ChecksValues t input out err status → Account lists words (call input files out err status)
-  values_account t gives input out err status v = record { given = given; input = v.1; files = fetches; asked = λ read stop prepared. prepares_once t gives stop prepared; ends = ends (v.2 file type_text) } where
+  values_account t gives input out err status v = record { given = given; input = v.1; files = fetches; asked = inr (checks file type_text t, prepared_ok t gives); ends = ends (v.2 file type_text) } where
     task : Task ListType
     task = checks file type_text t
 

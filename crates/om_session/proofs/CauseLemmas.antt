@@ -10,9 +10,10 @@ use Rattle.om_edge.specs.Faults.{HasCause, RoseOrLast}
 use Rattle.om_edge.specs.Files.{File, bytes_of}
 use Rattle.om_session.specs.Call.{Call}
 use Rattle.om_session.specs.Given.{Puts, PutsPart, IsFoundOf, TakesFrom, Fetched, IsMeasured, is_fault, has_read_fault}
-use Rattle.om_session.specs.Run.{MayEnd, PutsLine, Completes, Breaks, Account, IsUsage, IsFileOf, CannotOpen, OnlyUsage, OnlyReadFault, OnlyWriteFault, OnlyOpenFault, OnlyTooLong, IfUsage, IsUnsaid, TellsWriteFault, TellsOpenFault, TellsReadFault, IsTyped, IsRefusedType, OnlyTypes, OnlyValue, IfMissing}
+use Rattle.om_session.specs.Run.{nothing, MayEnd, PutsLine, Completes, Breaks, Account, IsUsage, IsFileOf, CannotOpen, OnlyUsage, OnlyReadFault, OnlyWriteFault, OnlyOpenFault, OnlyTooLong, IfUsage, IsUnsaid, TellsWriteFault, TellsOpenFault, TellsReadFault, IsTyped, IsRefusedType, OnlyTypes, OnlyValue, IfMissing}
 use Rattle.std.proofs.lemmas.Option.{IfSome_then}
 use Rattle.om_session.proofs.HeadlineLemmas.{no_stop}
+use Rattle.om_session.proofs.CompleteLemmas.{IsLawful, prepares_once}
 
 some_and : {X : Type 0} (o : Option X) (P : X → Type 0) → IsSome o → IfSome o P → IsSomeAnd o P
 some_and None P some h = absurd (cc some)
@@ -314,20 +315,24 @@ module _ {D T : Type 0} (language : Language D T) (words : List (List ℕ)) (cal
         kept false s e = ap or_no e
   treats_fault task C fault k (tree ∷ trees) e (stops stop, treats, same) = absurd (no_stop language task.request task.type k tree stop treats)
 
-  input_says : call.input.before.faults < call.input.after.faults → (u : Until) → a.given.input.until ≡ u → (ending : Ending) → Says language words a.given ending → ending.status ≡ statuses.ReadFault
-  input_says less at_end e ending said = absurd (risen _ _ (rw e at a.input.cause).kept less)
-  input_says less at_length e ending said = absurd (risen _ _ (rw e at a.input.cause).kept less)
-  input_says less unasked e ending said = absurd (risen _ _ (rw e at a.input.cause).kept less)
-  input_says less at_fault e ending (Err stop, p, same) = absurd (a.asked (λ none. cc (sym e ∙ none)) stop p)
-  input_says less at_fault e ending (Ok task, p, (trees, end, stream, treats)) =
-      treats_fault task (Closes task.request trees at_fault end) (λ e h. ap (λ e. e.status) h) 0 trees ending
-      (subst (λ u. TreatsAll language task (Closes task.request trees u end) 0 trees ending) e treats)
+  module _ (lawful : IsLawful language) where
+    input_says : call.input.before.faults < call.input.after.faults → (u : Until) → a.given.input.until ≡ u → (ending : Ending) → Says language words a.given ending → ending.status ≡ statuses.ReadFault
+    input_says less at_end e ending said = absurd (risen _ _ (rw e at a.input.cause).kept less)
+    input_says less at_length e ending said = absurd (risen _ _ (rw e at a.input.cause).kept less)
+    input_says less unasked e ending said = absurd (risen _ _ (rw e at a.input.cause).kept less)
+    input_says less at_fault e ending (Err stop, p, same) = absurd (untaken a.asked) where
+      untaken : (a.given.input ≡ nothing) ⊎ IsReady language words a.given → ⊥
+      untaken (inl none) = cc (sym e ∙ ap (λ t. t.until) none)
+      untaken (inr (task, ready)) = let once = prepares_once language lawful a.given.file words task (Err stop) ready p in cc once
+    input_says less at_fault e ending (Ok task, p, (trees, end, stream, treats)) =
+        treats_fault task (Closes task.request trees at_fault end) (λ e h. ap (λ e. e.status) h) 0 trees ending
+        (subst (λ u. TreatsAll language task (Closes task.request trees u end) 0 trees ending) e treats)
 
-  pub tells_read_fault : TellsReadFault call
-  tells_read_fault = record {
-    input = λ less. said_status (λ s. s ≡ statuses.ReadFault) (input_says less a.given.input.until refl);
-    file = λ less. said_status (λ s. s ≡ statuses.ReadFault) (reading_says less);
-  }
+    pub tells_read_fault : TellsReadFault call
+    tells_read_fault = record {
+      input = λ less. said_status (λ s. s ≡ statuses.ReadFault) (input_says less a.given.input.until refl);
+      file = λ less. said_status (λ s. s ≡ statuses.ReadFault) (reading_says less);
+    }
 
   -- what is found of the name, where the map has it
   pub contents_are : (o : Option (List ℕ)) (bytes : List ℕ) → IsSomeAnd o (λ all. (rest : List ℕ) × TakesFrom all (whole bytes) rest) → o ≡ Some bytes

@@ -14,12 +14,14 @@ use Rattle.om_model.specs.RefusalText.{refusal_text, truncated_text}
 use Rattle.om_model.specs.Outcome as o
 use Rattle.om_model.specs.Outcome.{Taken, at_end, whole, Found, opened, missing, Given, Stop, usage, cannot_open, declarations, requested_type, out_of_memory, text_of, err_line, Ending, stopped, ended, behind, line, Request, check, Asks, typed_by, Task, Language, ReadsFile, ReadsTypeOf, Prepares, Says, SaysValues, SaysSome, SaysFirst, Closes, says, stops, Treats, TreatsAll, limit_of, found_of, Outcome}
 use Rattle.om_edge.specs.Files.{File, bytes_of}
+use Rattle.om_model.proofs.JudgementLaws.{one_judgement_lem}
+use Rattle.om_session.specs.StreamLaws.{HasOneStream}
 use Rattle.om_session.specs.Call.{Call}
 use Rattle.om_session.specs.Given.{TakesFrom, Puts}
 use Rattle.om_session.specs.Run.{MayEnd, Account, IsWellRead, IsFrontOfOutcome, IfMemory, IfWriteFault, OutBreaks, ErrBreaks, IsUsage}
 use Rattle.om_session.proofs.HeadlineLemmas.{no_stop, prepares_same, says_same}
 use Rattle.om_session.proofs.LineLemmas.{spelled_some}
-use Rattle.om_session.proofs.StreamLemmas.{bytes_behind}
+use Rattle.om_session.proofs.StreamLemmas.{bytes_behind, streams_once}
 use Rattle.om_session.proofs.CauseLemmas.{Why, memory, out_fault, err_fault, account_why}
 use Rattle.om_session.proofs.TotalLemmas.{IsTotal, plain_or_not}
 
@@ -63,6 +65,18 @@ module _ (law : HasOneJudgement) (limit : ℕ) where
 
   pub stream_of : (bytes : List ℕ) → AreBytes bytes → (trees : List Tree) × (end : End) × Stream bytes limit trees end
   stream_of bytes are_bytes = stream_in (length bytes) bytes (omega arith) are_bytes
+
+-- and of one alone
+pub one_stream_lem : HasOneStream
+one_stream_lem limit bytes are_bytes =
+    let some = stream_of one_judgement_lem limit bytes are_bytes in (
+      some.0,
+      some.1,
+      record {
+        holds = some.2;
+        only = λ others other stream. streams_once one_judgement_lem limit bytes others some.0 other some.1 are_bytes stream some.2;
+      },
+    )
 
 -- ---- the values have texts
 

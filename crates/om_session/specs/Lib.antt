@@ -12,3 +12,4 @@ pub mod Stops
 pub mod Types
 pub mod Values
 pub mod Words
+pub mod StreamLaws

@@ -7,7 +7,7 @@ use Rattle.std.specs.List.{AllByRecursion}
 use Rattle.om_model.specs.Bytes.{AreBytes}
 use Rattle.om_model.specs.Tree.{Tree}
 use Rattle.om_model.specs.Stream.{SpellAll, End, clean, Stream}
-use Rattle.om_model.specs.Outcome.{unasked, Found, Given, Stop, Request, Language, Ending, Task, Asks, typed_by, limit_of, Prepares, found_of, Says, SaysFirst, Outcome, stopped, out_of_memory, text_of, err_line}
+use Rattle.om_model.specs.Outcome.{Taken, unasked, Found, Given, Stop, Request, Language, Ending, Task, Asks, typed_by, limit_of, Prepares, found_of, Says, SaysFirst, Outcome, stopped, out_of_memory, text_of, err_line}
 use Rattle.om_edge.specs.Faults.{RoseOrLast}
 use Rattle.om_edge.specs.Files.{File, bytes_of}
 use Rattle.om_session.specs.Call.{Seen, SeenFiles, Change, Call}
@@ -46,13 +46,17 @@ pub record Breaks {D T : Type 0} (language : Language D T) (words : List (List �
   pub err : Puts call.err []
   pub status : call.status ≡ WriteFault
 
+-- nothing was taken
+abbrev pub nothing : Taken
+nothing = record { bytes = []; until = unasked }
+
 -- what was given in the call, and what was put
 pub record Account {D T : Type 0} (language : Language D T) (words : List (List ℕ)) (call : Call) : Type 0 where
   pub given : Given
   pub input : Took call.input given.input
   pub files : FetchesFor words call.files given.file
-  -- the input is asked for only where no earlier stage stops the run
-  pub asked : given.input.until ≢ unasked → (stop : Stop) → Prepares language words given.file (Err stop) → ⊥
+  -- nothing is taken of the input, or the stages before the values are passed
+  pub asked : (given.input ≡ nothing) ⊎ ((task : Task T) × Prepares language words given.file (Ok task))
   pub ends : Completes language words given call ⊎ Breaks language words given call
 
 -- ---- the headline

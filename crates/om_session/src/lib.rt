@@ -4,6 +4,7 @@
 mod check;
 mod fetch;
 mod gather;
+pub mod laws;
 mod list_type;
 mod read;
 mod refusal_text;

@@ -34,7 +34,7 @@ pub returns-clause-tells_write_fault : goal.returns-clause-tells_write_fault
 returns-clause-tells_write_fault g c = tells_write_fault lists (texts c.args.words.now) _ c.run_command.ensures
 
 pub returns-clause-tells_read_fault : goal.returns-clause-tells_read_fault
-returns-clause-tells_read_fault g c = tells_read_fault lists (texts c.args.words.now) _ c.run_command.ensures
+returns-clause-tells_read_fault g c = tells_read_fault lists (texts c.args.words.now) _ c.run_command.ensures (lists_lawful c.faults_exclude_types.ensures)
 
 pub returns-clause-tells_open_fault : goal.returns-clause-tells_open_fault
 returns-clause-tells_open_fault g c = tells_open_fault lists (texts c.args.words.now) _ c.run_command.ensures

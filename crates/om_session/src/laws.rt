@@ -1,0 +1,8 @@
+//! A law over the definition of a stream. The function does nothing: what it ensures is the law.
+
+ghost use Rattle.om_session.specs.StreamLaws.{HasOneStream};
+
+/// Bytes are one list of values, one behind another, and one end behind them.
+pub fn one_stream()
+    ensures { HasOneStream }
+{}
