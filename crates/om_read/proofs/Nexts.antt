@@ -26,7 +26,7 @@ use Rattle.om_read.specs.Build.{Building, Bounded, start, absorb, absorb_in, Wel
 use Rattle.om_read.specs.Reading.{Leads, NextOf, with_next}
 use Rattle.om_heap.specs.Heap.{heap_words}
 use Rattle.om_read.proofs.Opened.{WellOpen-from_start, length-from_start, absorb_all_push}
-use Rattle.om_read.proofs.Rooms.{heap_words-from_start}
+use Rattle.om_read.proofs.Rooms.{heap_words-from_start, Spells-token}
 use Rattle.om_read.proofs.Sums.{more_words64}
 
 -- ---- where the next token leads
@@ -98,11 +98,6 @@ next_spelled header before place state rest bytes h none whole =
     let p = next_passes header before rest none whole in
     let s = SpelledThere-passes header before (take (raw_length rest) rest) (AreBytes-take (raw_length rest) rest bytes) p.raw p.passes in
     (s.token, s.spells, subst (RefersBack s.token) (sym (objects_built header before place state h)) s.refers_back)
-
--- what is spelled is a token
-pub Spells-token : (t : Token) (piece : List ℕ) → Spells t piece → IsToken t
-Spells-token t [] s = absurd s
-Spells-token t (code ∷ rest) s = s.0
 
 -- and it leads on
 pub next_leads : (header : List ℕ) (before : List (List ℕ)) (place next : Place) (state state' : Bounded) (rest : List ℕ) → AreBytes rest → Leads header before place state

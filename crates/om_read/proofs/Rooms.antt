@@ -96,14 +96,15 @@ heap_words-from_start ts h = let e = heap_words-absorb_all start ts h WellOpen-s
 
 -- ---- a whole value
 
-spelled_token : (t : Token) (piece : List ℕ) → Spells t piece → IsToken t
-spelled_token t [] s = absurd s
-spelled_token t (code ∷ rest) s = s.0
+-- what is spelled is a token
+pub Spells-token : (t : Token) (piece : List ℕ) → Spells t piece → IsToken t
+Spells-token t [] s = absurd s
+Spells-token t (code ∷ rest) s = s.0
 
 spelled_tokens : (ts : List Token) (pieces : List (List ℕ)) → AllZip Spells ts pieces → All IsToken ts
 spelled_tokens [] pieces s = All-nil IsToken
 spelled_tokens (t ∷ ts) [] s = absurd s
-spelled_tokens (t ∷ ts) (p ∷ pieces) s = All-cons IsToken t ts (spelled_token t p s.0) (spelled_tokens ts pieces s.1)
+spelled_tokens (t ∷ ts) (p ∷ pieces) s = All-cons IsToken t ts (Spells-token t p s.0) (spelled_tokens ts pieces s.1)
 
 -- the objects of a tree have the words of its tokens
 heap_words-objects_of : (tree : Tree) → IsTree tree → All IsToken (tokens tree) → heap_words (objects_of tree 0) ≡ all_words64 (map measure_of (tokens tree))
