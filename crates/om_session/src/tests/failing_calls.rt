@@ -8,6 +8,9 @@ use std::alloc::{AllocError, Global};
 use std::process::Abort;
 use std::test::Fail;
 
+/// An integer in two bytes of data.
+const WIDE_INTEGER: &str = "8495a6be 00000002 00000000 00000000 00000000 0041";
+
 /// So many bytes in a call, the number of the take that fails, and what stands on out.
 static TAKES: [(usize, u64, &str); 13] = [
     (1, 0, ""),
@@ -46,6 +49,48 @@ fn a_fault_of_the_input_is_told_behind_the_values(rt: HostRuntime) -> Result<(),
     for (piece, take, out) in &TAKES {
         expect_failed_take(&rt, rt.alloc(), *piece, *take, out)?;
     }
+    Ok(())
+}
+
+// The calls behind the end of the input, of the file, and behind the one fetch are at hand to fail, and are not made.
+#[test]
+fn no_more_is_asked_for_behind_an_end(rt: HostRuntime) -> Result<(), Fail> {
+    let mut row = check_row(rt.alloc(), "int", INTEGER, Status::Well, "yes\n", "")?;
+    row.failing_fetch = Some(1);
+    row.failing_read = Some(1);
+    row.failing_take = Some(2);
+    expect_in_pieces(&rt, rt.alloc(), "an input of one piece", &row, 21)?;
+    Ok(())
+}
+
+// Integers of 22 bytes, so many, and 200 of 21 bytes, of which one take gives what it may, and the next one fails.
+fn expect_first_take(
+    rt: &impl Abort,
+    alloc: Global,
+    wide: usize,
+    lines: usize,
+) -> Result<(), AllocError> {
+    let err = "omarshal: read fault\n";
+    let mut row = check_row(alloc, "int", "", Status::ReadFault, "", err)?;
+    for _ in 0..wide {
+        push_hex(&mut row.input, WIDE_INTEGER)?;
+    }
+    for _ in 0..200 {
+        push_hex(&mut row.input, INTEGER)?;
+    }
+    for _ in 0..lines {
+        row.out.extend_from_slice(b"yes\n")?;
+    }
+    row.failing_take = Some(1);
+    row.faults.takes = 1;
+    expect_in_pieces(rt, alloc, "a long input", &row, 5000)
+}
+
+// A take is asked for 4096 bytes: one integer of 22 bytes and 194 of 21 fill them, and of two and 193 one byte is left.
+#[test]
+fn a_take_is_asked_for_4096_bytes(rt: HostRuntime) -> Result<(), Fail> {
+    expect_first_take(&rt, rt.alloc(), 1, 195)?;
+    expect_first_take(&rt, rt.alloc(), 2, 194)?;
     Ok(())
 }
 
