@@ -1,3 +1,4 @@
 pub mod Pieces
 pub mod Judging
 pub mod Contents
+pub mod Built

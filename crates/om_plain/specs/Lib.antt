@@ -5,3 +5,4 @@ pub mod Step
 pub mod Front
 pub mod Judged
 pub mod Token
+pub mod Graph

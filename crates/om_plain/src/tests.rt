@@ -216,3 +216,50 @@ fn words_within_a_limit(rt: HostRuntime) -> Result<(), Fail> {
     assert_eq!(rt; six.as_str(), "value 25: block 0 2 1 block 0 2 2 0");
     Ok(())
 }
+
+// A graph as text: the root, and the objects in their order.
+fn graph_text(alloc: Global, graph: &Graph) -> Result<String, AllocError> {
+    let root = graph.root;
+    let mut text = format!(in alloc; "{root:?}")?;
+    for object in &graph.objects {
+        let one = match object {
+            Obj::Block(tag, fields) => format!(in alloc; "; {tag} {:?}", fields.as_slice())?,
+            _ => format!(in alloc; ";{}", leaf_text(alloc, object)?)?,
+        };
+        text.push_str(one.as_str())?;
+    }
+    Ok(text)
+}
+
+// The graph that bytes spell, as text.
+fn built_text(alloc: Global, bytes: &[u8]) -> Result<String, Fail> {
+    match judge(alloc, LIMIT, bytes)? {
+        Judged::Value { tokens, .. } => Ok(graph_text(alloc, &graph_of(alloc, tokens)?)?),
+        _ => Ok(format!(in alloc; "no value")?),
+    }
+}
+
+// By hand: the list of 1 and 2, one that is its own tail, and a pair of one string twice.
+#[test]
+fn graphs(rt: HostRuntime) -> Result<(), Fail> {
+    let alloc = rt.alloc();
+    let table = [
+        (
+            "8495a6be00000005000000020000000600000006a041a04240",
+            "Ref(0); 0 [Int(1), Ref(1)]; 0 [Int(2), Int(0)]",
+        ),
+        (
+            "8495a6be00000004000000010000000300000003a0410401",
+            "Ref(0); 0 [Int(1), Ref(0)]",
+        ),
+        (
+            "8495a6be00000005000000020000000500000005a021610401",
+            "Ref(0); 0 [Ref(1), Ref(1)]; [97]",
+        ),
+    ];
+    for (hex, expected) in table {
+        let text = built_text(alloc, &bytes_of(alloc, hex)?)?;
+        assert_eq!(rt; text.as_str(), expected, "at {hex}");
+    }
+    Ok(())
+}
