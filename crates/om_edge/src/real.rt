@@ -127,13 +127,14 @@ pub struct DiskFiles<R: Files> {
 }
 
 impl<R: Files> Model for DiskFiles<R> {
-    ghost use Rattle.std.specs.Prelude.{option_map, is_some, string_bytes};
+    ghost use Rattle.std.specs.Prelude.{option_map, option_and_then, is_some, string_bytes};
     ghost use Rattle.om_edge.specs.Disk.{DiskValue};
 
     ghost Value = { DiskValue };
 
     ghost view = { λ d. record {
       is_open = is_some d.file;
+      left = option_and_then R.File.remaining d.file;
       open_faults = d.open_faults;
       last_open_fault = option_map string_bytes d.last;
       read_faults = d.read_faults;
@@ -143,7 +144,7 @@ impl<R: Files> Model for DiskFiles<R> {
 impl<R: Files> DiskFiles<R> {
     /// No call has failed.
     pub fn new(alloc: Global, rt: R) -> DiskFiles<R>
-        ensures { result ≡ record { is_open = false; open_faults = 0; last_open_fault = None; read_faults = 0 } }
+        ensures { result ≡ record { is_open = false; left = None; open_faults = 0; last_open_fault = None; read_faults = 0 } }
     {
         DiskFiles {
             alloc,
@@ -198,11 +199,14 @@ impl<R: Files> Opener for DiskFiles<R> {
         ensures cause { HasCause self.old.read_faults self.new.read_faults (is_err result) }
         ensures counted { self.new ≡ record {
           is_open = self.old.is_open;
+          left = self.new.left;
           open_faults = self.old.open_faults;
           last_open_fault = self.old.last_open_fault;
           read_faults = count_after self.old.read_faults (is_err result);
         } }
 
+        // It gives what the open file gives, where that tells it.
+        ensures bytes { ReadConsumes self.old.left self.new.left result buf.new }
         // With no file there is no byte.
         ensures closed { self.old.is_open ≡ false → result ≡ Ok 0 }
     {
