@@ -5,23 +5,21 @@
 
 mod compare;
 
-use crate::compare::{agree, answer_text};
-use om_plain::judge;
+use crate::compare::{plain_text, read_text};
 use om_read::read_value;
 use std::io;
 use std::io::ErrorKind;
 
-/// Answers the first `n` bytes, and compares with the plain program.
+/// Answers the bytes, and compares with the plain program.
 fn answer(rt: &HostRuntime, bytes: &[u8], limit: u64) -> io::Result<String> {
     let alloc = rt.alloc();
-    let plain = match judge(alloc, limit, bytes) {
-        Ok(plain) => plain,
-        Err(_) => return Err(ErrorKind::OutOfMemory.into()),
+    let mut text = read_text(alloc, &read_value(alloc, bytes, limit))?;
+    let Ok(plain) = plain_text(alloc, bytes, limit) else {
+        return Err(ErrorKind::OutOfMemory.into());
     };
-    let read = read_value(alloc, bytes, limit);
-    let mut text = answer_text(alloc, &read)?;
-    if !agree(&plain, &read) {
-        text.push_str(", but by the definitions otherwise")?;
+    if plain.as_str() != text.as_str() {
+        text.push_str(", but by the definitions ")?;
+        text.push_str(plain.as_str())?;
     }
     Ok(text)
 }
