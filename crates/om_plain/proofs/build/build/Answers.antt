@@ -1,4 +1,4 @@
-use Rattle.std.proofs.Common.{rules, arith, ◌≡◌, ◌<◌, ◌∷◌, List, [], length, map, get_or, refl, ap, subst, ◌∙◌, vec_len}
+use Rattle.std.proofs.Common.{rules, arith, ◌≡◌, ◌∷◌, List, [], length, map, get_or, refl, ap, subst, ◌∙◌, vec_len}
 use Rattle.om_model.specs.Tree.{Tree, IsTree, tokens, root}
 use Rattle.om_plain.specs.declared.token.Token.{Token}
 use Rattle.om_plain.specs.Token.{token_of}
