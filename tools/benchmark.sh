@@ -31,4 +31,4 @@ else
 fi
 ./reader write "$work"
 echo "OCaml $(ocaml -version | sed 's/.* //'), $kind;$(uptime | sed 's/.*load/ load/')"
-exec python3 "$here/benchmark.py" "$work"
+python3 "$here/benchmark.py" "$work"
