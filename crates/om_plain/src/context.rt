@@ -5,7 +5,8 @@ ghost use Rattle.std.specs.Prelude.{◌≤◌, ◌<◌, ◌^◌, vec_len};
 use om_model::code::Measure;
 use om_model::header::Head;
 
-/// Behind which header, behind how many of its bytes and of those of the data, and behind which tokens.
+/// What stands before a token: what the header states, how many bytes the header has, how many bytes of data were taken,
+/// and the object of each token before, where it makes one.
 #[derive(Drop)]
 pub struct Context {
     pub head: Head,

@@ -7,10 +7,13 @@ use crate::cut::{between, number_of};
 use om_model::bytes::big_endian;
 use om_model::header::Head;
 
+/// That of a small header.
 pub const SMALL_MAGIC: u64 = 0x8495_a6be;
 
+/// That of a big header.
 pub const BIG_MAGIC: u64 = 0x8495_a6bf;
 
+/// That of compressed data, which is not read.
 pub const COMPRESSED_MAGIC: u64 = 0x8495_a6bd;
 
 /// The number of the first four bytes.

@@ -49,42 +49,48 @@ impl Refusal {
         ensures fits { IsSome result ↔ IsNarrow self }
     {
         match self {
-            Refusal::BadMagic(m) => Some(ReadRefusal::BadMagic(u32::try_from(m).ok()?)),
+            Refusal::BadMagic(magic) => Some(ReadRefusal::BadMagic(u32::try_from(magic).ok()?)),
             Refusal::Compressed => Some(ReadRefusal::Compressed),
             Refusal::TooLarge(what, stated, limit) => Some(ReadRefusal::TooLarge(
                 what, stated, limit,
             )),
-            Refusal::BadCode(p, code) => Some(ReadRefusal::BadCode(small(p)?, code)),
-            Refusal::PointerCode(p, code) => Some(ReadRefusal::PointerCode(small(p)?, code)),
-            Refusal::OtherCustom(p, code) => Some(ReadRefusal::OtherCustom(small(p)?, code)),
-            Refusal::BadTag(p, tag) => Some(ReadRefusal::BadTag(small(p)?, tag)),
-            Refusal::BadShared(p, offset, found) => Some(ReadRefusal::BadShared(
-                small(p)?,
+            Refusal::BadCode(place, code) => Some(ReadRefusal::BadCode(small(place)?, code)),
+            Refusal::PointerCode(place, code) => Some(ReadRefusal::PointerCode(
+                small(place)?,
+                code,
+            )),
+            Refusal::OtherCustom(place, code) => Some(ReadRefusal::OtherCustom(
+                small(place)?,
+                code,
+            )),
+            Refusal::BadTag(place, tag) => Some(ReadRefusal::BadTag(small(place)?, tag)),
+            Refusal::BadShared(place, offset, found) => Some(ReadRefusal::BadShared(
+                small(place)?,
                 offset,
                 small(found)?,
             )),
-            Refusal::NoTable(p) => Some(ReadRefusal::NoTable(small(p)?)),
-            Refusal::BadNative(p, kind) => Some(ReadRefusal::BadNative(small(p)?, kind)),
-            Refusal::IntRange(p, value) => Some(ReadRefusal::IntRange(small(p)?, value)),
-            Refusal::ZeroArray(p) => Some(ReadRefusal::ZeroArray(small(p)?)),
-            Refusal::Overlong(p, need, left) => Some(ReadRefusal::Overlong(
-                small(p)?,
+            Refusal::NoTable(place) => Some(ReadRefusal::NoTable(small(place)?)),
+            Refusal::BadNative(place, kind) => Some(ReadRefusal::BadNative(small(place)?, kind)),
+            Refusal::IntRange(place, value) => Some(ReadRefusal::IntRange(small(place)?, value)),
+            Refusal::ZeroArray(place) => Some(ReadRefusal::ZeroArray(small(place)?)),
+            Refusal::Overlong(place, need, left) => Some(ReadRefusal::Overlong(
+                small(place)?,
                 need,
                 small(left)?,
             )),
-            Refusal::SizeMismatch(p, sum, stated, found) => Some(ReadRefusal::SizeMismatch(
-                small(p)?,
+            Refusal::SizeMismatch(place, sum, stated, found) => Some(ReadRefusal::SizeMismatch(
+                small(place)?,
                 sum,
                 stated,
                 small(found)?,
             )),
-            Refusal::CountMismatch(p, stated, found) => Some(ReadRefusal::CountMismatch(
-                small(p)?,
+            Refusal::CountMismatch(place, stated, found) => Some(ReadRefusal::CountMismatch(
+                small(place)?,
                 stated,
                 small(found)?,
             )),
-            Refusal::LengthMismatch(p, left) => Some(ReadRefusal::LengthMismatch(
-                small(p)?,
+            Refusal::LengthMismatch(place, left) => Some(ReadRefusal::LengthMismatch(
+                small(place)?,
                 small(left)?,
             )),
         }

@@ -19,7 +19,9 @@ pub struct Step {
 /// How what is found is compared with what is stated.
 #[derive(Clone, Copy, Debug, PartialEq, Eq)]
 pub enum Comparison {
+    /// Wrong where more is found than is stated.
     Above,
+    /// Wrong where another number is found.
     Other,
 }
 

@@ -170,7 +170,7 @@ abbrev pub IfMissing : List (List ℕ) → Call → Type 0
 IfMissing words call = (name : List ℕ) → IsFileOf words name → IsSomeAnd call.files.before.map (λ all. bytes_of all name ≡ None)
     → (call.status ≡ OpenFault) ⊎ IsUnsaid call.status
 
--- 10: only where 2^48 bytes or more were taken from the input, or from FILE
+-- 10: only where the input or FILE has 2^48 bytes or more, where they are told
 abbrev pub OnlyTooLong : List (List ℕ) → Call → Type 0
 OnlyTooLong words call = call.status ≡ TooLong
     → IfSome call.input.before.bytes (λ bytes. 2 ^ 48 ≤ length bytes)
