@@ -1,0 +1,221 @@
+//! A region: words side by side in one block of memory.
+
+ghost use Rattle.std.specs.Prelude.{◌≡◌, ◌+◌, ◌-◌, ◌*◌, ◌^◌, ◌<◌, ◌≤◌, [], ◌∷◌, ◌++◌, length, take, replicate, slice_index, slice_set, slice_range, OnOk, OnErr};
+ghost use Rattle.std.specs.Borrow.{sem};
+ghost use Rattle.om_words.specs.Region.{capacity};
+
+use crate::block::Block;
+use om_model::Memory;
+use std::alloc::Global;
+use std::marker::Model;
+
+/// Words, which contracts see as the list `words`, and as `spare` the number of those that can still be appended
+/// without taking memory. The memory is freed when the region is dropped.
+pub struct Region {
+    block: Block,
+    len: usize,
+    cap: usize,
+    alloc: Global,
+}
+
+impl Model for Region {
+    ghost use Rattle.std.specs.Prelude.{◌≡◌, ◌-◌, ◌^◌, ◌<◌, length};
+    ghost use Rattle.om_words.specs.Region.{Contents};
+
+    ghost Value = { Contents };
+
+    ghost view = { λ r. record { words = r.block.words; spare = r.cap - r.len } };
+
+    ghost invariant = { λ r. (r.len ≡ length r.block.words) × (r.cap ≡ r.block.cap) × (r.cap < 2 ^ 60) };
+}
+
+impl Drop for Region {
+    fn drop(self) {
+        let Region {
+            block,
+            len: _,
+            cap,
+            alloc,
+        } = self;
+        block.free(&alloc, cap);
+    }
+}
+
+/// A region with room for so many words is not made larger: no memory holds twice as many.
+const LARGEST: usize = 1 << 59;
+
+impl Region {
+    ghost use Rattle.om_words.specs.Parts.{lends_part};
+
+    /// The region without words or room. It takes no memory.
+    pub fn new(alloc: Global) -> Region
+        ensures { result.words ≡ [] }
+    {
+        Region {
+            block: Block::none(),
+            len: 0,
+            cap: 0,
+            alloc,
+        }
+    }
+
+    /// Makes room for n more words. Where there was not enough, the capacity at least doubles.
+    pub fn reserve(&mut self, n: usize) -> Result<(), Memory>
+        ensures words { self.new.words ≡ self.old.words }
+        ensures room { OnOk result (n ≤ self.new.spare) }
+        ensures doubled { OnOk result (self.old.spare < n → 2 * capacity self.old ≤ capacity self.new) }
+        ensures refused { OnErr result ((self.new ≡ self.old) × (self.old.spare < n)) }
+    {
+        if n <= self.cap - self.len {
+            return Ok(());
+        }
+        self.grow(n)
+    }
+
+    /// Takes memory for n more words.
+    #[cold]
+    fn grow(&mut self, n: usize) -> Result<(), Memory>
+        requires { self.old.spare < n }
+        ensures words { self.new.words ≡ self.old.words }
+        ensures room { OnOk result (n ≤ self.new.spare) }
+        ensures doubled { OnOk result (2 * capacity self.old ≤ capacity self.new) }
+        ensures refused { OnErr result (self.new ≡ self.old) }
+    {
+        if LARGEST <= n || LARGEST <= self.cap {
+            return Err(Memory);
+        }
+        let cap = (self.len + n).max(self.cap * 2);
+        let alloc = self.alloc;
+        let grown = if self.cap == 0 {
+            self.block.take(&alloc, cap)
+        } else {
+            self.block.grow(&alloc, self.len, self.cap, cap)
+        };
+        if !grown {
+            return Err(Memory);
+        }
+        self.cap = cap;
+        Ok(())
+    }
+
+    /// Appends a word for which there is room.
+    pub fn append_reserved(&mut self, w: u64)
+        requires { 0 < self.old.spare }
+        ensures words { self.new.words ≡ self.old.words ++ w ∷ [] }
+        ensures spare { self.new.spare ≡ self.old.spare - 1 }
+    {
+        let len = self.len;
+        self.block.push(len, w);
+        self.len = len + 1;
+    }
+
+    /// Word i.
+    pub fn get(&self, i: usize) -> u64
+        requires { i < length self.now.words }
+        ensures { result ≡ slice_index self.now.words i }
+    {
+        self.block.words(self.len)[i]
+    }
+
+    /// Puts w in the place of word i.
+    #[tactic(auto, using(crate::proofs::Parts::overwritten_one))]
+    pub fn set(&mut self, i: usize, w: u64)
+        requires { i < length self.old.words }
+        ensures { self.new ≡ record self.old { words = slice_set self.old.words i w } }
+    {
+        self.block.part_mut(i, 1)[0] = w;
+    }
+
+    /// The n words from word i on, lent.
+    pub fn part(&self, i: usize, n: usize) -> &[u64]
+        requires { i + n ≤ length self.now.words }
+        ensures { result.now ≡ slice_range self.now.words i (i + n) }
+    {
+        &self.block.words(self.len)[i..i + n]
+    }
+
+    /// The n words from word i on, lent to be written.
+    pub fn part_mut(&mut self, i: usize, n: usize) -> &mut [u64]
+        requires { i + n ≤ length self.old.words }
+        ensures* writes_back { sem 𝓛 (lends_part self.entry i result) }
+        ensures value { result.now ≡ slice_range self.old.words i (i + n) }
+    {
+        self.block.part_mut(i, n)
+    }
+
+    /// Appends n copies of a word, for which there is room.
+    pub fn append_run(&mut self, n: usize, w: u64)
+        requires { n ≤ self.old.spare }
+        ensures words { self.new.words ≡ self.old.words ++ replicate n w }
+        ensures spare { self.new.spare ≡ self.old.spare - n }
+    {
+        self.block.push_run(self.len, n, w);
+        self.len += n;
+    }
+
+    /// Appends words for which there is room.
+    pub fn append_slice(&mut self, words: &[u64])
+        requires { length words.now ≤ self.old.spare }
+        ensures words { self.new.words ≡ self.old.words ++ words.now }
+        ensures spare { self.new.spare ≡ self.old.spare - length words.now }
+    {
+        self.block.push_all(self.len, words);
+        self.len += words.len();
+    }
+
+    /// How many words there are. With their room they are fewer than 2^60.
+    pub fn len(&self) -> usize
+        ensures len { result ≡ length self.now.words }
+        ensures small { capacity self.now < 2 ^ 60 }
+    {
+        self.len
+    }
+
+    /// Drops the words from word n on. Their room stays.
+    pub fn truncate(&mut self, n: usize)
+        requires { n ≤ length self.old.words }
+        ensures words { self.new.words ≡ take n self.old.words }
+        ensures capacity { capacity self.new ≡ capacity self.old }
+    {
+        self.block.cut(n);
+        self.len = n;
+    }
+}
+
+#[cfg(test)]
+mod tests {
+    use super::*;
+    use std::test::Fail;
+
+    #[test]
+    fn words_are_kept_and_lent(rt: HostRuntime) -> Result<(), Fail> {
+        let mut region = Region::new(rt.alloc());
+        assert_eq!(rt; region.len(), 0);
+        region.reserve(6)?;
+        region.append_reserved(7);
+        region.append_slice(&[8, 9]);
+        region.append_run(3, 1);
+        region.set(1, 5);
+        region.part_mut(3, 2)[1] = 4;
+        assert_eq!(rt; region.part(0, 6), [7, 5, 9, 1, 4, 1].as_slice());
+        region.truncate(2);
+        assert_eq!(rt; region.len(), 2);
+        assert_eq!(rt; region.get(1), 5);
+        Ok(())
+    }
+
+    #[test]
+    fn growth_keeps_the_words(rt: HostRuntime) -> Result<(), Fail> {
+        let mut region = Region::new(rt.alloc());
+        for w in 0..1000u64 {
+            region.reserve(1)?;
+            region.append_reserved(w);
+        }
+        assert_eq!(rt; region.reserve(usize::MAX), Err(Memory));
+        let words = region.part(0, region.len());
+        assert_eq!(rt; words.len(), 1000);
+        assert_eq!(rt; words.iter().position(|w| *w == 500), Some(500));
+        assert_eq!(rt; words.last().copied(), Some(999));
+        Ok(())
+    }
+}
