@@ -1,0 +1,146 @@
+//! A list of increasing places.
+
+ghost use Rattle.std.specs.Prelude.{◌≡◌, ◌<◌, ◌≤◌, [], ◌∷◌, ◌++◌, length, take, All, Contains, slice_index, MatchResult};
+
+use crate::cells;
+use crate::cells::Cell;
+use om_model::Memory;
+use std::alloc::Global;
+use std::marker::Model;
+
+/// Increasing places, which contracts see as their list. Places below 2^32 take half the room of the others.
+#[derive(Drop)]
+pub struct Places {
+    low: Vec<u32>,
+    high: Vec<u64>,
+    cells: Vec<Cell>,
+}
+
+impl Model for Places {
+    ghost use Rattle.std.specs.Prelude.{List, ℕ, ◌++◌};
+
+    ghost Value = { List ℕ };
+
+    ghost use Rattle.om_places.specs.Cells.{IsIndexed};
+
+    ghost view = { λ p. p.low.items ++ p.high.items };
+
+    ghost invariant = { λ p. IsIndexed p.cells.items (p.low.items ++ p.high.items) };
+}
+
+impl Places {
+    /// No places.
+    pub fn new(alloc: Global) -> Places
+        ensures { result ≡ [] }
+    {
+        Places {
+            low: Vec::new(alloc),
+            high: Vec::new(alloc),
+            cells: Vec::new(alloc),
+        }
+    }
+
+    /// How many places there are.
+    pub fn len(&self) -> usize
+        ensures { result ≡ length self.now }
+    {
+        self.low.len() + self.high.len()
+    }
+
+    /// Place number k.
+    pub fn get(&self, k: usize) -> u64
+        requires { k < length self.now }
+        ensures { result ≡ slice_index self.now k }
+    {
+        let low = self.low.len();
+        if k < low {
+            u64::from(self.low[k])
+        } else {
+            self.high[k - low]
+        }
+    }
+
+    /// The number of a place.
+    pub fn number(&self, p: u64) -> usize
+        requires { Contains self.now p }
+        ensures in_range { result < length self.now }
+        ensures place { slice_index self.now result ≡ p }
+    {
+        cells::count_before(&self.cells, p) as usize
+    }
+
+    /// Appends a place.
+    pub fn push(&mut self, p: u64) -> Result<(), Memory>
+        requires { All (λ q. q < p) self.old }
+        ensures { MatchResult result (λ _. self.new ≡ self.old ++ p ∷ []) (λ _. self.new ≡ self.old) }
+    {
+        let count = self.len() as u64;
+        cells::cover(&mut self.cells, (p / 64) as usize + 1, count)?;
+        append(&mut self.low, &mut self.high, p)?;
+        cells::mark(&mut self.cells, p);
+        Ok(())
+    }
+
+    /// Drops the places from number n on.
+    pub fn truncate(&mut self, n: usize)
+        requires { n ≤ length self.old }
+        ensures { self.new ≡ take n self.old }
+    {
+        if n < self.len() {
+            let p = self.get(n);
+            self.cells.truncate((p / 64) as usize + 1);
+            cells::clear_from(&mut self.cells, p);
+            shorten(&mut self.low, &mut self.high, n);
+        }
+    }
+}
+
+/// Appends p to the first of the lists, while it fits and the other is empty.
+fn append(low: &mut Vec<u32>, high: &mut Vec<u64>, p: u64) -> Result<(), Memory>
+    ensures { MatchResult result
+        (λ _. low.new.items ++ high.new.items ≡ (low.old.items ++ high.old.items) ++ p ∷ [])
+        (λ _. (low.new.items ≡ low.old.items) × (high.new.items ≡ high.old.items)) }
+{
+    if high.is_empty() && p < 1 << 32 {
+        let Ok(()) = low.push(p as u32) else {
+            return Err(Memory);
+        };
+    } else {
+        let Ok(()) = high.push(p) else {
+            return Err(Memory);
+        };
+    }
+    Ok(())
+}
+
+/// Keeps the first n of two lists, one after the other.
+fn shorten(low: &mut Vec<u32>, high: &mut Vec<u64>, n: usize)
+    ensures { low.new.items ++ high.new.items ≡ take n (low.old.items ++ high.old.items) }
+{
+    high.truncate(n.saturating_sub(low.len()));
+    low.truncate(n);
+}
+
+#[cfg(test)]
+mod tests {
+    use super::*;
+    use std::test::Fail;
+
+    #[test]
+    fn places_are_numbered(rt: HostRuntime) -> Result<(), Fail> {
+        let mut places = Places::new(rt.alloc());
+        places.push(0)?;
+        places.push(3)?;
+        places.push(64)?;
+        assert_eq!(rt; places.len(), 3);
+        assert_eq!(rt; places.get(2), 64);
+        assert_eq!(rt; places.number(0), 0);
+        assert_eq!(rt; places.number(3), 1);
+        assert_eq!(rt; places.number(64), 2);
+        places.truncate(2);
+        places.push(5)?;
+        assert_eq!(rt; places.len(), 3);
+        assert_eq!(rt; places.number(5), 2);
+        Ok(())
+    }
+}
