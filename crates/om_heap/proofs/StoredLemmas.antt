@@ -1,67 +1,121 @@
--- Lemmas on a heap's fields.
-use Rattle.std.proofs.Common.{◌≡◌, ℕ, ◌+◌, ◌-◌, ◌<◌, List, [], ◌∷◌, length, get_or, set, take, drop, refl, sym, ap, ◌∙◌, subst, arith}
-use Rattle.std.specs.Prelude.{All}
-use Rattle.std.proofs.lemmas.List.{length-map, map-set, get_or-map, take-map}
-use Rattle.std.proofs.lemmas.List.Elements.{All-drop}
-use Rattle.std.proofs.lemmas.List.Sums.{sum_by-cons, sum_by-take-drop}
+-- Lemmas on a heap's fields: the words of a graph tell the graph.
+use Rattle.std.proofs.Common.{◌≡◌, ℕ, ◌+◌, ◌/◌, ◌%◌, ◌<◌, ◌≤◌, eqb, cond, ℤ, pos, negsuc, List, [], length, get_or, take, drop, map, refl, sym, ap, ap₂, subst, ◌∙◌, arith, eq-eqb, ne_eqb}
+use Rattle.std.specs.List.{position_or_len}
+use Rattle.std.proofs.lemmas.Bool.{cond-false}
+use Rattle.std.proofs.lemmas.List.{length-map, get_or-map, get_or_default, same_lists}
+use Rattle.std.proofs.lemmas.List.Elements.{All-nil, All-weaker}
+use Rattle.std.proofs.lemmas.List.FromFn.{length-map-range_with_len, get_or-map-range_with_len}
+use Rattle.std.proofs.lemmas.List.Sums.{position_or_len_is}
 use Rattle.om_model.specs.declared.value.Obj.{Obj}
-use Rattle.om_model.specs.Graph.{IsObject, IsGraph}
-use Rattle.om_heap.specs.declared.objects.Stored.{Stored}
-use Rattle.om_heap.specs.Heap.{object_at, object_words, heap_words, IsSmall, IsHeap}
-use Rattle.om_heap.specs.Stored.{object_of, graph_of, stored_words, IsCounted}
-use Rattle.om_heap.proofs.HeapLemmas.{Replaces, IsHeap-set, heap_words-set, IsHeap-take}
+use Rattle.om_model.specs.declared.value.Obj.TheVariants as objects
+use Rattle.om_model.specs.Graph.{IsSigned, IsValue, IsObject, IsGraph}
+use Rattle.om_heap.specs.Heap.{object_at, place, word_with, IsSmall, IsHeap}
+use Rattle.om_heap.specs.Stored.{encode, places_of, value_from, object_from, object_in, decode, IsStored}
+use Rattle.om_heap.specs.Words.{tag_of, header, body_with}
+use Rattle.om_heap.proofs.PlaceLemmas.{same_from_place, two_words}
+use Rattle.om_heap.proofs.WordLemmas.{map_back, value_back, signed_back}
+use Rattle.om_heap.proofs.StringLemmas.{bytes_back}
+use Rattle.om_heap.proofs.CodeLemmas.{word_in, body_in}
 
--- the object of what is stored at place o
-pub object_at-graph_of : (items : List Stored) (o : ℕ) (x : Stored) → o < length items → x ≡ get_or items o x → object_at (graph_of items) o ≡ object_of x
-object_at-graph_of items o x in_range read = get_or-map object_of items o x _ in_range ∙ ap object_of (sym read)
+-- the places in the list of places
+pub length-places_of : (graph : List Obj) → length (places_of graph) ≡ length graph
+unfolding places_of
+length-places_of graph = length-map-range_with_len (place graph) 0 (length graph)
 
--- it is valid and small
-module _ (words : ℕ) (items : List Stored) (o : ℕ) (x : Stored) (in_range : o < length items) (read : x ≡ get_or items o x) (counted : IsCounted words (graph_of items)) where
-  pub object_of-valid : IsObject (length (graph_of items)) (object_of x)
-  object_of-valid = rw (← object_at-graph_of items o x in_range read) (counted.heap.is_graph o _ (rw length-map in_range))
+pub get_or-places_of : (graph : List Obj) (k d : ℕ) → k < length graph → get_or (places_of graph) k d ≡ place graph k
+unfolding places_of
+get_or-places_of graph k d inside = get_or-map-range_with_len (place graph) 0 (length graph) k k d inside (omega arith)
 
-  pub object_of-small : IsSmall (object_of x)
-  object_of-small = rw (← object_at-graph_of items o x in_range read) (counted.heap.small o _ (rw length-map in_range))
+pub numbered : (graph : List Obj) → IsGraph graph → (k : ℕ) → k < length graph → position_or_len (λ p. eqb p (place graph k)) (places_of graph) ≡ k
+numbered graph valid k inside =
+    position_or_len_is (λ p. eqb p (place graph k)) (places_of graph) k 0 (omega (arith, length-places_of graph))
+    (λ j before. ne_eqb (get_or (places_of graph) j 0) (place graph k) (λ e.
+    let same : j ≡ k = same_from_place graph j k valid (omega arith) inside (sym (get_or-places_of graph j 0 (omega arith)) ∙ e) in omega arith))
+    (λ inside'. eq-eqb (get_or (places_of graph) k 0) (place graph k) (get_or-places_of graph k 0 inside))
 
--- what is stored at place o is changed by f
-module _ (items : List Stored) (o : ℕ) (old new : Stored) (f : Obj → Obj) (in_range : o < length items) (read : old ≡ get_or items o old) (changed : object_of new ≡ f (object_of old)) where
-  pub graph_of-set : graph_of (set items o new) ≡ set (graph_of items) o (f (object_at (graph_of items) o))
-  graph_of-set =
-      map-set object_of items o new
-      ∙ ap (λ (x : Obj). set (graph_of items) o x) (changed ∙ ap f (sym (object_at-graph_of items o old in_range read)))
+pub tag_small : (n : ℕ) (object : Obj) → IsObject n object → tag_of object < 256
+tag_small n (objects.Block tag values) valid = omega (arith, valid.0)
+tag_small n (objects.Bytes bytes) valid = omega arith
+tag_small n (objects.Double bits) valid = omega arith
+tag_small n (objects.Doubles all) valid = omega arith
+tag_small n (objects.I32 z) valid = omega arith
+tag_small n (objects.I64 z) valid = omega arith
+tag_small n (objects.Native z) valid = omega arith
 
-  pub IsCounted-set : (words : ℕ)
-      → ((x : Obj) → IsObject (length (graph_of items)) x → Replaces (length (graph_of items)) x (f x))
-      → IsCounted words (graph_of items) → IsCounted words (graph_of (set items o new))
-  IsCounted-set words replaces counted =
-      let graph = graph_of items in
-      let same_range : o < length graph = subst (λ n. o < n) (sym (length-map items object_of)) in_range in
-      let here : Replaces (length graph) (object_at graph o) (f (object_at graph o)) = replaces (object_at graph o) (counted.heap.is_graph o _ same_range) in
-      subst (IsCounted words) (sym graph_of-set) record {
-        counted = counted.counted ∙ sym (heap_words-set graph o _ same_range here);
-        heap = IsHeap-set graph o _ same_range here counted.heap;
-      }
+pub wider : (z : ℤ) → IsSigned 31 z → IsSigned 63 z
+wider (pos n) small = omega arith
+wider (negsuc n) small = omega arith
 
--- the words of what is stored
-pub heap_words-graph_of : (items : List Stored) → heap_words (graph_of items) ≡ stored_words items
-heap_words-graph_of [] = refl
-heap_words-graph_of (x ∷ items) =
-    sum_by-cons object_words (object_of x) (graph_of items)
-    ∙ ap (λ n. object_words (object_of x) + n) (heap_words-graph_of items)
-    ∙ sym (sum_by-cons (λ x. object_words (object_of x)) x items)
+-- a tag up to 243 is none of the others
+pub other_tags : {X : Type 0} (tag : ℕ) (a b c d e : X) → tag ≤ 243 → cond (eqb tag 252) a (cond (eqb tag 253) b (cond (eqb tag 254) c (cond (eqb tag 255) d e))) ≡ e
+other_tags tag a b c d e small =
+    cond-false (eqb tag 252) _ _ (ne_eqb tag 252 (λ h. omega arith))
+    ∙ cond-false (eqb tag 253) _ _ (ne_eqb tag 253 (λ h. omega arith))
+    ∙ cond-false (eqb tag 254) _ _ (ne_eqb tag 254 (λ h. omega arith))
+    ∙ cond-false (eqb tag 255) _ _ (ne_eqb tag 255 (λ h. omega arith))
 
--- what is stored from place n on is dropped
-module _ (words n : ℕ) (items : List Stored) (counted : IsCounted words (graph_of items)) where
-  pub dropped_small : All (λ x. IsSmall (object_of x)) (drop n items)
-  dropped_small =
-      All-drop (λ x. IsSmall (object_of x)) n items (λ k d in_range.
-      subst IsSmall (get_or-map object_of items k d (object_of d) in_range) (counted.heap.small k (object_of d) (rw length-map in_range)))
+-- an object's tag and words tell it
+module _ (graph : List Obj) (valid : IsGraph graph) where
+  pub object_back : (object : Obj) → IsObject (length graph) object → object_from (places_of graph) (tag_of object) (body_with (place graph) object) ≡ object
+  object_back (objects.Block tag values) fits =
+      other_tags tag _ _ _ _ _ fits.0
+      ∙ ap (objects.Block tag) (map_back (value_from (places_of graph)) (word_with (place graph)) values
+      (All-weaker (IsValue (length graph)) (λ v. value_from (places_of graph) (word_with (place graph) v) ≡ v) (value_back (place graph) (places_of graph) (length graph) (numbered graph valid)) values fits.2))
+  object_back (objects.Bytes bytes) fits = ap objects.Bytes (bytes_back bytes fits)
+  object_back (objects.Double bits) fits = refl
+  object_back (objects.Doubles all) fits = refl
+  object_back (objects.I32 z) fits = ap objects.I32 (signed_back z (wider z fits))
+  object_back (objects.I64 z) fits = ap objects.I64 (signed_back z fits)
+  object_back (objects.Native z) fits = ap objects.Native (signed_back z fits)
 
-  pub dropped_words : stored_words (take n items) + stored_words (drop n items) ≡ words
-  dropped_words = sum_by-take-drop (λ x. object_words (object_of x)) items n ∙ sym (counted.counted ∙ heap_words-graph_of items)
+-- the header of object o
+module _ (graph : List Obj) (o : ℕ) (inside : o < length graph) (valid : IsObject (length graph) (object_at graph o)) where
+  pub header_in : get_or (encode graph) (place graph o) 0 ≡ header (tag_of (object_at graph o)) (length (body_with (place graph) (object_at graph o)))
+  header_in =
+      let at : place graph o ≡ place graph o + 0 = omega arith in
+      ap (λ (p : ℕ). get_or (encode graph) p 0) at ∙ word_in graph o inside 0 (omega (arith, two_words (length graph) (object_at graph o) valid))
 
-  pub IsCounted-take : IsGraph (take n (graph_of items)) → IsCounted (words - stored_words (drop n items)) (graph_of (take n items))
-  IsCounted-take closed = record {
-    counted = omega (arith, dropped_words, heap_words-graph_of (take n items));
-    heap = subst IsHeap (take-map object_of n items) (IsHeap-take n (graph_of items) closed counted.heap);
-  }
+  pub tag_in : get_or (encode graph) (place graph o) 0 % 1024 ≡ tag_of (object_at graph o)
+  tag_in = omega (arith, header_in, tag_small (length graph) (object_at graph o) valid)
+
+  pub size_in : get_or (encode graph) (place graph o) 0 / 1024 ≡ length (body_with (place graph) (object_at graph o))
+  size_in = omega (arith, header_in, tag_small (length graph) (object_at graph o) valid)
+
+pub decode-encode : (graph : List Obj) → IsGraph graph → decode (encode graph) (places_of graph) ≡ graph
+unfolding decode
+decode-encode graph valid =
+    same_lists (map (object_in (encode graph) (places_of graph)) (places_of graph)) graph
+    (length-map (places_of graph) (object_in (encode graph) (places_of graph)) ∙ length-places_of graph)
+    (λ k d here.
+    let inside : k < length graph = omega (arith, length-map (places_of graph) (object_in (encode graph) (places_of graph)), length-places_of graph) in
+    let fits : IsObject (length graph) (object_at graph k) = valid k (objects.I32 (pos 0)) inside in
+    get_or-map (object_in (encode graph) (places_of graph)) (places_of graph) k 0 d (omega (arith, length-places_of graph))
+    ∙ ap (object_in (encode graph) (places_of graph)) (get_or-places_of graph k 0 inside)
+    ∙ ap₂ (object_from (places_of graph)) (tag_in graph k inside fits) (ap (λ (n : ℕ). take n (drop (place graph k + 1) (encode graph))) (size_in graph k inside fits) ∙ body_in graph k inside)
+    ∙ object_back graph valid (object_at graph k) fits
+    ∙ get_or_default graph k (objects.I32 (pos 0)) d inside)
+
+-- words and places that are those of this graph
+pub record Holds (words places : List ℕ) (graph : List Obj) : Type 0 where
+  pub heap : IsHeap graph
+  pub encoded : words ≡ encode graph
+  pub placed : places ≡ places_of graph
+
+pub held : (words places : List ℕ) (graph : List Obj) → IsStored words places → decode words places ≡ graph → Holds words places graph
+held words places graph stored seen = subst (Holds words places) seen record { heap = stored.heap; encoded = stored.encoded; placed = stored.placed }
+
+pub seen : (words places : List ℕ) (graph : List Obj) → Holds words places graph → decode words places ≡ graph
+seen words places graph holds = ap₂ decode holds.encoded holds.placed ∙ decode-encode graph holds.heap.is_graph
+
+pub stored : (words places : List ℕ) (graph : List Obj) → Holds words places graph → IsStored words places
+stored words places graph holds =
+    let same : Holds words places (decode words places) = subst (Holds words places) (sym (seen words places graph holds)) holds in
+    record { heap = same.heap; encoded = same.encoded; placed = same.placed }
+
+pub holds_nothing : Holds [] [] []
+unfolding encode places_of
+holds_nothing = record {
+  heap = record { is_graph = All-nil (IsObject 0); small = All-nil IsSmall; words = omega arith };
+  encoded = refl;
+  placed = refl;
+}

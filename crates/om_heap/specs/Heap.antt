@@ -1,6 +1,6 @@
 -- What a heap's calls read and write: an object's parts, its size in words (`extern.c`), and a graph with one place changed.
-use Rattle.std.specs.Prelude.{ℕ, ◌^◌, ◌<◌, ◌≡◌, List, [], ◌∷◌, ◌++◌, length, All, sum_by, pos, Result, Ok, Err, slice_index, slice_index_or, slice_set}
-use Rattle.om_model.specs.declared.Memory.{Memory}
+use Rattle.std.specs.Prelude.{ℕ, ◌+◌, ◌-◌, ◌*◌, ◌/◌, ◌^◌, ◌<◌, ◌≡◌, List, [], ◌∷◌, ◌++◌, length, take, All, sum_by, ℤ, pos, negsuc, Result, Ok, Err, slice_index, slice_index_or, slice_set}
+use Rattle.om_model.specs.declared.out_of_memory.Memory.{Memory}
 use Rattle.om_model.specs.declared.value.Val.{Val}
 use Rattle.om_model.specs.declared.value.Val.TheVariants as vals
 use Rattle.om_model.specs.declared.value.Obj.{Obj}
@@ -9,8 +9,8 @@ use Rattle.om_model.specs.declared.code.Custom.{Custom}
 use Rattle.om_model.specs.declared.code.Custom.TheVariants as customs
 use Rattle.om_model.specs.declared.code.Measure.{Measure}
 use Rattle.om_model.specs.declared.code.Measure.TheVariants as measures
-use Rattle.om_model.specs.Words.{words64}
-use Rattle.om_model.specs.Graph.{IsGraph}
+use Rattle.om_format.specs.Words.{words64}
+use Rattle.om_model.specs.Graph.{IsValue, IsGraph}
 use Rattle.om_heap.specs.declared.Kind.{Kind}
 use Rattle.om_heap.specs.declared.Kind.TheVariants as kinds
 
@@ -31,9 +31,6 @@ abbrev pub doubles_of : Obj → List ℕ
 doubles_of (objects.Double bits) = bits ∷ []
 doubles_of (objects.Doubles all) = all
 doubles_of object = []
-
-abbrev pub IsBytes : Obj → Type 0
-IsBytes object = object ≡ objects.Bytes (bytes_of object)
 
 -- part i of object o
 abbrev pub field_at : List Obj → ℕ → ℕ → Val
@@ -120,7 +117,44 @@ pub record IsHeap (graph : List Obj) : Type 0 where
   pub small : All IsSmall graph
   pub words : heap_words graph < 2 ^ 60
 
--- the object is appended, and the answer is its number; after want of memory nothing has changed
+-- the object is appended, and the answer is its number; out of memory nothing has changed
 abbrev pub Appends : List Obj → List Obj → Obj → Result ℕ Memory → Type 0
 Appends old new object (Ok number) = (number ≡ length old) × (new ≡ old ++ object ∷ [])
 Appends old new object (Err memory) = new ≡ old
+
+-- a block, which has fields, and no other object has any
+abbrev pub IsBlock : Obj → Type 0
+IsBlock object = 0 < length (fields_of object)
+
+-- where the header of object o is: after the words of the objects before it
+unfoldable pub place : List Obj → ℕ → ℕ
+place graph o = heap_words (take o graph)
+
+-- an integer's word: 2z + 1 in two's complement
+abbrev pub integer_word : ℤ → ℕ
+integer_word (pos n) = 2 * n + 1
+integer_word (negsuc n) = 2 ^ 64 - 1 - 2 * n
+
+-- a value's word, where headers have these places: an integer's ends in 1, an atom's in 010, a reference's in 000
+abbrev pub word_with : (ℕ → ℕ) → Val → ℕ
+word_with places (vals.Int z) = integer_word z
+word_with places (vals.Atom tag) = 8 * tag + 2
+word_with places (vals.Ref k) = 8 * places k
+
+abbrev pub word_of : List Obj → Val → ℕ
+word_of graph v = word_with (place graph) v
+
+-- the word of some value of the graph, and of a reference
+abbrev pub IsFieldWord : List Obj → ℕ → Type 0
+IsFieldWord graph word = (v : Val) × IsValue (length graph) v × (word ≡ word_of graph v)
+
+abbrev pub IsReferenceWord : List Obj → ℕ → Type 0
+IsReferenceWord graph word = (k : ℕ) × (k < length graph) × (word ≡ word_of graph (vals.Ref k))
+
+-- what holds of the object that a reference's word names
+abbrev pub ForNamed : List Obj → ℕ → (Obj → Type 0) → Type 0
+ForNamed graph word P = (k : ℕ) → k < length graph → word ≡ word_of graph (vals.Ref k) → P (object_at graph k)
+
+-- the key of object k for tables; each object has two words at least, so no two have one
+abbrev pub key_of : List Obj → ℕ → ℕ
+key_of graph k = place graph k / 2

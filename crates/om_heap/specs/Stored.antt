@@ -1,26 +1,77 @@
--- How a heap stores its objects.
-use Rattle.std.specs.Prelude.{ℕ, ◌≡◌, List, map, sum_by}
+-- A heap's words and places as a graph, and back.
+use Rattle.std.specs.Prelude.{ℕ, ◌+◌, ◌-◌, ◌*◌, ◌/◌, ◌%◌, ◌^◌, ◌≡◌, List, length, map, take, drop, flat_map, slice_index, ℤ, pos, negsuc, nat_lt, ◌==◌, if◌then◌else◌}
+use Rattle.std.specs.List.{range_with_len, position_or_len}
+use Rattle.om_model.specs.declared.value.Val.{Val}
+use Rattle.om_model.specs.declared.value.Val.TheVariants as vals
 use Rattle.om_model.specs.declared.value.Obj.{Obj}
 use Rattle.om_model.specs.declared.value.Obj.TheVariants as objects
-use Rattle.om_heap.specs.declared.objects.Stored.{Stored}
-use Rattle.om_heap.specs.declared.objects.Stored.TheVariants.{Block, Bytes, Double, Doubles, Custom}
-use Rattle.om_heap.specs.Heap.{custom_object, object_words, heap_words, IsHeap}
+use Rattle.om_model.specs.declared.code.Custom.{Custom}
+use Rattle.om_model.specs.declared.code.Custom.TheVariants as customs
+use Rattle.om_heap.specs.declared.Kind.{Kind}
+use Rattle.om_heap.specs.declared.Kind.TheVariants as kinds
+use Rattle.om_heap.specs.Heap.{place, custom_object, IsHeap}
+use Rattle.om_heap.specs.Words.{code_with, byte_in}
 
--- the object that is stored
-abbrev pub object_of : Stored → Obj
-object_of (Block tag values) = objects.Block tag values.items
-object_of (Bytes bytes) = objects.Bytes bytes.items
-object_of (Double bits) = objects.Double bits
-object_of (Doubles all) = objects.Doubles all.items
-object_of (Custom c) = custom_object c
+-- all words of a graph, and where its headers are
+unfoldable pub encode : List Obj → List ℕ
+encode graph = flat_map (code_with (place graph)) graph
 
-abbrev pub graph_of : List Stored → List Obj
-graph_of stored = map object_of stored
+unfoldable pub places_of : List Obj → List ℕ
+places_of graph = map (place graph) (range_with_len 0 (length graph))
 
-abbrev pub stored_words : List Stored → ℕ
-stored_words stored = sum_by (λ object. object_words (object_of object)) stored
+-- back: an integer, the value of a word, the bytes of words, a custom
+abbrev pub integer_from : ℕ → ℤ
+integer_from word = if nat_lt word (2 ^ 63) then pos (word / 2) else negsuc ((2 ^ 64 - 1 - word) / 2)
 
--- a heap with its words counted
-pub record IsCounted (words : ℕ) (graph : List Obj) : Type 0 where
-  pub counted : words ≡ heap_words graph
-  pub heap : IsHeap graph
+abbrev pub signed_from : ℕ → ℤ
+signed_from word = if nat_lt word (2 ^ 63) then pos word else negsuc (2 ^ 64 - 1 - word)
+
+abbrev pub value_from : List ℕ → ℕ → Val
+value_from places word =
+    if word % 2 == 1 then vals.Int (integer_from word)
+    else (if word % 8 == 2 then vals.Atom (word / 8)
+    else vals.Ref (position_or_len (λ p. p == word / 8) places))
+
+abbrev pub string_length : List ℕ → ℕ
+string_length words = 8 * length words - 1 - byte_in words (8 * length words - 1)
+
+unfoldable pub bytes_from : List ℕ → List ℕ
+bytes_from words = map (byte_in words) (range_with_len 0 (string_length words))
+
+abbrev pub custom_from : ℕ → ℕ → Custom
+custom_from id word =
+    if id == 1 then customs.I32 (signed_from word)
+    else (if id == 2 then customs.I64 (signed_from word)
+    else customs.Native (signed_from word))
+
+-- the object with this tag and these words
+abbrev pub object_from : List ℕ → ℕ → List ℕ → Obj
+object_from places tag body =
+    if tag == 252 then objects.Bytes (bytes_from body)
+    else (if tag == 253 then objects.Double (slice_index body 0)
+    else (if tag == 254 then objects.Doubles body
+    else (if tag == 255 then custom_object (custom_from (slice_index body 0) (slice_index body 1))
+    else objects.Block tag (map (value_from places) body))))
+
+-- what it is, and how large
+abbrev pub kind_from : ℕ → List ℕ → Kind
+kind_from tag body =
+    if tag == 252 then kinds.Bytes (string_length body)
+    else (if tag == 253 then kinds.Double
+    else (if tag == 254 then kinds.Doubles (length body)
+    else (if tag == 255 then kinds.Custom (custom_from (slice_index body 0) (slice_index body 1))
+    else kinds.Block tag (length body))))
+
+-- the object whose header is at place p
+abbrev pub object_in : List ℕ → List ℕ → ℕ → Obj
+object_in words places p =
+    object_from places (slice_index words p % 1024) (take (slice_index words p / 1024) (drop (p + 1) words))
+
+unfoldable pub decode : List ℕ → List ℕ → List Obj
+decode words places = map (object_in words places) places
+
+-- the words and the places of one graph
+pub record IsStored (words places : List ℕ) : Type 0 where
+  pub heap : IsHeap (decode words places)
+  pub encoded : words ≡ encode (decode words places)
+  pub placed : places ≡ places_of (decode words places)

@@ -1,0 +1,385 @@
+//! The heap: the words of all objects in one region, and the places of their headers.
+
+ghost use Rattle.std.specs.Prelude.{◌≡◌, ℕ, ◌+◌, ◌*◌, ◌/◌, ◌<◌, ◌≤◌, ◌^◌, List, [], length, map, take, All, vec_len, replicate, pos};
+ghost use Rattle.om_model.specs.Graph.{IsValue, IsObject, IsGraph};
+ghost use Rattle.om_format.specs.Words.{words64};
+ghost use Rattle.om_model.specs.declared.value.Val.{Val};
+ghost use Rattle.om_model.specs.declared.value.Val.TheVariants as vals;
+ghost use Rattle.om_model.specs.declared.value.Obj.TheVariants as objects;
+ghost use Rattle.om_model.specs.declared.code.Measure.TheVariants as measures;
+ghost use Rattle.om_heap.specs.Heap.{object_at, fields_of, bytes_of, doubles_of, field_at, byte_at, double_at, set_field, set_byte, set_double, custom_object, kind_of, IsOfKind, IsHeap, Appends, object_words, heap_words, IsBlock, place, word_of, key_of, IsFieldWord, IsReferenceWord, ForNamed};
+ghost use Rattle.om_heap.specs.Words.{header_of, body_of};
+
+use crate::Kind;
+use crate::objects::{append_copy, append_custom, begin, body_in};
+use crate::strings::{append_string, append_zeros, with_byte};
+use crate::words::{
+    CUSTOM, DOUBLE, DOUBLES, STRING, header_word, integer_of_word, kind_of_words, word_of_integer,
+};
+use om_model::Memory;
+use om_model::code::Custom;
+use om_model::value::Val;
+use om_places::places::Places;
+use om_words::region::Region;
+use std::alloc::Global;
+use std::marker::Model;
+
+/// A graph, which contracts see as the list of its objects.
+///
+/// A call that appends answers the object's number, or `Memory` with all as before. It does so too where the objects
+/// would have 2^60 words or more together, counted as on 64 bits.
+#[derive(Drop)]
+pub struct Heap {
+    region: Region,
+    places: Places,
+}
+
+impl Model for Heap {
+    ghost use Rattle.std.specs.Prelude.{List};
+    ghost use Rattle.om_model.specs.declared.value.Obj.{Obj};
+
+    ghost Value = { List Obj };
+
+    ghost use Rattle.om_heap.specs.Stored.{decode, IsStored};
+
+    ghost view = { λ h. decode h.region.words h.places };
+
+    ghost invariant = { λ h. IsStored h.region.words h.places };
+}
+
+impl Heap {
+    /// The heap without objects.
+    pub fn new(alloc: Global) -> Heap
+        ensures { result ≡ [] }
+    {
+        Heap {
+            region: Region::new(alloc),
+            places: Places::new(alloc),
+        }
+    }
+
+    /// How many objects there are. It also tells what holds of each heap.
+    pub fn count(&self) -> u64
+        ensures count { result ≡ length self.now }
+        ensures heap { IsHeap self.now }
+    {
+        self.places.len() as u64
+    }
+
+    /// How many words the objects have together.
+    pub fn words(&self) -> u64
+        ensures { result ≡ heap_words self.now }
+    {
+        self.region.len() as u64
+    }
+
+    /// Appends a block whose fields are 0.
+    pub fn add_block(&mut self, tag: u8, size: u64) -> Result<u64, Memory>
+        requires tag { tag ≤ 243 }
+        requires nonempty { 0 < size }
+        requires small { words64 (measures.Block size) < 2 ^ 54 }
+        ensures { Appends self.old self.new (objects.Block tag (replicate size (vals.Int (pos 0)))) result }
+    {
+        let header = header_word(u64::from(tag), size);
+        let number = begin(&mut self.region, &mut self.places, 1 + size)?;
+        self.region.append_reserved(header);
+        self.region.append_run(size as usize, 1);
+        Ok(number)
+    }
+
+    /// Appends a block of these words of values.
+    pub fn add_block_of(&mut self, tag: u8, words: &[u64]) -> Result<u64, Memory>
+        requires tag { tag ≤ 243 }
+        requires nonempty { 0 < length words.now }
+        requires small { words64 (measures.Block (length words.now)) < 2 ^ 54 }
+        requires valid { All (IsFieldWord self.old) words.now }
+        ensures { (values : List Val) → All (IsValue (length self.old)) values → words.now ≡ map (word_of self.old) values → Appends self.old self.new (objects.Block tag values) result }
+    {
+        let size = words.len() as u64;
+        let number = begin(&mut self.region, &mut self.places, 1 + size)?;
+        self.region
+            .append_reserved(header_word(u64::from(tag), size));
+        self.region.append_slice(words);
+        Ok(number)
+    }
+
+    /// Appends a string of zero bytes.
+    pub fn add_bytes(&mut self, len: u64) -> Result<u64, Memory>
+        requires small { words64 (measures.Bytes len) < 2 ^ 54 }
+        ensures { Appends self.old self.new (objects.Bytes (replicate len 0)) result }
+    {
+        let size = len / 8 + 1;
+        let number = begin(&mut self.region, &mut self.places, 1 + size)?;
+        self.region.append_reserved(header_word(STRING, size));
+        append_zeros(&mut self.region, len as usize);
+        Ok(number)
+    }
+
+    /// Appends a string of these bytes.
+    pub fn add_bytes_of(&mut self, content: &[u8]) -> Result<u64, Memory>
+        requires small { words64 (measures.Bytes (length content.now)) < 2 ^ 54 }
+        ensures { Appends self.old self.new (objects.Bytes content.now) result }
+    {
+        let size = content.len() as u64 / 8 + 1;
+        let number = begin(&mut self.region, &mut self.places, 1 + size)?;
+        self.region.append_reserved(header_word(STRING, size));
+        append_string(&mut self.region, content);
+        Ok(number)
+    }
+
+    /// Appends a double, by its bits.
+    pub fn add_double(&mut self, bits: u64) -> Result<u64, Memory>
+        ensures { Appends self.old self.new (objects.Double bits) result }
+    {
+        let number = begin(&mut self.region, &mut self.places, 2)?;
+        self.region.append_reserved(header_word(DOUBLE, 1));
+        self.region.append_reserved(bits);
+        Ok(number)
+    }
+
+    /// Appends an array of doubles of zero bits.
+    pub fn add_doubles(&mut self, len: u64) -> Result<u64, Memory>
+        requires nonempty { 0 < len }
+        requires small { words64 (measures.Doubles len) < 2 ^ 54 }
+        ensures { Appends self.old self.new (objects.Doubles (replicate len 0)) result }
+    {
+        let number = begin(&mut self.region, &mut self.places, 1 + len)?;
+        self.region.append_reserved(header_word(DOUBLES, len));
+        self.region.append_run(len as usize, 0);
+        Ok(number)
+    }
+
+    /// Appends an array of these doubles, by their bits.
+    pub fn add_doubles_of(&mut self, all: Vec<u64>) -> Result<u64, Memory>
+        requires nonempty { 0 < vec_len all }
+        requires small { words64 (measures.Doubles (vec_len all)) < 2 ^ 54 }
+        ensures { Appends self.old self.new (objects.Doubles all.items) result }
+    {
+        let len = all.len() as u64;
+        let number = begin(&mut self.region, &mut self.places, 1 + len)?;
+        self.region.append_reserved(header_word(DOUBLES, len));
+        self.region.append_slice(&all);
+        Ok(number)
+    }
+
+    /// Appends a custom.
+    pub fn add_custom(&mut self, c: Custom) -> Result<u64, Memory>
+        ensures { Appends self.old self.new (custom_object c) result }
+    {
+        let number = begin(&mut self.region, &mut self.places, 3)?;
+        self.region.append_reserved(header_word(CUSTOM, 2));
+        append_custom(&mut self.region, c);
+        Ok(number)
+    }
+
+    /// Appends an object equal to object o.
+    pub fn copy_object(&mut self, o: u64) -> Result<u64, Memory>
+        requires { o < length self.old }
+        ensures { Appends self.old self.new (object_at self.old o) result }
+    {
+        let from = self.place(o);
+        let size = self.region.get(from) / 1024;
+        let number = begin(&mut self.region, &mut self.places, 1 + size)?;
+        append_copy(&mut self.region, from, 1 + size as usize);
+        Ok(number)
+    }
+
+    /// Which object it is, and how large.
+    pub fn kind(&self, o: u64) -> Kind
+        requires { o < length self.now }
+        ensures kind { result ≡ kind_of (object_at self.now o) }
+        ensures object { IsOfKind result (object_at self.now o) }
+    {
+        self.kind_at(self.word(Val::Ref(o)))
+    }
+
+    /// Field i of a block.
+    pub fn field(&self, o: u64, i: u64) -> Val
+        requires { i < length (fields_of (object_at self.now o)) }
+        ensures field { result ≡ field_at self.now o i }
+        ensures valid { IsValue (length self.now) result }
+    {
+        let at = self.place(o) + 1 + i as usize;
+        self.value_of(self.region.get(at))
+    }
+
+    /// The words of a block's fields, lent.
+    pub fn fields(&self, o: u64) -> &[u64]
+        requires { IsBlock (object_at self.now o) }
+        ensures words { result.now ≡ map (word_of self.now) (fields_of (object_at self.now o)) }
+        ensures valid { All (IsFieldWord self.now) result.now }
+    {
+        self.fields_at(self.word(Val::Ref(o)))
+    }
+
+    /// The value of a word.
+    pub fn value_of(&self, word: u64) -> Val
+        requires { IsFieldWord self.now word }
+        ensures word { word ≡ word_of self.now result }
+        ensures valid { IsValue (length self.now) result }
+    {
+        if word % 2 == 1 {
+            Val::Int(integer_of_word(word))
+        } else if word % 8 == 2 {
+            Val::Atom((word / 8) as u8)
+        } else {
+            Val::Ref(self.number(word))
+        }
+    }
+
+    /// The number of the object that a reference's word names.
+    pub fn number(&self, word: u64) -> u64
+        requires { IsReferenceWord self.now word }
+        ensures in_range { result < length self.now }
+        ensures named { word ≡ word_of self.now (vals.Ref result) }
+    {
+        self.places.number(word / 8) as u64
+    }
+
+    /// A number for tables: two references have one key exactly where they name one object.
+    pub fn key(&self, word: u64) -> usize
+        requires { IsReferenceWord self.now word }
+        ensures { (k : ℕ) → k < length self.now → word ≡ word_of self.now (vals.Ref k) → result ≡ key_of self.now k }
+    {
+        (word / 16) as usize
+    }
+
+    /// Each key is less.
+    pub fn keys(&self) -> usize
+        ensures { (k : ℕ) → k < length self.now → key_of self.now k < result }
+    {
+        self.region.len() / 2
+    }
+
+    /// The word of a value.
+    pub fn word(&self, v: Val) -> u64
+        requires { IsValue (length self.now) v }
+        ensures { result ≡ word_of self.now v }
+    {
+        match v {
+            Val::Int(z) => word_of_integer(z),
+            Val::Atom(tag) => 8 * u64::from(tag) + 2,
+            Val::Ref(k) => 8 * self.place(k) as u64,
+        }
+    }
+
+    /// The header of the object that a reference's word names: 1024 times how many words come after it, and the tag.
+    pub fn header_at(&self, word: u64) -> u64
+        requires { IsReferenceWord self.now word }
+        ensures { ForNamed self.now word (λ object. result ≡ header_of object) }
+    {
+        self.region.get((word / 8) as usize)
+    }
+
+    /// Which object a reference's word names, and how large it is.
+    pub fn kind_at(&self, word: u64) -> Kind
+        requires { IsReferenceWord self.now word }
+        ensures { ForNamed self.now word (λ object. result ≡ kind_of object) }
+    {
+        let at = (word / 8) as usize;
+        kind_of_words(self.region.get(at) % 1024, body_in(&self.region, at))
+    }
+
+    /// The words of the fields of the block that a reference's word names, lent.
+    pub fn fields_at(&self, word: u64) -> &[u64]
+        requires { (k : ℕ) × (k < length self.now) × (word ≡ word_of self.now (vals.Ref k)) × IsBlock (object_at self.now k) }
+        ensures words { ForNamed self.now word (λ object. result.now ≡ map (word_of self.now) (fields_of object)) }
+        ensures valid { All (IsFieldWord self.now) result.now }
+    {
+        body_in(&self.region, (word / 8) as usize)
+    }
+
+    /// The words after the header of the object that a reference's word names, lent.
+    pub fn body_at(&self, word: u64) -> &[u64]
+        requires { IsReferenceWord self.now word }
+        ensures words { ForNamed self.now word (λ object. result.now ≡ body_of self.now object) }
+        ensures valid { ForNamed self.now word (IsObject (length self.now)) }
+    {
+        body_in(&self.region, (word / 8) as usize)
+    }
+
+    /// Puts v into field i of a block. A reference may name any object, also one that is still being filled.
+    pub fn set(&mut self, o: u64, i: u64, v: Val)
+        requires place { i < length (fields_of (object_at self.old o)) }
+        requires valid { IsValue (length self.old) v }
+        ensures { self.new ≡ set_field self.old o i v }
+    {
+        self.set_word(o, i, self.word(v));
+    }
+
+    /// Puts the value of this word into field i of a block.
+    pub fn set_word(&mut self, o: u64, i: u64, word: u64)
+        requires place { i < length (fields_of (object_at self.old o)) }
+        requires valid { IsFieldWord self.old word }
+        ensures { (v : Val) → IsValue (length self.old) v → word ≡ word_of self.old v → self.new ≡ set_field self.old o i v }
+    {
+        let at = self.place(o) + 1 + i as usize;
+        self.region.set(at, word);
+    }
+
+    /// Byte i of a string.
+    pub fn byte(&self, o: u64, i: u64) -> u8
+        requires { i < length (bytes_of (object_at self.now o)) }
+        ensures { result ≡ byte_at self.now o i }
+    {
+        let at = self.place(o) + 1 + i as usize / 8;
+        self.region.get(at).to_le_bytes()[i as usize % 8]
+    }
+
+    /// Puts b into byte i of a string.
+    pub fn fill_byte(&mut self, o: u64, i: u64, b: u8)
+        requires { i < length (bytes_of (object_at self.old o)) }
+        ensures { self.new ≡ set_byte self.old o i b }
+    {
+        let at = self.place(o) + 1 + i as usize / 8;
+        let filled = with_byte(self.region.get(at), i as usize % 8, b);
+        self.region.set(at, filled);
+    }
+
+    /// Double i of an array, by its bits. One double has place 0 alone.
+    pub fn double(&self, o: u64, i: u64) -> u64
+        requires { i < length (doubles_of (object_at self.now o)) }
+        ensures { result ≡ double_at self.now o i }
+    {
+        let at = self.place(o) + 1 + i as usize;
+        self.region.get(at)
+    }
+
+    /// Puts bits into double i of an array, or into one double.
+    pub fn fill_double(&mut self, o: u64, i: u64, bits: u64)
+        requires { i < length (doubles_of (object_at self.old o)) }
+        ensures { self.new ≡ set_double self.old o i bits }
+    {
+        let at = self.place(o) + 1 + i as usize;
+        self.region.set(at, bits);
+    }
+
+    /// Drops the objects from number `count` on. No object that stays may refer to one of them.
+    pub fn truncate(&mut self, count: u64)
+        requires in_range { count ≤ length self.old }
+        requires closed { IsGraph (take count self.old) }
+        ensures { self.new ≡ take count self.old }
+    {
+        if count < self.count() {
+            let end = self.place(count);
+            self.region.truncate(end);
+            self.places.truncate(count as usize);
+        }
+    }
+
+    /// Drops all objects. Their memory stays for those to come.
+    pub fn clear(&mut self)
+        ensures { self.new ≡ [] }
+    {
+        self.truncate(0);
+    }
+
+    /// Where the header of object o is.
+    fn place(&self, o: u64) -> usize
+        requires { o < length self.now }
+        ensures place { result ≡ place self.now o }
+        ensures small { result + object_words (object_at self.now o) < 2 ^ 60 }
+    {
+        self.places.get(o as usize) as usize
+    }
+}

@@ -1,0 +1,83 @@
+//! Strings as words: eight bytes each, the least significant first, and the last tells how many zeros end it.
+
+ghost use Rattle.std.specs.Prelude.{◌≡◌, ◌+◌, ◌-◌, ◌*◌, ◌/◌, ◌%◌, ◌^◌, ◌<◌, ◌≤◌, [], ◌∷◌, ◌++◌, length, take, drop, replicate, slice_set};
+ghost use Rattle.om_heap.specs.Stored.{string_length};
+ghost use Rattle.om_heap.specs.Words.{word_of_bytes, bytes_of_word, string_words, byte_in};
+
+use om_words::region::Region;
+
+/// Appends the words of a string.
+pub fn append_string(region: &mut Region, content: &[u8])
+    requires { length content.now / 8 + 1 ≤ region.old.spare }
+    ensures { region.new.words ≡ region.old.words ++ string_words content.now }
+{
+    let whole = content.len() / 8;
+    for j in 0..whole {
+        region.append_reserved(whole_word(content, j));
+    }
+    region.append_reserved(last_word(&content[8 * whole..]));
+}
+
+/// Appends the words of a string of zero bytes.
+pub fn append_zeros(region: &mut Region, len: usize)
+    requires { len / 8 + 1 ≤ region.old.spare }
+    ensures { region.new.words ≡ region.old.words ++ string_words (replicate len 0) }
+{
+    let zeros = [0u8; 8];
+    region.append_run(len / 8, 0);
+    region.append_reserved(last_word(&zeros[..len % 8]));
+}
+
+/// Word j of the whole ones.
+fn whole_word(content: &[u8], j: usize) -> u64
+    requires { j < length content.now / 8 }
+    ensures { result ≡ word_of_bytes (take 8 (drop (8 * j) content.now)) }
+{
+    let mut bytes = [0u8; 8];
+    bytes.copy_from_slice(&content[8 * j..8 * j + 8]);
+    u64::from_le_bytes(bytes)
+}
+
+/// The last word, of the bytes that are left.
+fn last_word(rest: &[u8]) -> u64
+    requires { length rest.now < 8 }
+    ensures { result ≡ word_of_bytes (rest.now ++ (replicate (7 - length rest.now) 0 ++ (7 - length rest.now) ∷ [])) }
+{
+    let mut bytes = [0u8; 8];
+    for i in 0..rest.len() {
+        bytes[i] = rest[i];
+    }
+    bytes[7] = 7 - rest.len() as u8;
+    u64::from_le_bytes(bytes)
+}
+
+/// How many bytes the string of these words has.
+pub fn string_len(words: &[u64]) -> u64
+    requires some { 0 < length words.now }
+    requires few { length words.now < 2 ^ 54 }
+    ensures { result ≡ string_length words.now }
+{
+    let bytes = 8 * words.len();
+    let zeros = byte_of(words, bytes - 1);
+    (bytes as u64 - 1).saturating_sub(u64::from(zeros))
+}
+
+/// Byte i of these words.
+#[tactic(auto, unfolding(crate::specs::Words::word_of_bytes, crate::specs::Words::bytes_of_word))]
+pub fn byte_of(words: &[u64], i: usize) -> u8
+    requires { i / 8 < length words.now }
+    ensures { result ≡ byte_in words.now i }
+{
+    words[i / 8].to_le_bytes()[i % 8]
+}
+
+/// The word with another byte k.
+#[tactic(auto, unfolding(crate::specs::Words::word_of_bytes, crate::specs::Words::bytes_of_word))]
+pub fn with_byte(word: u64, k: usize, b: u8) -> u64
+    requires { k < 8 }
+    ensures { result ≡ word_of_bytes (slice_set (bytes_of_word word) k b) }
+{
+    let mut bytes = word.to_le_bytes();
+    bytes[k] = b;
+    u64::from_le_bytes(bytes)
+}
