@@ -3,20 +3,22 @@
 use Rattle.std.proofs.Common.{ℕ, zero, suc, ◌≡◌, ◌∙◌, ◌⊎◌, inl, inr, ◌++◌, List, [], ◌∷◌, length, Some, refl, sym, ap, subst, arith}
 use Rattle.std.specs.Prelude.{option_map, option_and_then, Contains, IsSomeAnd}
 use Rattle.std.proofs.lemmas.Option.{same_Some}
+use Rattle.om_model.proofs.Options.{Contains-first, Contains-later, Contains-none}
 use Rattle.om_model.specs.declared.value.Val.{Val}
 use Rattle.om_model.specs.declared.value.Val.TheVariants as vals
 use Rattle.om_model.specs.declared.value.Obj.{Obj}
-use Rattle.om_model.specs.declared.fault.Fault.TheVariants.{Misfit, Clash}
-use Rattle.om_model.specs.Shapes.{Shapes}
-use Rattle.om_model.specs.Lawful.{AreLawful}
-use Rattle.om_model.specs.Typing.{field_at, IsListed, IsHeld, IsTyped}
-use Rattle.om_model.specs.Fault.{type_of_field, step, place_at, IsBefore}
-use Rattle.om_model.proofs.FaultLemmas.{named_is_needed, Contains-first, Contains-later, Contains-none}
+use Rattle.om_types.specs.declared.fault.Fault.TheVariants.{Misfit, Clash}
+use Rattle.om_types.specs.Shapes.{Shapes}
+use Rattle.om_types.specs.Lawful.{AreLawful, Everything}
+use Rattle.om_types.specs.Typing.{field_at, IsListed, IsHeld, IsTyped}
+use Rattle.om_types.specs.Fault.{type_of_field, step, value_at, IsBefore}
+use Rattle.om_types.proofs.FaultLemmas.{named_is_needed}
 use Rattle.om_typing.specs.Decidable.{AreDecidable, IsAmong, ReachesFew}
 use Rattle.om_typing.specs.Complete.{HasFault, HasTypeOrFault, FaultsAreComplete}
-use Rattle.om_typing.proofs.Choices.{same_or_not, IsSomeAnd-at, Contains-cases, search_all, IsWithout, without}
+use Rattle.om_types.proofs.ListLemmas.{same_or_not, IsSomeAnd-at, Contains-cases}
+use Rattle.om_typing.proofs.Choices.{search_all, IsWithout, without}
 use Rattle.om_typing.proofs.NeedLemmas.{needed_is_named}
-use Rattle.om_typing.proofs.PathLemmas.{OneOfThree, place_at-push, paths_compare}
+use Rattle.om_typing.proofs.PathLemmas.{OneOfThree, value_at-push, paths_compare}
 use Rattle.om_typing.proofs.ValueLemmas.{all_values, field_is_value, slots_of, slot_is_there}
 
 -- ---- what the search knows
@@ -24,7 +26,7 @@ use Rattle.om_typing.proofs.ValueLemmas.{all_values, field_is_value, slots_of, s
 -- a path from the root leads to the value at the type, which is among those that are reached
 record IsReached {T : Type 0} (shapes : Shapes T) (graph : List Obj) (root : Val) (t : T) (types : List T) (w : Val) (u : T) : Type 0 where
   path : List ℕ
-  leads : place_at shapes graph root t path ≡ Some (w, u)
+  leads : value_at shapes graph root t path ≡ Some (w, u)
   among : IsAmong shapes types u
 
 -- Pairs that are reached and fit, the root's among them. Where a value is not listed yet at a type, it has a slot.
@@ -44,7 +46,7 @@ record IsNew {T : Type 0} (shapes : Shapes T) (graph : List Obj) (o : ℕ) (t : 
   same : shapes.equal one other
   slot : Contains slots (vals.Ref object, other)
 
-module _ {T : Type 0} (shapes : Shapes T) (lawful : AreLawful shapes) (decidable : AreDecidable shapes) (graph : List Obj) (o : ℕ) (t : T) (few : ReachesFew shapes t) where
+module _ {T : Type 0} (shapes : Shapes T) (lawful : AreLawful shapes Everything) (decidable : AreDecidable shapes) (graph : List Obj) (o : ℕ) (t : T) (few : ReachesFew shapes t) where
   abbrev Reached : Val → T → Type 0
   Reached w u = IsReached shapes graph (vals.Ref o) t few.types w u
 
@@ -76,14 +78,14 @@ module _ {T : Type 0} (shapes : Shapes T) (lawful : AreLawful shapes) (decidable
 
   among_more : (p : ℕ) (u : T) (i : ℕ) (a : T) → IsAmong shapes few.types u → Contains (needs_of p u) (i, a) → IsAmong shapes few.types a
   among_more p u i a among need =
-      let other = lawful.needs graph (vals.Ref p) u among.0 i a among.2 need in
+      let other = lawful.needs graph (vals.Ref p) u among.0 i a (inl tt) among.2 need in
       let closed = few.closed graph (vals.Ref p) among.0 i other.0 among.1 other.1 in
       (closed.0, closed.1, lawful.transitive a other.0 closed.0 other.2 closed.2)
 
   reached_more : (p : ℕ) (u : T) (i : ℕ) (a : T) (w : Val) → Reached (vals.Ref p) u → Contains (needs_of p u) (i, a) → field_at graph p i ≡ Some w → Reached w a
   reached_more p u i a w from need field = record {
     path = from.path ++ i ∷ [];
-    leads = place_at-push shapes graph from.path (vals.Ref o) t i (vals.Ref p, u) (w, a) from.leads (step_of_need p u i a w need field);
+    leads = value_at-push shapes graph from.path (vals.Ref o) t i (vals.Ref p, u) (w, a) from.leads (step_of_need p u i a w need field);
     among = among_more p u i a from.among need;
   }
 
@@ -113,7 +115,7 @@ module _ {T : Type 0} (shapes : Shapes T) (lawful : AreLawful shapes) (decidable
     by_fit : shapes.fits graph w a ⊎ (shapes.fits graph w a → ⊥) → Found slots ⊎ Held pairs p (i, a)
     by_fit (inl fit) = when_fit (held_or_new pairs slots explored w a reached (field_is_value graph (vals.Ref o) p i w field) fit)
     by_fit (inr unfit) =
-        inl (inl (Misfit reached.path, IsSomeAnd-at (place_at shapes graph (vals.Ref o) t reached.path) (w, a) (λ place. shapes.fits graph place.0 place.1 → ⊥) reached.leads unfit))
+        inl (inl (Misfit reached.path, IsSomeAnd-at (value_at shapes graph (vals.Ref o) t reached.path) (w, a) (λ place. shapes.fits graph place.0 place.1 → ⊥) reached.leads unfit))
 
   test_field : (pairs : List (ℕ × T)) (slots : List (Val × T)) → Explored pairs slots → (p : ℕ) (u : T) → Contains pairs (p, u) → (i : ℕ) (a : T) → Contains (needs_of p u) (i, a) → Found slots ⊎ Held pairs p (i, a)
   test_field pairs slots explored p u listed i a need =
@@ -143,12 +145,12 @@ module _ {T : Type 0} (shapes : Shapes T) (lawful : AreLawful shapes) (decidable
   clash p one other first second mutable unequal = by_order (paths_compare first.path second.path) where
     at_one_place : first.path ≡ second.path → one ≡ other
     at_one_place same =
-        ap (λ (place : Val × T). place.1) (same_Some (vals.Ref p, one) (vals.Ref p, other) (sym first.leads ∙ ap (place_at shapes graph (vals.Ref o) t) same ∙ second.leads))
+        ap (λ (place : Val × T). place.1) (same_Some (vals.Ref p, one) (vals.Ref p, other) (sym first.leads ∙ ap (value_at shapes graph (vals.Ref o) t) same ∙ second.leads))
 
     by_order : OneOfThree (IsBefore first.path second.path) (first.path ≡ second.path) (IsBefore second.path first.path) → HasFault shapes graph (vals.Ref o) t
     by_order (inl before) =
         (Clash first.path second.path, record { object = p; one = one; other = other; before = before; at_first = first.leads; at_second = second.leads; unequal = unequal; mutable = inl mutable })
-    by_order (inr (inl same)) = absurd (unequal (subst (λ u. shapes.equal one u) (at_one_place same) (lawful.reflexive one)))
+    by_order (inr (inl same)) = absurd (unequal (subst (λ u. shapes.equal one u) (at_one_place same) (lawful.reflexive one tt)))
     by_order (inr (inr after)) =
         (Clash second.path first.path, record { object = p; one = other; other = one; before = after; at_first = second.leads; at_second = first.leads; unequal = λ same. unequal (lawful.symmetric other one same); mutable = inr mutable })
 
@@ -270,7 +272,7 @@ module _ {T : Type 0} (shapes : Shapes T) (lawful : AreLawful shapes) (decidable
 
 -- ---- any value
 
-module _ {T : Type 0} (shapes : Shapes T) (lawful : AreLawful shapes) (decidable : AreDecidable shapes) (graph : List Obj) where
+module _ {T : Type 0} (shapes : Shapes T) (lawful : AreLawful shapes Everything) (decidable : AreDecidable shapes) (graph : List Obj) where
   typed_value_or_fault : (v : Val) (t : T) → ReachesFew shapes t → shapes.fits graph v t → HasFault shapes graph v t ⊎ IsTyped shapes graph v t
   typed_value_or_fault (vals.Int z) t few fit = inr tt
   typed_value_or_fault (vals.Atom tag) t few fit = inr tt

@@ -5,3 +5,5 @@ pub mod ValueLemmas
 pub mod Decision
 pub mod VerdictLines
 pub mod ListDecision
+pub mod SearchedLemmas
+pub mod LeastLemmas

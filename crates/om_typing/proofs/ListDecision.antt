@@ -4,21 +4,21 @@ use Rattle.std.specs.Prelude.{slice_get, option_and_then, Contains, ◌==◌, �
 use Rattle.std.proofs.lemmas.Bool.{false≢true}
 use Rattle.std.proofs.lemmas.Bool.Decides.{Decides-and, Decides-eqb}
 use Rattle.std.proofs.lemmas.Option.{slice_get-get_or}
+use Rattle.om_model.proofs.Options.{Contains-first, Contains-later, Contains-none}
 use Rattle.om_model.specs.declared.value.Val.{Val}
 use Rattle.om_model.specs.declared.value.Val.TheVariants as vals
 use Rattle.om_model.specs.declared.value.Obj.{Obj}
 use Rattle.om_model.specs.declared.value.Obj.TheVariants as objects
-use Rattle.om_model.specs.declared.list_type.Base.{Base}
-use Rattle.om_model.specs.declared.list_type.Base.TheVariants as bases
-use Rattle.om_model.specs.declared.list_type.ListType.{ListType}
-use Rattle.om_model.specs.Typing.{values_of}
-use Rattle.om_model.specs.Fault.{field_of}
-use Rattle.om_model.specs.ListShapes.{is_pair, is_cons, is_list, element, fits, needs, list_shapes, list_type_text}
-use Rattle.om_model.proofs.FaultLemmas.{Contains-first, Contains-later, Contains-none}
-use Rattle.om_model.proofs.ListShapeLemmas.{list_shapes_are_lawful}
+use Rattle.om_types.specs.declared.list_type.Base.{Base}
+use Rattle.om_types.specs.declared.list_type.Base.TheVariants as bases
+use Rattle.om_types.specs.declared.list_type.ListType.{ListType}
+use Rattle.om_types.specs.Typing.{values_of}
+use Rattle.om_types.specs.Fault.{field_of}
+use Rattle.om_types.specs.ListShapes.{is_pair, is_cons, is_list, element, fits, needs, list_shapes, list_type_text}
+use Rattle.om_types.proofs.ListShapeLemmas.{list_shapes_are_lawful}
 use Rattle.om_typing.specs.Decidable.{AreDecidable, IsAmong}
 use Rattle.om_typing.specs.ListLaws.{ListTypesReachFew, ListTypeOrFault, ListLines}
-use Rattle.om_typing.proofs.Choices.{true_or_not, same_or_not, Contains-cases}
+use Rattle.om_types.proofs.ListLemmas.{true_or_not, same_or_not, Contains-cases}
 use Rattle.om_typing.proofs.Decision.{faults_are_complete}
 use Rattle.om_typing.proofs.VerdictLines.{line_of}
 

@@ -4,20 +4,20 @@ use Rattle.std.specs.Prelude.{option_and_then}
 use Rattle.std.proofs.lemmas.Option.{option_and_then_some, same_Some}
 use Rattle.om_model.specs.declared.value.Val.{Val}
 use Rattle.om_model.specs.declared.value.Obj.{Obj}
-use Rattle.om_model.specs.Shapes.{Shapes}
-use Rattle.om_model.specs.Fault.{step, place_at, IsLexicallyBefore, IsBefore}
+use Rattle.om_types.specs.Shapes.{Shapes}
+use Rattle.om_types.specs.Fault.{step, value_at, IsLexicallyBefore, IsBefore}
 
 -- ---- one step more
 
 module _ {T : Type 0} (shapes : Shapes T) (graph : List Obj) where
   -- a step from the end of a path makes the path longer
-  pub place_at-push : (path : List ℕ) (v : Val) (t : T) (i : ℕ) (place next : Val × T) → place_at shapes graph v t path ≡ Some place → step shapes graph place.0 place.1 i ≡ Some next → place_at shapes graph v t (path ++ i ∷ []) ≡ Some next
-  place_at-push [] v t i place next placed stepped =
+  pub value_at-push : (path : List ℕ) (v : Val) (t : T) (i : ℕ) (place next : Val × T) → value_at shapes graph v t path ≡ Some place → step shapes graph place.0 place.1 i ≡ Some next → value_at shapes graph v t (path ++ i ∷ []) ≡ Some next
+  value_at-push [] v t i place next placed stepped =
       let here : step shapes graph v t i ≡ Some next = subst (λ (p : Val × T). step shapes graph p.0 p.1 i ≡ Some next) (sym (same_Some (v, t) place placed)) stepped in
-      ap (λ p. option_and_then (λ (q : Val × T). place_at shapes graph q.0 q.1 []) p) here
-  place_at-push (j ∷ path) v t i place next placed stepped =
-      option_and_then_some (λ q. place_at shapes graph q.0 q.1 path) (step shapes graph v t j) place placed (λ q first rest.
-      ap (λ p. option_and_then (λ (q : Val × T). place_at shapes graph q.0 q.1 (path ++ i ∷ [])) p) first ∙ place_at-push path q.0 q.1 i place next rest stepped)
+      ap (λ p. option_and_then (λ (q : Val × T). value_at shapes graph q.0 q.1 []) p) here
+  value_at-push (j ∷ path) v t i place next placed stepped =
+      option_and_then_some (λ q. value_at shapes graph q.0 q.1 path) (step shapes graph v t j) place placed (λ q first rest.
+      ap (λ p. option_and_then (λ (q : Val × T). value_at shapes graph q.0 q.1 (path ++ i ∷ [])) p) first ∙ value_at-push path q.0 q.1 i place next rest stepped)
 
 -- ---- order
 

@@ -2,11 +2,11 @@
 use Rattle.std.proofs.Common.{ℕ, ◌≡◌, List, ◌∷◌, Some}
 use Rattle.std.specs.Prelude.{slice_get, map, flat_map, Contains}
 use Rattle.std.proofs.lemmas.Option.{option_and_then_some}
+use Rattle.om_model.proofs.Options.{Contains-later}
 use Rattle.om_model.specs.declared.value.Val.{Val}
 use Rattle.om_model.specs.declared.value.Obj.{Obj}
-use Rattle.om_model.specs.Typing.{values_of, field_at}
-use Rattle.om_model.proofs.FaultLemmas.{Contains-later}
-use Rattle.om_typing.proofs.Choices.{slice_get-Contains, Contains-mapped, Contains-flat_map}
+use Rattle.om_types.specs.Typing.{values_of, field_at}
+use Rattle.om_types.proofs.ListLemmas.{slice_get-Contains, Contains-mapped, Contains-flat_map}
 
 -- a root and all fields of blocks
 abbrev pub all_values : List Obj → Val → List Val

@@ -2,8 +2,8 @@
 use Rattle.std.specs.Prelude.{ℕ, ◌≡◌, ◌⊎◌, List, Some, Contains}
 use Rattle.om_model.specs.declared.value.Val.{Val}
 use Rattle.om_model.specs.declared.value.Obj.{Obj}
-use Rattle.om_model.specs.Shapes.{Shapes}
-use Rattle.om_model.specs.Fault.{field_of}
+use Rattle.om_types.specs.Shapes.{Shapes}
+use Rattle.om_types.specs.Fault.{field_of}
 
 -- Each question to the shapes has an answer, and the fields that a type needs are there, each at one type.
 pub record AreDecidable {T : Type 0} (shapes : Shapes T) : Type 0 where

@@ -1,3 +1,4 @@
 pub mod Decidable
 pub mod Complete
 pub mod ListLaws
+pub mod SearchLaws

@@ -2,8 +2,8 @@
 use Rattle.std.specs.Prelude.{List}
 use Rattle.om_model.specs.declared.value.Val.{Val}
 use Rattle.om_model.specs.declared.value.Obj.{Obj}
-use Rattle.om_model.specs.declared.list_type.ListType.{ListType}
-use Rattle.om_model.specs.ListShapes.{list_shapes, list_type_text}
+use Rattle.om_types.specs.declared.list_type.ListType.{ListType}
+use Rattle.om_types.specs.ListShapes.{list_shapes, list_type_text}
 use Rattle.om_typing.specs.Decidable.{ReachesFew}
 use Rattle.om_typing.specs.Complete.{HasTypeOrFault, HasLine}
 

@@ -7,4 +7,5 @@ fn laws_are_called(rt: HostRuntime) {
     list_types_reach_few();
     type_or_fault();
     each_has_a_line();
+    searches_find_the_least();
 }

@@ -1,0 +1,6 @@
+mod Examples
+mod ScopeExamples
+pub mod FaultLemmas
+pub mod ListLemmas
+pub mod ListShapeLemmas
+pub mod NodeLemmas

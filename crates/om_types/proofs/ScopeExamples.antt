@@ -1,0 +1,282 @@
+-- Rules of scope that are broken, in small files. Lexemes are numbered from 0.
+use Rattle.std.proofs.Common.{ℕ, ◌≡◌, ⊎_elim, inl, inr, List, [], ◌∷◌, length, true, false, Option}
+use Rattle.std.proofs.Common.{Some, None}
+use Rattle.std.proofs.Common.{refl, ap, subst, arith}
+use Rattle.std.specs.Prelude.{codes, Contains, slice_index}
+use Rattle.std.proofs.lemmas.Option.{none-some}
+use Rattle.om_types.specs.declared.decl.Field.{Field}
+use Rattle.om_types.specs.declared.decl.Arguments.TheVariants as arguments
+use Rattle.om_types.specs.declared.decl.Body.{Body}
+use Rattle.om_types.specs.declared.decl.Body.TheVariants as bodies
+use Rattle.om_types.specs.declared.decl.Decl.{Decl}
+use Rattle.om_types.specs.declared.head.TagOf.{TagOf}
+use Rattle.om_types.specs.Ty.{Ty, variable, named, tuple, bracket, part, tag, tag_of, including}
+use Rattle.om_types.specs.Ty.{name_of}
+use Rattle.om_types.specs.Declarations.{predeclared}
+use Rattle.om_types.specs.Head.{head}
+use Rattle.om_types.specs.Shape.{is_float}
+use Rattle.om_types.specs.Occurrence.{Placed, PlacedItem, Occurrence, use_of, variable_at}
+use Rattle.om_types.specs.Occurrence.{bracket_of}
+use Rattle.om_types.specs.Occurrence.{DeclPlaces}
+use Rattle.om_types.specs.Scope.{Rule, unknown_name, cyclic, irregular, not_variant, tag_clash}
+use Rattle.om_types.specs.Scope.{hash_clash}
+use Rattle.om_types.specs.Scope.{float_in_group, IsStep, IsThrough, HasTags, BreaksInFile}
+use Rattle.om_types.specs.Scope.{BreaksInType}
+use Rattle.om_model.proofs.Options.{Contains-first, Contains-later, Contains-none}
+use Rattle.om_types.proofs.ListLemmas.{Contains-cases}
+
+abbrev declares : List ℕ → List (List ℕ) → Body → ℕ → Decl
+declares name parameters body group =
+    record { name = name; parameters = parameters; body = body; group = group }
+
+abbrev places : Decl → ℕ → List Placed → List Occurrence → DeclPlaces
+places decl place parameters occurrences = record {
+  decl = decl;
+  place = place;
+  parameters = parameters;
+  records = [];
+  constructors = [];
+  carrying = [];
+  occurrences = occurrences;
+}
+
+abbrev int : Ty
+int = named (codes "int")
+
+-- ---- type t = t list
+
+abbrev list_of_t : Ty
+list_of_t = part (named (codes "list")) (named (codes "t"))
+
+abbrev uses : List Occurrence
+uses = use_of 3 (codes "t") [] false ∷ use_of 4 (codes "list") (named (codes "t") ∷ []) false ∷ []
+
+abbrev looped : DeclPlaces
+looped = places (declares (codes "t") [] (bodies.Abbreviation list_of_t) 0) 1 [] uses
+
+step : IsStep (looped ∷ []) looped looped
+step = record {
+  first = Contains-first looped [];
+  second = Contains-first looped [];
+  one_group = refl;
+  one_abbreviates = refl;
+  other_abbreviates = refl;
+  place = 3;
+  arguments = [];
+  used = Contains-first (use_of 3 (codes "t") [] false)
+      (use_of 4 (codes "list") (named (codes "t") ∷ []) false ∷ []);
+}
+
+-- Cyclic at the declared name
+is_cyclic : BreaksInFile (looped ∷ []) cyclic 1
+is_cyclic = inr (looped, Contains-first looped [], (refl, [], step))
+
+-- ---- type 'a t = N | C of 'a list t
+
+abbrev a : Ty
+a = variable (codes "a")
+
+abbrev list_of_a : Ty
+list_of_a = part (named (codes "list")) a
+
+abbrev own_use : Occurrence
+own_use = use_of 10 (codes "t") (list_of_a ∷ []) false
+
+abbrev growing : DeclPlaces
+growing = places
+    (declares (codes "t") (codes "a" ∷ [])
+    (bodies.Variant (record { name = codes "N"; arguments = arguments.Constant }
+    ∷ record {
+      name = codes "C";
+      arguments = arguments.Listed
+          (part (named (codes "t")) list_of_a ∷ []);
+    } ∷ [])) 0)
+    2 ((1, codes "a") ∷ []) (own_use ∷ variable_at 8 (codes "a") ∷ [])
+
+-- Irregular at the use of the name
+is_irregular : BreaksInFile (growing ∷ []) irregular 10
+is_irregular = inr (
+  growing,
+  Contains-first growing [],
+  (
+    codes "t",
+    list_of_a ∷ [],
+    false,
+    Contains-first own_use (variable_at 8 (codes "a") ∷ []),
+    (
+      growing,
+      Contains-first growing [],
+      refl,
+      refl,
+      list_of_a,
+      Contains-first list_of_a [],
+      inr tt,
+      λ never. never,
+    ),
+  ),
+)
+
+-- ---- type r = {x: f} and f = float
+
+abbrev x : Field
+x = record { name = codes "x"; mutable = false; ty = named (codes "f") }
+
+abbrev f_decl : Decl
+f_decl = declares (codes "f") [] (bodies.Abbreviation (named (codes "float"))) 0
+
+abbrev r_places : DeclPlaces
+r_places = places (declares (codes "r") [] (bodies.Record (x ∷ [])) 0) 1 [] []
+
+abbrev both : List DeclPlaces
+both = r_places ∷ places f_decl 8 [] [] ∷ []
+
+through : IsThrough (r_places.decl ∷ f_decl ∷ []) 0 (named (codes "f"))
+through = record {
+  times = 0;
+  type = named (codes "f");
+  name = codes "f";
+  decl = f_decl;
+  replaced = refl;
+  named = refl;
+  found = refl;
+  abbreviates = refl;
+  own = refl;
+}
+
+expands : is_float (r_places.decl ∷ f_decl ∷ []) (named (codes "f")) ≡ true
+unfolding head predeclared
+expands = refl
+
+all_expand : (field : Field) → Contains (x ∷ []) field → is_float (r_places.decl ∷ f_decl ∷ [])
+    field.ty ≡ true
+all_expand field among = ⊎_elim
+    (λ here. subst (λ (g : Field). is_float (r_places.decl ∷ f_decl ∷ []) g.ty ≡ true) here expands)
+    (λ never. absurd (Contains-none field never))
+    (Contains-cases x [] field among)
+
+-- FloatInGroup at the record's name
+is_float_in_group : BreaksInFile both float_in_group 1
+is_float_in_group =
+    inr (
+      r_places,
+      Contains-first r_places (places f_decl 8 [] [] ∷ []),
+      (refl, (all_expand, x, Contains-first x [], through)),
+    )
+
+-- ---- TYPE foo
+
+abbrev foo : Occurrence
+foo = use_of 0 (codes "foo") [] false
+
+is_unknown : BreaksInType [] (foo ∷ []) unknown_name 0
+unfolding predeclared
+is_unknown = (
+  codes "foo",
+  [],
+  false,
+  Contains-first foo [],
+  (
+    refl,
+    λ decl found seen.
+        none-some decl found,
+  ),
+)
+
+-- ---- TYPE [ `azdwbie | `c7diagq ]
+
+abbrev first_tag : TagOf Ty
+first_tag = record { name = codes "azdwbie"; argument = None }
+
+abbrev second_tag : TagOf Ty
+second_tag = record { name = codes "c7diagq"; argument = None }
+
+abbrev hashed : List PlacedItem
+hashed = (1, tag bracket (codes "azdwbie")) ∷ (3, tag bracket (codes "c7diagq")) ∷ []
+
+has_tags : HasTags [] hashed 3 0 1 first_tag second_tag
+unfolding head
+has_tags = record {
+  place = 1;
+  first = tag bracket (codes "azdwbie");
+  second = tag bracket (codes "c7diagq");
+  first_is = refl;
+  second_is = refl;
+  one_there = Contains-first first_tag [];
+  other_there = Contains-first second_tag [];
+}
+
+names_differ : codes "azdwbie" ≡ codes "c7diagq" → ⊥
+names_differ same = let e : 97 ≡ 99 = ap (λ name. slice_index name 0) same in omega (arith, e)
+
+-- HashClash at the later tag
+is_hash_clash : BreaksInType [] (bracket_of hashed ∷ []) hash_clash 3
+is_hash_clash = (
+  hashed,
+  Contains-first (bracket_of hashed) [],
+  (0, 1, first_tag, second_tag, has_tags, omega arith, names_differ, refl),
+)
+
+-- ---- TYPE [ int | `A ]
+
+abbrev with_int : List PlacedItem
+with_int = (1, including bracket int) ∷ (3, tag bracket (codes "A")) ∷ []
+
+-- NotVariant at the included type
+is_not_variant : BreaksInType [] (bracket_of with_int ∷ []) not_variant 1
+unfolding head predeclared
+is_not_variant = (
+  with_int,
+  Contains-first (bracket_of with_int) [],
+  (
+    int,
+    Contains-first (1, including bracket int) ((3, tag bracket (codes "A")) ∷ []),
+    λ never.
+        never,
+  ),
+)
+
+-- ---- type t = [ `A of int ] type u = [ t | `A of string ]
+
+abbrev t_decl : Decl
+t_decl = declares (codes "t") [] (bodies.Abbreviation (tag_of bracket (codes "A") int)) 0
+
+abbrev clashing : List PlacedItem
+clashing = (12, including bracket (named (codes "t"))) ∷ (
+  14,
+  tag_of bracket (codes "A")
+      (named (codes "string")),
+) ∷ []
+
+abbrev of_int : TagOf Ty
+of_int = record { name = codes "A"; argument = Some int }
+
+abbrev of_string : TagOf Ty
+of_string = record { name = codes "A"; argument = Some (named (codes "string")) }
+
+tags_clash : HasTags (t_decl ∷ []) clashing 14 0 1 of_int of_string
+unfolding head
+tags_clash = record {
+  place = 12;
+  first = including bracket (named (codes "t"));
+  second = tag_of bracket (codes "A") (named (codes "string"));
+  first_is = refl;
+  second_is = refl;
+  one_there = Contains-first of_int [];
+  other_there = Contains-first of_string [];
+}
+
+letters : Option Ty → ℕ
+letters (Some (named name)) = length name
+letters other = 0
+
+arguments_differ : of_int.argument ≡ of_string.argument → ⊥
+unfolding letters
+arguments_differ same = let e : 3 ≡ 6 = ap letters same in omega (arith, e)
+
+-- TagClash at the later item
+is_tag_clash : BreaksInType (t_decl ∷ []) (bracket_of clashing ∷ []) tag_clash 14
+is_tag_clash = (
+  clashing,
+  Contains-first (bracket_of clashing) [],
+  (0, 1, of_int, of_string, tags_clash, omega arith, refl, arguments_differ),
+)

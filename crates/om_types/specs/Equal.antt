@@ -1,0 +1,71 @@
+-- Equal types: a finite list of pairs of types justifies them, also where types come back to
+-- themselves through polymorphic variants (Henry, Mauny, Chailloux and Manoury 2012).
+use Rattle.std.specs.Prelude.{◌≡◌, List, [], ◌∷◌, Option, Some, None, Contains}
+use Rattle.om_types.specs.declared.decl.Decl.{Decl}
+use Rattle.om_types.specs.declared.head.TagOf.{TagOf}
+use Rattle.om_types.specs.declared.head.HeadOf.{HeadOf}
+use Rattle.om_types.specs.declared.head.HeadOf.TheVariants as heads
+use Rattle.om_types.specs.Ty.{Ty}
+use Rattle.om_types.specs.Head.{head}
+use Rattle.om_types.specs.Shape.{shape}
+use Rattle.om_types.specs.Shapes.{Shapes}
+use Rattle.om_types.specs.Fitting.{shaped}
+
+module _ {T : Type 0} where
+  -- the lists have one length, and the types at each place are alike
+  abbrev pub Pairwise : (T → T → Type 0) → List T → List T → Type 0
+  Pairwise Alike [] [] = Unit {0}
+  Pairwise Alike (t ∷ ts) (u ∷ us) = Alike t u × Pairwise Alike ts us
+  Pairwise Alike ts us = ⊥
+
+  abbrev pub ArgumentsAgree : (T → T → Type 0) → Option T → Option T → Type 0
+  ArgumentsAgree Alike None None = Unit {0}
+  ArgumentsAgree Alike (Some t) (Some u) = Alike t u
+  ArgumentsAgree Alike t u = ⊥
+
+  abbrev pub TagsAgree : (T → T → Type 0) → TagOf T → TagOf T → Type 0
+  TagsAgree Alike one other =
+      (one.name ≡ other.name) × ArgumentsAgree Alike one.argument other.argument
+
+  -- each tag of the one list is in the other, and back, with arguments that are alike
+  pub record SameTags (Alike : T → T → Type 0) (tags others : List (TagOf T)) : Type 0 where
+    pub there :
+        (tag : TagOf T) → Contains tags tag
+        → (other : TagOf T) × Contains others other × TagsAgree Alike tag other
+    pub back :
+        (other : TagOf T) → Contains others other
+        → (tag : TagOf T) × Contains tags tag × TagsAgree Alike tag other
+
+  -- the same variable, predeclared type or datatype, tuples of one length, or the same tags, with
+  -- parts that are alike
+  abbrev pub HeadsAgree : (T → T → Type 0) → HeadOf T → HeadOf T → Type 0
+  HeadsAgree Alike (heads.Variable x) (heads.Variable y) = x ≡ y
+  HeadsAgree Alike (heads.Predeclared b ts) (heads.Predeclared c us) =
+      (b ≡ c) × Pairwise Alike ts us
+  HeadsAgree Alike (heads.Datatype m ts) (heads.Datatype n us) = (m ≡ n) × Pairwise Alike ts us
+  HeadsAgree Alike (heads.Tuple ts) (heads.Tuple us) = Pairwise Alike ts us
+  HeadsAgree Alike (heads.Variants tags) (heads.Variants others) = SameTags Alike tags others
+  HeadsAgree Alike heads.Absent heads.Absent = Unit {0}
+  HeadsAgree Alike one other = ⊥
+
+  -- the pairs have these two
+  abbrev pub Holds : List (T × T) → T → T → Type 0
+  Holds pairs t u = Contains pairs (t, u)
+
+  -- the heads of each pair agree, and the pairs of their parts are in the list too
+  abbrev pub IsClosed : (T → HeadOf T) → List (T × T) → Type 0
+  IsClosed head pairs = (t u : T) → Holds pairs t u → HeadsAgree (Holds pairs) (head t) (head u)
+
+  -- some closed list has the two
+  pub record EqualBy (head : T → HeadOf T) (t u : T) : Type 0 where
+    pub pairs : List (T × T)
+    pub holds : Holds pairs t u
+    pub closed : IsClosed head pairs
+
+-- two types over declarations are equal
+abbrev pub Equal : List Decl → Ty → Ty → Type 0
+Equal decls = EqualBy (head decls)
+
+-- the shapes of types over declarations
+abbrev pub declared_shapes : List Decl → Shapes Ty
+declared_shapes decls = shaped (shape decls) (Equal decls)

@@ -1,0 +1,30 @@
+-- What makes shapes fit to be checked, at the types in question.
+use Rattle.std.specs.Prelude.{ℕ, ◌⊎◌, List, Contains}
+use Rattle.om_model.specs.declared.value.Val.{Val}
+use Rattle.om_model.specs.declared.value.Obj.{Obj}
+use Rattle.om_types.specs.Shapes.{Shapes}
+
+-- all types are in question
+abbrev pub Everything : {T : Type 0} → T → Type 0
+Everything t = Unit {0}
+
+-- Equality is symmetric and transitive. The types in question are equal to themselves, need such
+-- types alone, and mean the same as each type that is equal to one of them: the same values fit,
+-- the same fields are needed, at equal types, and the same objects are mutable.
+pub record AreLawful {T : Type 0} (shapes : Shapes T) (InQuestion : T → Type 0) : Type 0 where
+  pub reflexive : (t : T) → InQuestion t → shapes.equal t t
+  pub symmetric : (t u : T) → shapes.equal t u → shapes.equal u t
+  pub transitive : (t u w : T) → shapes.equal t u → shapes.equal u w → shapes.equal t w
+  pub closed :
+      (graph : List Obj) (v : Val) (t : T) (i : ℕ) (a : T) → InQuestion t
+      → Contains (shapes.needs graph v t) (i, a) → InQuestion a
+  pub fits :
+      (graph : List Obj) (v : Val) (t u : T) → InQuestion t ⊎ InQuestion u → shapes.equal t u
+      → shapes.fits graph v t → shapes.fits graph v u
+  pub needs :
+      (graph : List Obj) (v : Val) (t u : T) (i : ℕ) (a : T) → InQuestion t ⊎ InQuestion u
+      → shapes.equal t u → Contains (shapes.needs graph v t) (i, a)
+      → (b : T) × Contains (shapes.needs graph v u) (i, b) × shapes.equal a b
+  pub mutable :
+      (graph : List Obj) (o : ℕ) (t u : T) → InQuestion t ⊎ InQuestion u → shapes.equal t u
+      → shapes.mutable graph o t → shapes.mutable graph o u

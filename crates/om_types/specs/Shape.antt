@@ -1,0 +1,135 @@
+-- What the values of a type look like (`mlvalues.h`; the runtime's default configuration).
+use Rattle.std.specs.Prelude.{ℕ, Bool, true, false, if◌then◌else◌, List, [], ◌∷◌, length, map}
+use Rattle.std.specs.Prelude.{Option}
+use Rattle.std.specs.Prelude.{Some, None, codes}
+use Rattle.std.specs.List.{list_all, list_any, filter_map, count_by}
+use Rattle.om_polyvar.specs.TagHash.{tag_hash}
+use Rattle.om_types.specs.declared.decl.Predeclared.{Predeclared}
+use Rattle.om_types.specs.declared.decl.Predeclared.TheVariants as bases
+use Rattle.om_types.specs.declared.decl.Field.{Field}
+use Rattle.om_types.specs.declared.decl.Arguments.{Arguments}
+use Rattle.om_types.specs.declared.decl.Arguments.TheVariants as arguments
+use Rattle.om_types.specs.declared.decl.Constructor.{Constructor}
+use Rattle.om_types.specs.declared.decl.Body.{Body}
+use Rattle.om_types.specs.declared.decl.Body.TheVariants as bodies
+use Rattle.om_types.specs.declared.decl.Decl.{Decl}
+use Rattle.om_types.specs.declared.head.TagOf.{TagOf}
+use Rattle.om_types.specs.declared.head.HeadOf.{HeadOf}
+use Rattle.om_types.specs.declared.head.HeadOf.TheVariants as heads
+use Rattle.om_types.specs.declared.shape.Constr.{Constr}
+use Rattle.om_types.specs.declared.shape.PolyTag.{PolyTag}
+use Rattle.om_types.specs.declared.shape.ShapeOf.{ShapeOf}
+use Rattle.om_types.specs.declared.shape.ShapeOf.TheVariants as shapes
+use Rattle.om_types.specs.Ty.{Ty, named, part}
+use Rattle.om_types.specs.Declarations.{declaration_of, instance_of}
+use Rattle.om_types.specs.Head.{head}
+
+-- ---- floats
+
+abbrev pub is_float_head : HeadOf Ty → Bool
+is_float_head (heads.Predeclared bases.Float ts) = true
+is_float_head other = false
+
+abbrev pub is_float : List Decl → Ty → Bool
+is_float decls t = is_float_head (head decls t)
+
+-- A record lies flat where the declared type of each field expands to `float`. A parameter does
+-- not, even where the type is used at `float`.
+abbrev pub is_flat : List Decl → List Field → Bool
+is_flat decls fields = list_all (λ (field : Field). is_float decls field.ty) fields
+
+-- whether the declaration is a record that lies flat; inline records never do
+abbrev pub is_flat_body : List Decl → Body → Bool
+is_flat_body decls (bodies.Record fields) = is_flat decls fields
+is_flat_body decls body = false
+
+-- ---- constructors
+
+abbrev pub any_mutable : List Field → Bool
+any_mutable fields = list_any (λ (field : Field). field.mutable) fields
+
+abbrev pub is_constant : Arguments → Bool
+is_constant arguments.Constant = true
+is_constant other = false
+
+abbrev pub constants_in : List Constructor → ℕ
+constants_in all = count_by (λ (constructor : Constructor). is_constant constructor.arguments) all
+
+abbrev pub types_of_fields : List Field → List Ty
+types_of_fields fields = map (λ (field : Field). field.ty) fields
+
+-- the block of a constructor with arguments
+abbrev pub block_of : (Ty → Ty) → Arguments → Option (Constr Ty)
+block_of instance arguments.Constant = None
+block_of instance (arguments.Listed types) =
+    Some (record { mutable = false; fields = map instance types })
+block_of instance (arguments.Inline fields) =
+    Some (record { mutable = any_mutable fields; fields = map instance (types_of_fields fields) })
+
+abbrev pub blocks_in : (Ty → Ty) → List Constructor → List (Constr Ty)
+blocks_in instance all =
+    filter_map (λ (constructor : Constructor). block_of instance constructor.arguments) all
+
+-- ---- shapes
+
+abbrev pub block : Bool → List Ty → Constr Ty
+block mutable types = record { mutable = mutable; fields = types }
+
+-- the array of a type with this head
+abbrev pub array_of : HeadOf Ty → Ty → ShapeOf Ty
+array_of (heads.Variable name) t = shapes.ArrayOfVariable
+array_of head t = if is_float_head head then shapes.FloatArray else shapes.ArrayOf t
+
+-- a list of these, as a type
+abbrev pub list_of : Ty → Ty
+list_of t = part (named (codes "list")) t
+
+-- A predeclared name with a wrong number of arguments has no values.
+abbrev pub predeclared_shape : List Decl → Predeclared → List Ty → ShapeOf Ty
+predeclared_shape decls bases.Int [] = shapes.AnyInt
+predeclared_shape decls bases.Char [] = shapes.Below 256
+predeclared_shape decls bases.Bool [] = shapes.Below 2
+predeclared_shape decls bases.Unit [] = shapes.Below 1
+predeclared_shape decls bases.String [] = shapes.Bytes false
+predeclared_shape decls bases.Bytes [] = shapes.Bytes true
+predeclared_shape decls bases.Float [] = shapes.Double
+predeclared_shape decls bases.Int32 [] = shapes.Int32
+predeclared_shape decls bases.Int64 [] = shapes.Int64
+predeclared_shape decls bases.Nativeint [] = shapes.Native
+predeclared_shape decls bases.Floatarray [] = shapes.FloatArray
+predeclared_shape decls bases.List (t ∷ []) = shapes.Sum 1 (block false (t ∷ list_of t ∷ []) ∷ [])
+predeclared_shape decls bases.Option (t ∷ []) = shapes.Sum 1 (block false (t ∷ []) ∷ [])
+predeclared_shape decls bases.Ref (t ∷ []) = shapes.Sum 0 (block true (t ∷ []) ∷ [])
+predeclared_shape decls bases.Array (t ∷ []) = array_of (head decls t) t
+predeclared_shape decls base ts = shapes.Variable
+
+abbrev pub record_shape : (Ty → Ty) → List Field → Bool → ShapeOf Ty
+record_shape instance fields true = shapes.FlatFloats (any_mutable fields) (length fields)
+record_shape instance fields false =
+    shapes.Product (any_mutable fields) (map instance (types_of_fields fields))
+
+abbrev pub body_shape : List Decl → (Ty → Ty) → Body → ShapeOf Ty
+body_shape decls instance (bodies.Abbreviation t) = shapes.Variable
+body_shape decls instance (bodies.Record fields) =
+    record_shape instance fields (is_flat decls fields)
+body_shape decls instance (bodies.Variant constructors) =
+    shapes.Sum (constants_in constructors) (blocks_in instance constructors)
+
+abbrev pub datatype_shape : List Decl → Option Decl → List Ty → ShapeOf Ty
+datatype_shape decls None ts = shapes.Variable
+datatype_shape decls (Some decl) ts = body_shape decls (instance_of decl ts) decl.body
+
+abbrev pub tag_shape : TagOf Ty → PolyTag Ty
+tag_shape tag = record { hash = tag_hash tag.name; arg = tag.argument }
+
+abbrev pub head_shape : List Decl → HeadOf Ty → ShapeOf Ty
+head_shape decls (heads.Variable name) = shapes.Variable
+head_shape decls (heads.Predeclared base ts) = predeclared_shape decls base ts
+head_shape decls (heads.Datatype name ts) = datatype_shape decls (declaration_of decls name) ts
+head_shape decls (heads.Tuple ts) = shapes.Product false ts
+head_shape decls (heads.Variants tags) = shapes.Poly (map tag_shape tags)
+head_shape decls heads.Absent = shapes.Variable
+
+-- the shape of a type is that of its head
+abbrev pub shape : List Decl → Ty → ShapeOf Ty
+shape decls t = head_shape decls (head decls t)

@@ -1,0 +1,103 @@
+-- A table of types: types by their numbers, with shapes that name numbers, and classes of equal
+-- ones (this project's own).
+use Rattle.std.specs.Prelude.{ℕ, ◌≡◌, List, length, map, Option, Some, None, option_map, slice_get}
+use Rattle.om_types.specs.Shapes.{Shapes}
+use Rattle.om_types.specs.declared.decl.Decl.{Decl}
+use Rattle.om_types.specs.declared.head.TagOf.{TagOf}
+use Rattle.om_types.specs.declared.head.HeadOf.{HeadOf}
+use Rattle.om_types.specs.declared.head.HeadOf.TheVariants as heads
+use Rattle.om_types.specs.declared.shape.Constr.{Constr}
+use Rattle.om_types.specs.declared.shape.PolyTag.{PolyTag}
+use Rattle.om_types.specs.declared.shape.ShapeOf.{ShapeOf}
+use Rattle.om_types.specs.declared.shape.ShapeOf.TheVariants as shapes
+use Rattle.om_types.specs.Ty.{Ty}
+use Rattle.om_types.specs.Head.{head}
+use Rattle.om_types.specs.Shape.{shape}
+use Rattle.om_types.specs.Fitting.{shaped}
+use Rattle.om_types.specs.Equal.{Equal}
+
+-- ---- shapes with other parts
+
+abbrev pub constr_with : {T U : Type 0} → (T → U) → Constr T → Constr U
+constr_with f constr = record { mutable = constr.mutable; fields = map f constr.fields }
+
+abbrev pub tag_with_parts : {T U : Type 0} → (T → U) → PolyTag T → PolyTag U
+tag_with_parts f tag = record { hash = tag.hash; arg = option_map f tag.arg }
+
+-- the shape with each type replaced
+abbrev pub with_parts : {T U : Type 0} → (T → U) → ShapeOf T → ShapeOf U
+with_parts f shapes.AnyInt = shapes.AnyInt
+with_parts f (shapes.Below k) = shapes.Below k
+with_parts f (shapes.Bytes mutable) = shapes.Bytes mutable
+with_parts f shapes.Double = shapes.Double
+with_parts f shapes.Int32 = shapes.Int32
+with_parts f shapes.Int64 = shapes.Int64
+with_parts f shapes.Native = shapes.Native
+with_parts f (shapes.Sum constants blocks) = shapes.Sum constants (map (constr_with f) blocks)
+with_parts f (shapes.Product mutable ts) = shapes.Product mutable (map f ts)
+with_parts f (shapes.FlatFloats mutable n) = shapes.FlatFloats mutable n
+with_parts f (shapes.ArrayOf t) = shapes.ArrayOf (f t)
+with_parts f shapes.FloatArray = shapes.FloatArray
+with_parts f (shapes.Poly tags) = shapes.Poly (map (tag_with_parts f) tags)
+with_parts f shapes.Variable = shapes.Variable
+with_parts f shapes.ArrayOfVariable = shapes.ArrayOfVariable
+
+-- ---- heads with other parts
+
+abbrev pub tag_with_part : {T U : Type 0} → (T → U) → TagOf T → TagOf U
+tag_with_part f tag = record { name = tag.name; argument = option_map f tag.argument }
+
+-- the head with each part replaced
+abbrev pub head_with_parts : {T U : Type 0} → (T → U) → HeadOf T → HeadOf U
+head_with_parts f (heads.Variable name) = heads.Variable name
+head_with_parts f (heads.Predeclared base ts) = heads.Predeclared base (map f ts)
+head_with_parts f (heads.Datatype name ts) = heads.Datatype name (map f ts)
+head_with_parts f (heads.Tuple ts) = heads.Tuple (map f ts)
+head_with_parts f (heads.Variants tags) = heads.Variants (map (tag_with_part f) tags)
+head_with_parts f heads.Absent = heads.Absent
+
+abbrev pub head_or_absent : Option (HeadOf ℕ) → HeadOf ℕ
+head_or_absent None = heads.Absent
+head_or_absent (Some head) = head
+
+-- the head at a number, whose parts are numbers
+abbrev pub head_at : List (HeadOf ℕ) → ℕ → HeadOf ℕ
+head_at all i = head_or_absent (slice_get all i)
+
+-- these are the heads of the types, by the numbers of their parts
+abbrev pub AreHeadsOf : List Decl → List Ty → List (HeadOf ℕ) → Type 0
+AreHeadsOf decls types all =
+    map (head_with_parts (slice_get types)) all
+    ≡ map (λ t. head_with_parts Some (head decls t)) types
+
+-- ---- tables
+
+-- for each number the shape, whose types are numbers, and the class
+pub record Table : Type 0 where
+  pub nodes : List (ShapeOf ℕ)
+  pub classes : List ℕ
+
+-- a number that is not in the table has no values
+abbrev pub node_or_none : Option (ShapeOf ℕ) → ShapeOf ℕ
+node_or_none None = shapes.Variable
+node_or_none (Some node) = node
+
+-- the shapes of types by their numbers, equal where they have one class
+abbrev pub table_shapes : Table → Shapes ℕ
+table_shapes table =
+    shaped (λ i. node_or_none (slice_get table.nodes i))
+    (λ i j. slice_get table.classes i ≡ slice_get table.classes j)
+
+-- The table of these types: the shapes are theirs, and exactly equal ones have one class.
+pub record IsTableOf (decls : List Decl) (types : List Ty) (table : Table) : Type 0 where
+  pub many : length table.classes ≡ length types
+  -- the shapes, whose numbers are those of types
+  pub nodes :
+      map (with_parts (slice_get types)) table.nodes
+      ≡ map (λ t. with_parts Some (shape decls t)) types
+  pub same_class :
+      (i j : ℕ) (t u : Ty) → slice_get types i ≡ Some t → slice_get types j ≡ Some u
+      → slice_get table.classes i ≡ slice_get table.classes j → Equal decls t u
+  pub equal_types :
+      (i j : ℕ) (t u : Ty) → slice_get types i ≡ Some t → slice_get types j ≡ Some u
+      → Equal decls t u → slice_get table.classes i ≡ slice_get table.classes j

@@ -1,0 +1,64 @@
+-- The line of a verdict: `yes`, or `no` and a fault.
+use Rattle.std.specs.Prelude.{ℕ, ◌≡◌, List, [], ◌++◌, length, Option, Some, None, slice_get, codes, decimal, Bool, true, false}
+use Rattle.std.specs.Fmt.{signed_decimal}
+use Rattle.om_model.specs.declared.value.Val.{Val}
+use Rattle.om_model.specs.declared.value.Val.TheVariants as vals
+use Rattle.om_model.specs.declared.value.Obj.{Obj}
+use Rattle.om_model.specs.declared.value.Obj.TheVariants as objects
+use Rattle.om_types.specs.declared.fault.Fault.{Fault}
+use Rattle.om_types.specs.declared.fault.Fault.TheVariants.{Misfit, Clash}
+use Rattle.om_model.specs.PathText.{path_text}
+use Rattle.om_types.specs.Shapes.{Shapes}
+use Rattle.om_types.specs.Typing.{HasType}
+use Rattle.om_types.specs.Fault.{value_at, IsFault}
+
+-- ---- kinds
+
+abbrev pub object_text : Option Obj → List ℕ
+object_text None = []
+object_text (Some (objects.Block tag values)) = codes "block " ++ decimal tag ++ codes " of " ++ decimal (length values)
+object_text (Some (objects.Bytes bytes)) = codes "string"
+object_text (Some (objects.Double bits)) = codes "float"
+object_text (Some (objects.Doubles all)) = codes "float array of " ++ decimal (length all)
+object_text (Some (objects.I32 z)) = codes "int32"
+object_text (Some (objects.I64 z)) = codes "int64"
+object_text (Some (objects.Native z)) = codes "nativeint"
+
+-- what a value is, whatever its type
+abbrev pub kind_text : List Obj → Val → List ℕ
+kind_text graph (vals.Int z) = codes "int " ++ signed_decimal z
+kind_text graph (vals.Atom tag) = codes "atom " ++ decimal tag
+kind_text graph (vals.Ref o) = object_text (slice_get graph o)
+
+-- ---- faults, over any text of types
+
+-- a path leads to a value that was to be of a type
+abbrev pub misfit_text : {T : Type 0} → (T → List ℕ) → List Obj → List ℕ → Val → T → List ℕ
+misfit_text type_text graph path v t = path_text path ++ codes ": expected " ++ type_text t ++ codes ", found " ++ kind_text graph v
+
+-- two paths lead to one object, each at its type
+abbrev pub clash_text : {T : Type 0} → (T → List ℕ) → List ℕ → T → List ℕ → T → List ℕ
+clash_text type_text first t second u = path_text first ++ codes " and " ++ path_text second ++ codes ": " ++ type_text t ++ codes " and " ++ type_text u ++ codes " share a mutable object"
+
+-- the values and the types are those at the ends of the paths
+abbrev pub IsFaultText : {T : Type 0} → Shapes T → (T → List ℕ) → List Obj → Val → T → Fault → List ℕ → Type 0
+IsFaultText {T} shapes type_text graph v t (Misfit path) text =
+    (w : Val) × (u : T) × (value_at shapes graph v t path ≡ Some (w, u)) × (text ≡ misfit_text type_text graph path w u)
+IsFaultText {T} shapes type_text graph v t (Clash first second) text =
+    (o : Val) × (one other : T) × (value_at shapes graph v t first ≡ Some (o, one)) × (value_at shapes graph v t second ≡ Some (o, other))
+    × (text ≡ clash_text type_text first one second other)
+
+-- ---- the line
+
+-- a fault, and its text after `no`
+pub record IsNoLine {T : Type 0} (shapes : Shapes T) (type_text : T → List ℕ) (graph : List Obj) (v : Val) (t : T) (line : List ℕ) : Type 0 where
+  pub fault : Fault
+  pub text : List ℕ
+  pub is_fault : IsFault shapes graph v t fault
+  pub is_text : IsFaultText shapes type_text graph v t fault text
+  pub spelled : line ≡ codes "no " ++ text
+
+-- the line of a verdict, and whether the value has the type: `yes`, or else some fault
+abbrev pub IsLine : {T : Type 0} → Shapes T → (T → List ℕ) → List Obj → Val → T → List ℕ → Bool → Type 0
+IsLine shapes type_text graph v t line true = HasType shapes graph v t × (line ≡ codes "yes")
+IsLine shapes type_text graph v t line false = IsNoLine shapes type_text graph v t line

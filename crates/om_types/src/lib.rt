@@ -1,0 +1,14 @@
+//! Types of values: declarations, type expressions, shapes, equality, typings, paths, faults and their texts, as
+//! definitions (Henry and others, 2012), and the laws on them.
+#![tactic(auto)]
+
+pub mod decl;
+pub mod fault;
+pub mod head;
+pub mod laws;
+pub mod list_type;
+pub mod names;
+pub mod shape;
+#[cfg(test)]
+mod tests;
+pub mod ty;

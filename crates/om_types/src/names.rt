@@ -1,0 +1,26 @@
+//! The names that a type's declaration or variant has.
+
+use om_model::list::List;
+
+/// The name of a constructor with arguments, and those of the fields of its inline record, where it has one.
+#[derive(Drop)]
+pub struct ConstrNames {
+    pub name: List<u8>,
+    pub fields: List<List<u8>>,
+}
+
+/// A tag of a polymorphic variant, without its backquote, and its hash.
+#[derive(Drop)]
+pub struct TagName {
+    pub name: List<u8>,
+    pub hash: i64,
+}
+
+/// The constant constructors, the other constructors, the fields of a record, and the tags, each in declared order.
+#[derive(Drop)]
+pub struct Names {
+    pub constants: List<List<u8>>,
+    pub constructors: List<ConstrNames>,
+    pub fields: List<List<u8>>,
+    pub tags: List<TagName>,
+}
