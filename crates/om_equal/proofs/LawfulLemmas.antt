@@ -1,0 +1,128 @@
+-- Equal types mean the same, where one of them is among the types that a type reaches.
+use Rattle.std.proofs.Common.{ℕ, ◌≡◌, ◌⊎◌, inl, inr, List}
+use Rattle.std.proofs.Common.{subst, sym}
+use Rattle.std.specs.Prelude.{Contains, IsSome, IsTrue, slice_get}
+use Rattle.om_model.specs.declared.value.Val.{Val}
+use Rattle.om_model.specs.declared.value.Val.TheVariants as vals
+use Rattle.om_model.specs.declared.value.Obj.{Obj}
+use Rattle.om_types.specs.declared.decl.Decl.{Decl}
+use Rattle.om_types.specs.Ty.{Ty}
+use Rattle.om_types.specs.Head.{head}
+use Rattle.om_types.specs.Shape.{shape}
+use Rattle.om_types.specs.Fitting.{fields_of, is_mutable, or_none}
+use Rattle.om_types.specs.Accepted.{AreSound, AreKnownByHash}
+use Rattle.om_types.specs.Equal.{Equal, declared_shapes}
+use Rattle.om_types.specs.Reached.{IsReached}
+use Rattle.om_types.specs.Lawful.{AreLawful}
+use Rattle.om_equal.proofs.AlikeClosure.{alike_is_equal}
+use Rattle.om_equal.proofs.AlikeLemmas.{Alike}
+use Rattle.om_equal.proofs.EqualLemmas.{equal_itself, equal_turned, equal_joined}
+use Rattle.om_equal.proofs.HeadShapes.{pair_shapes}
+use Rattle.om_equal.proofs.NeedLemmas.{alike_heads}
+use Rattle.om_equal.proofs.RankedLemmas.{are_ranked}
+use Rattle.om_equal.proofs.ReachedLemmas.{parts_listed, named_listed, needs_named}
+use Rattle.om_equal.proofs.NeedAgreement.{FieldsAgree, both_some, both_some_back, need_matched}
+use Rattle.om_equal.proofs.NeedAgreement.{turned_fields}
+use Rattle.om_equal.proofs.ShapeAgreement.{ShapesAgree, fields_agree, mutable_agrees}
+use Rattle.om_equal.proofs.TyEquality.{types_same_or_not}
+
+-- ---- reached types
+
+module _ (decls : List Decl) (sound : AreSound decls) (root : Ty) (types : List Ty)
+    (reached : IsReached decls root types) (known : AreKnownByHash decls types) where
+  abbrev Same : Ty → Ty → Type 0
+  Same = Equal decls
+
+  -- types that are alike are equal, where the second is reached
+  alike_equal : (t u : Ty) (equal : Same t u) (a b : Ty) → Contains types b → Alike equal.pairs a b
+      → Same a b
+  alike_equal t u equal a b among alike =
+      alike_is_equal types_same_or_not equal.pairs (head decls)
+      (alike_heads decls sound.rank (are_ranked decls sound) equal.pairs equal.closed)
+      types (parts_listed decls root types reached) a b among alike
+
+  shapes_agree : (t u : Ty) (equal : Same t u) → Contains types u → ShapesAgree (Alike equal.pairs)
+      (shape decls t) (shape decls u)
+  shapes_agree t u equal among =
+      pair_shapes decls sound equal.pairs equal.closed t u equal.holds
+      (λ tags is. known u tags among is)
+
+  agree_at : (t u : Ty) (equal : Same t u) → Contains types u → (graph : List Obj) (v : Val)
+      → FieldsAgree (Alike equal.pairs) (fields_of graph v (shape decls t))
+      (fields_of graph v (shape decls u))
+  agree_at t u equal among graph v =
+      fields_agree (Alike equal.pairs) (shapes_agree t u equal among) graph v
+
+  abbrev Fits : List Obj → Val → Ty → Type 0
+  Fits graph v t = IsSome (fields_of graph v (shape decls t))
+
+  abbrev needs_at : List Obj → Val → Ty → List (ℕ × Ty)
+  needs_at graph v t = or_none (fields_of graph v (shape decls t))
+
+  turned : (t u : Ty) → Same t u → Same u t
+  turned t u equal = equal_turned (head decls) t u equal
+
+  fit : (graph : List Obj) (v : Val) (t u : Ty) → Contains types t ⊎ Contains types u → Same t u
+      → Fits graph v t → Fits graph v u
+  fit graph v t u (inr among) equal fits =
+      both_some (Alike equal.pairs) (fields_of graph v (shape decls t))
+      (fields_of graph v (shape decls u)) (agree_at t u equal among graph v) fits
+  fit graph v t u (inl among) equal fits =
+      let back = turned t u equal in
+      both_some_back (Alike back.pairs) (fields_of graph v (shape decls u))
+      (fields_of graph v (shape decls t)) (agree_at u t back among graph v) fits
+
+  need : (graph : List Obj) (v : Val) (t u : Ty) (i : ℕ) (a : Ty) → Contains types t
+      ⊎ Contains types u → Same t u → Contains (needs_at graph v t) (i, a) → (b : Ty)
+      × Contains (needs_at graph v u) (i, b) × Same a b
+  need graph v t u i a (inr among) equal has =
+      let found = need_matched (Alike equal.pairs) (fields_of graph v (shape decls t))
+      (fields_of graph v (shape decls u)) (agree_at t u equal among graph v) i a has in
+      let listed = named_listed decls root types reached u found.0 among
+      (needs_named (shape decls u) graph v i found.0 found.1) in
+      (found.0, found.1, alike_equal t u equal a found.0 listed found.2)
+  need graph v t u i a (inl among) equal has =
+      let back = turned t u equal in
+      let agree = turned_fields (Alike back.pairs) (fields_of graph v (shape decls u))
+      (fields_of graph v (shape decls t)) (agree_at u t back among graph v) in
+      let found = need_matched (λ x y. Alike back.pairs y x) (fields_of graph v (shape decls t))
+      (fields_of graph v (shape decls u)) agree i a has in
+      let listed = named_listed decls root types reached t a among
+      (needs_named (shape decls t) graph v i a has) in
+      (found.0, found.1, turned found.0 a (alike_equal u t back found.0 a listed found.2))
+
+  abbrev Mutable : List Obj → ℕ → Ty → Type 0
+  Mutable graph o t =
+      Fits graph (vals.Ref o) t × IsTrue (is_mutable (shape decls t) (slice_get graph o))
+
+  mutable_same : (graph : List Obj) (o : ℕ) (t u : Ty) → Contains types t ⊎ Contains types u
+      → Same t u → is_mutable (shape decls t) (slice_get graph o) ≡ is_mutable (shape decls u)
+      (slice_get graph o)
+  mutable_same graph o t u (inr among) equal =
+      mutable_agrees (Alike equal.pairs) (shapes_agree t u equal among) (slice_get graph o)
+  mutable_same graph o t u (inl among) equal =
+      let back = turned t u equal in
+      sym (mutable_agrees (Alike back.pairs) (shapes_agree u t back among) (slice_get graph o))
+
+  change : (graph : List Obj) (o : ℕ) (t u : Ty) → Contains types t ⊎ Contains types u → Same t u
+      → Mutable graph o t → Mutable graph o u
+  change graph o t u among equal mutable = (
+    fit graph (vals.Ref o) t u among equal mutable.0,
+    subst IsTrue
+        (mutable_same graph o t u among equal) mutable.1,
+  )
+
+  -- the shapes of declared types are lawful at reached types
+  pub reached_lawful : AreLawful (declared_shapes decls) (λ u. Contains types u)
+  reached_lawful = record {
+    reflexive = λ t among. equal_itself (head decls) types (parts_listed decls root types reached) t
+        among;
+    symmetric = λ t u equal. turned t u equal;
+    transitive = λ t u w first second. equal_joined (head decls) types_same_or_not t u w first
+        second;
+    closed = λ graph v t i a among has. named_listed decls root types reached t a among
+        (needs_named (shape decls t) graph v i a has);
+    fits = fit;
+    needs = need;
+    mutable = change;
+  }

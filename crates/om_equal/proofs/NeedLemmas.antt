@@ -1,0 +1,117 @@
+-- Equal types need equal types: what a datatype has at one list of arguments and at another, where
+-- these are equal pairwise.
+use Rattle.std.proofs.Common.{ℕ, zero, suc, ◌<◌, ◌≡◌, ◌∙◌, List, [], ◌∷◌, Option, Some, None, refl}
+use Rattle.std.proofs.Common.{sym, ap, inl, arith}
+use Rattle.om_types.specs.declared.head.HeadOf.{HeadOf}
+use Rattle.std.specs.Prelude.{Contains}
+use Rattle.om_types.specs.declared.decl.Body.TheVariants as bodies
+use Rattle.om_types.specs.declared.decl.Decl.{Decl}
+use Rattle.om_types.specs.declared.decl.Body.{Body}
+use Rattle.om_types.specs.Ty.{Ty, instance, argument_for}
+use Rattle.om_types.specs.Accepted.{IsType}
+use Rattle.om_types.specs.Declarations.{unfolded, declaration_of, abbreviated}
+use Rattle.om_types.specs.Head.{plain_head, head}
+use Rattle.om_types.specs.Equal.{Pairwise, HeadsAgree, Holds, IsClosed, EqualBy}
+use Rattle.om_types.specs.Reached.{parts_of}
+use Rattle.om_equal.proofs.SettledLemmas as settled
+use Rattle.om_equal.proofs.AlikeLemmas.{Alike, HasTypes, instances_alike, arguments_alike}
+use Rattle.om_equal.proofs.HeadLemmas.{alike_agree}
+use Rattle.om_equal.proofs.AlikeClosure.{alike_is_equal}
+use Rattle.om_equal.proofs.TyEquality.{types_same_or_not}
+use Rattle.om_equal.proofs.WeightLemmas.{AreRanked, heft, falls, bound, by_part, by_including}
+use Rattle.om_equal.proofs.WeightLemmas.{inside, price, priced}
+
+module _ (decls : List Decl) (rank : List ℕ → ℕ) (ranked : AreRanked decls rank) where
+  -- one replacement leaves the head
+  pub head_again : (t u : Ty) → unfolded decls t ≡ Some u → head decls t ≡ head decls u
+  head_again t u is = settled.again decls (heft decls rank ranked) (falls decls rank ranked)
+      (λ t a. by_part (price decls rank ranked) (priced decls rank ranked) t a) (λ t x. omega arith)
+      (λ t x a. omega arith)
+      (λ t a. by_including (price decls rank ranked) (priced decls rank ranked) t a)
+      (λ t a. inside (price decls rank ranked) (priced decls rank ranked) t a)
+      (bound decls rank ranked) t u is
+
+  -- without one the head is what is written
+  pub head_plain : (t : Ty) → unfolded decls t ≡ None → head decls t ≡ plain_head (head decls) t
+  head_plain t is = settled.plain decls (heft decls rank ranked) (falls decls rank ranked)
+      (λ t a. by_part (price decls rank ranked) (priced decls rank ranked) t a) (λ t x. omega arith)
+      (λ t x a. omega arith)
+      (λ t a. by_including (price decls rank ranked) (priced decls rank ranked) t a)
+      (λ t a. inside (price decls rank ranked) (priced decls rank ranked) t a)
+      (bound decls rank ranked) t is
+
+  typed_body : (name : List ℕ) (d : Decl) → declaration_of decls name ≡ Some d → (body : Body)
+      → d.body ≡ body → HasTypes body
+  typed_body name d found (bodies.Abbreviation t) is =
+      (ranked.falls name d t found (ap abbreviated is)).3
+  typed_body name d found (bodies.Record fields) is = tt
+  typed_body name d found (bodies.Variant constructors) is = tt
+
+  module _ (pairs : List (Ty × Ty)) (closed : IsClosed (head decls) pairs) where
+    pub alike_heads :
+        (t u : Ty) → Alike pairs t u → HeadsAgree (Alike pairs) (head decls t) (head decls u)
+    alike_heads t u alike =
+        alike_agree decls (λ name d found. typed_body name d found d.body refl) (head decls)
+        head_again head_plain
+        (heft decls rank ranked) (falls decls rank ranked)
+        (λ t a. by_part (price decls rank ranked) (priced decls rank ranked) t a)
+        (λ t x. omega arith) (λ t x a. omega arith)
+        (λ t a. by_including (price decls rank ranked) (priced decls rank ranked) t a)
+        (λ t a. inside (price decls rank ranked) (priced decls rank ranked) t a)
+        pairs closed t u alike
+
+    pub held_alike : (ts us : List Ty) → Pairwise (Holds pairs) ts us → Pairwise (Alike pairs) ts us
+    held_alike [] [] held = tt
+    held_alike (t ∷ ts) (u ∷ us) held = (inl held.0, held_alike ts us held.1)
+    held_alike [] (u ∷ us) held = absurd held
+    held_alike (t ∷ ts) [] held = absurd held
+
+    -- a type that is written in a declaration, at arguments that a closed list holds pairwise
+    pub written_equal :
+        (types : List Ty) → ((u a : Ty) → Contains types u → Contains (parts_of (head decls u)) a
+        → Contains types a)
+        → (parameters : List (List ℕ)) (ts us : List Ty) → Pairwise (Holds pairs) ts us → (t : Ty)
+        → IsType t
+        → Contains types (instance (argument_for parameters us) t)
+        → EqualBy (head decls) (instance (argument_for parameters ts) t)
+        (instance (argument_for parameters us) t)
+    written_equal types reached parameters ts us held t is among =
+        alike_is_equal types_same_or_not pairs (head decls) alike_heads types reached
+        (instance (argument_for parameters ts) t) (instance (argument_for parameters us) t)
+        among
+        (instances_alike pairs (argument_for parameters ts) (argument_for parameters us)
+        (arguments_alike pairs parameters ts us (held_alike ts us held)) t is)
+
+-- ---- no other function is so
+
+module _ (decls : List Decl) (rank : List ℕ → ℕ) (ranked : AreRanked decls rank)
+    (other : Ty → HeadOf Ty) (again : (t u : Ty) → unfolded decls t ≡ Some u → other t ≡ other u)
+    (plain : (t : Ty) → unfolded decls t ≡ None → other t ≡ plain_head other t) where
+  abbrev weighs : Ty → ℕ
+  weighs t = heft decls rank ranked t
+
+  abbrev Below : ℕ → Type 0
+  Below k = (t : Ty) → weighs t < k → other t ≡ head decls t
+
+  one_more : (k : ℕ) → Below k → (t : Ty) → weighs t < suc k → (next : Option Ty)
+      → unfolded decls t ≡ next → other t ≡ head decls t
+  one_more k known t below (Some u) is =
+      again t u is ∙ known u (omega (arith, falls decls rank ranked t u is, below))
+      ∙ sym (head_again decls rank ranked t u is)
+  one_more k known t below None is =
+      plain t is
+      ∙ settled.plain_same decls weighs (falls decls rank ranked)
+      (λ s a. by_part (price decls rank ranked) (priced decls rank ranked) s a) (λ s x. omega arith)
+      (λ s x a. omega arith)
+      (λ s a. by_including (price decls rank ranked) (priced decls rank ranked) s a)
+      (λ s a. inside (price decls rank ranked) (priced decls rank ranked) s a)
+      (weighs t) other (head decls) (λ a less. known a (omega (arith, less, below))) t (omega arith)
+      ∙ sym (head_plain decls rank ranked t is)
+
+  all_below : (k : ℕ) → Below k
+  all_below zero t below = absurd (omega arith)
+  all_below (suc k) t below = one_more k (all_below k) t below (unfolded decls t) refl
+
+  -- what leaves replacements and is as written is the head
+  pub only_head : (t : Ty) → other t ≡ head decls t
+  only_head t = all_below (suc (weighs t)) t (omega arith)

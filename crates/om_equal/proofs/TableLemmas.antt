@@ -1,0 +1,415 @@
+-- A table says what its types say, and its shapes are lawful.
+use Rattle.std.proofs.Common.{ℕ, zero, suc, ◌≡◌, ◌∙◌, inl, List, [], ◌∷◌, length, Option}
+use Rattle.std.proofs.Common.{Some}
+use Rattle.std.proofs.Common.{None, refl, ap, subst, sym, ◌==◌, cond, Bool, true, false, arith}
+use Rattle.std.specs.Prelude.{Contains, IsSome, IsTrue, map, slice_get, option_map, option_and_then}
+use Rattle.std.specs.Prelude.{find}
+use Rattle.std.proofs.lemmas.Bool.{false≢true}
+use Rattle.std.proofs.lemmas.Option.{same_Some, none-some}
+use Rattle.om_model.specs.declared.value.Val.{Val}
+use Rattle.om_model.specs.declared.value.Val.TheVariants as vals
+use Rattle.om_model.specs.declared.value.Obj.{Obj}
+use Rattle.om_model.specs.declared.value.Obj.TheVariants as objects
+use Rattle.om_types.specs.declared.decl.Decl.{Decl}
+use Rattle.om_types.specs.declared.fault.Fault.{Fault}
+use Rattle.om_types.specs.declared.shape.ShapeOf.{ShapeOf}
+use Rattle.om_types.specs.declared.shape.ShapeOf.TheVariants as shapes
+use Rattle.om_types.specs.Ty.{Ty}
+use Rattle.om_types.specs.Shape.{shape}
+use Rattle.om_types.specs.Fitting.{object_fields, fields_of, is_mutable, or_none}
+use Rattle.om_types.specs.Shapes.{Shapes}
+use Rattle.om_types.specs.Accepted.{AreSound, AreKnownByHash}
+use Rattle.om_types.specs.Equal.{declared_shapes}
+use Rattle.om_types.specs.Fault.{type_of_field, IsFault}
+use Rattle.om_types.specs.LeastFault.{IsLeastFault}
+use Rattle.om_types.specs.Reached.{IsReached}
+use Rattle.om_types.specs.Table.{with_parts, Table, node_or_none, table_shapes, IsTableOf}
+use Rattle.om_types.specs.Lawful.{AreLawful, Everything}
+use Rattle.om_model.proofs.Options.{Contains-none}
+use Rattle.om_types.proofs.ListLemmas.{slice_get-Contains}
+use Rattle.om_equal.proofs.LawfulLemmas.{reached_lawful}
+use Rattle.om_equal.proofs.NeedAgreement.{NeedsAgree, FieldsAgree, both_some, both_some_back}
+use Rattle.om_equal.proofs.NeedAgreement.{need_matched}
+use Rattle.om_equal.proofs.NeedAgreement.{turned_fields}
+use Rattle.om_equal.proofs.PartsLemmas.{fields_of_mapped, mutable_same}
+use Rattle.om_equal.proofs.SimulationLemmas.{SayTheSame, BothOf, fault_on}
+
+-- ---- mapped lists
+
+pub slice_get-mapped :
+    {X Y : Type 0} (f : X → Y) (xs : List X) (i : ℕ) → slice_get (map f xs) i ≡ option_map f
+    (slice_get xs i)
+slice_get-mapped f [] zero = refl
+slice_get-mapped f [] (suc i) = refl
+slice_get-mapped f (x ∷ xs) zero = refl
+slice_get-mapped f (x ∷ xs) (suc i) = slice_get-mapped f xs i
+
+pub mapped_some :
+    {X Y : Type 0} (f : X → Y) (found : Option X) (y : Y) → option_map f found ≡ Some y
+    → (x : X) × (found ≡ Some x) × (f x ≡ y)
+mapped_some f None y is = absurd (none-some y is)
+mapped_some f (Some x) y is = (x, refl, same_Some (f x) y is)
+
+-- ---- needs at numbers and at types
+
+module _ {T U V : Type 0} (f : T → V) (g : U → V) where
+  abbrev At : T → U → Type 0
+  At a b = f a ≡ g b
+
+  abbrev one : ℕ × T → ℕ × V
+  one n = (n.0, f n.1)
+
+  abbrev other : ℕ × U → ℕ × V
+  other m = (m.0, g m.1)
+
+  needs_at : (ns : List (ℕ × T)) (ms : List (ℕ × U)) → map one ns ≡ map other ms
+      → NeedsAgree At ns ms
+  needs_at [] [] same = tt
+  needs_at [] (m ∷ ms) same = absurd (no_more (other m) (map other ms) same) where
+    no_more : (x : ℕ × V) (xs : List (ℕ × V)) → [] ≡ x ∷ xs → ⊥
+    no_more x xs same = cc
+  needs_at (n ∷ ns) [] same = absurd (no_less (one n) (map one ns) same) where
+    no_less : (x : ℕ × V) (xs : List (ℕ × V)) → x ∷ xs ≡ [] → ⊥
+    no_less x xs same = cc
+  needs_at (n ∷ ns) (m ∷ ms) same =
+      let first = heads_same (one n) (other m) (map one ns) (map other ms) same in (
+        ap (λ (x : ℕ × V). x.0) first,
+        ap (λ (x : ℕ × V). x.1) first,
+        needs_at ns ms
+            (rests_same (one n) (other m) (map one ns) (map other ms) same),
+      ) where
+        heads_same : (x y : ℕ × V) (xs ys : List (ℕ × V)) → x ∷ xs ≡ y ∷ ys → x ≡ y
+        heads_same x y xs ys same = cc
+
+        rests_same : (x y : ℕ × V) (xs ys : List (ℕ × V)) → x ∷ xs ≡ y ∷ ys → xs ≡ ys
+        rests_same x y xs ys same = cc
+
+  pub fields_at : (ns : Option (List (ℕ × T))) (ms : Option (List (ℕ × U)))
+      → option_map (map one) ns ≡ option_map (map other) ms → FieldsAgree At ns ms
+  fields_at None None same = tt
+  fields_at (Some ns) (Some ms) same = needs_at ns ms (same_Some (map one ns) (map other ms) same)
+  fields_at None (Some ms) same = absurd (none-some (map other ms) same)
+  fields_at (Some ns) None same = absurd (none-some (map one ns) (sym same))
+
+-- ---- fields by their numbers
+
+none_is : {X : Type 0} (found : Option X) → found ≡ None → IsSome found → ⊥
+none_is None is some = absurd_some some where
+  absurd_some : false ≡ true → ⊥
+  absurd_some some = cc
+none_is (Some x) is some = none-some x (sym is)
+
+needs_some : {T : Type 0} (needs : Option (List (ℕ × T))) (need : ℕ × T)
+    → Contains (or_none needs) need → IsSome needs
+needs_some None need has = absurd (Contains-none need has)
+needs_some (Some needs) need has = refl
+
+-- nothing fits a variable
+object_of_variable :
+    (object : Option Obj) → option_and_then (object_fields {T = ℕ} shapes.Variable) object ≡ None
+object_of_variable None = refl
+object_of_variable (Some (objects.Block tag values)) = refl
+object_of_variable (Some object) = refl
+
+variable_fits : (graph : List Obj) (v : Val) → IsSome (fields_of {T = ℕ} graph v shapes.Variable)
+    → ⊥
+variable_fits graph (vals.Int z) fits = none_is {X = List (ℕ × ℕ)} None refl fits
+variable_fits graph (vals.Atom tag) fits = none_is {X = List (ℕ × ℕ)} None refl fits
+variable_fits graph (vals.Ref o) fits =
+    none_is (option_and_then (object_fields {T = ℕ} shapes.Variable) (slice_get graph o))
+    (object_of_variable (slice_get graph o)) fits
+
+module _ {T U : Type 0} (one : Shapes T) (other : Shapes U) (Of : T → U → Type 0) (graph : List Obj)
+  where
+    abbrev Both : Option T → Option U → Type 0
+    Both a b = BothOf one other Of graph a b
+
+    by_number : (test test' : Bool) (n : ℕ × T) (m : ℕ × U) (found : Option (ℕ × T))
+        (found' : Option (ℕ × U)) → test ≡ test' → Of n.1 m.1
+        → Both (option_map (λ (x : ℕ × T). x.1) found) (option_map (λ (x : ℕ × U). x.1) found')
+        → Both (option_map (λ (x : ℕ × T). x.1) (cond test (Some n) found))
+        (option_map (λ (x : ℕ × U). x.1) (cond test' (Some m) found'))
+    by_number true true n m found found' same of later = of
+    by_number false false n m found found' same of later = later
+    by_number true false n m found found' same of later = absurd (false≢true (sym same))
+    by_number false true n m found found' same of later = absurd (false≢true same)
+
+    need_types : (ns : List (ℕ × T)) (ms : List (ℕ × U)) (k : ℕ) → NeedsAgree Of ns ms
+        → Both (type_of_field ns k) (type_of_field ms k)
+    need_types [] [] k agree = tt
+    need_types [] (m ∷ ms) k agree = absurd agree
+    need_types (n ∷ ns) [] k agree = absurd agree
+    need_types (n ∷ ns) (m ∷ ms) k agree =
+        by_number (n.0 == k) (m.0 == k) n m (find (λ need. need.0 == k) ns)
+        (find (λ need. need.0 == k) ms) (ap (λ i. i == k) agree.0) agree.1
+        (need_types ns ms k agree.2)
+
+    option_types : (ns : Option (List (ℕ × T))) (ms : Option (List (ℕ × U))) (k : ℕ)
+        → FieldsAgree Of ns ms → Both (type_of_field (or_none ns) k) (type_of_field (or_none ms) k)
+    option_types None None k agree = tt
+    option_types (Some ns) (Some ms) k agree = need_types ns ms k agree
+    option_types None (Some ms) k agree = absurd agree
+    option_types (Some ns) None k agree = absurd agree
+
+-- ---- tables
+
+module _ (decls : List Decl) (types : List Ty) (table : Table) (made : IsTableOf decls types table)
+  where
+    -- the number is the type's
+    abbrev pub Of : ℕ → Ty → Type 0
+    Of i u = slice_get types i ≡ Some u
+
+    abbrev pub node : ℕ → ShapeOf ℕ
+    node i = node_or_none (slice_get table.nodes i)
+
+    found : (i : ℕ) (u : Ty) → Of i u → (s : ShapeOf ℕ) × (slice_get table.nodes i ≡ Some s)
+        × (with_parts (slice_get types) s ≡ with_parts Some (shape decls u))
+    found i u of = mapped_some (with_parts (slice_get types)) (slice_get table.nodes i)
+        (with_parts Some (shape decls u))
+        (sym (slice_get-mapped (with_parts (slice_get types)) table.nodes i)
+        ∙ ap (λ all. slice_get all i) made.nodes
+        ∙ slice_get-mapped (λ t. with_parts Some (shape decls t)) types i
+        ∙ ap (option_map (λ t. with_parts Some (shape decls t))) of)
+
+    -- the shape at a number is the type's, but for numbers in the place of types
+    shape_is : (i : ℕ) (u : Ty) → Of i u → with_parts (slice_get types) (node i) ≡ with_parts Some
+        (shape decls u)
+    shape_is i u of =
+        let s = found i u of in
+        ap (λ o. with_parts (slice_get types) (node_or_none o)) s.1 ∙ s.2
+
+    -- a number with a shape is some type's
+    known : (i : ℕ) (s : ShapeOf ℕ) → slice_get table.nodes i ≡ Some s → (u : Ty) × Of i u
+    known i s is =
+        let at = mapped_some (λ t. with_parts Some (shape decls t)) (slice_get types i)
+        (with_parts (slice_get types) s)
+        (sym (slice_get-mapped (λ t. with_parts Some (shape decls t)) types i)
+        ∙ ap (λ all. slice_get all i) (sym made.nodes)
+        ∙ slice_get-mapped (with_parts (slice_get types)) table.nodes i
+        ∙ ap (option_map (with_parts (slice_get types))) is) in
+        (at.0, at.1)
+
+    module _ (graph : List Obj) where
+      abbrev pub numbers_at : Val → ℕ → Option (List (ℕ × ℕ))
+      numbers_at v i = fields_of graph v (node i)
+
+      abbrev pub types_at : Val → Ty → Option (List (ℕ × Ty))
+      types_at v u = fields_of graph v (shape decls u)
+
+      -- the same is needed, by numbers and by types
+      pub fields_same :
+          (v : Val) (i : ℕ) (u : Ty) → Of i u → FieldsAgree Of (numbers_at v i) (types_at v u)
+      fields_same v i u of = fields_at (slice_get types) Some (numbers_at v i) (types_at v u)
+          (sym (fields_of_mapped (slice_get types) graph v (node i))
+          ∙ ap (fields_of graph v) (shape_is i u of) ∙ fields_of_mapped Some graph v
+          (shape decls u))
+
+      mutable_at : (o i : ℕ) (u : Ty) → Of i u
+          → is_mutable (node i) (slice_get graph o) ≡ is_mutable
+          (shape decls u) (slice_get graph o)
+      mutable_at o i u of =
+          sym (mutable_same (slice_get types) (node i) (slice_get graph o))
+          ∙ ap (λ s. is_mutable s (slice_get graph o)) (shape_is i u of)
+          ∙ mutable_same Some (shape decls u) (slice_get graph o)
+
+      -- a number at which something fits is some type's
+      fit_found : (v : Val) (s : Option (ShapeOf ℕ)) (i : ℕ) → slice_get table.nodes i ≡ s
+          → IsSome (fields_of graph v (node_or_none s)) → (u : Ty) × Of i u
+      fit_found v (Some s) i is fits = known i s is
+      fit_found v None i is fits = absurd (variable_fits graph v fits)
+
+      pub fit_known : (v : Val) (i : ℕ) → IsSome (numbers_at v i) → (u : Ty) × Of i u
+      fit_known v i fits = fit_found v (slice_get table.nodes i) i refl fits
+
+      pub need_known :
+          (v : Val) (i k j : ℕ) → Contains (or_none (numbers_at v i)) (k, j) → (u : Ty) × Of i u
+      need_known v i k j has = fit_known v i (needs_some (numbers_at v i) (k, j) has)
+
+      -- ---- both say the same
+
+      abbrev pub Types : Val → Ty → Type 0
+      Types v u = IsSome (types_at v u)
+
+      field_types : (v : Val) (i : ℕ) (u : Ty) (k : ℕ) → Of i u → BothOf (table_shapes table)
+          (declared_shapes decls) Of graph (type_of_field (or_none (numbers_at v i)) k)
+          (type_of_field (or_none (types_at v u)) k)
+      field_types v i u k of =
+          option_types (table_shapes table) (declared_shapes decls) Of graph (numbers_at v i)
+          (types_at v u) k (fields_same v i u of)
+
+      back_types : (v : Val) (i : ℕ) (u : Ty) (k : ℕ) → Of i u → BothOf (declared_shapes decls)
+          (table_shapes table) (λ t j. Of j t) graph (type_of_field (or_none (types_at v u)) k)
+          (type_of_field (or_none (numbers_at v i)) k)
+      back_types v i u k of =
+          option_types (declared_shapes decls) (table_shapes table) (λ t j. Of j t) graph
+          (types_at v u) (numbers_at v i) k (turned_fields Of (numbers_at v i) (types_at v u)
+          (fields_same v i u of))
+
+      abbrev pub Fits : Val → ℕ → Type 0
+      Fits v i = IsSome (numbers_at v i)
+
+      pub fits : (v : Val) (i : ℕ) (u : Ty) → Of i u → Fits v i → Types v u
+      fits v i u of = both_some Of (numbers_at v i) (types_at v u) (fields_same v i u of)
+
+      pub fits_back : (v : Val) (i : ℕ) (u : Ty) → Of i u → Types v u → Fits v i
+      fits_back v i u of = both_some_back Of (numbers_at v i) (types_at v u) (fields_same v i u of)
+
+      abbrev pub Mutable : ℕ → ℕ → Type 0
+      Mutable o i = Fits (vals.Ref o) i × IsTrue (is_mutable (node i) (slice_get graph o))
+
+      abbrev pub MutableType : ℕ → Ty → Type 0
+      MutableType o u =
+          Types (vals.Ref o) u × IsTrue (is_mutable (shape decls u) (slice_get graph o))
+
+      pub mutable : (o i : ℕ) (u : Ty) → Of i u → Mutable o i → MutableType o u
+      mutable o i u of may =
+          (fits (vals.Ref o) i u of may.0, subst IsTrue (mutable_at o i u of) may.1)
+
+      pub mutable_back : (o i : ℕ) (u : Ty) → Of i u → MutableType o u → Mutable o i
+      mutable_back o i u of may =
+          (fits_back (vals.Ref o) i u of may.0, subst IsTrue (sym (mutable_at o i u of)) may.1)
+
+      pub table_says : SayTheSame (table_shapes table) (declared_shapes decls) Of graph
+      table_says = record {
+        fits = fits;
+        fits_back = fits_back;
+        fields = field_types;
+        mutable = mutable;
+        mutable_back = mutable_back;
+        equal = λ i j t u of of' same. made.same_class i j t u of of' same;
+        equal_back = λ i j t u of of' equal. made.equal_types i j t u of of' equal;
+      }
+
+      pub types_say : SayTheSame (declared_shapes decls) (table_shapes table) (λ t i. Of i t) graph
+      types_say = record {
+        fits = λ v t i of. fits_back v i t of;
+        fits_back = λ v t i of. fits v i t of;
+        fields = λ v t i k of. back_types v i t k of;
+        mutable = λ o t i of. mutable_back o i t of;
+        mutable_back = λ o t i of. mutable o i t of;
+        equal = λ t u i j of of' equal. made.equal_types i j t u of of' equal;
+        equal_back = λ t u i j of of' same. made.same_class i j t u of of' same;
+      }
+
+      -- ---- the same faults
+
+      pub fault_forth :
+          (v : Val) (i : ℕ) (u : Ty) → Of i u → (fault : Fault) → IsFault (table_shapes table) graph
+          v
+          i fault → IsFault (declared_shapes decls) graph v u fault
+      fault_forth v i u of fault is =
+          fault_on (table_shapes table) (declared_shapes decls) Of graph table_says v i u of fault
+          is
+
+      pub fault_back :
+          (v : Val) (i : ℕ) (u : Ty) → Of i u → (fault : Fault) → IsFault (declared_shapes decls)
+          graph v u fault → IsFault (table_shapes table) graph v i fault
+      fault_back v i u of fault is =
+          fault_on (declared_shapes decls) (table_shapes table) (λ t j. Of j t) graph types_say v u
+          i
+          of fault is
+
+      pub least_forth :
+          (v : Val) (i : ℕ) (u : Ty) → Of i u → (fault : Fault) → IsLeastFault (table_shapes table)
+          graph v i fault → IsLeastFault (declared_shapes decls) graph v u fault
+      least_forth v i u of fault least = record {
+        is_fault = fault_forth v i u of fault least.is_fault;
+        least = λ other is. least.least other (fault_back v i u of other is);
+      }
+
+      pub least_back :
+          (v : Val) (i : ℕ) (u : Ty) → Of i u → (fault : Fault)
+          → IsLeastFault (declared_shapes decls)
+          graph v u fault → IsLeastFault (table_shapes table) graph v i fault
+      least_back v i u of fault least = record {
+        is_fault = fault_back v i u of fault least.is_fault;
+        least = λ other is. least.least other (fault_forth v i u of other is);
+      }
+
+-- ---- lawful tables
+
+-- what has a number below the length of one list has it in the other
+same_length_known :
+    {X Y : Type 0} (xs : List X) (ys : List Y) (i : ℕ) (x : X) → length ys ≡ length xs
+    → slice_get xs i ≡ Some x → (y : Y) × (slice_get ys i ≡ Some y)
+same_length_known [] ys i x same is = absurd (empty_get i is) where
+  empty_get : (i : ℕ) → slice_get [] i ≡ Some x → ⊥
+  empty_get zero is = none-some x is
+  empty_get (suc i) is = none-some x is
+same_length_known (x' ∷ xs) [] i x same is = absurd (omega (arith, same))
+same_length_known (x' ∷ xs) (y ∷ ys) zero x same is = (y, refl)
+same_length_known (x' ∷ xs) (y ∷ ys) (suc i) x same is =
+    same_length_known xs ys i x (omega (arith, same)) is
+
+module _ (decls : List Decl) (sound : AreSound decls) (root : Ty) (types : List Ty)
+    (reached : IsReached decls root types) (hashed : AreKnownByHash decls types) (table : Table)
+    (made : IsTableOf decls types table) where
+  abbrev Is : ℕ → Ty → Type 0
+  Is i u = Of decls types table made i u
+
+  abbrev Class : ℕ → ℕ → Type 0
+  Class i j = slice_get table.classes i ≡ slice_get table.classes j
+
+  -- a number of a type's class is some type's
+  class_known : (i j : ℕ) (u : Ty) → Is i u → Class i j → (w : Ty) × Is j w
+  class_known i j u is same =
+      let class = same_length_known types table.classes i u made.many is in
+      same_length_known table.classes types j class.0 (sym made.many) (sym same ∙ class.1)
+
+  among : (i : ℕ) (u : Ty) → Is i u → Contains types u
+  among i u is = slice_get-Contains types i u is
+
+  lawful : AreLawful (declared_shapes decls) (λ u. Contains types u)
+  lawful = reached_lawful decls sound root types reached hashed
+
+  fits_too : (graph : List Obj) (v : Val) (i j : ℕ) → Class i j
+      → IsSome (fields_of graph v (node decls types table made i))
+      → IsSome (fields_of graph v (node decls types table made j))
+  fits_too graph v i j same fit =
+      let one = fit_known decls types table made graph v i fit in
+      let other = class_known i j one.0 one.1 same in
+      let equal = made.same_class i j one.0 other.0 one.1 other.1 same in
+      fits_back decls types table made graph v j other.0 other.1
+      (lawful.fits graph v one.0 other.0 (inl (among i one.0 one.1)) equal
+      (fits decls types table made graph v i one.0 one.1 fit))
+
+  needs_too : (graph : List Obj) (v : Val) (i j k a : ℕ) → Class i j
+      → Contains (or_none (fields_of graph v (node decls types table made i))) (k, a) → (b : ℕ)
+      × Contains (or_none (fields_of graph v (node decls types table made j))) (k, b) × Class a b
+  needs_too graph v i j k a same has =
+      let one = need_known decls types table made graph v i k a has in
+      let other = class_known i j one.0 one.1 same in
+      let equal = made.same_class i j one.0 other.0 one.1 other.1 same in
+      let numbers = fields_of graph v (node decls types table made i) in
+      let numbers' = fields_of graph v (node decls types table made j) in
+      let types_one = fields_of graph v (shape decls one.0) in
+      let types_other = fields_of graph v (shape decls other.0) in
+      let first = need_matched Is numbers types_one (fields_same decls types table made graph v i
+      one.0 one.1) k a has in
+      let second = lawful.needs graph v one.0 other.0 k first.0 (inl (among i one.0 one.1)) equal
+      first.1 in
+      let third = need_matched (λ t n. Is n t) types_other numbers'
+      (turned_fields Is numbers' types_other (fields_same decls types table made graph v j
+      other.0 other.1)) k second.0 second.1 in
+      (third.0, third.1, made.equal_types a third.0 first.0 second.0 first.2 third.2 second.2)
+
+  mutable_too : (graph : List Obj) (o i j : ℕ) → Class i j → Mutable decls types table made graph o
+      i → Mutable decls types table made graph o j
+  mutable_too graph o i j same may =
+      let one = fit_known decls types table made graph (vals.Ref o) i may.0 in
+      let other = class_known i j one.0 one.1 same in
+      let equal = made.same_class i j one.0 other.0 one.1 other.1 same in
+      mutable_back decls types table made graph o j other.0 other.1
+      (lawful.mutable graph o one.0 other.0 (inl (among i one.0 one.1)) equal
+      (mutable decls types table made graph o i one.0 one.1 may))
+
+  pub table_is_lawful : AreLawful (table_shapes table) Everything
+  table_is_lawful = record {
+    reflexive = λ i any. refl;
+    symmetric = λ i j same. sym same;
+    transitive = λ i j k first second. first ∙ second;
+    closed = λ graph v i k a any has. tt;
+    fits = λ graph v i j any same fit. fits_too graph v i j same fit;
+    needs = λ graph v i j k a any same has. needs_too graph v i j k a same has;
+    mutable = λ graph o i j any same may. mutable_too graph o i j same may;
+  }

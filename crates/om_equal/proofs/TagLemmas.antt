@@ -1,0 +1,136 @@
+-- Tags of heads that agree.
+use Rattle.std.proofs.Common.{ℕ, ◌≡◌, ◌∙◌, ◌⊎◌, ⊎_elim, inl, inr, List, [], ◌∷◌, Bool, true, false}
+use Rattle.std.proofs.Common.{refl, sym, ap, subst}
+use Rattle.std.specs.Prelude.{Contains, filter, cond, not, ◌||◌}
+use Rattle.std.specs.Str.{bytes_eq}
+use Rattle.std.proofs.lemmas.Bool.{false≢true}
+use Rattle.std.proofs.lemmas.Slice.Eq.{bytes_eq-Decides}
+use Rattle.std.proofs.lemmas.List.Elements.{Contains-append_left, Contains-append_right}
+use Rattle.std.proofs.lemmas.List.Elements.{Contains-append_cases}
+use Rattle.om_types.specs.declared.head.TagOf.{TagOf}
+use Rattle.om_types.specs.Ty.{Ty}
+use Rattle.om_types.specs.Head.{has_tag, joined}
+use Rattle.om_types.specs.Equal.{TagsAgree}
+use Rattle.om_model.proofs.Options.{Contains-first, Contains-later, Contains-none}
+use Rattle.om_types.proofs.ListLemmas.{Contains-cases}
+
+-- ---- a filtered list
+
+kept_here : {X : Type 0} (test : Bool) (x : X) (xs : List X) → test ≡ true
+    → Contains (cond test (x ∷ xs) xs) x
+kept_here true x xs passes = Contains-first x xs
+kept_here false x xs passes = absurd (false≢true passes)
+
+kept_later : {X : Type 0} (test : Bool) (x : X) (xs : List X) (y : X) → Contains xs y
+    → Contains (cond test (x ∷ xs) xs) y
+kept_later true x xs y among = Contains-later x xs y among
+kept_later false x xs y among = among
+
+kept_is : {X : Type 0} (test : Bool) (x : X) (xs : List X) (y : X)
+    → Contains (cond test (x ∷ xs) xs) y → ((test ≡ true) × (x ≡ y)) ⊎ Contains xs y
+kept_is true x xs y among =
+    ⊎_elim (λ here. inl (refl, here)) (λ later. inr later) (Contains-cases x xs y among)
+kept_is false x xs y among = inr among
+
+pub Contains-filtered :
+    {X : Type 0} (p : X → Bool) (xs : List X) (x : X) → Contains xs x → p x ≡ true
+    → Contains (filter p xs) x
+Contains-filtered p [] x among passes = absurd (Contains-none x among)
+Contains-filtered p (y ∷ xs) x among passes = ⊎_elim
+    (λ here. subst (λ z. Contains (filter p (y ∷ xs)) z) here
+    (kept_here (p y) y (filter p xs) (ap p here ∙ passes)))
+    (λ later. kept_later (p y) y (filter p xs) x (Contains-filtered p xs x later passes))
+    (Contains-cases y xs x among)
+
+pub filtered-Contains :
+    {X : Type 0} (p : X → Bool) (xs : List X) (x : X) → Contains (filter p xs) x → Contains xs x
+    × (p x ≡ true)
+filtered-Contains p [] x among = absurd (Contains-none x among)
+filtered-Contains p (y ∷ xs) x among = ⊎_elim
+    (λ here. (
+      subst (λ z. Contains (y ∷ xs) z) here.1 (Contains-first y xs),
+      subst (λ z. p z ≡ true)
+          here.1 here.0,
+    ))
+    (λ later. let is = filtered-Contains p xs x later in (Contains-later y xs x is.0, is.1))
+    (kept_is (p y) y (filter p xs) x among)
+
+-- ---- a tag of a name
+
+or_first : (a b : Bool) → a ≡ true → (a || b) ≡ true
+or_first true b is = refl
+or_first false b is = absurd (false≢true is)
+
+or_later : (a b : Bool) → b ≡ true → (a || b) ≡ true
+or_later true b is = refl
+or_later false b is = is
+
+or_is : (a b : Bool) → (a || b) ≡ true → (a ≡ true) ⊎ (b ≡ true)
+or_is true b is = inl refl
+or_is false b is = inr is
+
+pub has_tag-Contains :
+    (tags : List (TagOf Ty)) (name : List ℕ) → has_tag tags name ≡ true → (tag : TagOf Ty)
+    × Contains tags tag × (tag.name ≡ name)
+has_tag-Contains [] name has = absurd (false≢true has)
+has_tag-Contains (tag ∷ tags) name has = ⊎_elim
+    (λ here. (tag, Contains-first tag tags, (bytes_eq-Decides tag.name name).0 here))
+    (λ later. let is = has_tag-Contains tags name later in
+    (is.0, Contains-later tag tags is.0 is.1, is.2))
+    (or_is (bytes_eq tag.name name) (has_tag tags name) has)
+
+pub Contains-has_tag :
+    (tags : List (TagOf Ty)) (tag : TagOf Ty) (name : List ℕ) → Contains tags tag → tag.name ≡ name
+    → has_tag tags name ≡ true
+Contains-has_tag [] tag name among same = absurd (Contains-none tag among)
+Contains-has_tag (first ∷ tags) tag name among same = ⊎_elim
+    (λ here. or_first (bytes_eq first.name name) (has_tag tags name)
+    ((bytes_eq-Decides first.name name).1 (ap (λ (t : TagOf Ty). t.name) here ∙ same)))
+    (λ later. or_later (bytes_eq first.name name) (has_tag tags name)
+    (Contains-has_tag tags tag name later same))
+    (Contains-cases first tags tag among)
+
+pub not_true : (a : Bool) → not a ≡ true → a ≡ true → ⊥
+not_true true never is = false≢true never
+not_true false never is = false≢true is
+
+not_is : (a : Bool) → (a ≡ true → ⊥) → not a ≡ true
+not_is true never = absurd (never refl)
+not_is false never = refl
+
+abbrev pub is_new : List (TagOf Ty) → TagOf Ty → Bool
+is_new tags tag = not (has_tag tags tag.name)
+
+-- ---- tags one after another
+
+module _ (Alike : Ty → Ty → Type 0) where
+  abbrev Found : List (TagOf Ty) → TagOf Ty → Type 0
+  Found others tag = (other : TagOf Ty) × Contains others other × TagsAgree Alike tag other
+
+  -- each tag that is joined has one that agrees, where the names of the first ones are the same
+  pub there_joined :
+      (tags others more more' : List (TagOf Ty)) → ((tag : TagOf Ty) → Contains tags tag
+      → Found others tag) → ((other : TagOf Ty) → Contains others other → (tag : TagOf Ty)
+      × Contains tags tag × (tag.name ≡ other.name)) → ((tag : TagOf Ty) → Contains more tag
+      → Found more' tag)
+      → (tag : TagOf Ty) → Contains (joined tags more) tag → Found (joined others more') tag
+  there_joined tags others more more' first names later tag among = ⊎_elim
+      (λ front. let found = first tag front in (
+        found.0,
+        Contains-append_left others (filter (is_new others) more') found.0 found.1,
+        found.2,
+      ))
+      (λ back.
+      let is = filtered-Contains (is_new tags) more tag back in
+      let found = later tag is.0 in (
+        found.0,
+        Contains-append_right others (filter (is_new others) more') found.0
+            (Contains-filtered (is_new others) more' found.0 found.1
+            (not_is (has_tag others found.0.name) (λ has.
+            let other = has_tag-Contains others found.0.name has in
+            let same = names other.0 other.1 in
+            not_true (has_tag tags tag.name) is.1 (Contains-has_tag tags same.0 tag.name same.1
+            (same.2 ∙ other.2 ∙ sym found.2.0))))),
+        found.2,
+      ))
+      (Contains-append_cases tags (filter (is_new tags) more) tag among)

@@ -1,0 +1,4 @@
+pub mod ClassLaws
+pub mod EqualLaws
+pub mod TableLaws
+pub mod SoundLaws

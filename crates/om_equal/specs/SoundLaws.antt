@@ -1,0 +1,37 @@
+-- What sound types over well-formed declarations reach, and the heads of their instances.
+use Rattle.std.specs.Prelude.{ℕ, ◌≡◌, ◌≢◌, List, Contains, option_map}
+use Rattle.om_types.specs.declared.decl.Decl.{Decl}
+use Rattle.om_types.specs.declared.head.HeadOf.TheVariants as heads
+use Rattle.om_types.specs.Ty.{Ty, instance}
+use Rattle.om_types.specs.Declarations.{unfolded}
+use Rattle.om_types.specs.Head.{head}
+use Rattle.om_types.specs.Accepted.{IsWhole, TakeArguments, IsSoundType, AreWellFormed}
+use Rattle.om_types.specs.Accepted.{AreKnownByHash}
+use Rattle.om_types.specs.Reached.{IsReached}
+use Rattle.om_types.specs.Table.{head_with_parts}
+
+-- each type that a sound type reaches is sound
+abbrev pub ReachedAreSound : Type 0
+ReachedAreSound =
+    (decls : List Decl) (t : Ty) (types : List Ty) → AreWellFormed decls → IsSoundType decls t
+    → IsReached decls t types → (u : Ty) → Contains types u → IsSoundType decls u
+
+-- and its tags are known by their hashes
+abbrev pub ReachedAreKnownByHash : Type 0
+ReachedAreKnownByHash =
+    (decls : List Decl) (t : Ty) (types : List Ty) → AreWellFormed decls → IsSoundType decls t
+    → IsReached decls t types → AreKnownByHash decls types
+
+-- a replacement at the head commutes with an instance
+abbrev pub ReplacementsCommute : Type 0
+ReplacementsCommute =
+    (decls : List Decl) (value : List ℕ → Ty) (t : Ty) → AreWellFormed decls → IsWhole t
+    → TakeArguments decls 0 t
+    → unfolded decls (instance value t) ≡ option_map (instance value) (unfolded decls t)
+
+-- the head of an instance is the instance of the head, where that is no variable
+abbrev pub HeadsCommute : Type 0
+HeadsCommute =
+    (decls : List Decl) (value : List ℕ → Ty) (t : Ty) → AreWellFormed decls → IsSoundType decls t
+    → ((x : List ℕ) → head decls t ≢ heads.Variable x)
+    → head decls (instance value t) ≡ head_with_parts (instance value) (head decls t)

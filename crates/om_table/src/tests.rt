@@ -1,0 +1,8 @@
+use super::*;
+
+// Laws can be called.
+#[test]
+fn laws_are_called() {
+    tables_decide();
+    type_or_fault();
+}
