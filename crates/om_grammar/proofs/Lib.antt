@@ -1,0 +1,14 @@
+pub mod MachineLemmas
+pub mod TableLemmas
+pub mod Stands
+pub mod HolesFronts
+pub mod HolesLead
+pub mod HolesStand
+pub mod AloneTable
+pub mod FileFronts
+pub mod FileLead
+pub mod FileStand
+pub mod FileTable
+pub mod LawLemmas
+pub mod Examples
+pub mod ReachedLemmas
