@@ -1,0 +1,11 @@
+pub mod TypesOfNodes
+pub mod NodeLemmas
+pub mod TypeLemmas
+pub mod WholeLemmas
+pub mod LexemeLemmas
+pub mod TypeReading
+pub mod WrittenLemmas
+pub mod FileLemmas
+pub mod FileEnd
+pub mod StepLemmas
+pub mod FileReading

@@ -1,0 +1,132 @@
+-- The loop over the lexemes of a type.
+use Rattle.std.proofs.Common.{ℕ, zero, suc, ◌≡◌, ◌≤◌, ◌<◌, ◌⊎◌, ◌∙◌, min, Bool, true, false, List, [], ◌∷◌, ◌++◌, length, take, Option, Some, None, refl, sym, ap, subst, arith}
+use Rattle.om_lex.specs.declared.lexeme.LexemeKind.{LexemeKind}
+use Rattle.om_grammar.specs.Grammar.{Kinds, Texpr, single, starred, texpr}
+use Rattle.om_grammar.specs.Depths.{texpr_ends}
+use Rattle.om_grammar.specs.Refusals.{opened, IsTooDeep, IsRefusedAsSyntax}
+use Rattle.om_grammar.specs.Holes.{whole, group, argument, of_tag, first_part, next_part, inclusion, alone, read, step, ended as table_ended, outside}
+use Rattle.om_grammar.specs.Alone.{End, end, Nowhere, TypeState, types, type_start, type_accepted}
+use Rattle.om_grammar.proofs.HolesLead.{type_read}
+use Rattle.om_grammar.proofs.AloneTable.{type_table}
+use Rattle.om_grammar.proofs.ReachedLemmas.{Reached, Moved, reached_first, refused_syntax, refused_end, read_whole, refused_deep, reached_next}
+use Rattle.om_types.specs.Nodes.{type_of, AreOrdered}
+use Rattle.om_parse.proofs.TypesOfNodes.{ordered_none}
+use Rattle.om_types.specs.declared.ty.Node.{Node}
+use Rattle.om_parse.specs.Written.{type_of_texpr}
+use Rattle.om_parse.specs.Parsed.{IsTypeOf}
+use Rattle.om_parse.specs.declared.open.Frame.{Frame}
+use Rattle.om_parse.specs.declared.open.Phase.{Phase}
+use Rattle.om_parse.specs.declared.open.Phase.TheVariants as phases
+use Rattle.om_parse.specs.declared.open.Step.{Step}
+use Rattle.om_parse.specs.declared.open.Step.TheVariants as steps
+use Rattle.om_parse.specs.TypeCode.{StepCode, goes, ended, stops, step_code, depth_code, whole_code, StepIs, WholeIs}
+use Rattle.om_parse.specs.TypeShown.{Bottom, at_type, type_shown}
+use Rattle.om_parse.proofs.TypeLemmas.{Follows, step_follows, depth_follows}
+use Rattle.om_parse.proofs.WholeLemmas.{may_end, Ends, whole_ends}
+
+abbrev bottom : Bottom End Nowhere
+bottom = at_type end
+
+-- what nodes, frames and a phase are
+pub record IsShown (ns : List Node) (fs : List Frame) (phase : Phase) (s : TypeState) : Type 0 where
+  pub shown : type_shown (at_type end) ns fs phase s
+  pub ordered : AreOrdered ns
+
+abbrev pub TypeReached : Kinds → List Node → List Frame → Phase → ℕ → ℕ → Type 0
+TypeReached lexemes ns fs phase count place = Reached type_table lexemes (IsShown ns fs phase) count
+    place
+
+pub type_reached_first : (lexemes : Kinds) → TypeReached lexemes [] [] phases.Due 0 0
+type_reached_first lexemes = reached_first type_table lexemes (IsShown [] [] phases.Due)
+    (record { shown = refl; ordered = ordered_none })
+
+-- the code goes on
+goes_on : (s : TypeState) (kind : LexemeKind) (field : Step) (next : Phase) (ns : List Node)
+    (fs : List Frame) (code : StepCode) → field ≡ steps.Goes next → StepIs field ns fs code →
+    Follows types (at_type end) (step types s kind) kind code →
+    Moved (step types) (IsShown ns fs next) kind s
+goes_on s kind field next ns fs code e i f =
+    let g = subst (λ x. StepIs x ns fs code) e i in
+    let h = subst (λ c. Follows types (at_type end) (step types s kind) kind c) g f in
+    record {
+      next = h.state;
+      moved = h.goes_to;
+      shown =
+          record { shown = h.shown; ordered = h.ordered };
+    }
+
+-- or does not
+stops_here : (s : TypeState) (kind : LexemeKind) (field : Step) (ns : List Node) (fs : List Frame)
+    (code : StepCode) → ((next : Phase) → field ≡ steps.Goes next → ⊥) → StepIs field ns fs code →
+    Follows types (at_type end) (step types s kind) kind code → step types s kind ≡ None
+stops_here s kind (steps.Goes next) ns fs code n i f = absurd (n next refl)
+stops_here s kind steps.Ended ns fs code n i f = let h =
+    subst (λ c. Follows types (at_type end) (step types s kind) kind c) i f in h.0.next_is
+stops_here s kind steps.Stops ns fs code n i f =
+    subst (λ c. Follows types (at_type end) (step types s kind) kind c) i f
+
+none_accepted : (s : TypeState) → may_end s ≡ false → type_accepted s ≡ None
+none_accepted (read (first_part (whole w)) a) h = absurd (cc)
+none_accepted (read (next_part (whole w) t) a) h = absurd (cc)
+none_accepted (read (alone q) a) h = absurd (cc)
+none_accepted (outside q) h = absurd (cc)
+none_accepted s h = refl
+
+all_accepted : (t : Texpr) → type_accepted (type_read (whole end) t) ≡ Some t
+all_accepted (single a) = refl
+all_accepted (starred t a) = refl
+
+module _ {lexemes : Kinds} {ns : List Node} {fs : List Frame} {phase : Phase} {count place : ℕ}
+    (here : TypeReached lexemes ns fs phase count place) where
+  pub type_end_refused : length lexemes ≤ place → whole_code ns fs phase ≡ None →
+      IsRefusedAsSyntax texpr texpr_ends lexemes place
+  type_end_refused h e = refused_end type_table lexemes here h
+      (λ s shown. none_accepted s (subst (Ends bottom s) e
+      (whole_ends bottom s ns fs phase shown.ordered shown.shown)))
+
+  pub type_written : (all : List Node) → whole_code ns fs phase ≡ Some all → AreOrdered all
+  type_written all e = let w = subst (Ends bottom here.state) e (whole_ends bottom here.state ns fs
+      phase here.shown.ordered here.shown.shown) in w.ordered
+
+  pub type_is_read : (all : List Node) → length lexemes ≤ place → whole_code ns fs phase
+      ≡ Some all → IsTypeOf lexemes (type_of all)
+  type_is_read all h e =
+      let found = read_whole type_table lexemes here (λ t. type_of all ≡ type_of_texpr t) h
+      (λ s shown.
+      let w = subst (Ends bottom s) e (whole_ends bottom s ns fs phase shown.ordered
+      shown.shown) in
+      (w.type, ap type_accepted w.state_is ∙ all_accepted w.type, w.type_is)) in
+      record { tree = found.0; reads = found.1; stands = found.2 }
+
+  module _ (kind : LexemeKind) (h : place < length lexemes) (e : take (suc place) lexemes
+      ≡ take place lexemes ++ kind ∷ []) where
+    follows : (s : TypeState) → IsShown ns fs phase s → Follows types (at_type end)
+        (step types s kind) kind (step_code false ns fs phase kind)
+    follows s shown = step_follows types bottom s ns fs phase kind shown.ordered shown.shown
+
+    pub type_syntax : (field : Step) (all : List Node) (frames : List Frame) →
+        ((next : Phase) → field ≡ steps.Goes next → ⊥) →
+        StepIs field all frames (step_code false ns fs phase kind) →
+        IsRefusedAsSyntax texpr texpr_ends lexemes place
+    type_syntax field all frames n i = refused_syntax type_table lexemes here kind h e
+        (λ s shown. stops_here s kind field all frames (step_code false ns fs phase kind) n i
+        (follows s shown))
+
+    module _ (field : Step) (next : Phase) (all : List Node) (frames : List Frame)
+        (g : field ≡ steps.Goes next) (i : StepIs field all frames
+        (step_code false ns fs phase kind)) where
+      moves : (s : TypeState) → IsShown ns fs phase s → Moved (step types) (IsShown all frames next)
+          kind s
+      moves s shown = goes_on s kind field next all frames (step_code false ns fs phase kind) g i
+          (follows s shown)
+
+      pub type_too_deep : (200 < opened kind count) ⊎ (200 < depth_code frames next) →
+          IsTooDeep texpr texpr_ends lexemes place
+      type_too_deep d = refused_deep type_table lexemes here kind h e moves (depth_code frames next)
+          (λ s shown. depth_follows types bottom s all frames next shown.shown) d
+
+      pub type_reached_next : opened kind count ≤ 200 → depth_code frames next ≤ 200 →
+          TypeReached lexemes all frames next (opened kind count) (suc place)
+      type_reached_next few low = reached_next type_table lexemes here kind h e moves
+          (depth_code frames next) (λ s shown. depth_follows types bottom s all frames next
+          shown.shown) few low

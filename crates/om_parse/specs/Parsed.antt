@@ -1,0 +1,36 @@
+-- What is answered about lexemes.
+use Rattle.std.specs.Prelude.{ℕ, ◌≡◌, List, map, ⊤, unwrap_or, option_map, slice_get}
+use Rattle.om_lex.specs.declared.lexeme.Lexeme.{Lexeme}
+use Rattle.om_grammar.specs.Grammar.{Kinds, Texpr, texpr, FileTree, file_kinds}
+use Rattle.om_grammar.specs.Depths.{texpr_ends, file_ends}
+use Rattle.om_grammar.specs.Refusals.{IsText, syntax_at, too_deep_at, IsReading}
+use Rattle.om_types.specs.Ty.{Ty}
+use Rattle.om_parse.specs.Written.{type_of_texpr, declarations_of}
+use Rattle.om_types.specs.declared.decl.Decl.{Decl}
+use Rattle.om_parse.specs.declared.refused.Fault.{Fault}
+use Rattle.om_parse.specs.declared.refused.Fault.TheVariants as faults
+
+abbrev pub kinds_of : List Lexeme → Kinds
+kinds_of lexemes = map (λ (l : Lexeme). l.kind) lexemes
+
+-- the fault that the grammar's reading tells
+abbrev pub IsFault : {Text : Type 0} → (Text → Kinds) → (Text → List ℕ) → Kinds → Fault → Type 0
+IsFault spelled ends lexemes (faults.Syntax k) = IsReading spelled ends lexemes (syntax_at k)
+IsFault spelled ends lexemes (faults.TooDeep k) = IsReading spelled ends lexemes (too_deep_at k)
+IsFault spelled ends lexemes faults.Memory = ⊤
+
+-- the lexemes are a type that is nowhere too deep, and stands for this one
+pub record IsTypeOf (lexemes : Kinds) (t : Ty) : Type 0 where
+  pub tree : Texpr
+  pub reads : IsText texpr texpr_ends lexemes tree
+  pub stands : t ≡ type_of_texpr tree
+
+-- the lexemes are a file in which nothing is too deep, and stand for these declarations
+pub record AreDeclarationsOf (lexemes : Kinds) (all : List Decl) : Type 0 where
+  pub tree : FileTree
+  pub reads : IsText file_kinds file_ends lexemes tree
+  pub stand : all ≡ declarations_of tree
+
+-- where lexeme k begins in a text of so many bytes; what comes after the last lexeme is its end
+abbrev pub byte_of : List Lexeme → ℕ → ℕ → ℕ
+byte_of lexemes end k = unwrap_or (option_map (λ (l : Lexeme). l.span.first) (slice_get lexemes k)) end

@@ -1,0 +1,139 @@
+//! The end of a file.
+
+ghost use Rattle.std.specs.Prelude.{◌≡◌, IfOk};
+ghost use Rattle.om_parse.specs.declared.so_far.FilePhase.TheVariants as files;
+ghost use Rattle.om_parse.specs.declared.so_far.FilePhase.{FilePhase as APhase};
+ghost use Rattle.om_parse.specs.TypeCode.{whole_code};
+ghost use Rattle.om_parse.specs.FileCode.{more_decls, decl_code, closed_constr_code, closed_record_code, closed_type_code, in_type_whole, file_whole_code};
+ghost use Rattle.om_parse.specs.FileShown.{IsReadable};
+
+use crate::file_step::with_decl;
+use crate::open::Phase;
+use crate::so_far::{Around, Constructors, Declared, Fields, FilePhase, RecordOf};
+use crate::stack::Stack;
+use crate::told::whole;
+use om_model::Memory;
+use om_model::list::List;
+use om_types::decl::{Arguments, Body, Constructor, Decl};
+use om_types::ty::{Node, Ty};
+
+/// The declarations with this body.
+fn closed_body(declared: Declared, body: Body) -> Result<List<Decl>, Memory>
+    ensures { IfOk result (λ all. all ≡ more_decls declared.group (decl_code declared body)) }
+{
+    let Declared {
+        group,
+        parameters,
+        name,
+    } = declared;
+    let number = group.group;
+    with_decl(
+        group.decls,
+        Decl {
+            name,
+            parameters,
+            body,
+            group: number,
+        },
+    )
+}
+
+/// The declarations with this last constructor.
+fn closed_constr(constructors: Constructors, constructor: Constructor) -> Result<List<Decl>, Memory>
+    ensures { IfOk result (λ all. all ≡ closed_constr_code constructors constructor) }
+{
+    let Constructors {
+        declared,
+        mut constructors,
+    } = constructors;
+    constructors.push(constructor)?;
+    closed_body(declared, Body::Variant(constructors))
+}
+
+/// The declarations with this record.
+fn closed_record(fields: Fields) -> Result<List<Decl>, Memory>
+    ensures { IfOk result (λ all. all ≡ closed_record_code fields.place fields.fields) }
+{
+    let Fields { place, fields } = fields;
+    match place {
+        RecordOf::Body(declared) => closed_body(declared, Body::Record(fields)),
+        RecordOf::Inline(constructors, name) => closed_constr(
+            constructors,
+            Constructor {
+                name,
+                arguments: Arguments::Inline(fields),
+            },
+        ),
+    }
+}
+
+/// The declarations with this last type, unless a record is open.
+fn closed_type(around: Around, ty: Ty) -> Result<Option<List<Decl>>, Memory>
+    ensures { IfOk result (λ all. all ≡ closed_type_code around ty) }
+{
+    match around {
+        Around::Body(declared) => Ok(Some(closed_body(declared, Body::Abbreviation(ty))?)),
+        Around::Argument(constructors, name, mut types) => {
+            types.push(ty)?;
+            let constructor = Constructor {
+                name,
+                arguments: Arguments::Listed(types),
+            };
+            Ok(Some(closed_constr(constructors, constructor)?))
+        }
+        Around::Field(fields, _, _) => {
+            drop(fields);
+            Ok(None)
+        }
+    }
+}
+
+/// The declarations with the type that is being read, if it may end here.
+fn closed_in_type(
+    mut nodes: Vec<Node>,
+    mut frames: Stack,
+    around: Around,
+    phase: Phase,
+) -> Result<Option<List<Decl>>, Memory>
+    requires { IsReadable nodes.items frames (files.InType around phase) }
+    ensures { IfOk result (λ all. all ≡ in_type_whole around (whole_code nodes.items frames phase)) }
+{
+    match whole(&mut nodes, &mut frames, phase) {
+        Ok(true) => closed_type(around, Ty::of(nodes)),
+        Ok(false) => {
+            drop(around);
+            Ok(None)
+        }
+        Err(Memory) => {
+            drop(around);
+            Err(Memory)
+        }
+    }
+}
+
+/// The declarations of the file, if it may end here.
+pub fn file_whole(
+    nodes: Vec<Node>,
+    frames: Stack,
+    phase: FilePhase,
+) -> Result<Option<List<Decl>>, Memory>
+    requires { IsReadable nodes.items frames phase }
+    ensures { IfOk result (λ all. all ≡ file_whole_code nodes.items frames phase) }
+{
+    match phase {
+        FilePhase::FileDue(decls) => Ok(Some(decls)),
+        FilePhase::UpperRead(constructors, name) => {
+            let constructor = Constructor {
+                name,
+                arguments: Arguments::Constant,
+            };
+            Ok(Some(closed_constr(constructors, constructor)?))
+        }
+        FilePhase::RecordRead(fields) => Ok(Some(closed_record(fields)?)),
+        FilePhase::InType(around, phase) => closed_in_type(nodes, frames, around, phase),
+        other => {
+            drop(other);
+            Ok(None)
+        }
+    }
+}

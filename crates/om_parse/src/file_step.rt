@@ -1,0 +1,376 @@
+//! One lexeme of a file, outside of types.
+
+ghost use Rattle.std.specs.Prelude.{◌≡◌, ◌++◌, ◌∷◌, [], length, IfOk};
+ghost use Rattle.om_parse.specs.FileCode.{more_decls, decl_code, after_decl_code, after_constr_code, after_record_code, after_field_code, listed_code, after_type_code, begin_file_code, begin_decl_code, take_param_code, after_param_code, take_decl_name_code, take_equals_code, take_upper_code, after_upper_code, close_record_code, begin_field_code, take_field_name_code, take_colon_code};
+
+use crate::names::copied;
+use crate::open::Phase;
+use crate::so_far::{Around, Constructors, Declared, Fields, FilePhase, Group, RecordOf};
+use om_lex::lexeme::{Keyword, LexemeKind, Symbol};
+use om_model::Memory;
+use om_model::list::List;
+use om_types::decl::{Arguments, Body, Constructor, Decl, Field};
+use om_types::ty::Ty;
+use std::alloc::Global;
+
+/// The declarations with one more.
+pub fn with_decl(mut decls: List<Decl>, decl: Decl) -> Result<List<Decl>, Memory>
+    ensures { IfOk result (λ all. all ≡ decls ++ decl ∷ []) }
+{
+    decls.push(decl)?;
+    Ok(decls)
+}
+
+/// The group that begins after these declarations.
+fn group_after(decls: List<Decl>) -> Group
+    ensures { result ≡ record { decls = decls; group = length decls } }
+{
+    let group = decls.len();
+    Group { decls, group }
+}
+
+/// What comes after a declaration.
+fn after_decl(group: Group, decl: Decl, kind: &LexemeKind) -> Result<Option<FilePhase>, Memory>
+    ensures { IfOk result (λ phase. phase ≡ after_decl_code group decl kind.now) }
+{
+    let Group { decls, group } = group;
+    let decls = with_decl(decls, decl)?;
+    match kind {
+        LexemeKind::Keyword(Keyword::And) => Ok(Some(FilePhase::DeclDue(Group { decls, group }))),
+        LexemeKind::Keyword(Keyword::Type) => Ok(Some(FilePhase::DeclDue(group_after(decls)))),
+        LexemeKind::Symbol(Symbol::DoubleSemicolon) => Ok(Some(FilePhase::FileDue(decls))),
+        _ => Ok(None),
+    }
+}
+
+/// What comes after a body.
+fn after_body(
+    declared: Declared,
+    body: Body,
+    kind: &LexemeKind,
+) -> Result<Option<FilePhase>, Memory>
+    ensures { IfOk result (λ phase. phase ≡ after_decl_code declared.group (decl_code declared body) kind.now) }
+{
+    let Declared {
+        group,
+        parameters,
+        name,
+    } = declared;
+    let number = group.group;
+    after_decl(
+        group,
+        Decl {
+            name,
+            parameters,
+            body,
+            group: number,
+        },
+        kind,
+    )
+}
+
+/// What comes after a constructor.
+fn after_constr(
+    constructors: Constructors,
+    constructor: Constructor,
+    kind: &LexemeKind,
+) -> Result<Option<FilePhase>, Memory>
+    ensures { IfOk result (λ phase. phase ≡ after_constr_code constructors constructor kind.now) }
+{
+    let Constructors {
+        declared,
+        mut constructors,
+    } = constructors;
+    constructors.push(constructor)?;
+    match kind {
+        LexemeKind::Symbol(Symbol::Bar) => Ok(Some(FilePhase::ConstrDue(Constructors {
+            declared,
+            constructors,
+        }))),
+        _ => after_body(declared, Body::Variant(constructors), kind),
+    }
+}
+
+/// What comes after a record.
+pub fn after_record(fields: Fields, kind: &LexemeKind) -> Result<Option<FilePhase>, Memory>
+    ensures { IfOk result (λ phase. phase ≡ after_record_code fields.place fields.fields kind.now) }
+{
+    let Fields { place, fields } = fields;
+    match place {
+        RecordOf::Body(declared) => after_body(declared, Body::Record(fields), kind),
+        RecordOf::Inline(constructors, name) => after_constr(
+            constructors,
+            Constructor {
+                name,
+                arguments: Arguments::Inline(fields),
+            },
+            kind,
+        ),
+    }
+}
+
+/// What comes after a field.
+fn after_field(fields: Fields, field: Field, kind: &LexemeKind) -> Result<Option<FilePhase>, Memory>
+    ensures { IfOk result (λ phase. phase ≡ after_field_code fields field kind.now) }
+{
+    let Fields { place, mut fields } = fields;
+    fields.push(field)?;
+    match kind {
+        LexemeKind::Symbol(Symbol::Semicolon) => Ok(Some(FilePhase::FieldDue(Fields {
+            place,
+            fields,
+        }))),
+        LexemeKind::Symbol(Symbol::CloseBrace) => Ok(Some(FilePhase::RecordRead(Fields {
+            place,
+            fields,
+        }))),
+        _ => Ok(None),
+    }
+}
+
+/// What comes after arguments of a constructor.
+fn after_argument(
+    constructors: Constructors,
+    name: List<u8>,
+    types: List<Ty>,
+    kind: &LexemeKind,
+) -> Result<Option<FilePhase>, Memory>
+    ensures { IfOk result (λ phase. phase ≡ listed_code constructors name types kind.now) }
+{
+    match kind {
+        LexemeKind::Symbol(Symbol::Star) => Ok(Some(FilePhase::InType(
+            Around::Argument(constructors, name, types),
+            Phase::Due,
+        ))),
+        _ => after_constr(
+            constructors,
+            Constructor {
+                name,
+                arguments: Arguments::Listed(types),
+            },
+            kind,
+        ),
+    }
+}
+
+/// What comes after a whole type.
+pub fn after_type(around: Around, ty: Ty, kind: &LexemeKind) -> Result<Option<FilePhase>, Memory>
+    ensures { IfOk result (λ phase. phase ≡ after_type_code around ty kind.now) }
+{
+    match around {
+        Around::Body(declared) => after_body(declared, Body::Abbreviation(ty), kind),
+        Around::Field(fields, mutable, name) => after_field(
+            fields,
+            Field { name, mutable, ty },
+            kind,
+        ),
+        Around::Argument(constructors, name, mut types) => {
+            types.push(ty)?;
+            after_argument(constructors, name, types, kind)
+        }
+    }
+}
+
+/// A group may begin.
+pub fn begin_file(decls: List<Decl>, kind: &LexemeKind) -> Option<FilePhase>
+    ensures { result ≡ begin_file_code decls kind.now }
+{
+    match kind {
+        LexemeKind::Keyword(Keyword::Type) => Some(FilePhase::DeclDue(group_after(decls))),
+        _ => None,
+    }
+}
+
+/// One name.
+fn one(alloc: Global, name: &List<u8>) -> Result<List<List<u8>>, Memory>
+    ensures { IfOk result (λ all. all ≡ name.now ∷ []) }
+{
+    let mut names = List::new(alloc);
+    names.push(copied(alloc, name)?)?;
+    Ok(names)
+}
+
+/// A declaration begins.
+pub fn begin_decl(
+    alloc: Global,
+    group: Group,
+    kind: &LexemeKind,
+) -> Result<Option<FilePhase>, Memory>
+    ensures { IfOk result (λ phase. phase ≡ begin_decl_code group kind.now) }
+{
+    match kind {
+        LexemeKind::Variable(name) => Ok(Some(FilePhase::ParamsRead(group, one(alloc, name)?))),
+        LexemeKind::Symbol(Symbol::OpenParen) => Ok(Some(FilePhase::ParamDue(
+            group,
+            List::new(alloc),
+        ))),
+        LexemeKind::Lower(name) => Ok(Some(FilePhase::NameRead(Declared {
+            group,
+            parameters: List::new(alloc),
+            name: copied(alloc, name)?,
+        }))),
+        _ => Ok(None),
+    }
+}
+
+/// A parameter in parentheses.
+pub fn take_param(
+    alloc: Global,
+    group: Group,
+    mut parameters: List<List<u8>>,
+    kind: &LexemeKind,
+) -> Result<Option<FilePhase>, Memory>
+    ensures { IfOk result (λ phase. phase ≡ take_param_code group parameters kind.now) }
+{
+    match kind {
+        LexemeKind::Variable(name) => {
+            parameters.push(copied(alloc, name)?)?;
+            Ok(Some(FilePhase::ParamRead(group, parameters)))
+        }
+        _ => Ok(None),
+    }
+}
+
+/// What comes after a parameter in parentheses.
+pub fn after_param(group: Group, parameters: List<List<u8>>, kind: &LexemeKind) -> Option<FilePhase>
+    ensures { result ≡ after_param_code group parameters kind.now }
+{
+    match kind {
+        LexemeKind::Symbol(Symbol::Comma) => Some(FilePhase::ParamDue(group, parameters)),
+        LexemeKind::Symbol(Symbol::CloseParen) => Some(FilePhase::ParamsRead(group, parameters)),
+        _ => None,
+    }
+}
+
+/// The name of a declaration with parameters.
+pub fn take_decl_name(
+    alloc: Global,
+    group: Group,
+    parameters: List<List<u8>>,
+    kind: &LexemeKind,
+) -> Result<Option<FilePhase>, Memory>
+    ensures { IfOk result (λ phase. phase ≡ take_decl_name_code group parameters kind.now) }
+{
+    match kind {
+        LexemeKind::Lower(name) => Ok(Some(FilePhase::NameRead(Declared {
+            group,
+            parameters,
+            name: copied(alloc, name)?,
+        }))),
+        _ => Ok(None),
+    }
+}
+
+/// The sign after a declaration's name.
+pub fn take_equals(declared: Declared, kind: &LexemeKind) -> Option<FilePhase>
+    ensures { result ≡ take_equals_code declared kind.now }
+{
+    match kind {
+        LexemeKind::Symbol(Symbol::Equals) => Some(FilePhase::BodyDue(declared)),
+        _ => None,
+    }
+}
+
+/// The name of a constructor, after a bar.
+pub fn take_upper(
+    alloc: Global,
+    constructors: Constructors,
+    kind: &LexemeKind,
+) -> Result<Option<FilePhase>, Memory>
+    ensures { IfOk result (λ phase. phase ≡ take_upper_code constructors kind.now) }
+{
+    match kind {
+        LexemeKind::Upper(name) => Ok(Some(FilePhase::UpperRead(
+            constructors,
+            copied(alloc, name)?,
+        ))),
+        _ => Ok(None),
+    }
+}
+
+/// What comes after the name of a constructor.
+pub fn after_upper(
+    constructors: Constructors,
+    name: List<u8>,
+    kind: &LexemeKind,
+) -> Result<Option<FilePhase>, Memory>
+    ensures { IfOk result (λ phase. phase ≡ after_upper_code constructors name kind.now) }
+{
+    match kind {
+        LexemeKind::Keyword(Keyword::Of) => Ok(Some(FilePhase::OfRead(constructors, name))),
+        _ => after_constr(
+            constructors,
+            Constructor {
+                name,
+                arguments: Arguments::Constant,
+            },
+            kind,
+        ),
+    }
+}
+
+/// A field begins, or a record ends after a semicolon.
+pub fn begin_field(
+    alloc: Global,
+    fields: Fields,
+    kind: &LexemeKind,
+) -> Result<Option<FilePhase>, Memory>
+    ensures { IfOk result (λ phase. phase ≡ begin_field_code fields kind.now) }
+{
+    match kind {
+        LexemeKind::Keyword(Keyword::Mutable) => Ok(Some(FilePhase::MutableRead(fields))),
+        LexemeKind::Lower(name) => Ok(Some(FilePhase::FieldNamed(
+            fields,
+            false,
+            copied(alloc, name)?,
+        ))),
+        LexemeKind::Symbol(Symbol::CloseBrace) => Ok(close_record(fields)),
+        _ => Ok(None),
+    }
+}
+
+/// The brace after a semicolon.
+fn close_record(fields: Fields) -> Option<FilePhase>
+    ensures { result ≡ close_record_code fields fields.fields }
+{
+    match fields.fields.as_slice() {
+        [] => None,
+        _ => Some(FilePhase::RecordRead(fields)),
+    }
+}
+
+/// The name of a field that may be changed.
+pub fn take_field_name(
+    alloc: Global,
+    fields: Fields,
+    kind: &LexemeKind,
+) -> Result<Option<FilePhase>, Memory>
+    ensures { IfOk result (λ phase. phase ≡ take_field_name_code fields kind.now) }
+{
+    match kind {
+        LexemeKind::Lower(name) => Ok(Some(FilePhase::FieldNamed(
+            fields,
+            true,
+            copied(alloc, name)?,
+        ))),
+        _ => Ok(None),
+    }
+}
+
+/// The sign after a field's name.
+pub fn take_colon(
+    fields: Fields,
+    mutable: bool,
+    name: List<u8>,
+    kind: &LexemeKind,
+) -> Option<FilePhase>
+    ensures { result ≡ take_colon_code fields mutable name kind.now }
+{
+    match kind {
+        LexemeKind::Symbol(Symbol::Colon) => Some(FilePhase::InType(
+            Around::Field(fields, mutable, name),
+            Phase::Due,
+        )),
+        _ => None,
+    }
+}

@@ -1,0 +1,14 @@
+//! Names of one's own.
+
+ghost use Rattle.std.specs.Prelude.{◌≡◌, IfOk};
+
+use om_model::Memory;
+use om_model::list::List;
+use std::alloc::Global;
+
+/// A name of its own.
+pub fn copied(alloc: Global, name: &List<u8>) -> Result<List<u8>, Memory>
+    ensures { IfOk result (λ own. own ≡ name.now) }
+{
+    Ok(List::of(Vec::from_slice(alloc, name.as_slice())?))
+}

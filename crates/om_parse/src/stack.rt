@@ -1,0 +1,56 @@
+//! What is open, the innermost first.
+
+ghost use Rattle.std.specs.Prelude.{◌≡◌, List, [], ◌∷◌, reverse, IfOk, Option, Some, None};
+ghost use Rattle.om_parse.specs.declared.open.Frame.{Frame};
+ghost use Rattle.std.specs.Option.{option_copied};
+ghost use Rattle.om_parse.specs.Popped.{Popped, first};
+
+use crate::open::Frame;
+use om_model::Memory;
+use std::alloc::Global;
+use std::marker::Model;
+
+/// The frames that are open, the innermost last in memory.
+#[derive(Drop)]
+pub struct Stack {
+    items: Vec<Frame>,
+}
+
+impl Model for Stack {
+    ghost use Rattle.std.specs.Prelude.{List, reverse};
+    ghost use Rattle.om_parse.specs.declared.open.Frame.{Frame};
+
+    ghost Value = { List Frame };
+
+    ghost view = { λ s. reverse s.items.items };
+}
+
+impl Stack {
+    pub fn new(alloc: Global) -> Stack
+        ensures { result ≡ [] }
+    {
+        Stack {
+            items: Vec::new(alloc),
+        }
+    }
+
+    pub fn push(&mut self, frame: Frame) -> Result<(), Memory>
+        ensures { IfOk result (λ _. self.new ≡ frame ∷ self.old) }
+    {
+        self.items.push(frame)?;
+        Ok(())
+    }
+
+    pub fn pop(&mut self) -> Option<Frame>
+        ensures { Popped self.old self.new result }
+    {
+        self.items.pop()
+    }
+
+    /// The innermost frame.
+    pub fn top(&self) -> Option<&Frame>
+        ensures { option_copied result ≡ first self.now }
+    {
+        self.items.last()
+    }
+}

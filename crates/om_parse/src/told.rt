@@ -1,0 +1,76 @@
+//! What is told of a type that is being read.
+
+ghost use Rattle.std.specs.Prelude.{◌≡◌, ◌≤◌, ◌<◌, ◌++◌, ◌∷◌, [], suc, length, take};
+ghost use Rattle.om_parse.specs.Parsed.{kinds_of};
+ghost use Rattle.om_grammar.specs.Refusals.{opened};
+ghost use Rattle.om_parse.specs.TypeCode.{part_depth_code, depth_code, whole_code, Finds};
+
+use crate::open::{Frame, Part, Phase};
+use crate::stack::Stack;
+use crate::type_step::{add, deeper, deepest};
+use om_lex::lexeme::{Lexeme, LexemeKind, Symbol};
+use om_model::Memory;
+use om_types::ty::Node;
+
+/// What a lexeme is.
+pub fn kind_at(lexemes: &[Lexeme], place: usize) -> &LexemeKind
+    requires { place < length lexemes.now }
+    ensures { take (suc place) (kinds_of lexemes.now) ≡ take place (kinds_of lexemes.now) ++ result.now ∷ [] }
+{
+    let lexeme = &lexemes[place];
+    &lexeme.kind
+}
+
+/// How many brackets are open after a lexeme.
+pub fn opened(kind: &LexemeKind, brackets: usize) -> usize
+    requires { brackets ≤ 200 }
+    ensures { result ≡ opened kind.now brackets }
+{
+    match kind {
+        LexemeKind::Symbol(Symbol::OpenParen | Symbol::OpenBracket | Symbol::OpenBrace) => brackets
+            + 1,
+        LexemeKind::Symbol(Symbol::CloseParen | Symbol::CloseBracket | Symbol::CloseBrace) =>
+            brackets.saturating_sub(1),
+        _ => brackets,
+    }
+}
+
+/// The depth of the deepest type that ends with this component.
+fn part_depth(frames: &Stack, component: &Part) -> usize
+    ensures { result ≡ part_depth_code frames.now component.now }
+{
+    match frames.top() {
+        Some(Frame::Component(tuple)) => deeper(deepest(tuple.depth, component.depth)),
+        _ => component.depth,
+    }
+}
+
+/// The depth of the deepest type that ends at the last lexeme, up to 201.
+pub fn depth(frames: &Stack, phase: &Phase) -> usize
+    ensures { result ≡ depth_code frames.now phase.now }
+{
+    match phase {
+        Phase::Read(component) => part_depth(frames, component),
+        _ => 0,
+    }
+}
+
+/// Whether all is closed. Then the last node is the whole type.
+pub fn whole(nodes: &mut Vec<Node>, frames: &mut Stack, phase: Phase) -> Result<bool, Memory>
+    ensures { Finds result nodes.new.items (whole_code nodes.old.items frames.old phase) }
+{
+    let Phase::Read(component) = phase else {
+        return Ok(false);
+    };
+    match frames.pop() {
+        None => Ok(true),
+        Some(Frame::Component(tuple)) => match frames.pop() {
+            None => {
+                add(nodes, Node::Part(tuple.node, component.node))?;
+                Ok(true)
+            }
+            Some(_) => Ok(false),
+        },
+        Some(_) => Ok(false),
+    }
+}
