@@ -2,16 +2,19 @@
 #![tactic(auto)]
 
 ghost use Rattle.std.specs.Prelude.{◌≡◌, ◌<◌, IfOk};
-ghost use Rattle.om_model.specs.Code.{kind_of};
-ghost use Rattle.om_codes.specs.Bounds.{IsBounded};
+ghost use Rattle.om_format.specs.Code.{kind_of, IsKind};
+
+mod spell;
 
 pub use om_model::code::{CodeFault, CodeKind};
+pub use spell::{spell_block, spell_double_array_len, spell_int, spell_shared, spell_string_len};
 
 /// The kind of the token that the code begins, or why it begins none (`intext.h`).
-#[tactic(auto, unfolding(om_model::specs::Code::kind_of))]
+#[tactic(auto, unfolding(om_format::specs::Code::kind_of))]
 pub fn code_kind(code: u8) -> Result<CodeKind, CodeFault>
     ensures kind { result ≡ kind_of code }
-    ensures bounded { IfOk result IsBounded }
+    // The numbers that it carries have the bits that the code leaves them, and a width is from one byte to eight.
+    ensures known { IfOk result IsKind }
 {
     match code {
         0x80.. => Ok(CodeKind::SmallBlock(code % 16, code / 16 % 8)),
@@ -22,7 +25,7 @@ pub fn code_kind(code: u8) -> Result<CodeKind, CodeFault>
 }
 
 // A code that carries no number.
-#[tactic(auto, unfolding(om_model::specs::Code::kind_of))]
+#[tactic(auto, unfolding(om_format::specs::Code::kind_of))]
 fn large_kind(code: u8) -> Result<CodeKind, CodeFault>
     requires { code < 32 }
     ensures { result ≡ kind_of code }

@@ -3,7 +3,7 @@ use Rattle.std.specs.Prelude.{ℕ, ◌+◌, ◌-◌, ◌<◌, ◌≤◌, ◌≡�
 use Rattle.om_customs.specs.declared.NativeStep.{NativeStep}
 use Rattle.om_customs.specs.declared.NativeStep.TheVariants.{More, Value, BadNative}
 use Rattle.om_model.specs.Bytes.{signed}
-use Rattle.om_model.specs.Code.{native_bytes}
+use Rattle.om_format.specs.Code.{native_bytes}
 
 -- the number of the first n bytes, or how many are missing to its end
 abbrev pub number_step : ℕ → List ℕ → NativeStep

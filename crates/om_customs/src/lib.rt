@@ -1,17 +1,20 @@
 //! The customs that are read: `Int32`, `Int64` and `Nativeint` (`ints.c`).
 #![tactic(auto)]
 
-ghost use Rattle.std.specs.Prelude.{◌≡◌, ◌≤◌, length};
-ghost use Rattle.om_model.specs.Code.{custom_of};
+ghost use Rattle.std.specs.Prelude.{◌≡◌, ◌≤◌};
+ghost use Rattle.om_format.specs.Code.{custom_of};
 ghost use Rattle.om_customs.specs.Data.{number_step, native_step, IsStep};
+
+mod spelling;
 
 use om_model::bytes::signed;
 pub use om_model::code::{Custom, CustomKind};
+pub use spelling::spell;
 
 /// What the first bytes of a `Nativeint`'s data say: that more of them are missing, or which number it is.
 #[derive(Clone, Copy, Debug, PartialEq, Eq)]
 pub enum NativeStep {
-    /// How many bytes are missing to the kind byte's end, or behind it to the number's.
+    /// How many bytes are missing to the kind byte's end, or after it to the number's.
     More(usize),
     /// The number.
     Value(i64),
@@ -20,7 +23,7 @@ pub enum NativeStep {
 }
 
 /// The custom of this identifier, where it is one that is read (`ints.c`).
-#[tactic(auto, unfolding(om_model::specs::Code::custom_of))]
+#[tactic(auto, unfolding(om_format::specs::Code::custom_of))]
 pub fn ident(bytes: [u8; 3]) -> Option<CustomKind>
     ensures { result ≡ custom_of bytes }
 {

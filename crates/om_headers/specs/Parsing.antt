@@ -4,7 +4,7 @@ use Rattle.om_headers.specs.declared.HeaderStep.{HeaderStep}
 use Rattle.om_headers.specs.declared.HeaderStep.TheVariants as steps
 use Rattle.om_headers.specs.declared.HeadFault.{HeadFault}
 use Rattle.om_headers.specs.declared.HeadFault.TheVariants as faults
-use Rattle.om_model.specs.Header.{magic, small_magic, big_magic, compressed_magic, header_length, head_of}
+use Rattle.om_format.specs.Header.{magic, small_magic, big_magic, compressed_magic, header_length, head_of}
 
 -- what the header states, or how many bytes are missing to its end
 abbrev pub rest_step : List ℕ → HeaderStep

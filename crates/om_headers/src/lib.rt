@@ -2,14 +2,16 @@
 #![tactic(auto)]
 
 ghost use Rattle.std.specs.Prelude.{◌≡◌, ◌≤◌, length, MatchResult};
-ghost use Rattle.om_model.specs.Header.{small_head, big_head};
+ghost use Rattle.om_format.specs.Header.{small_head, big_head};
 ghost use Rattle.om_headers.specs.Parsing.{header_step, IsStep, IsFault};
 
+mod spelling;
 mod words;
 
 use om_model::bytes::big_endian;
 pub use om_model::code::Measure;
 pub use om_model::header::Head;
+pub use spelling::spell;
 pub use words::words_of;
 
 const SMALL_MAGIC: u32 = 0x8495_a6be;
@@ -25,7 +27,7 @@ const BIG_LENGTH: usize = 32;
 /// What the first bytes of a value say of its header: that more of them are missing, or what it states.
 #[derive(Clone, Copy, Debug, PartialEq, Eq)]
 pub enum HeaderStep {
-    /// How many bytes are missing to the magic's end, or behind it to the header's.
+    /// How many bytes are missing to the magic's end, or after it to the header's.
     More(usize),
     /// The header is whole.
     Head(Head),
@@ -41,7 +43,7 @@ pub enum HeadFault {
 }
 
 /// The step that the first bytes of a value decide (`intern.c`). Bytes may follow the header.
-#[tactic(auto, unfolding(om_model::specs::Header::head_of))]
+#[tactic(auto, unfolding(om_format::specs::Header::head_of))]
 pub fn parse(bytes: &[u8]) -> Result<HeaderStep, HeadFault>
     ensures step { result ≡ header_step bytes.now }
     ensures says { MatchResult result (IsStep bytes.now) (IsFault bytes.now) }

@@ -1,7 +1,7 @@
 //! The words of objects.
 
 ghost use Rattle.std.specs.Prelude.{◌≡◌};
-ghost use Rattle.om_model.specs.Words.{words32, words64};
+ghost use Rattle.om_format.specs.Words.{words32, words64};
 ghost use Rattle.om_headers.specs.Counting.{IsCountable};
 
 use om_model::code::Measure;

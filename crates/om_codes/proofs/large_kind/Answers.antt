@@ -1,16 +1,6 @@
-use Rattle.std.proofs.Common.{◌≡◌, ℕ, ◌<◌, ◌≤◌, Err, sym, arith}
-use Rattle.std.proofs.lemmas.Bool.Decides.{nat_tests}
-use Rattle.std.proofs.lemmas.List.{get_or_past}
-use Rattle.om_model.specs.declared.code.CodeFault.TheVariants.{BadCode}
-use Rattle.om_model.specs.Code.{kind_of, large_kinds}
+use Rattle.std.proofs.Common.{sym, arith}
+use Rattle.om_format.proofs.KindLemmas.{past_the_table}
 use Rattle.om_codes.proofs.large_kind.Goals as goal
-
--- the table ends at 26
-past_the_table : (code : ℕ) → 26 ≤ code → code < 32 → kind_of code ≡ Err BadCode
-unfolding kind_of
-past_the_table code past below =
-    let e = get_or_past large_kinds code (Err BadCode) past in
-    grind (arith, nat_tests, e)
 
 pub returns-in-26-to-255 : goal.returns-in-26-to-255
 returns-in-26-to-255 c = sym (past_the_table c.args.code (omega arith) (omega arith))

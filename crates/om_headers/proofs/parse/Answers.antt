@@ -1,4 +1,4 @@
-use Rattle.std.proofs.Common.{take, length, ◌<◌, arith}
+use Rattle.std.proofs.Common.{take, ◌<◌, arith}
 use Rattle.std.proofs.lemmas.List.{length-take}
 use Rattle.std.proofs.lemmas.List.Elements.{All-take}
 use Rattle.om_model.proofs.Numbers.{are_bytes, number_fits}

@@ -1,0 +1,175 @@
+-- What lists have, and lists that are alike place by place.
+use Rattle.std.proofs.Common.{ℕ, zero, suc, ◌≡◌, ◌≢◌, ◌+◌, ◌<◌, ◌∙◌, ◌⊎◌, ⊎_elim, inl, inr, Bool, true, false, cond, eqb, eqb-true, List, [], ◌∷◌, ◌++◌, length, Option, Some, None, refl, sym, ap, subst, arith}
+use Rattle.std.proofs.lemmas.Bool.{cases_Bool, eqb-false}
+use Rattle.std.proofs.lemmas.Option.{slice_get_within, get_or_from_slice_get, same_Some, none-some}
+use Rattle.std.specs.Prelude.{slice_get, map, flat_map, Contains, IsSomeAnd}
+use Rattle.std.specs.List.{AllZip}
+use Rattle.std.proofs.lemmas.List.Elements.{Contains-append_left, Contains-append_right, Contains-append_cases}
+
+-- ---- options
+
+pub IsSomeAnd-some : {A : Type 0} (o : Option A) (P : A → Type 0) → IsSomeAnd o P → (x : A) × (o ≡ Some x) × P x
+IsSomeAnd-some None P holds = absurd holds
+IsSomeAnd-some (Some x) P holds = (x, refl, holds)
+
+pub IsSomeAnd-at : {A : Type 0} (o : Option A) (x : A) (P : A → Type 0) → o ≡ Some x → P x → IsSomeAnd o P
+IsSomeAnd-at o x P is holds = subst (λ p. IsSomeAnd p P) (sym is) holds
+
+pub IsSomeAnd-is : {A : Type 0} (o : Option A) (x : A) (P : A → Type 0) → o ≡ Some x → IsSomeAnd o P → P x
+IsSomeAnd-is o x P is holds = subst (λ p. IsSomeAnd p P) is holds
+
+pub IsSomeAnd-weaker : {A : Type 0} (o : Option A) (P Q : A → Type 0) → ((x : A) → P x → Q x) → IsSomeAnd o P → IsSomeAnd o Q
+IsSomeAnd-weaker None P Q weaker holds = holds
+IsSomeAnd-weaker (Some x) P Q weaker holds = weaker x holds
+
+-- ---- what a list has
+
+pub Contains-first : {X : Type 0} (x : X) (xs : List X) → Contains (x ∷ xs) x
+Contains-first x xs = (0, omega arith, refl)
+
+pub Contains-later : {X : Type 0} (x : X) (xs : List X) (y : X) → Contains xs y → Contains (x ∷ xs) y
+Contains-later x xs y (k, below, is) = (suc k, omega arith, is)
+
+pub Contains-none : {X : Type 0} (x : X) → Contains [] x → ⊥
+Contains-none x (k, below, is) = omega arith
+
+pub Contains-cases : {X : Type 0} (x : X) (xs : List X) (y : X) → Contains (x ∷ xs) y → (x ≡ y) ⊎ Contains xs y
+Contains-cases x xs y (zero, below, is) = inl is
+Contains-cases x xs y (suc k, below, is) = inr (k, omega arith, is)
+
+pub slice_get-Contains : {X : Type 0} (xs : List X) (k : ℕ) (x : X) → slice_get xs k ≡ Some x → Contains xs x
+slice_get-Contains xs k x at_k = (k, slice_get_within xs k x at_k, get_or_from_slice_get xs k x x at_k)
+
+pub slice_get_there : {X : Type 0} (xs : List X) (k : ℕ) → k < length xs → (x : X) × (slice_get xs k ≡ Some x)
+slice_get_there [] k there = absurd (omega arith)
+slice_get_there (x ∷ xs) zero there = (x, refl)
+slice_get_there (x ∷ xs) (suc k) there = slice_get_there xs k (omega arith)
+
+pub slice_get_left : {X : Type 0} (xs ys : List X) (i : ℕ) (x : X) → slice_get xs i ≡ Some x → slice_get (xs ++ ys) i ≡ Some x
+slice_get_left [] ys i x is = absurd (none-some x is)
+slice_get_left (z ∷ xs) ys zero x is = is
+slice_get_left (z ∷ xs) ys (suc i) x is = slice_get_left xs ys i x is
+
+pub slice_get_right : {X : Type 0} (xs ys : List X) (i : ℕ) → slice_get (xs ++ ys) (length xs + i) ≡ slice_get ys i
+slice_get_right [] ys i = ap (slice_get ys) (omega arith)
+slice_get_right (z ∷ xs) ys i =
+    let e : suc (length xs) + i ≡ suc (length xs + i) = omega arith in
+    rw e (slice_get_right xs ys i)
+
+-- one more at the end
+pub slice_get_push : (ks : List ℕ) (k : ℕ) → slice_get (ks ++ k ∷ []) (length ks) ≡ Some k
+slice_get_push [] k = refl
+slice_get_push (m ∷ ks) k = slice_get_push ks k
+
+pub slice_get_push_cases : (ks : List ℕ) (k i m : ℕ) → slice_get (ks ++ k ∷ []) i ≡ Some m → (slice_get ks i ≡ Some m) ⊎ ((i ≡ length ks) × (m ≡ k))
+slice_get_push_cases [] k zero m is = inr (refl, sym (same_Some k m is))
+slice_get_push_cases [] k (suc i) m is = absurd (none-some m is)
+slice_get_push_cases (n ∷ ks) k zero m is = inl is
+slice_get_push_cases (n ∷ ks) k (suc i) m is = ⊎_elim (λ before. inl before) (λ last. inr (ap suc last.0, last.1)) (slice_get_push_cases ks k i m is)
+
+-- in a list that is made element by element
+pub Contains-map : {X Y : Type 0} (f : X → Y) (xs : List X) (x : X) → Contains xs x → Contains (map f xs) (f x)
+Contains-map f [] x among = absurd (Contains-none x among)
+Contains-map f (z ∷ xs) x among = ⊎_elim
+    (λ here. subst (λ y. Contains (map f (z ∷ xs)) (f y)) here (Contains-first (f z) (map f xs)))
+    (λ later. Contains-later (f z) (map f xs) (f x) (Contains-map f xs x later))
+    (Contains-cases z xs x among)
+
+pub map-Contains : {X Y : Type 0} (f : X → Y) (xs : List X) (y : Y) → Contains (map f xs) y → (x : X) × Contains xs x × (f x ≡ y)
+map-Contains f [] y among = absurd (Contains-none y among)
+map-Contains f (z ∷ xs) y among = ⊎_elim
+    (λ here. (z, Contains-first z xs, here))
+    (λ later. let r = map-Contains f xs y later in (r.0, Contains-later z xs r.0 r.1, r.2))
+    (Contains-cases (f z) (map f xs) y among)
+
+-- in a list that is made of lists
+pub Contains-flat_map : {X Y : Type 0} (f : X → List Y) (xs : List X) (x : X) (y : Y) → Contains xs x → Contains (f x) y → Contains (flat_map f xs) y
+Contains-flat_map f [] x y among has = absurd (Contains-none x among)
+Contains-flat_map f (z ∷ xs) x y among has = ⊎_elim
+    (λ here. Contains-append_left (f z) (flat_map f xs) y (subst (λ w. Contains (f w) y) (sym here) has))
+    (λ later. Contains-append_right (f z) (flat_map f xs) y (Contains-flat_map f xs x y later has))
+    (Contains-cases z xs x among)
+
+pub flat_map-Contains : {X Y : Type 0} (f : X → List Y) (xs : List X) (y : Y) → Contains (flat_map f xs) y → (x : X) × Contains xs x × Contains (f x) y
+flat_map-Contains f [] y among = absurd (Contains-none y among)
+flat_map-Contains f (z ∷ xs) y among = ⊎_elim
+    (λ here. (z, Contains-first z xs, here))
+    (λ later. let r = flat_map-Contains f xs y later in (r.0, Contains-later z xs r.0 r.1, r.2))
+    (Contains-append_cases (f z) (flat_map f xs) y among)
+
+-- in a list of one element or none
+pub Contains-cond : {X : Type 0} (b : Bool) (z x : X) → Contains (cond b (z ∷ []) []) x → (b ≡ true) × (z ≡ x)
+Contains-cond true z x among = (refl, ⊎_elim (λ here. here) (λ later. absurd (Contains-none x later)) (Contains-cases z [] x among))
+Contains-cond false z x among = absurd (Contains-none x among)
+
+pub cond-Contains : {X : Type 0} (b : Bool) (z : X) → b ≡ true → Contains (cond b (z ∷ []) []) z
+cond-Contains b z is = subst (λ c. Contains (cond c (z ∷ []) []) z) (sym is) (Contains-first z [])
+
+-- ---- numbers
+
+pub same_or_not : (m n : ℕ) → (m ≡ n) ⊎ (m ≢ n)
+same_or_not m n = elim (cases_Bool (eqb m n)) [ inl e ↦ inl (eqb-true m n e) | inr e ↦ inr (eqb-false m n e) ]
+
+greatest_or_less : (n k : ℕ) → k < suc n → (n ≡ k) ⊎ (k < n)
+greatest_or_less n k less = elim (same_or_not n k) [ inl e ↦ inl e | inr e ↦ inr (omega arith) ]
+
+-- the numbers below n, the greatest first
+abbrev pub below : ℕ → List ℕ
+below zero = []
+below (suc n) = n ∷ below n
+
+pub Contains-below : (n k : ℕ) → k < n → Contains (below n) k
+Contains-below zero k less = absurd (omega arith)
+Contains-below (suc n) k less = ⊎_elim
+    (λ same. subst (λ m. Contains (n ∷ below n) m) same (Contains-first n (below n)))
+    (λ fewer. Contains-later n (below n) k (Contains-below n k fewer))
+    (greatest_or_less n k less)
+
+pub below-Contains : (n k : ℕ) → Contains (below n) k → k < n
+below-Contains zero k among = absurd (Contains-none k among)
+below-Contains (suc n) k among = ⊎_elim
+    (λ same. omega arith)
+    (λ later. omega (arith, below-Contains n k later))
+    (Contains-cases n (below n) k among)
+
+-- ---- place by place
+
+pub AllZip-weaker : {A B : Type 0} (R S : A → B → Type 0) (xs : List A) (ys : List B) → ((x : A) (y : B) → R x y → S x y) → AllZip R xs ys → AllZip S xs ys
+AllZip-weaker R S [] [] weaker all = all
+AllZip-weaker R S [] (y ∷ ys) weaker all = all
+AllZip-weaker R S (x ∷ xs) [] weaker all = all
+AllZip-weaker R S (x ∷ xs) (y ∷ ys) weaker all = (weaker x y all.0, AllZip-weaker R S xs ys weaker all.1)
+
+-- the other way round
+pub AllZip-swapped : {A B : Type 0} (R : A → B → Type 0) (S : B → A → Type 0) (xs : List A) (ys : List B) → ((x : A) (y : B) → R x y → S y x) → AllZip R xs ys → AllZip S ys xs
+AllZip-swapped R S [] [] turns all = all
+AllZip-swapped R S [] (y ∷ ys) turns all = all
+AllZip-swapped R S (x ∷ xs) [] turns all = all
+AllZip-swapped R S (x ∷ xs) (y ∷ ys) turns all = (turns x y all.0, AllZip-swapped R S xs ys turns all.1)
+
+-- one after the other
+pub AllZip-composed : {A B C : Type 0} (R : A → B → Type 0) (S : B → C → Type 0) (T : A → C → Type 0) (xs : List A) (ys : List B) (zs : List C) → ((x : A) (y : B) (z : C) → R x y → S y z → T x z) → AllZip R xs ys → AllZip S ys zs → AllZip T xs zs
+AllZip-composed R S T [] [] [] joins all more = tt
+AllZip-composed R S T [] [] (z ∷ zs) joins all more = more
+AllZip-composed R S T [] (y ∷ ys) zs joins all more = absurd all
+AllZip-composed R S T (x ∷ xs) [] zs joins all more = absurd all
+AllZip-composed R S T (x ∷ xs) (y ∷ ys) [] joins all more = more
+AllZip-composed R S T (x ∷ xs) (y ∷ ys) (z ∷ zs) joins all more = (joins x y z all.0 more.0, AllZip-composed R S T xs ys zs joins all.1 more.1)
+
+pub AllZip-append : {A B : Type 0} (R : A → B → Type 0) (xs xs' : List A) (ys ys' : List B) → AllZip R xs ys → AllZip R xs' ys' → AllZip R (xs ++ xs') (ys ++ ys')
+AllZip-append R [] xs' [] ys' all more = more
+AllZip-append R [] xs' (y ∷ ys) ys' all more = absurd all
+AllZip-append R (x ∷ xs) xs' [] ys' all more = absurd all
+AllZip-append R (x ∷ xs) xs' (y ∷ ys) ys' all more = (all.0, AllZip-append R xs xs' ys ys' all.1 more)
+
+-- a list is alike itself where each element is
+pub AllZip-same : {A : Type 0} (R : A → A → Type 0) (xs : List A) → ((x : A) → Contains xs x → R x x) → AllZip R xs xs
+AllZip-same R [] each = tt
+AllZip-same R (x ∷ xs) each = (each x (Contains-first x xs), AllZip-same R xs (λ y among. each y (Contains-later x xs y among)))
+
+-- the element at a place
+pub AllZip-at : {A B : Type 0} (R : A → B → Type 0) (xs : List A) (ys : List B) (i : ℕ) (x : A) → AllZip R xs ys → slice_get xs i ≡ Some x → IsSomeAnd (slice_get ys i) (λ y. R x y)
+AllZip-at R [] ys i x all is = absurd (cc)
+AllZip-at R (z ∷ xs) [] i x all is = absurd all
+AllZip-at R (z ∷ xs) (y ∷ ys) zero x all is = let same : z ≡ x = cc in subst (λ w. R w y) same all.0
+AllZip-at R (z ∷ xs) (y ∷ ys) (suc i) x all is = AllZip-at R xs ys i x all.1 is

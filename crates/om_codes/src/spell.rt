@@ -1,0 +1,165 @@
+//! The spellings that the runtime writes (`extern.c`): at most nine bytes, and how many they are.
+
+ghost use Rattle.std.specs.Prelude.{◌≡◌, ◌<◌, ◌≤◌, ◌^◌, ◌∷◌, take};
+ghost use Rattle.std.specs.Int.{bytes_high_first};
+ghost use Rattle.om_model.specs.Graph.{IsInteger};
+ghost use Rattle.om_format.specs.Canonical.{integer_spelling, block_spelling, string_front, shared_spelling, doubles_front};
+
+/// An integer of 63 bits (`extern_int`).
+#[tactic(auto, unfolding(om_format::specs::Canonical::integer_spelling))]
+pub fn spell_int(n: i64) -> ([u8; 9], usize)
+    requires { IsInteger n }
+    ensures spelled { take result.1 result.0 ≡ integer_spelling n }
+    ensures few { result.1 ≤ 9 }
+{
+    match n {
+        0..64 => ([0x40 + n as u8, 0, 0, 0, 0, 0, 0, 0, 0], 1),
+        -0x80..0x80 => one(0x00, (n as i8).cast_unsigned()),
+        -0x8000..0x8000 => two(0x01, (n as i16).cast_unsigned()),
+        -0x4000_0000..0x4000_0000 => four(0x02, (n as i32).cast_unsigned()),
+        _ => eight(0x03, n.cast_unsigned()),
+    }
+}
+
+/// A block by its tag and size, or an atom as a block of size 0 (`extern_header`).
+#[tactic(auto, unfolding(om_format::specs::Canonical::block_spelling))]
+pub fn spell_block(tag: u8, size: u64) -> ([u8; 9], usize)
+    requires tag { tag ≤ 243 }
+    requires size { size < 2 ^ 54 }
+    ensures spelled { take result.1 result.0 ≡ block_spelling tag size }
+    ensures few { result.1 ≤ 9 }
+{
+    if tag < 16 && size < 8 {
+        return ([0x80 + 16 * size as u8 + tag, 0, 0, 0, 0, 0, 0, 0, 0], 1);
+    }
+    let word = u64::from(tag) + 1024 * size;
+    if word < 1 << 32 {
+        four(0x08, word as u32)
+    } else {
+        eight(0x13, word)
+    }
+}
+
+/// What comes before the content of a string of n bytes (`extern_string`).
+#[tactic(auto, unfolding(om_format::specs::Canonical::string_front))]
+pub fn spell_string_len(n: u64) -> ([u8; 9], usize)
+    ensures spelled { take result.1 result.0 ≡ string_front n }
+    ensures few { result.1 ≤ 9 }
+{
+    match n {
+        0..32 => ([0x20 + n as u8, 0, 0, 0, 0, 0, 0, 0, 0], 1),
+        0..0x100 => one(0x09, n as u8),
+        0..0x1_0000_0000 => four(0x0a, n as u32),
+        _ => eight(0x15, n),
+    }
+}
+
+/// What comes before the elements of an array of n doubles (`extern_double_array`).
+#[tactic(auto, unfolding(om_format::specs::Canonical::doubles_front))]
+pub fn spell_double_array_len(n: u64) -> ([u8; 9], usize)
+    requires { 1 ≤ n }
+    ensures spelled { take result.1 result.0 ≡ doubles_front n }
+    ensures few { result.1 ≤ 9 }
+{
+    match n {
+        0..0x100 => one(0x0e, n as u8),
+        0..0x1_0000_0000 => four(0x07, n as u32),
+        _ => eight(0x17, n),
+    }
+}
+
+/// A reference by its offset (`extern_shared_reference`).
+#[tactic(auto, unfolding(om_format::specs::Canonical::shared_spelling))]
+pub fn spell_shared(d: u64) -> ([u8; 9], usize)
+    requires { 1 ≤ d }
+    ensures spelled { take result.1 result.0 ≡ shared_spelling d }
+    ensures few { result.1 ≤ 9 }
+{
+    match d {
+        0..0x100 => one(0x04, d as u8),
+        0..0x1_0000 => two(0x05, d as u16),
+        0..0x1_0000_0000 => four(0x06, d as u32),
+        _ => eight(0x14, d),
+    }
+}
+
+// A code and a number of one byte.
+fn one(code: u8, number: u8) -> ([u8; 9], usize)
+    ensures spelled { take result.1 result.0 ≡ code ∷ bytes_high_first 1 number }
+    ensures few { result.1 ≤ 9 }
+{
+    ([code, number, 0, 0, 0, 0, 0, 0, 0], 2)
+}
+
+// Of two bytes, the most significant first.
+fn two(code: u8, number: u16) -> ([u8; 9], usize)
+    ensures spelled { take result.1 result.0 ≡ code ∷ bytes_high_first 2 number }
+    ensures few { result.1 ≤ 9 }
+{
+    let b = number.to_be_bytes();
+    ([code, b[0], b[1], 0, 0, 0, 0, 0, 0], 3)
+}
+
+// Of four.
+fn four(code: u8, number: u32) -> ([u8; 9], usize)
+    ensures spelled { take result.1 result.0 ≡ code ∷ bytes_high_first 4 number }
+    ensures few { result.1 ≤ 9 }
+{
+    let b = number.to_be_bytes();
+    ([code, b[0], b[1], b[2], b[3], 0, 0, 0, 0], 5)
+}
+
+// Of eight.
+fn eight(code: u8, number: u64) -> ([u8; 9], usize)
+    ensures spelled { take result.1 result.0 ≡ code ∷ bytes_high_first 8 number }
+    ensures few { result.1 ≤ 9 }
+{
+    let b = number.to_be_bytes();
+    ([code, b[0], b[1], b[2], b[3], b[4], b[5], b[6], b[7]], 9)
+}
+
+#[cfg(test)]
+mod tests {
+    use super::*;
+
+    // From OCaml's `Marshal.to_string`.
+    #[test]
+    fn spells_integers(rt: HostRuntime) {
+        let rows: [(i64, &[u8]); 12] = [
+            (0, &[0x40]),
+            (63, &[0x7f]),
+            (64, &[0x00, 0x40]),
+            (-1, &[0x00, 0xff]),
+            (128, &[0x01, 0x00, 0x80]),
+            (-128, &[0x00, 0x80]),
+            (32768, &[0x02, 0x00, 0x00, 0x80, 0x00]),
+            (1073741823, &[0x02, 0x3f, 0xff, 0xff, 0xff]),
+            (1073741824, &[0x03, 0, 0, 0, 0, 0x40, 0, 0, 0]),
+            (-1073741824, &[0x02, 0xc0, 0, 0, 0]),
+            (
+                4611686018427387903,
+                &[0x03, 0x3f, 0xff, 0xff, 0xff, 0xff, 0xff, 0xff, 0xff],
+            ),
+            (-4611686018427387904, &[0x03, 0xc0, 0, 0, 0, 0, 0, 0, 0]),
+        ];
+        for (number, bytes) in rows {
+            assert!(rt; (-4611686018427387904..4611686018427387904).contains(&number));
+            let (spelled, n) = spell_int(number);
+            assert_eq!(rt; &spelled[..n], bytes, "{number}");
+        }
+    }
+
+    #[test]
+    fn spells_what_comes_before_a_content(rt: HostRuntime) {
+        let (block, n) = spell_block(0, 2);
+        assert_eq!(rt; &block[..n], [0xa0].as_slice());
+        let (large, n) = spell_block(1, 8);
+        assert_eq!(rt; &large[..n], [0x08, 0, 0, 0x20, 0x01].as_slice());
+        let (text, n) = spell_string_len(256);
+        assert_eq!(rt; &text[..n], [0x0a, 0, 0, 1, 0].as_slice());
+        let (array, n) = spell_double_array_len(2);
+        assert_eq!(rt; &array[..n], [0x0e, 0x02].as_slice());
+        let (reference, n) = spell_shared(1);
+        assert_eq!(rt; &reference[..n], [0x04, 0x01].as_slice());
+    }
+}

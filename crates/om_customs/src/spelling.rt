@@ -1,0 +1,96 @@
+//! The customs that the runtime writes (`extern.c`, `ints.c`).
+
+ghost use Rattle.std.specs.Prelude.{◌≡◌, ◌≤◌, ◌∷◌, take};
+ghost use Rattle.om_format.specs.Canonical.{custom_spelling, native_spelling, signed_bytes};
+
+use om_model::code::Custom;
+
+const CODE: u8 = 0x19;
+
+/// The bytes of a custom from its code on, and how many they are. A `Nativeint` has four bytes where it fits them.
+#[tactic(auto, unfolding(om_format::specs::Canonical::custom_spelling))]
+pub fn spell(c: Custom) -> ([u8; 13], usize)
+    ensures spelled { take result.1 result.0 ≡ custom_spelling c }
+    ensures few { result.1 ≤ 13 }
+{
+    match c {
+        Custom::I32(number) => int32(number),
+        Custom::I64(number) => int64(number),
+        Custom::Native(number) => native(number),
+    }
+}
+
+fn int32(number: i32) -> ([u8; 13], usize)
+    ensures spelled { take result.1 result.0 ≡ 0x19 ∷ 95 ∷ 105 ∷ 0 ∷ signed_bytes 4 number }
+    ensures few { result.1 ≤ 13 }
+{
+    let b = number.cast_unsigned().to_be_bytes();
+    (
+        [CODE, b'_', b'i', 0, b[0], b[1], b[2], b[3], 0, 0, 0, 0, 0],
+        8,
+    )
+}
+
+fn int64(number: i64) -> ([u8; 13], usize)
+    ensures spelled { take result.1 result.0 ≡ 0x19 ∷ 95 ∷ 106 ∷ 0 ∷ signed_bytes 8 number }
+    ensures few { result.1 ≤ 13 }
+{
+    let b = number.cast_unsigned().to_be_bytes();
+    (
+        [
+            CODE, b'_', b'j', 0, b[0], b[1], b[2], b[3], b[4], b[5], b[6], b[7], 0,
+        ],
+        12,
+    )
+}
+
+// The kind byte tells how many bytes the number has.
+fn native(number: i64) -> ([u8; 13], usize)
+    ensures spelled { take result.1 result.0 ≡ 0x19 ∷ 95 ∷ 110 ∷ 0 ∷ native_spelling number }
+    ensures few { result.1 ≤ 13 }
+{
+    if -0x8000_0000 <= number && number < 0x8000_0000 {
+        let b = (number as i32).cast_unsigned().to_be_bytes();
+        return (
+            [CODE, b'_', b'n', 0, 1, b[0], b[1], b[2], b[3], 0, 0, 0, 0],
+            9,
+        );
+    }
+    let b = number.cast_unsigned().to_be_bytes();
+    (
+        [
+            CODE, b'_', b'n', 0, 2, b[0], b[1], b[2], b[3], b[4], b[5], b[6], b[7],
+        ],
+        13,
+    )
+}
+
+#[cfg(test)]
+mod tests {
+    use super::*;
+
+    // From OCaml's `Marshal.to_string`, after the header.
+    #[test]
+    fn spells_customs(rt: HostRuntime) {
+        let (bytes, n) = spell(Custom::I32(-2));
+        assert_eq!(rt;
+            &bytes[..n],
+            [0x19, 0x5f, 0x69, 0, 0xff, 0xff, 0xff, 0xfe].as_slice()
+        );
+        let (bytes, n) = spell(Custom::I64(5));
+        assert_eq!(rt;
+            &bytes[..n],
+            [0x19, 0x5f, 0x6a, 0, 0, 0, 0, 0, 0, 0, 0, 5].as_slice()
+        );
+        let (bytes, n) = spell(Custom::Native(5));
+        assert_eq!(rt;
+            &bytes[..n],
+            [0x19, 0x5f, 0x6e, 0, 1, 0, 0, 0, 5].as_slice()
+        );
+        let (bytes, n) = spell(Custom::Native(2147483648));
+        assert_eq!(rt;
+            &bytes[..n],
+            [0x19, 0x5f, 0x6e, 0, 2, 0, 0, 0, 0, 0x80, 0, 0, 0].as_slice()
+        );
+    }
+}

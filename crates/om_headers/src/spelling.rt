@@ -1,0 +1,93 @@
+//! The header that the runtime writes (`extern.c`).
+
+ghost use Rattle.std.specs.Prelude.{◌≡◌, ◌≤◌, ◌∷◌, ◌++◌, [], take, flat_map};
+ghost use Rattle.std.specs.Int.{bytes_high_first};
+ghost use Rattle.om_headers.specs.Spelling.{FitsSmall};
+ghost use Rattle.om_format.specs.Canonical.{header_spelling};
+
+use crate::{BIG_MAGIC, SMALL_MAGIC};
+use om_model::header::Head;
+
+/// The bytes of a header, and how many they are. The numbers of one that is not big are below 2^32.
+#[tactic(auto, unfolding(om_format::specs::Canonical::header_spelling))]
+pub fn spell(head: Head) -> ([u8; 32], usize)
+    requires { FitsSmall head }
+    ensures spelled { take result.1 result.0 ≡ header_spelling head }
+    ensures few { result.1 ≤ 32 }
+{
+    if head.big {
+        (big(head.length, head.objects, head.w64), 32)
+    } else {
+        let (length, objects) = (head.length as u32, head.objects as u32);
+        (small(length, objects, head.w32 as u32, head.w64 as u32), 20)
+    }
+}
+
+// Five numbers of four bytes.
+fn small(length: u32, objects: u32, w32: u32, w64: u32) -> [u8; 32]
+    ensures { take 20 result
+        ≡ flat_map (bytes_high_first 4) (0x8495_A6BE ∷ length ∷ objects ∷ w32 ∷ w64 ∷ []) }
+{
+    let mut bytes = [0; 32];
+    bytes[..4].copy_from_slice(&SMALL_MAGIC.to_be_bytes());
+    bytes[4..8].copy_from_slice(&length.to_be_bytes());
+    bytes[8..12].copy_from_slice(&objects.to_be_bytes());
+    bytes[12..16].copy_from_slice(&w32.to_be_bytes());
+    bytes[16..20].copy_from_slice(&w64.to_be_bytes());
+    bytes
+}
+
+// The magic number, four bytes of 0, and three numbers of eight bytes.
+fn big(length: u64, objects: u64, w64: u64) -> [u8; 32]
+    ensures { result
+        ≡ flat_map (bytes_high_first 4) (0x8495_A6BF ∷ 0 ∷ [])
+        ++ flat_map (bytes_high_first 8) (length ∷ objects ∷ w64 ∷ []) }
+{
+    let mut bytes = [0; 32];
+    bytes[..4].copy_from_slice(&BIG_MAGIC.to_be_bytes());
+    bytes[8..16].copy_from_slice(&length.to_be_bytes());
+    bytes[16..24].copy_from_slice(&objects.to_be_bytes());
+    bytes[24..].copy_from_slice(&w64.to_be_bytes());
+    bytes
+}
+
+#[cfg(test)]
+mod tests {
+    use super::*;
+
+    // The small one is OCaml's; the big one is by hand.
+    #[test]
+    fn spells_headers(rt: HostRuntime) {
+        let small = Head {
+            big: false,
+            length: 5,
+            objects: 2,
+            w32: 7,
+            w64: 6,
+        };
+        let (bytes, n) = spell(small);
+        assert_eq!(rt;
+            &bytes[..n],
+            [
+                0x84, 0x95, 0xa6, 0xbe, 0, 0, 0, 5, 0, 0, 0, 2, 0, 0, 0, 7, 0, 0, 0, 6
+            ]
+            .as_slice()
+        );
+        let big = Head {
+            big: true,
+            length: 4294967299,
+            objects: 256,
+            w32: 1,
+            w64: 9,
+        };
+        let (bytes, n) = spell(big);
+        assert_eq!(rt; n, 32);
+        assert_eq!(rt;
+            &bytes[..8],
+            [0x84, 0x95, 0xa6, 0xbf, 0, 0, 0, 0].as_slice()
+        );
+        assert_eq!(rt; &bytes[8..16], [0, 0, 0, 1, 0, 0, 0, 3].as_slice());
+        assert_eq!(rt; &bytes[16..24], [0, 0, 0, 0, 0, 0, 1, 0].as_slice());
+        assert_eq!(rt; &bytes[24..], [0, 0, 0, 0, 0, 0, 0, 9].as_slice());
+    }
+}
