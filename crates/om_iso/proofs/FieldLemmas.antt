@@ -1,0 +1,179 @@
+-- Fields that are met one after another, and contents that are compared.
+use Rattle.std.proofs.Common.{ℕ, zero, suc, ◌≡◌, ◌≢◌, ◌+◌, ◌<◌, ◌≤◌, ◌∙◌, Bool, true, false, List, [], ◌∷◌, ◌++◌, length, map, take, get_or, set, refl, sym, ap, subst, arith, add-one, append-nil}
+use Rattle.std.specs.Prelude.{Contains, MatchBool, Result, Ok, Err}
+use Rattle.std.specs.List.{AllZip}
+use Rattle.std.proofs.lemmas.List.{ext_get_or, take_all, map_push, length-map}
+use Rattle.om_model.specs.declared.out_of_memory.Memory.{Memory}
+use Rattle.om_model.specs.declared.value.Val.{Val}
+use Rattle.om_model.specs.declared.value.Val.TheVariants as vals
+use Rattle.om_model.specs.declared.value.Obj.{Obj}
+use Rattle.om_model.specs.declared.value.Obj.TheVariants as objects
+use Rattle.om_format.specs.Iso.{AreAlike, AreAlikeObjects}
+use Rattle.om_heap.specs.Heap.{fields_of, bytes_of, doubles_of, kind_of, custom_object, IsOfKind}
+use Rattle.om_model.specs.declared.code.Custom.{Custom}
+use Rattle.om_model.specs.declared.code.Custom.TheVariants as customs
+use Rattle.om_heap.specs.declared.Kind.{Kind}
+use Rattle.om_heap.specs.declared.Kind.TheVariants as kinds
+use Rattle.om_iso.specs.Paired.{IsNew, IsIndex}
+use Rattle.om_iso.specs.Meeting.{AreOneToOne, AreAmong, AreMet, CannotMeet, Meets}
+use Rattle.om_iso.proofs.IndexLemmas.{IsIndex-push}
+use Rattle.om_iso.proofs.MeetingLemmas.{met_then, cannot_then}
+use Rattle.om_canonical.proofs.ListLemmas.{AllZip-weaker}
+use Rattle.om_canonical.proofs.IsoLemmas.{AreAlike-more}
+
+-- ---- the index after one more pair
+
+pub index_added : (table : List ℕ) (f : ℕ × ℕ → ℕ) (pairs after : List (ℕ × ℕ)) (p : ℕ × ℕ) (n : ℕ) → IsIndex table (map f pairs) → f p < length table → IsNew (map f pairs) (f p) → after ≡ pairs ++ p ∷ [] → n ≡ length pairs + 1 → IsIndex (set table (f p) n) (map f after)
+index_added table f pairs after p n index less new e many =
+    let keys : map f after ≡ map f pairs ++ f p ∷ [] = ap (map f) e ∙ map_push f pairs p in
+    let place : n ≡ length (map f pairs) + 1 = omega (arith, length-map pairs f) in
+    rw (keys, place) (IsIndex-push table (map f pairs) (f p) index less new)
+
+-- ---- equal contents
+
+pub same_content : (xs ys : List ℕ) (n : ℕ) → n ≡ length xs → n ≡ length ys → ((j : ℕ) → j < n → get_or xs j 0 ≡ get_or ys j 0) → xs ≡ ys
+same_content xs ys n left right each = ext_get_or 0 xs ys (sym left ∙ right) (λ j less. each j (omega arith))
+
+-- ---- fields
+
+-- the first i + 1 are the first i and one more
+more_fields : {X : Type 0} (R : X → X → Type 0) (xs ys : List X) (i : ℕ) (d e : X) → i < length xs → i < length ys → AllZip R (take i xs) (take i ys) → R (get_or xs i d) (get_or ys i e) → AllZip R (take (suc i) xs) (take (suc i) ys)
+more_fields R [] ys i d e less less' all one = absurd (omega arith)
+more_fields R (x ∷ xs) [] i d e less less' all one = absurd (omega arith)
+more_fields R (x ∷ xs) (y ∷ ys) zero d e less less' all one = (one, tt)
+more_fields R (x ∷ xs) (y ∷ ys) (suc i) d e less less' all one = (all.0, more_fields R xs ys i d e (omega arith) (omega arith) all.1 one)
+
+-- of all fields the first i, and field i
+pub some_fields : {X : Type 0} (R : X → X → Type 0) (xs ys : List X) (i : ℕ) (d e : X) → i < length xs → i < length ys → AllZip R xs ys → AllZip R (take i xs) (take i ys) × R (get_or xs i d) (get_or ys i e)
+some_fields R [] ys i d e less less' all = absurd (omega arith)
+some_fields R (x ∷ xs) [] i d e less less' all = absurd (omega arith)
+some_fields R (x ∷ xs) (y ∷ ys) zero d e less less' all = (tt, all.0)
+some_fields R (x ∷ xs) (y ∷ ys) (suc i) d e less less' all = let r = some_fields R xs ys i d e (omega arith) (omega arith) all.1 in ((all.0, r.0), r.1)
+
+fewer_fields : {X : Type 0} (R : X → X → Type 0) (xs ys : List X) (i : ℕ) (d e : X) → i < length xs → i < length ys → AllZip R (take (suc i) xs) (take (suc i) ys) → AllZip R (take i xs) (take i ys) × R (get_or xs i d) (get_or ys i e)
+fewer_fields R [] ys i d e less less' all = absurd (omega arith)
+fewer_fields R (x ∷ xs) [] i d e less less' all = absurd (omega arith)
+fewer_fields R (x ∷ xs) (y ∷ ys) zero d e less less' all = (tt, all.0)
+fewer_fields R (x ∷ xs) (y ∷ ys) (suc i) d e less less' all = let r = fewer_fields R xs ys i d e (omega arith) (omega arith) all.1 in ((all.0, r.0), r.1)
+
+-- the fields of two blocks are alike
+abbrev pub AlikeFields : List Val → List Val → List (ℕ × ℕ) → Type 0
+AlikeFields vs ws pairs = AllZip (AreAlike pairs) vs ws
+
+pub fields_none : (old : List (ℕ × ℕ)) → AreMet old old (AlikeFields [] [])
+fields_none old = record { kept = ([], sym (append-nil old)); alike_now = tt; needed = λ all one_to_one among alike. among }
+
+pub fields_more : (old mid new : List (ℕ × ℕ)) (vs ws : List Val) (i : ℕ) (d e v w : Val) → i < length vs → i < length ws → v ≡ get_or vs i d → w ≡ get_or ws i e → AreMet old mid (AlikeFields (take i vs) (take i ws)) → AreMet mid new (λ all. AreAlike all v w) → AreMet old new (AlikeFields (take (i + 1) vs) (take (i + 1) ws))
+fields_more old mid new vs ws i d e v w less less' is is' first second =
+    rw add-one
+    (met_then old mid new (AlikeFields (take i vs) (take i ws)) (λ all. AreAlike all v w) (AlikeFields (take (suc i) vs) (take (suc i) ws))
+    (λ all alike. rw (is, is') (fewer_fields (AreAlike all) vs ws i d e less less' alike))
+    (λ before among now. more_fields (AreAlike new) vs ws i d e less less'
+    (AllZip-weaker (AreAlike mid) (AreAlike new) (take i vs) (take i ws) (λ x y. AreAlike-more mid new x y among) before)
+    (rw (is, is') at now))
+    first second)
+
+pub fields_cannot : (old mid : List (ℕ × ℕ)) (vs ws : List Val) (i : ℕ) (d e v w : Val) → i < length vs → i < length ws → v ≡ get_or vs i d → w ≡ get_or ws i e → AreMet old mid (AlikeFields (take i vs) (take i ws)) → CannotMeet mid (λ all. AreAlike all v w) → CannotMeet old (AlikeFields vs ws)
+fields_cannot old mid vs ws i d e v w less less' is is' first cannot =
+    cannot_then old mid (AlikeFields (take i vs) (take i ws)) (λ all. AreAlike all v w) (AlikeFields vs ws)
+    (λ all alike. rw (is, is') (some_fields (AreAlike all) vs ws i d e less less' alike))
+    first cannot
+
+pub fields_all : (old new : List (ℕ × ℕ)) (vs ws : List Val) (i : ℕ) → length vs ≤ i → length ws ≤ i → AreMet old new (AlikeFields (take i vs) (take i ws)) → AreMet old new (AlikeFields vs ws)
+fields_all old new vs ws i past past' met =
+    subst (λ xs. AreMet old new (AlikeFields xs ws)) (take_all i vs past)
+    (subst (λ ys. AreMet old new (AlikeFields (take i vs) ys)) (take_all i ws past') met)
+
+-- ---- objects
+
+length_zip : {A B : Type 0} (R : A → B → Type 0) (xs : List A) (ys : List B) → AllZip R xs ys → length xs ≡ length ys
+length_zip R [] [] all = refl
+length_zip R [] (y ∷ ys) all = absurd all
+length_zip R (x ∷ xs) [] all = absurd all
+length_zip R (x ∷ xs) (y ∷ ys) all = ap suc (length_zip R xs ys all.1)
+
+-- objects that are alike are of one kind
+alike_kinds : (pairs : List (ℕ × ℕ)) (a b : Obj) → AreAlikeObjects pairs a b → kind_of a ≡ kind_of b
+alike_kinds pairs (objects.Block tag values) (objects.Block tag' values') alike =
+    ap (λ t. kinds.Block t (length values)) alike.0 ∙ ap (λ n. kinds.Block tag' n) (length_zip (AreAlike pairs) values values' alike.1)
+alike_kinds pairs (objects.Block tag values) b alike = absurd alike
+alike_kinds pairs (objects.Bytes bytes) b alike = ap kind_of alike
+alike_kinds pairs (objects.Double bits) b alike = ap kind_of alike
+alike_kinds pairs (objects.Doubles all) b alike = ap kind_of alike
+alike_kinds pairs (objects.I32 z) b alike = ap kind_of alike
+alike_kinds pairs (objects.I64 z) b alike = ap kind_of alike
+alike_kinds pairs (objects.Native z) b alike = ap kind_of alike
+
+pub other_kinds : (old : List (ℕ × ℕ)) (a b : Obj) (k l : Kind) → k ≡ kind_of a → l ≡ kind_of b → k ≢ l → CannotMeet old (λ all. AreAlikeObjects all a b)
+other_kinds old a b k l is is' differ all one_to_one among alike = differ (is ∙ alike_kinds all a b alike ∙ sym is')
+
+pub Meets-same : (old new : List (ℕ × ℕ)) (A B : List (ℕ × ℕ) → Type 0) (r : Result Bool Memory) → ((all : List (ℕ × ℕ)) → A all → B all) → ((all : List (ℕ × ℕ)) → B all → A all) → Meets old new A r → Meets old new B r
+Meets-same old new A B (Ok true) to from met = record {
+  kept = met.kept;
+  alike_now = to new met.alike_now;
+  needed = λ all one_to_one among alike. met.needed all one_to_one among (from all alike);
+}
+Meets-same old new A B (Ok false) to from cannot = λ all one_to_one among alike. cannot all one_to_one among (from all alike)
+Meets-same old new A B (Err memory) to from met = met
+
+-- what needs no pairs
+abbrev IsTested : Bool → Type 0 → Type 0
+IsTested r P = MatchBool r P (P → ⊥)
+
+meets_tested : (old : List (ℕ × ℕ)) (P : Type 0) (r : Bool) → IsTested r P → Meets old old (λ _. P) (Ok r)
+meets_tested old P true holds = record { kept = ([], sym (append-nil old)); alike_now = holds; needed = λ all one_to_one among alike. among }
+meets_tested old P false fails = λ all one_to_one among alike. fails alike
+
+-- blocks
+pub blocks_meet : (old new : List (ℕ × ℕ)) (a b : Obj) (tag : ℕ) (r : Result Bool Memory) → a ≡ objects.Block tag (fields_of a) → b ≡ objects.Block tag (fields_of b) → Meets old new (AlikeFields (fields_of a) (fields_of b)) r → Meets old new (λ all. AreAlikeObjects all a b) r
+blocks_meet old new a b tag r is is' met =
+    Meets-same old new (AlikeFields (fields_of a) (fields_of b)) (λ all. AreAlikeObjects all a b) r
+    (λ all alike. subst (λ x. AreAlikeObjects all x b) (sym is) (subst (λ y. AreAlikeObjects all (objects.Block tag (fields_of a)) y) (sym is') (refl, alike)))
+    (λ all alike. (let both : AreAlikeObjects all (objects.Block tag (fields_of a)) (objects.Block tag (fields_of b)) = subst (λ y. AreAlikeObjects all (objects.Block tag (fields_of a)) y) is' (subst (λ x. AreAlikeObjects all x b) is alike) in both.1))
+    met
+
+-- objects without fields
+leaf_meet : (old : List (ℕ × ℕ)) (a b x : Obj) (r : Bool) → a ≡ x → ((all : List (ℕ × ℕ)) → AreAlikeObjects all x b → x ≡ b) → ((all : List (ℕ × ℕ)) → x ≡ b → AreAlikeObjects all x b) → IsTested r (x ≡ b) → Meets old old (λ all. AreAlikeObjects all a b) (Ok r)
+leaf_meet old a b x r is from to tested =
+    Meets-same old old (λ _. x ≡ b) (λ all. AreAlikeObjects all a b) (Ok r)
+    (λ all same. subst (λ y. AreAlikeObjects all y b) (sym is) (to all same))
+    (λ all alike. from all (subst (λ y. AreAlikeObjects all y b) is alike))
+    (meets_tested old (x ≡ b) r tested)
+
+same_tested : (X : Type 0) (f : X → Obj) (part : Obj → X) (u v : X) (b : Obj) (r : Bool) → b ≡ f v → part (f u) ≡ u → part (f v) ≡ v → MatchBool r (u ≡ v) (u ≢ v) → IsTested r (f u ≡ b)
+same_tested X f part u v b true is back back' same = ap f same ∙ sym is
+same_tested X f part u v b false is back back' differ = λ e. differ (sym back ∙ ap part (e ∙ is) ∙ back')
+
+pub strings_meet : (old : List (ℕ × ℕ)) (a b : Obj) (r : Bool) → a ≡ objects.Bytes (bytes_of a) → b ≡ objects.Bytes (bytes_of b) → MatchBool r (bytes_of a ≡ bytes_of b) (bytes_of a ≢ bytes_of b) → Meets old old (λ all. AreAlikeObjects all a b) (Ok r)
+strings_meet old a b r is is' tested =
+    leaf_meet old a b (objects.Bytes (bytes_of a)) r is (λ all e. e) (λ all e. e)
+    (same_tested (List ℕ) (λ x. objects.Bytes x) bytes_of (bytes_of a) (bytes_of b) b r is' refl refl tested)
+
+pub arrays_meet : (old : List (ℕ × ℕ)) (a b : Obj) (r : Bool) → a ≡ objects.Doubles (doubles_of a) → b ≡ objects.Doubles (doubles_of b) → MatchBool r (doubles_of a ≡ doubles_of b) (doubles_of a ≢ doubles_of b) → Meets old old (λ all. AreAlikeObjects all a b) (Ok r)
+arrays_meet old a b r is is' tested =
+    leaf_meet old a b (objects.Doubles (doubles_of a)) r is (λ all e. e) (λ all e. e)
+    (same_tested (List ℕ) (λ x. objects.Doubles x) doubles_of (doubles_of a) (doubles_of b) b r is' refl refl tested)
+
+one_double : (a : Obj) (bits : ℕ) → a ≡ objects.Double bits → doubles_of a ≡ bits ∷ []
+one_double a bits is = ap doubles_of is
+
+pub doubles_meet : (old : List (ℕ × ℕ)) (a b : Obj) (m n : ℕ) (r : Bool) → a ≡ objects.Double m → b ≡ objects.Double n → MatchBool r (doubles_of a ≡ doubles_of b) (doubles_of a ≢ doubles_of b) → Meets old old (λ all. AreAlikeObjects all a b) (Ok r)
+doubles_meet old a b m n r is is' tested =
+    leaf_meet old a b (objects.Double m) r is (λ all e. e) (λ all e. e) (by_test r tested) where
+      by_test : (r : Bool) → MatchBool r (doubles_of a ≡ doubles_of b) (doubles_of a ≢ doubles_of b) → IsTested r (objects.Double m ≡ b)
+      by_test true same =
+          let e : m ∷ [] ≡ n ∷ [] = sym (one_double a m is) ∙ same ∙ one_double b n is' in
+          let bits : m ≡ n = cc in
+          ap (λ x. objects.Double x) bits ∙ sym is'
+      by_test false differ = λ e. differ (ap doubles_of (is ∙ e))
+
+pub customs_meet : (old : List (ℕ × ℕ)) (a b : Obj) (c : Custom) → a ≡ custom_object c → b ≡ custom_object c → Meets old old (λ all. AreAlikeObjects all a b) (Ok true)
+customs_meet old a b (customs.I32 z) is is' = leaf_meet old a b (objects.I32 z) true is (λ all e. e) (λ all e. e) (sym is')
+customs_meet old a b (customs.I64 z) is is' = leaf_meet old a b (objects.I64 z) true is (λ all e. e) (λ all e. e) (sym is')
+customs_meet old a b (customs.Native z) is is' = leaf_meet old a b (objects.Native z) true is (λ all e. e) (λ all e. e) (sym is')
+
+-- two objects of one kind
+pub both_of_kind : (k l m : Kind) (a b : Obj) (r : Bool) → IsOfKind k a → IsOfKind l b → MatchBool r (k ≡ l) (k ≢ l) → r ≡ true → k ≡ m → IsOfKind m a × IsOfKind m b
+both_of_kind k l m a b r of_a of_b test yes' is =
+    let same : k ≡ l = subst (λ t. MatchBool t (k ≡ l) (k ≢ l)) yes' test in
+    (subst (λ x. IsOfKind x a) is of_a, subst (λ x. IsOfKind x b) (sym same ∙ is) of_b)

@@ -1,0 +1,4 @@
+pub mod FieldLemmas
+pub mod IndexLemmas
+pub mod MeetingLemmas
+pub mod SoFarLemmas

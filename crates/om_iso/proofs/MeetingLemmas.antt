@@ -1,0 +1,30 @@
+-- One meeting after another.
+use Rattle.std.proofs.Common.{ℕ, ◌≡◌, ◌∙◌, List, ◌++◌, ap, append_assoc}
+use Rattle.om_iso.specs.Meeting.{AreOneToOne, AreAmong, StandInFront, AreMet, CannotMeet}
+use Rattle.std.specs.Prelude.{Contains}
+use Rattle.std.proofs.lemmas.List.Elements.{Contains-append_left}
+use Rattle.std.proofs.Common.{sym, subst}
+
+pub front-then : (a b c : List (ℕ × ℕ)) → StandInFront a b → StandInFront b c → StandInFront a c
+front-then a b c first second = (first.0 ++ second.0, second.1 ∙ ap (λ x. x ++ second.0) first.1 ∙ append_assoc a first.0 second.0)
+
+pub among_front : (old new : List (ℕ × ℕ)) → StandInFront old new → AreAmong old new
+among_front old new front k l among = subst (λ all. Contains all (k, l)) (sym front.1) (Contains-append_left old front.0 (k, l) among)
+
+-- a second meeting after a first: what is asked of both
+pub met_then : (old mid new : List (ℕ × ℕ)) (A B C : List (ℕ × ℕ) → Type 0) → ((all : List (ℕ × ℕ)) → C all → A all × B all) → (A mid → AreAmong mid new → B new → C new) → AreMet old mid A → AreMet mid new B → AreMet old new C
+met_then old mid new A B C parts join first second = record {
+  kept = front-then old mid new first.kept second.kept;
+  alike_now = join first.alike_now (among_front mid new second.kept) second.alike_now;
+  needed = λ all one_to_one among alike.
+      let p = parts all alike in
+      second.needed all one_to_one (first.needed all one_to_one among p.0) p.1;
+}
+
+pub cannot_then : (old mid : List (ℕ × ℕ)) (A B C : List (ℕ × ℕ) → Type 0) → ((all : List (ℕ × ℕ)) → C all → A all × B all) → AreMet old mid A → CannotMeet mid B → CannotMeet old C
+cannot_then old mid A B C parts first cannot all one_to_one among alike =
+    let p = parts all alike in
+    cannot all one_to_one (first.needed all one_to_one among p.0) p.1
+
+pub cannot_since : (old : List (ℕ × ℕ)) (A C : List (ℕ × ℕ) → Type 0) → ((all : List (ℕ × ℕ)) → C all → A all) → CannotMeet old A → CannotMeet old C
+cannot_since old A C part cannot all one_to_one among alike = cannot all one_to_one among (part all alike)

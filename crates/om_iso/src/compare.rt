@@ -1,0 +1,149 @@
+//! The comparison of two values, object by object.
+
+ghost use Rattle.std.specs.Prelude.{◌≡◌, ◌<◌, ◌↔◌, length, IfOk, IsTrue};
+ghost use Rattle.std.specs.List.{AllZip};
+ghost use Rattle.om_model.specs.Graph.{IsValue};
+ghost use Rattle.om_format.specs.Iso.{AreAlike, AreAlikeObjects, Iso};
+ghost use Rattle.om_heap.specs.Heap.{object_at, fields_of};
+ghost use Rattle.om_iso.specs.Meeting.{Meets};
+
+use crate::content::{same_bytes, same_doubles, same_kind};
+use crate::pairing::Pairing;
+use om_heap::{Heap, Kind};
+use om_model::Memory;
+use om_model::value::Val;
+use std::alloc::Global;
+
+/// Whether two values are the same: some pairs of objects, no object twice on one side, take the one root to the other,
+/// and each object to one alike. Doubles are compared by their bits. Each object is compared once.
+pub fn same(alloc: Global, left: &Heap, v: Val, right: &Heap, w: Val) -> Result<bool, Memory>
+    requires left { IsValue (length left.now) v }
+    requires right { IsValue (length right.now) w }
+    ensures { IfOk result (λ same. IsTrue same ↔ Iso left.now v right.now w) }
+{
+    let mut pairing = Pairing::new(alloc, left.count(), right.count())?;
+    if !pairing.meet_values(v, w)? {
+        return Ok(false);
+    }
+    let mut i = 0;
+    while i < pairing.len() {
+        let (k, l) = pairing.pair(i);
+        if !meet_contents(&mut pairing, left, k, right, l)? {
+            return Ok(false);
+        }
+        i += 1;
+    }
+    Ok(true)
+}
+
+// Pairs what two objects refer to, and answers whether they are alike then.
+fn meet_contents(
+    pairing: &mut Pairing,
+    left: &Heap,
+    k: u64,
+    right: &Heap,
+    l: u64,
+) -> Result<bool, Memory>
+    requires lefts { pairing.old.lefts ≡ length left.now }
+    requires rights { pairing.old.rights ≡ length right.now }
+    requires left { k < length left.now }
+    requires right { l < length right.now }
+    ensures meets { Meets pairing.old.pairs pairing.new.pairs
+        (λ pairs. AreAlikeObjects pairs (object_at left.now k) (object_at right.now l)) result }
+    ensures lefts { pairing.new.lefts ≡ pairing.old.lefts }
+    ensures rights { pairing.new.rights ≡ pairing.old.rights }
+{
+    let kind = left.kind(k);
+    let other = right.kind(l);
+    if !same_kind(kind, other) {
+        return Ok(false);
+    }
+    match kind {
+        Kind::Block(_, n) => meet_fields(pairing, left, k, right, l, n),
+        Kind::Bytes(n) => Ok(same_bytes(left, k, right, l, n)),
+        Kind::Double => Ok(same_doubles(left, k, right, l, 1)),
+        Kind::Doubles(n) => Ok(same_doubles(left, k, right, l, n)),
+        Kind::Custom(_) => Ok(true),
+    }
+}
+
+// Pairs what the fields of two blocks of n fields refer to.
+fn meet_fields(
+    pairing: &mut Pairing,
+    left: &Heap,
+    k: u64,
+    right: &Heap,
+    l: u64,
+    n: u64,
+) -> Result<bool, Memory>
+    requires lefts { pairing.old.lefts ≡ length left.now }
+    requires rights { pairing.old.rights ≡ length right.now }
+    requires left { n ≡ length (fields_of (object_at left.now k)) }
+    requires right { n ≡ length (fields_of (object_at right.now l)) }
+    ensures meets { Meets pairing.old.pairs pairing.new.pairs
+        (λ pairs. AllZip (AreAlike pairs)
+        (fields_of (object_at left.now k)) (fields_of (object_at right.now l))) result }
+    ensures lefts { pairing.new.lefts ≡ pairing.old.lefts }
+    ensures rights { pairing.new.rights ≡ pairing.old.rights }
+{
+    for i in 0..n {
+        if !pairing.meet_values(left.field(k, i), right.field(l, i))? {
+            return Ok(false);
+        }
+    }
+    Ok(true)
+}
+
+#[cfg(test)]
+mod tests {
+    use super::*;
+    use std::test::Fail;
+
+    // A block of two fields: one block twice is not two blocks that are alike.
+    #[test]
+    fn one_block_twice_is_not_two(rt: HostRuntime) -> Result<(), Fail> {
+        let mut once = Heap::new(rt.alloc());
+        let pair = once.add_block(0, 2)?;
+        let cell = once.add_block(0, 1)?;
+        once.set(pair, 0, Val::Ref(cell));
+        once.set(pair, 1, Val::Ref(cell));
+        let mut twice = Heap::new(rt.alloc());
+        let other = twice.add_block(0, 2)?;
+        let first = twice.add_block(0, 1)?;
+        let second = twice.add_block(0, 1)?;
+        twice.set(other, 0, Val::Ref(first));
+        twice.set(other, 1, Val::Ref(second));
+        let (v, w) = (Val::Ref(pair), Val::Ref(other));
+        assert_eq!(rt; same(rt.alloc(), &once, v, &once, v), Ok(true));
+        assert_eq!(rt; same(rt.alloc(), &once, v, &twice, w), Ok(false));
+        assert_eq!(rt;
+            same(rt.alloc(), &once, Val::Ref(cell), &twice, Val::Ref(second)),
+            Ok(true)
+        );
+        assert_eq!(rt;
+            same(rt.alloc(), &once, Val::Atom(0), &twice, Val::Atom(1)),
+            Ok(false)
+        );
+        Ok(())
+    }
+
+    #[test]
+    fn contents_are_compared(rt: HostRuntime) -> Result<(), Fail> {
+        let mut heap = Heap::new(rt.alloc());
+        let text = heap.add_bytes(2)?;
+        let copy = heap.copy_object(text)?;
+        let zero = heap.add_double(0)?;
+        let minus_zero = heap.add_double(1 << 63)?;
+        let texts = same(rt.alloc(), &heap, Val::Ref(text), &heap, Val::Ref(copy));
+        assert_eq!(rt; texts, Ok(true));
+        let zeros = same(
+            rt.alloc(),
+            &heap,
+            Val::Ref(zero),
+            &heap,
+            Val::Ref(minus_zero),
+        );
+        assert_eq!(rt; zeros, Ok(false));
+        Ok(())
+    }
+}

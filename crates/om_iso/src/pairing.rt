@@ -1,0 +1,124 @@
+//! Pairs of objects that have to be the same.
+
+ghost use Rattle.std.specs.Prelude.{◌≡◌, ◌<◌, ◌≤◌, ◌++◌, ◌∷◌, [], length, map, slice_get, IfOk, OnOk, Contains};
+ghost use Rattle.om_iso.specs.Paired.{IsNew, left_of, right_of};
+ghost use Rattle.om_model.specs.Graph.{IsValue};
+ghost use Rattle.om_format.specs.Iso.{AreAlike};
+ghost use Rattle.om_iso.specs.Meeting.{Meets, AreOneToOne, AreInRange};
+
+use om_model::Memory;
+use om_model::value::Val;
+use std::alloc::Global;
+use std::marker::Model;
+
+/// Pairs of numbers of the objects of two graphs, no number twice on one side. Contracts see the pairs in their order,
+/// and how many objects each graph has.
+#[derive(Drop)]
+pub struct Pairing {
+    pairs: Vec<(u64, u64)>,
+    // of each number the place of its pair, counted from 1, or 0
+    left: Vec<u64>,
+    right: Vec<u64>,
+}
+
+impl Model for Pairing {
+    ghost use Rattle.std.specs.Prelude.{length, map};
+    ghost use Rattle.om_iso.specs.Paired.{Paired, IsIndex, left_of, right_of};
+
+    ghost Value = { Paired };
+
+    ghost view = { λ p. record {
+      pairs = p.pairs.items;
+      lefts = length p.left.items;
+      rights = length p.right.items;
+    } };
+
+    ghost invariant = { λ p. IsIndex p.left.items (map left_of p.pairs.items)
+        × IsIndex p.right.items (map right_of p.pairs.items) };
+}
+
+impl Pairing {
+    /// No pairs, of graphs of so many objects.
+    pub fn new(alloc: Global, lefts: u64, rights: u64) -> Result<Pairing, Memory>
+        ensures empty { IfOk result (λ p. p.pairs ≡ []) }
+        ensures lefts { IfOk result (λ p. p.lefts ≡ lefts) }
+        ensures rights { IfOk result (λ p. p.rights ≡ rights) }
+    {
+        Ok(Pairing {
+            pairs: Vec::new(alloc),
+            left: vec![in alloc; 0u64; lefts as usize]?,
+            right: vec![in alloc; 0u64; rights as usize]?,
+        })
+    }
+
+    /// How many pairs there are. It also tells what holds of all of them.
+    pub fn len(&self) -> usize
+        ensures len { result ≡ length self.now.pairs }
+        ensures few { result ≤ self.now.lefts }
+        ensures one_to_one { AreOneToOne self.now.pairs }
+        ensures in_range { AreInRange self.now.pairs self.now.lefts self.now.rights }
+    {
+        self.pairs.len()
+    }
+
+    /// Pair i.
+    pub fn pair(&self, i: usize) -> (u64, u64)
+        requires { i < length self.now.pairs }
+        ensures pair { slice_get self.now.pairs i ≡ Some result }
+        ensures left { result.0 < self.now.lefts }
+        ensures right { result.1 < self.now.rights }
+    {
+        self.pairs[i]
+    }
+
+    /// Pairs two objects, where no pair has one of them, and answers whether they are paired now.
+    pub fn meet_objects(&mut self, left: u64, right: u64) -> Result<bool, Memory>
+        requires left { left < self.old.lefts }
+        requires right { right < self.old.rights }
+        ensures meets { Meets self.old.pairs self.new.pairs (λ pairs. Contains pairs (left, right)) result }
+        ensures lefts { self.new.lefts ≡ self.old.lefts }
+        ensures rights { self.new.rights ≡ self.old.rights }
+    {
+        let place = self.left[left as usize];
+        if place != self.right[right as usize] {
+            return Ok(false);
+        }
+        if place == 0 {
+            self.add(left, right)?;
+        }
+        Ok(true)
+    }
+
+    // One more pair, of two objects that no pair has.
+    fn add(&mut self, left: u64, right: u64) -> Result<(), Memory>
+        requires left { left < self.old.lefts }
+        requires right { right < self.old.rights }
+        requires left_new { IsNew (map left_of self.old.pairs) left }
+        requires right_new { IsNew (map right_of self.old.pairs) right }
+        ensures ok { OnOk result (self.new.pairs ≡ self.old.pairs ++ (left, right) ∷ []) }
+        ensures lefts { self.new.lefts ≡ self.old.lefts }
+        ensures rights { self.new.rights ≡ self.old.rights }
+    {
+        self.pairs.push((left, right))?;
+        let place = self.pairs.len() as u64;
+        self.left[left as usize] = place;
+        self.right[right as usize] = place;
+        Ok(())
+    }
+
+    /// Pairs the objects of two references. Integers and atoms are alike where they are equal.
+    pub fn meet_values(&mut self, left: Val, right: Val) -> Result<bool, Memory>
+        requires left { IsValue self.old.lefts left }
+        requires right { IsValue self.old.rights right }
+        ensures meets { Meets self.old.pairs self.new.pairs (λ pairs. AreAlike pairs left right) result }
+        ensures lefts { self.new.lefts ≡ self.old.lefts }
+        ensures rights { self.new.rights ≡ self.old.rights }
+    {
+        match (left, right) {
+            (Val::Int(left), Val::Int(right)) => Ok(left == right),
+            (Val::Atom(left), Val::Atom(right)) => Ok(left == right),
+            (Val::Ref(left), Val::Ref(right)) => self.meet_objects(left, right),
+            _ => Ok(false),
+        }
+    }
+}
