@@ -6,9 +6,9 @@ use Rattle.om_model.specs.declared.value.Val.TheVariants as vals
 use Rattle.om_model.specs.declared.value.Obj.{Obj}
 use Rattle.om_model.specs.declared.value.Obj.TheVariants as objects
 use Rattle.om_model.specs.declared.code.Measure.{Measure}
-use Rattle.om_model.specs.Words.{of_object, fields, words64}
-use Rattle.om_model.specs.Token.{Token, integer, atom, shared, block, leaf, measure_of}
-use Rattle.om_model.specs.Tree.{value_of, object_of}
+use Rattle.om_format.specs.Words.{of_object, fields, words64}
+use Rattle.om_format.specs.Token.{Token, integer, atom, shared, block, leaf, measure_of}
+use Rattle.om_format.specs.Tree.{value_of, object_of}
 use Rattle.om_heap.specs.Heap.{set_field, heap_words}
 use Rattle.om_read.specs.declared.build.OpenBlock.{OpenBlock}
 
@@ -39,9 +39,9 @@ abbrev pub advanced : OpenBlock → ℕ → OpenBlock
 advanced b n = record b { next = b.next + n }
 
 -- it is the root, or the next field of the innermost open block
-abbrev pub place : Val → List Obj → List OpenBlock → Option Val → Building
-place v all [] root = building all [] (Some v)
-place v all (b ∷ outer) root = building (set_field all b.object b.next v) (still_open (advanced b 1) outer) root
+abbrev pub fill : Val → List Obj → List OpenBlock → Option Val → Building
+fill v all [] root = building all [] (Some v)
+fill v all (b ∷ outer) root = building (set_field all b.object b.next v) (still_open (advanced b 1) outer) root
 
 -- ---- a token comes
 
@@ -61,12 +61,12 @@ opened (shared offset) c = []
 opened (block tag size) c = record { object = c; next = 0; size = size } ∷ []
 opened (leaf object) c = []
 
--- its object is made, its value is placed, and the block that it opens becomes the innermost
+-- its object is made, its value is filled in, and the block that it opens becomes the innermost
 abbrev pub absorb : Building → Token → Building
 absorb state token =
     let c = length state.objects in
-    let placed = place (value_of token c) (state.objects ++ blank token) state.open_blocks state.root in
-    record placed { open_blocks = opened token c ++ placed.open_blocks }
+    let filled = fill (value_of token c) (state.objects ++ blank token) state.open_blocks state.root in
+    record filled { open_blocks = opened token c ++ filled.open_blocks }
 
 -- the same of several tokens
 abbrev pub absorb_all : Building → List Token → Building
@@ -131,8 +131,8 @@ abbrev pub empty : ℕ → Bounded
 empty room = in_room start room
 
 -- a value comes
-abbrev pub place_in : Val → Bounded → Bounded
-place_in v state = in_room (place v state.built.objects state.built.open_blocks state.built.root) state.room
+abbrev pub fill_in : Val → Bounded → Bounded
+fill_in v state = in_room (fill v state.built.objects state.built.open_blocks state.built.root) state.room
 
 -- a token comes
 abbrev pub absorb_in : Bounded → Token → Bounded

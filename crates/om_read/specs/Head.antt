@@ -1,24 +1,24 @@
 -- What the steps of a header come to (`intext.h` lays it out).
 use Rattle.std.specs.Prelude.{ℕ, ◌≡◌, ◌<◌, ◌≤◌, List, [], ◌∷◌, length, take, nat_lt, ◌==◌, if◌then◌else◌, Some, None, Result, Ok, Err}
-use Rattle.om_model.specs.Header.{header_length}
+use Rattle.om_format.specs.Header.{header_length}
 use Rattle.om_model.specs.declared.header.Head.{Head}
 use Rattle.om_model.specs.declared.refusal.ReadRefusal.TheVariants.{TooLarge, Overlong}
 use Rattle.om_model.specs.declared.refusal.Stated.TheVariants.{Words, Length}
-use Rattle.om_model.specs.Step.{Step, step, fails_if, first_refusal, length_limit}
-use Rattle.om_model.specs.Front.{context, header_refusal}
-use Rattle.om_read.specs.declared.stop.Stop.{Stop}
-use Rattle.om_read.specs.declared.stop.Stop.TheVariants.{Wait, Refused}
-use Rattle.om_read.specs.declared.place.Place.{Place}
-use Rattle.om_read.specs.Place.{IsSumOf}
+use Rattle.om_format.specs.Step.{Step, step, fails_if, first_refusal, length_limit}
+use Rattle.om_format.specs.Front.{context, header_refusal}
+use Rattle.om_read.specs.declared.unread.Unread.{Unread}
+use Rattle.om_read.specs.declared.unread.Unread.TheVariants.{NeedMore, Refused}
+use Rattle.om_read.specs.declared.totals.Totals.{Totals}
+use Rattle.om_read.specs.Totals.{AreTotals}
 
--- a refusal, no whole header yet, or the place behind it
-abbrev pub JudgedHeader : ℕ → List ℕ → Result Place Stop → Type 0
+-- a refusal, no whole header yet, or the place after it
+abbrev pub JudgedHeader : ℕ → List ℕ → Result Totals Unread → Type 0
 JudgedHeader limit bytes (Err (Refused r)) = header_refusal limit bytes ≡ Some r
-JudgedHeader limit bytes (Err Wait) = (header_refusal limit bytes ≡ None) × (length bytes < header_length bytes)
+JudgedHeader limit bytes (Err NeedMore) = (header_refusal limit bytes ≡ None) × (length bytes < header_length bytes)
 JudgedHeader limit bytes (Ok place) =
-    (header_refusal limit bytes ≡ None) × (header_length bytes ≤ length bytes) × IsSumOf place (context (take (header_length bytes) bytes) [])
+    (header_refusal limit bytes ≡ None) × (header_length bytes ≤ length bytes) × AreTotals place (context (take (header_length bytes) bytes) [])
 
--- the steps behind a right magic
+-- the steps after a right magic
 abbrev pub stated_steps : ℕ → Head → List Step
 stated_steps limit head =
     step 0 (fails_if (nat_lt limit head.w64) (TooLarge Words head.w64 limit))
@@ -26,12 +26,12 @@ stated_steps limit head =
     ∷ step 0 (fails_if (head.length == 0) (Overlong (if head.big then 32 else 20) 1 0))
     ∷ []
 
--- the place behind a header, before the first token
-abbrev pub start_of : Head → Place → Type 0
+-- the place after a header, before the first token
+abbrev pub start_of : Head → Totals → Type 0
 start_of head place = (place.head ≡ head) × (place.start ≡ (if head.big then 32 else 20)) × (place.taken ≡ 0) × (place.objects ≡ 0) × (place.pending ≡ 1) × (place.w32 ≡ 0) × (place.w64 ≡ 0)
 
 -- what they come to
-abbrev pub Begins : ℕ → Head → Result Place Stop → Type 0
+abbrev pub Begins : ℕ → Head → Result Totals Unread → Type 0
 Begins limit head (Err (Refused r)) = first_refusal 0 (stated_steps limit head) ≡ Some r
-Begins limit head (Err Wait) = ⊥
+Begins limit head (Err NeedMore) = ⊥
 Begins limit head (Ok place) = (first_refusal 0 (stated_steps limit head) ≡ None) × start_of head place

@@ -1,9 +1,9 @@
 -- How far the steps of a token lead in the bytes that are there.
 use Rattle.std.specs.Prelude.{ℕ, Bool, true, false, nat_lt, List, [], ◌∷◌, Option, Some, None, Result, Ok, Err}
 use Rattle.om_model.specs.declared.refusal.ReadRefusal.{ReadRefusal}
-use Rattle.om_model.specs.Step.{Step}
-use Rattle.om_read.specs.declared.stop.Stop.{Stop}
-use Rattle.om_read.specs.declared.stop.Stop.TheVariants.{Wait, Refused}
+use Rattle.om_format.specs.Step.{Step}
+use Rattle.om_read.specs.declared.unread.Unread.{Unread}
+use Rattle.om_read.specs.declared.unread.Unread.TheVariants.{NeedMore, Refused}
 
 -- every step is passed, a step is not decided yet, or a step fails
 pub data Progress : Type 0 where
@@ -33,7 +33,7 @@ progress n [] = passed
 progress n (s ∷ steps) = and_then (once (nat_lt n s.ends) s.refusal) (progress n steps)
 
 -- how far an answer of the code says that they lead
-abbrev pub answered : {X : Type 0} → Result X Stop → Progress
+abbrev pub answered : {X : Type 0} → Result X Unread → Progress
 answered (Ok x) = passed
-answered (Err Wait) = waiting
+answered (Err NeedMore) = waiting
 answered (Err (Refused r)) = failed r

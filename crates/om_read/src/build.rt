@@ -1,4 +1,4 @@
-//! The graph that tokens build, one token after another: a block's fields come behind it (`intern.c`).
+//! The graph that tokens build, one token after another: a block's fields come after it (`intern.c`).
 
 ghost use Rattle.std.specs.Prelude.{◌≡◌, ◌≤◌, ◌<◌, ◌^◌, length, OnOk, vec_len, IsSome, Some};
 
@@ -41,12 +41,12 @@ impl Model for Builder {
 }
 
 impl Builder {
-    ghost use Rattle.om_model.specs.Token.{integer as integer_token, atom as atom_token, shared as shared_token, block as block_token, leaf};
+    ghost use Rattle.om_format.specs.Token.{integer as integer_token, atom as atom_token, shared as shared_token, block as block_token, leaf};
     ghost use Rattle.om_model.specs.declared.value.Obj.TheVariants as objects;
-    ghost use Rattle.om_heap.specs.Heap.{custom_object};
+    ghost use Rattle.om_heap.specs.Heap.{custom_object, heap_words};
     ghost use Rattle.om_model.specs.declared.code.Measure.TheVariants as measures;
-    ghost use Rattle.om_model.specs.Token.{leaf_measure};
-    ghost use Rattle.om_read.specs.Build.{empty, place_in, absorb_in, WellOpen, Fits};
+    ghost use Rattle.om_format.specs.Token.{leaf_measure};
+    ghost use Rattle.om_read.specs.Build.{empty, in_room, fill_in, absorb_in, WellOpen, Fits};
     ghost use Rattle.om_model.specs.Graph.{IsValue, IsInteger};
 
     /// Nothing is built, and the objects may have so many words.
@@ -61,11 +61,19 @@ impl Builder {
         }
     }
 
+    /// The objects may have so many words.
+    pub fn allow(&mut self, room: u64)
+        requires { heap_words self.old.built.objects ≤ room }
+        ensures { self.new ≡ in_room self.old.built room }
+    {
+        self.room = room;
+    }
+
     /// The value comes: it is the root, or the next field of the innermost open block.
-    fn place(&mut self, v: Val)
+    fn fill(&mut self, v: Val)
         requires well { WellOpen self.old.built }
         requires valid { IsValue (length self.old.built.objects) v }
-        ensures { self.new ≡ place_in v self.old }
+        ensures { self.new ≡ fill_in v self.old }
     {
         let depth = self.open_blocks.len();
         if depth == 0 {
@@ -86,27 +94,27 @@ impl Builder {
     }
 
     /// An integer.
-    #[tactic(auto, using(crate::proofs::Absorbed::absorbed_integer))]
+    #[tactic(auto, using(crate::proofs::AbsorbLemmas::absorbed_integer))]
     pub fn integer(&mut self, value: i64)
         requires well { WellOpen self.old.built }
         requires range { IsInteger value }
         ensures { self.new ≡ absorb_in self.old (integer_token value) }
     {
-        self.place(Val::Int(value));
+        self.fill(Val::Int(value));
     }
 
     /// An atom.
-    #[tactic(auto, using(crate::proofs::Absorbed::absorbed_atom))]
+    #[tactic(auto, using(crate::proofs::AbsorbLemmas::absorbed_atom))]
     pub fn atom(&mut self, tag: u8)
         requires well { WellOpen self.old.built }
         requires range { tag ≤ 243 }
         ensures { self.new ≡ absorb_in self.old (atom_token tag) }
     {
-        self.place(Val::Atom(tag));
+        self.fill(Val::Atom(tag));
     }
 
     /// A reference to the object so many places before the next one.
-    #[tactic(auto, using(crate::proofs::Absorbed::absorbed_shared))]
+    #[tactic(auto, using(crate::proofs::AbsorbLemmas::absorbed_shared))]
     pub fn shared(&mut self, offset: u64)
         requires well { WellOpen self.old.built }
         requires some { 1 ≤ offset }
@@ -114,7 +122,7 @@ impl Builder {
         ensures { self.new ≡ absorb_in self.old (shared_token offset) }
     {
         let count = self.heap.count();
-        self.place(Val::Ref(count - offset));
+        self.fill(Val::Ref(count - offset));
     }
 
     /// A block, whose fields are to come.
@@ -127,16 +135,14 @@ impl Builder {
         ensures { OnOk result (self.new ≡ absorb_in self.old (block_token tag size)) }
     {
         let object = self.heap.add_block(tag, size)?;
-        self.place(Val::Ref(object));
+        self.fill(Val::Ref(object));
         let block = OpenBlock {
             object,
             next: 0,
             size,
         };
-        match self.open_blocks.push(block) {
-            Ok(()) => Ok(()),
-            Err(_) => Err(Memory),
-        }
+        self.open_blocks.push(block)?;
+        Ok(())
     }
 
     /// A string.
@@ -147,7 +153,7 @@ impl Builder {
         ensures { OnOk result (self.new ≡ absorb_in self.old (leaf (objects.Bytes content.now))) }
     {
         let object = self.heap.add_bytes_of(content)?;
-        self.place(Val::Ref(object));
+        self.fill(Val::Ref(object));
         Ok(())
     }
 
@@ -158,7 +164,7 @@ impl Builder {
         ensures { OnOk result (self.new ≡ absorb_in self.old (leaf (objects.Double bits))) }
     {
         let object = self.heap.add_double(bits)?;
-        self.place(Val::Ref(object));
+        self.fill(Val::Ref(object));
         Ok(())
     }
 
@@ -171,7 +177,7 @@ impl Builder {
         ensures { OnOk result (self.new ≡ absorb_in self.old (leaf (objects.Doubles all.items))) }
     {
         let object = self.heap.add_doubles_of(all)?;
-        self.place(Val::Ref(object));
+        self.fill(Val::Ref(object));
         Ok(())
     }
 
@@ -182,7 +188,7 @@ impl Builder {
         ensures { OnOk result (self.new ≡ absorb_in self.old (leaf (custom_object value))) }
     {
         let object = self.heap.add_custom(value)?;
-        self.place(Val::Ref(object));
+        self.fill(Val::Ref(object));
         Ok(())
     }
 

@@ -3,19 +3,19 @@
 ghost use Rattle.std.specs.Prelude.{◌≡◌, ◌≤◌, ◌<◌, ◌*◌, ◌/◌, ◌%◌, ◌^◌, ℕ, List, length, OnOk, Some};
 ghost use Rattle.om_model.specs.declared.value.Obj.TheVariants as objects;
 ghost use Rattle.om_model.specs.Bytes.{number, SpellsDoubles};
-ghost use Rattle.om_model.specs.Code.{IsKind};
+ghost use Rattle.om_format.specs.Code.{IsKind};
 ghost use Rattle.om_model.specs.declared.code.Measure.TheVariants as measures;
-ghost use Rattle.om_model.specs.Raw.{measure_behind, block_measure};
-ghost use Rattle.om_model.specs.Token.{Token, leaf, block_or_atom as block_or_atom_token, word_token, SpellsBehind};
-ghost use Rattle.om_model.specs.Words.{of_object, fields};
+ghost use Rattle.om_format.specs.Raw.{measure_after, block_measure};
+ghost use Rattle.om_format.specs.Token.{Token, leaf, block_or_atom as block_or_atom_token, word_token, SpellsAfter};
+ghost use Rattle.om_format.specs.Words.{of_object, fields};
 ghost use Rattle.om_read.specs.Build.{absorb_in, WellOpen, Fits};
-ghost use Rattle.om_read.specs.Contents.{SpellsTokenBehind};
+ghost use Rattle.om_read.specs.Contents.{SpellsTokenAfter};
 
 use crate::build::Builder;
-use crate::content::{behind, custom_value, doubles_of};
+use crate::content::{custom_value, doubles_of};
 use crate::token::number_at;
 use om_model::Memory;
-use om_model::bytes::{big_endian, double, signed};
+use om_model::bytes::{big_endian, double, signed, skip};
 use om_model::code::CodeKind;
 use std::alloc::Global;
 
@@ -67,7 +67,7 @@ fn doubles(
     builder.doubles(all)
 }
 
-/// The token of this kind, behind whose code stands `rest`, comes.
+/// The token of this kind, after whose code stands `rest`, comes.
 pub fn decode(
     alloc: Global,
     builder: &mut Builder,
@@ -77,10 +77,10 @@ pub fn decode(
     requires well { WellOpen builder.old.built }
     requires known { IsKind kind }
     requires small { length rest.now < 2 ^ 53 }
-    requires size { of_object fields (measure_behind kind rest.now) < 2 ^ 53 }
-    requires fits { Fits builder.old (measure_behind kind rest.now) }
-    requires spelled { SpellsTokenBehind kind rest.now (length builder.old.built.objects) }
-    ensures { OnOk result ((t : Token) → SpellsBehind kind rest.now t → builder.new ≡ absorb_in builder.old t) }
+    requires size { of_object fields (measure_after kind rest.now) < 2 ^ 53 }
+    requires fits { Fits builder.old (measure_after kind rest.now) }
+    requires spelled { SpellsTokenAfter kind rest.now (length builder.old.built.objects) }
+    ensures { OnOk result ((t : Token) → SpellsAfter kind rest.now t → builder.new ≡ absorb_in builder.old t) }
 {
     match kind {
         CodeKind::SmallBlock(tag, size) => block_or_atom(builder, tag, u64::from(size)),
@@ -98,14 +98,14 @@ pub fn decode(
             Ok(())
         }
         CodeKind::Block(_) => word(builder, rest),
-        CodeKind::Str(width) => builder.bytes(behind(rest, usize::from(width))),
+        CodeKind::Str(width) => builder.bytes(skip(rest, usize::from(width))),
         CodeKind::Double(little) => builder.double(double(rest, little)),
         CodeKind::Doubles(width, little) => {
             let count = number_at(rest, width);
             doubles(
                 alloc,
                 builder,
-                behind(rest, usize::from(width)),
+                skip(rest, usize::from(width)),
                 count,
                 little,
             )

@@ -5,13 +5,17 @@ mod build;
 mod content;
 mod decode;
 mod head;
-mod place;
+mod pieces;
 mod read;
-mod stop;
+mod reader;
+mod reading;
 mod token;
+mod totals;
+mod unread;
 mod value;
 
 pub use read::read_value;
+pub use reader::{Fed, Reader, Truncated};
 pub use value::{Value, Whole};
 
 #[cfg(test)]

@@ -1,23 +1,23 @@
 //! Whole values from bytes (`intern.c`).
 
-ghost use Rattle.std.specs.Prelude.{◌≡◌, ◌<◌, ◌^◌, ◌≤◌, ℕ, List, length, OnOk};
-ghost use Rattle.om_model.specs.Words.{of_object, fields};
-ghost use Rattle.om_model.specs.Raw.{raw_measure};
-ghost use Rattle.om_model.specs.Token.{Token, Spells, IsToken};
-ghost use Rattle.om_model.specs.Tree.{RefersBack};
+ghost use Rattle.std.specs.Prelude.{◌≡◌, ◌⊎◌, ◌<◌, ◌^◌, ℕ, List, length, OnOk};
+ghost use Rattle.om_format.specs.Words.{of_object, fields};
+ghost use Rattle.om_format.specs.Raw.{raw_measure};
+ghost use Rattle.om_format.specs.Token.{Token, Spells};
+ghost use Rattle.om_format.specs.Tree.{RefersBack};
 ghost use Rattle.om_read.specs.Build.{WellOpen, absorb_in, Fits};
-ghost use Rattle.om_read.specs.Reading.{Leads, NextOf, Reads, Answers, IsBounded, answer_of};
-ghost use Rattle.om_model.specs.Judgement.{Judgement, Judges};
+ghost use Rattle.om_read.specs.Reading.{Builds, NextOf, IsRead, AnswersTo, IsBounded, answer_of};
+ghost use Rattle.om_format.specs.Judgement.{Judgement, Judges};
 
 use crate::build::Builder;
-use crate::content::behind;
 use crate::decode::decode;
 use crate::head::judge_header;
-use crate::place::Place;
-use crate::stop::Stop;
+use crate::totals::Totals;
+use crate::unread::Unread;
 use crate::value::Whole;
 use om_codes::code_kind;
 use om_model::Memory;
+use om_model::bytes::skip;
 use om_model::refusal::ReadRefusal;
 use std::alloc::Global;
 
@@ -31,46 +31,45 @@ fn add(alloc: Global, builder: &mut Builder, token: &[u8]) -> Result<(), Memory>
     ensures { OnOk result ((t : Token) → Spells t token.now → builder.new ≡ absorb_in builder.old t) }
 {
     match code_kind(token[0]) {
-        Ok(kind) => decode(alloc, builder, kind, behind(token, 1)),
+        Ok(kind) => decode(alloc, builder, kind, skip(token, 1)),
         Err(_) => unreachable!(),
     }
 }
 
 /// Judges the next token, and adds what it spells.
-fn next_token(
+pub fn next_token(
     alloc: Global,
     builder: &mut Builder,
-    place: &Place,
+    place: &Totals,
     rest: &[u8],
-) -> Result<Place, Stop>
+) -> Result<Totals, Unread>
     requires open { 0 < place.now.pending }
-    requires leads { (header : List ℕ) × (before : List (List ℕ)) × Leads header before place.now builder.old }
-    ensures { (header : List ℕ) (before : List (List ℕ)) → Leads header before place.now builder.old → NextOf header before rest.now builder.new result }
+    requires leads { (header : List ℕ) × (before : List (List ℕ)) × Builds header before place.now builder.old }
+    ensures kept { result ≡ Err Unread.NeedMore → builder.new ≡ builder.old }
+    ensures next { (header : List ℕ) (before : List (List ℕ)) → Builds header before place.now builder.old → NextOf header before rest.now builder.new result }
 {
     if rest.is_empty() {
-        return Err(Stop::Wait);
+        return Err(Unread::NeedMore);
     }
     let next = place.judge(rest)?;
     let len = (next.taken - place.taken) as usize;
-    if add(alloc, builder, &rest[..len]).is_err() {
-        return Err(Stop::Refused(ReadRefusal::Memory));
-    }
+    add(alloc, builder, &rest[..len])?;
     Ok(next)
 }
 
 /// The answer where the steps end early.
-fn stopped(stop: Stop) -> Result<Whole, ReadRefusal>
+fn stopped(stop: Unread) -> Result<Whole, ReadRefusal>
     ensures { result ≡ answer_of stop }
 {
     match stop {
-        Stop::Wait => Ok(Whole::Cut),
-        Stop::Refused(refusal) => Err(refusal),
+        Unread::NeedMore => Ok(Whole::Cut),
+        Unread::Refused(refusal) => Err(refusal),
     }
 }
 
-/// Reads one token after another, behind the header.
+/// Reads one token after another, after the header.
 fn read_whole(alloc: Global, bytes: &[u8], limit: u64) -> Result<Whole, ReadRefusal>
-    ensures { Reads limit bytes.now result }
+    ensures { IsRead limit bytes.now result }
 {
     let mut place = match judge_header(bytes, limit) {
         Ok(place) => place,
@@ -79,7 +78,7 @@ fn read_whole(alloc: Global, bytes: &[u8], limit: u64) -> Result<Whole, ReadRefu
     let mut builder = Builder::new(alloc, place.head.w64);
     loop {
         prove!(place.head.w64 <= limit);
-        let rest = behind(bytes, (place.start + place.taken) as usize);
+        let rest = skip(bytes, (place.start + place.taken) as usize);
         let next = match next_token(alloc, &mut builder, &place, rest) {
             Ok(next) => next,
             Err(stop) => return stopped(stop),
@@ -96,10 +95,10 @@ fn read_whole(alloc: Global, bytes: &[u8], limit: u64) -> Result<Whole, ReadRefu
 
 /// Reads the value that the bytes begin with, of at most `limit` words on 64 bits (`intern.c`).
 pub fn read_value(alloc: Global, bytes: &[u8], limit: u64) -> Result<Whole, ReadRefusal>
-    // What an answer says.
-    ensures says { Reads limit bytes.now result }
+    // What an answer says. The graph is that of a tree which the bytes spell, and its root is a value in it.
+    ensures says { IsRead limit bytes.now result }
     // It is the answer to what becomes of the bytes, unless memory runs out.
-    ensures answers { (judgement : Judgement) → Judges limit bytes.now judgement → Answers judgement result }
+    ensures answers { (judgement : Judgement) → Judges limit bytes.now judgement → (result ≡ Err ReadRefusal.Memory) ⊎ AnswersTo judgement result }
     // A value has as many words as its header states, and no more than the limit.
     ensures bounded { IsBounded limit bytes.now result }
 {

@@ -1,38 +1,16 @@
-ghost use Rattle.std.specs.Prelude.{◌<◌};
-
 use super::*;
 use om_heap::Kind;
 use om_model::value::Val;
-use std::alloc::{AllocError, Global};
+use std::alloc::Global;
 use std::test::Fail;
 
-fn digit(text: u8) -> u8
-    ensures { result < 16 }
-{
-    match text {
-        b'0'..=b'9' => text - b'0',
-        b'a'..=b'f' => text - b'a' + 10,
-        _ => 0,
-    }
-}
-
-// Adds the bytes that hexadecimal digits spell.
-fn push_hex(bytes: &mut Vec<u8>, hex: &str) -> Result<(), AllocError> {
-    let digits = hex.as_bytes();
-    for i in 0..digits.len() / 2 {
-        bytes.push(16 * digit(digits[2 * i]) + digit(digits[2 * i + 1]))?;
-    }
-    Ok(())
-}
-
-// A small header of a data length, a count of objects and the words on 32 and on 64 bits, and tokens behind it.
-fn small(alloc: Global, stated: [u32; 4], tokens: &str) -> Result<Vec<u8>, AllocError> {
-    let mut bytes = Vec::new(alloc);
-    push_hex(&mut bytes, "8495a6be")?;
+// A small header of a data length, a count of objects and the words on 32 and on 64 bits, and tokens after it.
+fn small(alloc: Global, stated: [u32; 4], tokens: &str) -> Result<Vec<u8>, Fail> {
+    let mut bytes = hex::decode(alloc, "8495a6be")?;
     for number in stated {
         bytes.extend_from_slice(&number.to_be_bytes())?;
     }
-    push_hex(&mut bytes, tokens)?;
+    bytes.extend_from_slice(&hex::decode(alloc, tokens)?)?;
     Ok(bytes)
 }
 
@@ -58,17 +36,13 @@ fn reads_a_value(rt: HostRuntime) -> Result<(), Fail> {
 }
 
 // Many times the same tokens, and an integer.
-fn repeated(
-    alloc: Global,
-    stated: [u32; 4],
-    tokens: &str,
-    times: u32,
-) -> Result<Vec<u8>, AllocError> {
+fn repeated(alloc: Global, stated: [u32; 4], tokens: &str, times: u32) -> Result<Vec<u8>, Fail> {
     let mut bytes = small(alloc, stated, "")?;
+    let repeated = hex::decode(alloc, tokens)?;
     for _ in 0..times {
-        push_hex(&mut bytes, tokens)?;
+        bytes.extend_from_slice(&repeated)?;
     }
-    push_hex(&mut bytes, "40")?;
+    bytes.push(0x40)?;
     Ok(bytes)
 }
 

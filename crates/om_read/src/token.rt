@@ -1,16 +1,16 @@
 //! What the code of a token and its first bytes say of its size (`intext.h` has the codes).
 
-ghost use Rattle.std.specs.Prelude.{◌≡◌, ◌≤◌, ◌<◌, ◌+◌, ◌*◌, ◌^◌, length, take, suc, slice_index, Ok};
+ghost use Rattle.std.specs.Prelude.{◌≡◌, ◌≤◌, ◌<◌, ◌+◌, ◌*◌, ◌^◌, length, take};
 ghost use Rattle.om_model.specs.Bytes.{number};
-ghost use Rattle.om_model.specs.Code.{custom_of, kind_of, native_bytes, IsKind};
-ghost use Rattle.om_model.specs.Raw.{fixed_bytes, field_bytes, variable_bytes, measure_behind, custom_bytes, custom_measure, block_measure};
-ghost use Rattle.om_model.specs.Words.{of_object, fields};
+ghost use Rattle.om_format.specs.Code.{custom_of, native_bytes, IsKind};
+ghost use Rattle.om_format.specs.Raw.{fixed_bytes, field_bytes, variable_bytes, measure_after, custom_bytes, custom_measure, block_measure};
+ghost use Rattle.om_format.specs.Words.{of_object, fields};
 
 use om_customs::ident;
 use om_model::bytes::big_endian;
 use om_model::code::{CodeKind, CustomKind, Measure};
 
-/// How many bytes each token of the kind has behind its code.
+/// How many bytes each token of the kind has after its code.
 pub fn fixed_len(kind: CodeKind) -> u64
     ensures { result ≡ fixed_bytes kind }
 {
@@ -61,7 +61,7 @@ pub fn custom_at(rest: &[u8]) -> Option<CustomKind>
     ident([rest[0], rest[1], rest[2]])
 }
 
-/// How many bytes the number of a `Nativeint` takes behind this kind byte, or 0 at another kind.
+/// How many bytes the number of a `Nativeint` takes after this kind byte, or 0 at another kind.
 pub fn native_len(kind: u8) -> u64
     ensures { result ≡ native_bytes kind }
 {
@@ -72,7 +72,7 @@ pub fn native_len(kind: u8) -> u64
     }
 }
 
-/// How many bytes a custom has behind its identifier, by the byte there.
+/// How many bytes a custom has after its identifier, by the byte there.
 pub fn custom_len(custom: Option<CustomKind>, kind: u8) -> u64
     ensures { result ≡ custom_bytes custom kind }
 {
@@ -84,7 +84,7 @@ pub fn custom_len(custom: Option<CustomKind>, kind: u8) -> u64
     }
 }
 
-/// How many bytes the token has behind those that each of its kind has.
+/// How many bytes the token has after those that each of its kind has.
 pub fn variable_len(kind: CodeKind, rest: &[u8]) -> u128
     requires known { IsKind kind }
     requires whole { field_bytes kind ≤ length rest.now }
@@ -129,7 +129,7 @@ pub fn custom_measure_of(custom: Option<CustomKind>) -> Option<Measure>
 pub fn measure_at(kind: CodeKind, rest: &[u8]) -> Option<Measure>
     requires known { IsKind kind }
     requires whole { field_bytes kind ≤ length rest.now }
-    ensures measure { result ≡ measure_behind kind rest.now }
+    ensures measure { result ≡ measure_after kind rest.now }
     ensures few { of_object fields result < 2 ^ 60 }
 {
     match kind {

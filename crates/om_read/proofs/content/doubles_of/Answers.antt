@@ -1,5 +1,5 @@
 use Rattle.std.proofs.Common.{rules, ◌≡◌, ◌+◌, ◌-◌, ◌*◌, ◌≤◌, ◌++◌, ◌∷◌, [], length, arith}
-use Rattle.om_read.proofs.Contents.{doubles_more}
+use Rattle.om_format.proofs.ContentLemmas.{doubles_more}
 use Rattle.om_read.proofs.content.doubles_of.Goals as goal
 
 pub loop-i-preserved : goal.loop-i-preserved

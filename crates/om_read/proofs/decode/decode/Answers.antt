@@ -1,35 +1,43 @@
-use Rattle.std.proofs.Common.{rules, ◌≡◌, ap, subst, sym, ◌∙◌, arith, length-drop}
+use Rattle.std.proofs.Common.{rules, ◌≡◌, ◌*◌, length, take, drop, ap, subst, sym, ◌∙◌, arith, length-drop}
 use Rattle.std.proofs.lemmas.Result.{on_ok_weaker}
 use Rattle.om_model.specs.declared.code.CodeKind.{CodeKind}
 use Rattle.om_model.specs.declared.code.CodeKind.TheVariants as kinds
 use Rattle.om_heap.specs.Heap.{custom_object}
-use Rattle.om_model.specs.Raw.{measure_behind}
-use Rattle.om_model.specs.Token.{SpellsBehind, measure_of, leaf_measure}
-use Rattle.om_model.proofs.SpellLemmas.{spelled_measure}
+use Rattle.om_format.specs.Raw.{measure_after}
+use Rattle.om_format.specs.Token.{SpellsAfter, measure_of, leaf_measure}
+use Rattle.om_format.proofs.SpellLemmas.{spelled_measure}
 use Rattle.om_read.specs.Build.{absorb_in, Fits}
-use Rattle.om_read.proofs.Contents.{doubles_whole}
+use Rattle.om_format.proofs.ContentLemmas.{doubles_whole}
 use Rattle.om_read.proofs.decode.decode.Goals as goal
+use Rattle.om_read.proofs.decode.decode.Goals.{In-Doubles}
+use Rattle.om_model.specs.Bytes.{number}
+
+-- the content of an array has eight bytes for each double
+whole_doubles : (c : In-Doubles) → length (drop c.in-Doubles.width c.args.rest.now) ≡ 8 * number (take c.in-Doubles.width c.args.rest.now)
+whole_doubles c =
+    let h = c.requires.spelled in
+    doubles_whole c.in-Doubles.width c.in-Doubles.little c.args.rest.now h.0 (subst (λ (k : CodeKind). SpellsAfter k c.args.rest.now h.0) c.in-Doubles.is h.1)
 
 pub doubles-requires-clause-small : goal.doubles-requires-clause-small
 doubles-requires-clause-small c =
-    let whole = doubles_whole c.args.kind c.in-Doubles.width c.in-Doubles.little c.args.rest.now _ c.in-Doubles.is c.requires.spelled in
+    let whole = whole_doubles (goal.at.doubles-requires-clause-small c).In-Doubles in
     omega (arith, length-drop c.in-Doubles.width c.args.rest.now)
 
 pub doubles-requires-clause-whole : goal.doubles-requires-clause-whole
 doubles-requires-clause-whole c =
-    let whole = doubles_whole c.args.kind c.in-Doubles.width c.in-Doubles.little c.args.rest.now _ c.in-Doubles.is c.requires.spelled in
+    let whole = whole_doubles (goal.at.doubles-requires-clause-whole c).In-Doubles in
     let width : c.from-in-Doubles.result ≡ c.in-Doubles.width = search rules in
     cc (whole, width)
 
 pub returns-in-Custom : goal.returns-in-Custom
 returns-in-Custom c =
     on_ok_weaker c.custom.result (λ e t s.
-    e ∙ ap (absorb_in c.args.builder.now) (sym (c.custom_value.ensures t (subst (λ (k : CodeKind). SpellsBehind k c.args.rest.now t) c.in-Custom.is s)))) c.custom.ensures
+    e ∙ ap (absorb_in c.args.builder.now) (sym (c.custom_value.ensures t (subst (λ (k : CodeKind). SpellsAfter k c.args.rest.now t) c.in-Custom.is s)))) c.custom.ensures
 
 pub custom-requires-clause-fits : goal.custom-requires-clause-fits
 custom-requires-clause-fits c =
     let h = c.requires.spelled in
-    let spelled : SpellsBehind kinds.Custom c.args.rest.now h.0 = subst (λ (k : CodeKind). SpellsBehind k c.args.rest.now h.0) c.in-Custom.is h.1 in
-    let same : measure_behind c.args.kind c.args.rest.now ≡ leaf_measure (custom_object c.custom_value.result) =
+    let spelled : SpellsAfter kinds.Custom c.args.rest.now h.0 = subst (λ (k : CodeKind). SpellsAfter k c.args.rest.now h.0) c.in-Custom.is h.1 in
+    let same : measure_after c.args.kind c.args.rest.now ≡ leaf_measure (custom_object c.custom_value.result) =
     spelled_measure c.args.kind c.args.rest.now h.0 h.1 ∙ ap measure_of (c.custom_value.ensures h.0 spelled) in
     subst (Fits c.args.builder.now) same c.requires.fits

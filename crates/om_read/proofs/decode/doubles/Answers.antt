@@ -1,10 +1,9 @@
 use Rattle.std.proofs.Common.{ap, ◌∙◌, arith}
 use Rattle.std.proofs.lemmas.Result.{on_ok_weaker}
 use Rattle.om_model.specs.declared.value.Obj.TheVariants as objects
-use Rattle.om_model.specs.Token.{leaf}
-use Rattle.om_model.proofs.SpellLemmas.{SpellsDoubles-length}
+use Rattle.om_format.specs.Token.{leaf}
 use Rattle.om_read.specs.Build.{absorb_in}
-use Rattle.om_read.proofs.Contents.{doubles_same}
+use Rattle.om_format.proofs.SpellLemmas.{SpellsDoubles-length, SpellsDoubles-same}
 use Rattle.om_read.proofs.decode.doubles.Goals as goal
 
 pub doubles-requires-clause-small : goal.doubles-requires-clause-small
@@ -14,7 +13,7 @@ doubles-requires-clause-small c =
 pub returns : goal.returns
 returns c =
     on_ok_weaker c.doubles.result (λ e all s.
-    e ∙ ap (λ ds. absorb_in c.args.builder.now (leaf (objects.Doubles ds))) (doubles_same c.args.little c.in_ok-all.all.items all c.args.bytes.now c.in_ok-all.ensures s)) c.doubles.ensures
+    e ∙ ap (λ ds. absorb_in c.args.builder.now (leaf (objects.Doubles ds))) (SpellsDoubles-same c.args.little c.in_ok-all.all.items all c.args.bytes.now c.in_ok-all.ensures s)) c.doubles.ensures
 
 pub doubles-requires-clause-fits : goal.doubles-requires-clause-fits
 doubles-requires-clause-fits c =

@@ -1,4 +1,4 @@
-use Rattle.om_read.proofs.Heads.{header_bad_at, header_compressed, header_waits, header_begins}
+use Rattle.om_read.proofs.HeadLemmas.{header_bad_at, header_compressed, header_waits, header_begins}
 use Rattle.om_read.proofs.head.judge_header.Goals as goal
 
 pub returns-in-Err-BadMagic-clause-judged : goal.returns-in-Err-BadMagic-clause-judged

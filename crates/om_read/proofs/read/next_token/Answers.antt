@@ -1,26 +1,26 @@
 use Rattle.std.proofs.Common.{rules, arith, ◌≡◌, ◌+◌, ◌-◌, ◌<◌, ◌≤◌, ◌^◌, length, take, subst, sym}
 use Rattle.std.specs.Prelude.{IsErr}
 use Rattle.std.proofs.lemmas.List.{length-take-le}
-use Rattle.om_model.specs.Raw.{raw_length, raw_measure}
-use Rattle.om_model.specs.Token.{Token, Spells}
-use Rattle.om_model.specs.Tree.{RefersBack}
-use Rattle.om_model.specs.Words.{of_object, fields}
-use Rattle.om_model.specs.Front.{context}
+use Rattle.om_format.specs.Raw.{raw_length, raw_measure}
+use Rattle.om_format.specs.Token.{Token, Spells}
+use Rattle.om_format.specs.Tree.{RefersBack}
+use Rattle.om_format.specs.Words.{of_object, fields}
+use Rattle.om_format.specs.Front.{context}
 use Rattle.om_model.proofs.Numbers.{are_bytes}
-use Rattle.om_model.proofs.RawLemmas.{raw_measure-take}
-use Rattle.om_read.specs.Place.{Judged}
+use Rattle.om_format.proofs.RawLemmas.{raw_measure-take}
+use Rattle.om_read.specs.Totals.{IsNext}
 use Rattle.om_read.specs.Build.{absorb_in, Fits}
-use Rattle.om_read.proofs.Nexts.{next_taken, next_fields, built_well, next_spelled, next_leads, next_fits, nothing_left, judged_next}
+use Rattle.om_read.proofs.NextLemmas.{next_taken, next_fields, built_well, next_spelled, next_leads, next_fits, nothing_left, judged_next}
 use Rattle.om_read.proofs.read.next_token.Goals as goal
 use Rattle.om_read.proofs.read.next_token.Goals.{In_ok-next}
 
-pub returns-then-is_empty : goal.returns-then-is_empty
-returns-then-is_empty c = λ header before h. nothing_left (context header before) c.args.rest.now (search rules)
+pub returns-then-is_empty-clause-next : goal.returns-then-is_empty-clause-next
+returns-then-is_empty-clause-next c = λ header before h. nothing_left (context header before) c.args.rest.now (search rules)
 
-pub returns-in_err-next : goal.returns-in_err-next
-returns-in_err-next c = λ header before h.
+pub returns-in_err-next-clause-next : goal.returns-in_err-next-clause-next
+returns-in_err-next-clause-next c = λ header before h.
     let j = c.judge.ensures (context header before) h.sums in
-    let k : Judged (context header before) c.args.rest.now c.from_residual.result = search rules in
+    let k : IsNext (context header before) c.args.rest.now c.from_residual.result = search rules in
     let e : IsErr c.from_residual.result = search rules in
     judged_next header before c.args.rest.now c.args.builder.now c.from_residual.result e k
 
@@ -82,9 +82,9 @@ add-requires-clause-spelled c =
     subst (λ n. (t : Token) × Spells t (take n rest) × RefersBack t (length c.args.builder.now.built.objects)) len
     (next_spelled c.requires.leads.0 c.requires.leads.1 c.args.place.now c.args.builder.now rest bytes h j.0 j.1)
 
-pub returns : goal.returns
-returns c = λ header before h.
-    let d = (goal.at.returns c).In_ok-next in
+pub returns-clause-next : goal.returns-clause-next
+returns-clause-next c = λ header before h.
+    let d = (goal.at.returns-clause-next c).In_ok-next in
     let rest = c.args.rest.now in
     let next = c.in_ok-next.next in
     let len : next.taken - c.args.place.now.taken ≡ raw_length rest = omega (arith, length_is d) in

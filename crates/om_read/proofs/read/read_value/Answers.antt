@@ -1,5 +1,5 @@
-use Rattle.om_read.proofs.Rooms.{bounded_from_says}
-use Rattle.om_read.proofs.Standing.{answers_from_says}
+use Rattle.om_read.proofs.RoomLemmas.{bounded_from_says}
+use Rattle.om_read.proofs.ReadingLemmas.{answers_from_says}
 use Rattle.om_read.proofs.read.read_value.Goals as goal
 
 pub returns-clause-answers : goal.returns-clause-answers

@@ -1,15 +1,15 @@
 use Rattle.std.proofs.Common.{rules, arith, ◌≡◌, ◌+◌, ap, sym, ◌∙◌, subst, [], refl, drop, Ok, Err, Some}
 use Rattle.om_model.proofs.Numbers.{are_bytes}
-use Rattle.om_model.specs.Tree.{Tree, root, objects_of}
-use Rattle.om_model.specs.Judgement.{Judges, value}
+use Rattle.om_format.specs.Tree.{Tree, root, objects_of}
+use Rattle.om_format.specs.Judgement.{Judges, value}
 use Rattle.om_read.specs.Build.{Building, building}
-use Rattle.om_read.specs.Reading.{NextOf, Reads}
-use Rattle.om_read.proofs.Standing.{IsAt, at_start, header_stops, at_stop, at_next, at_end, falls}
+use Rattle.om_read.specs.Reading.{NextOf, IsRead}
+use Rattle.om_read.proofs.ReadingLemmas.{IsAt, at_start, header_stops, at_stop, at_next, at_end, falls, value_is_read}
 use Rattle.om_read.proofs.read.read_whole.Goals as goal
 use Rattle.om_read.proofs.read.read_whole.Goals.{In-Ok-next_token}
 
 pub returns-in-Err : goal.returns-in-Err
-returns-in-Err c = subst (Reads c.args.limit c.args.bytes.now) (sym c.stopped.ensures) (header_stops c.args.limit c.args.bytes.now c.in-Err.stop (search rules))
+returns-in-Err c = subst (IsRead c.args.limit c.args.bytes.now) (sym c.stopped.ensures) (header_stops c.args.limit c.args.bytes.now c.in-Err.stop (search rules))
 
 pub loop-alloc-init : goal.loop-alloc-init
 loop-alloc-init c = subst (IsAt c.args.limit c.args.bytes.now c.in-Ok.place) (sym c.new-builder.ensures) (at_start c.args.limit c.args.bytes.now c.in-Ok.place (search rules) (search rules))
@@ -18,8 +18,8 @@ pub returns-in-Err-next_token : goal.returns-in-Err-next_token
 returns-in-Err-next_token c =
     let here = c.loop-alloc.invariant in
     let built = c.next_token.new.builder in
-    let h = subst (λ rest. NextOf here.header here.before rest built (Err c.in-Err-next_token.stop)) c.behind-rest.ensures (c.in-Err-next_token.ensures here.header here.before here.leads) in
-    subst (Reads c.args.limit c.args.bytes.now) (sym c.stopped-in-Err-next_token.ensures)
+    let h = subst (λ rest. NextOf here.header here.before rest built (Err c.in-Err-next_token.stop)) c.skip-rest.ensures (c.in-Err-next_token.ensures.next here.header here.before here.leads) in
+    subst (IsRead c.args.limit c.args.bytes.now) (sym c.stopped-in-Err-next_token.ensures)
     (at_stop c.args.limit c.args.bytes.now c.loop-alloc.place c.loop-alloc.builder here built c.in-Err-next_token.stop h)
 
 -- where the next token leads
@@ -28,8 +28,8 @@ next_of : (c : In-Ok-next_token)
     (Ok c.in-Ok-next_token.next)
 next_of c =
     let here = c.loop-alloc.invariant in
-    subst (λ rest. NextOf here.header here.before rest c.next_token.new.builder (Ok c.in-Ok-next_token.next)) c.behind-rest.ensures
-    (c.in-Ok-next_token.ensures here.header here.before here.leads)
+    subst (λ rest. NextOf here.header here.before rest c.next_token.new.builder (Ok c.in-Ok-next_token.next)) c.skip-rest.ensures
+    (c.in-Ok-next_token.ensures.next here.header here.before here.leads)
 
 -- a whole value
 ended : (c : In-Ok-next_token) → c.in-Ok-next_token.next.pending ≡ 0
@@ -47,7 +47,7 @@ returns-then-next-eq0 c =
     let e = ended (goal.at.returns-then-next-eq0 c).In-Ok-next_token (search rules) in
     let r : Some c.finish.result.root ≡ Some (root e.0 0) = sym c.finish.ensures.root ∙ ap (λ (b : Building). b.root) e.2 in
     let same : c.finish.result.root ≡ root e.0 0 = cc in
-    (e.0, e.1, same, c.finish.ensures.heap ∙ ap (λ (b : Building). b.objects) e.2)
+    value_is_read c.args.limit c.args.bytes.now _ c.finish.result e.0 e.1 (c.finish.ensures.heap ∙ ap (λ (b : Building). b.objects) e.2) same
 
 pub loop-alloc-smaller : goal.loop-alloc-smaller
 loop-alloc-smaller c =

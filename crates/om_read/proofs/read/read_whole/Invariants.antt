@@ -1,5 +1,5 @@
 use Rattle.std.proofs.Common.{◌+◌, ◌-◌, length}
-use Rattle.om_read.proofs.Standing.{IsAt}
+use Rattle.om_read.proofs.ReadingLemmas.{IsAt}
 use Rattle.om_read.proofs.read.read_whole.Given as goal
 
 abbrev pub invariant-loop-alloc : goal.invariant-loop-alloc

@@ -1,0 +1,73 @@
+-- Fields of a block among objects that are set one after another.
+use Rattle.std.proofs.Common.{pos, ◌≡◌, ℕ, suc, ◌+◌, ◌<◌, List, [], ◌∷◌, ◌++◌, length, set, get_or, refl, ap, sym, ◌∙◌, arith, length-set, append_assoc, add-zero, eq-eqb, ne_eqb}
+use Rattle.std.proofs.lemmas.List.{set-append_left, get_or_append_left, set_at, get_or_at, length_push}
+use Rattle.om_model.specs.declared.value.Val.{Val}
+use Rattle.om_model.specs.declared.value.Obj.{Obj}
+use Rattle.om_model.specs.declared.value.Obj.TheVariants as objs
+use Rattle.om_read.specs.Build.{still_open, advanced}
+use Rattle.om_read.specs.declared.build.OpenBlock.{OpenBlock}
+use Rattle.om_heap.specs.Heap.{with_field, set_field}
+
+-- the fields from i on, one after another
+abbrev pub set_fields : List Obj → ℕ → ℕ → List Val → List Obj
+set_fields all b i [] = all
+set_fields all b i (v ∷ values) = set_fields (set_field all b i v) b (i + 1) values
+
+-- one field
+
+pub length-set_field : (all : List Obj) (b i : ℕ) (v : Val) → length (set_field all b i v) ≡ length all
+length-set_field all b i v = length-set all b (with_field (get_or all b (objs.I32 (pos 0))) i v)
+
+pub set_field-append : (xs ys : List Obj) (b i : ℕ) (v : Val) → b < length xs → set_field (xs ++ ys) b i v ≡ set_field xs b i v ++ ys
+set_field-append xs ys b i v h =
+    ap (λ o. set (xs ++ ys) b (with_field o i v)) (get_or_append_left xs ys (objs.I32 (pos 0)) b h)
+    ∙ set-append_left xs ys b (with_field (get_or xs b (objs.I32 (pos 0))) i v) h
+
+pub set_field_at : (xs : List Obj) (tag : ℕ) (values : List Val) (b i : ℕ) (v : Val) → length xs ≡ b → set_field (xs ++ objs.Block tag values ∷ []) b i v ≡ xs ++ objs.Block tag (set values i v) ∷ []
+set_field_at xs tag values b i v e =
+    ap (λ o. set (xs ++ objs.Block tag values ∷ []) b (with_field o i v)) (get_or_at xs (objs.Block tag values) [] (objs.I32 (pos 0)) b e)
+    ∙ set_at xs (objs.Block tag values) [] (objs.Block tag (set values i v)) b e
+
+-- several fields
+
+pub length-set_fields : (all : List Obj) (b i : ℕ) (values : List Val) → length (set_fields all b i values) ≡ length all
+length-set_fields all b i [] = refl
+length-set_fields all b i (v ∷ values) = length-set_fields (set_field all b i v) b (i + 1) values ∙ length-set_field all b i v
+
+pub set_fields-append : (xs ys : List Obj) (b i : ℕ) (values : List Val) → b < length xs → set_fields (xs ++ ys) b i values ≡ set_fields xs b i values ++ ys
+set_fields-append xs ys b i [] h = refl
+set_fields-append xs ys b i (v ∷ values) h =
+    ap (λ all. set_fields all b (i + 1) values) (set_field-append xs ys b i v h)
+    ∙ set_fields-append (set_field xs b i v) ys b (i + 1) values (rw length-set_field h)
+
+-- the fields of the last block after its first ones
+set_fields_from : (xs : List Obj) (tag : ℕ) (front rest : List Val) (b i : ℕ) (values : List Val) → length xs ≡ b → length front ≡ i → length rest ≡ length values
+    → set_fields (xs ++ objs.Block tag (front ++ rest) ∷ []) b i values ≡ xs ++ objs.Block tag (front ++ values) ∷ []
+set_fields_from xs tag front [] b i [] e d l = refl
+set_fields_from xs tag front (r ∷ rest) b i [] e d l = absurd (omega arith)
+set_fields_from xs tag front [] b i (v ∷ values) e d l = absurd (omega arith)
+set_fields_from xs tag front (r ∷ rest) b i (v ∷ values) e d l =
+    ap (λ all. set_fields all b (i + 1) values)
+    (set_field_at xs tag (front ++ r ∷ rest) b i v e
+    ∙ ap (λ vs. xs ++ objs.Block tag vs ∷ []) (set_at front r rest v i d ∙ sym (append_assoc front (v ∷ []) rest)))
+    ∙ set_fields_from xs tag (front ++ v ∷ []) rest b (i + 1) values e (length_push front v ∙ ap (λ n. n + 1) d) (omega arith)
+    ∙ ap (λ vs. xs ++ objs.Block tag vs ∷ []) (append_assoc front (v ∷ []) values)
+
+-- all the fields of the last block
+pub set_fields_at : (xs : List Obj) (tag : ℕ) (old : List Val) (b : ℕ) (values : List Val) → length xs ≡ b → length old ≡ length values
+    → set_fields (xs ++ objs.Block tag old ∷ []) b 0 values ≡ xs ++ objs.Block tag values ∷ []
+set_fields_at xs tag old b values e l = set_fields_from xs tag [] old b 0 values e refl l
+
+-- an open block
+
+pub still_open_below : (b : OpenBlock) (outer : List OpenBlock) → b.next < b.size → still_open b outer ≡ b ∷ outer
+still_open_below b outer h = rw (ne_eqb b.next b.size (omega arith))
+
+pub still_open_full : (b : OpenBlock) (outer : List OpenBlock) → b.next ≡ b.size → still_open b outer ≡ outer
+still_open_full b outer e = rw (eq-eqb b.next b.size e)
+
+pub advanced-zero : (b : OpenBlock) → advanced b 0 ≡ b
+advanced-zero b = ap (λ n. record b { next = n }) (add-zero b.next)
+
+pub advanced-suc : (b : OpenBlock) (n : ℕ) → advanced (advanced b 1) n ≡ advanced b (suc n)
+advanced-suc b n = ap (λ k. record b { next = k }) (omega arith)

@@ -1,0 +1,124 @@
+-- The next token of a value.
+use Rattle.std.proofs.Common.{ℕ, ◌≡◌, ◌+◌, ◌^◌, ◌<◌, ◌≤◌, List, [], ◌∷◌, ◌++◌, length, take, map, Option, None, Result, Ok, Err, IsErr, arith, refl, ap, length-append, sym, ◌∙◌, subst}
+use Rattle.std.specs.List.{concat}
+use Rattle.std.proofs.lemmas.List.{map-append, length-take-le}
+use Rattle.std.proofs.lemmas.List.Elements.{All-push}
+use Rattle.std.proofs.lemmas.List.Sums.{sum_by_push}
+use Rattle.om_model.specs.declared.code.Measure.{Measure}
+use Rattle.om_model.specs.Bytes.{AreBytes}
+use Rattle.om_format.specs.Words.{of_object, fields, objects, pending, words64, all_words64}
+use Rattle.om_format.specs.Raw.{raw_length, raw_measure}
+use Rattle.om_format.specs.Token.{Token, IsToken, Spells}
+use Rattle.om_format.specs.Tree.{RefersBack}
+use Rattle.om_format.specs.Step.{Context, first_refusal, token_steps}
+use Rattle.om_format.specs.Front.{with_next, context}
+use Rattle.om_format.proofs.Pending.{pending_push}
+use Rattle.om_format.proofs.RawLemmas.{raw_measure-take}
+use Rattle.om_format.proofs.NextLemmas.{next_passes}
+use Rattle.om_format.proofs.ReadingLemmas.{concat-push, AllZip-push}
+use Rattle.om_format.proofs.SpellTokens.{SpelledThere-passes}
+use Rattle.om_format.proofs.SpellValues.{raw_measures-spelled, IsToken-spelled}
+use Rattle.om_format.proofs.StandLemmas.{AreBytes-take}
+use Rattle.om_read.specs.declared.totals.Totals.{Totals}
+use Rattle.om_read.specs.declared.unread.Unread.{Unread}
+use Rattle.om_read.specs.declared.unread.Unread.TheVariants.{NeedMore, Refused}
+use Rattle.om_read.specs.Totals.{AreTotals, IsNext, after}
+use Rattle.om_read.specs.Build.{Building, Bounded, start, absorb, absorb_in, WellOpen, Fits}
+use Rattle.om_read.specs.Reading.{Builds, NextOf}
+use Rattle.om_heap.specs.Heap.{heap_words}
+use Rattle.om_read.proofs.BuildLemmas.{WellOpen-from_start, length-from_start, absorb_all_push}
+use Rattle.om_read.proofs.RoomLemmas.{heap_words-from_start}
+
+-- ---- where the next token leads
+
+-- the context after the next token is that with the token
+pub context_after : (header : List ℕ) (before : List (List ℕ)) (rest : List ℕ) → raw_length rest ≤ length rest
+    → after (context header before) rest ≡ context header (with_next before rest)
+context_after header before rest h =
+    let piece = take (raw_length rest) rest in
+    let len : length (concat before) + raw_length rest ≡ length (concat (before ++ piece ∷ [])) =
+    sym (ap length (concat-push before piece) ∙ length-append (concat before) piece ∙ ap (λ n. length (concat before) + n) (length-take-le (raw_length rest) rest h)) in
+    let measures : map raw_measure before ++ raw_measure rest ∷ [] ≡ map raw_measure (before ++ piece ∷ []) =
+    sym (map-append raw_measure before (piece ∷ []) ∙ ap (λ m. map raw_measure before ++ m ∷ []) (raw_measure-take (raw_length rest) rest (omega arith))) in
+    ap (λ (p : ℕ × List (Option Measure)). record (context header before) { taken = p.0; before = p.1 })
+    (let same : (length (concat before) + raw_length rest, map raw_measure before ++ raw_measure rest ∷ []) ≡ (length (concat (before ++ piece ∷ [])), map raw_measure (before ++ piece ∷ [])) = cc in same)
+
+-- the bytes that the next token takes
+pub next_taken : (c : Context) (rest : List ℕ) (place next : Totals) → AreTotals place c → AreTotals next (after c rest) → next.taken ≡ place.taken + raw_length rest
+next_taken c rest place next s t = let e = s.taken in let f = t.taken in omega arith
+
+-- its fields are few
+pub next_fields : (c : Context) (rest : List ℕ) (place next : Totals) → AreTotals place c → AreTotals next (after c rest) → 0 < place.pending → next.pending < 2 ^ 53
+    → of_object fields (raw_measure rest) < 2 ^ 53
+next_fields c rest place next s t some few =
+    let e = s.pending in
+    let f = t.pending in
+    let pos : 0 < pending c.before = omega arith in
+    let push = pending_push c.before (raw_measure rest) pos in
+    omega arith
+
+-- ---- what it spells
+
+-- as many objects are there as the tokens made
+pub objects_built : (header : List ℕ) (before : List (List ℕ)) (place : Totals) (state : Bounded) → Builds header before place state
+    → length state.built.objects ≡ objects (map raw_measure before)
+objects_built header before place state h =
+    ap (λ (b : Building). length b.objects) h.builds ∙ length-from_start h.tokens h.are_tokens ∙ ap objects (sym (raw_measures-spelled h.tokens before h.spells))
+
+-- the objects have the words of the tokens
+pub words_built : (header : List ℕ) (before : List (List ℕ)) (place : Totals) (state : Bounded) → Builds header before place state
+    → heap_words state.built.objects ≡ all_words64 (map raw_measure before)
+words_built header before place state h =
+    ap (λ (b : Building). heap_words b.objects) h.builds ∙ heap_words-from_start h.tokens h.are_tokens ∙ ap all_words64 (sym (raw_measures-spelled h.tokens before h.spells))
+
+-- the next one has room
+pub next_fits : (header : List ℕ) (before : List (List ℕ)) (place next : Totals) (state : Bounded) (rest : List ℕ) → Builds header before place state
+    → AreTotals next (after (context header before) rest) → next.w64 ≤ next.head.w64 → Fits state (raw_measure rest)
+next_fits header before place next state rest h sums within =
+    let words = words_built header before place state h in
+    let more = sum_by_push (of_object words64) (map raw_measure before) (raw_measure rest) in
+    let same : next.head ≡ place.head = sym sums.head ∙ h.sums.head in
+    let room : state.room ≡ next.head.w64 = h.room ∙ ap (λ x. x.w64) (sym same) in
+    omega (arith, sums.w64)
+
+pub built_well : (header : List ℕ) (before : List (List ℕ)) (place : Totals) (state : Bounded) → Builds header before place state → WellOpen state.built
+built_well header before place state h = subst WellOpen (sym h.builds) (WellOpen-from_start h.tokens h.are_tokens)
+
+-- the next token spells one that refers back
+pub next_spelled : (header : List ℕ) (before : List (List ℕ)) (place : Totals) (state : Bounded) (rest : List ℕ) → AreBytes rest → Builds header before place state
+    → first_refusal (length rest) (token_steps (context header before) rest) ≡ None → raw_length rest ≤ length rest
+    → (t : Token) × Spells t (take (raw_length rest) rest) × RefersBack t (length state.built.objects)
+next_spelled header before place state rest bytes h none whole =
+    let p = next_passes header before rest none whole in
+    let s = SpelledThere-passes header before (take (raw_length rest) rest) (AreBytes-take (raw_length rest) rest bytes) p.raw p.passes in
+    (s.token, s.spells, subst (RefersBack s.token) (sym (objects_built header before place state h)) s.refers_back)
+
+-- and it leads on
+pub next_leads : (header : List ℕ) (before : List (List ℕ)) (place next : Totals) (state state' : Bounded) (rest : List ℕ) → AreBytes rest → Builds header before place state
+    → first_refusal (length rest) (token_steps (context header before) rest) ≡ None → raw_length rest ≤ length rest → AreTotals next (after (context header before) rest)
+    → ((t : Token) → Spells t (take (raw_length rest) rest) → state' ≡ absorb_in state t)
+    → Builds header (with_next before rest) next state'
+next_leads header before place next state state' rest bytes h none whole sums adds =
+    let p = next_passes header before rest none whole in
+    let s = SpelledThere-passes header before (take (raw_length rest) rest) (AreBytes-take (raw_length rest) rest bytes) p.raw p.passes in
+    record {
+      tokens = h.tokens ++ s.token ∷ [];
+      sums = subst (AreTotals next) (context_after header before rest whole) sums;
+      spells = AllZip-push Spells h.tokens before s.token (take (raw_length rest) rest) h.spells s.spells;
+      are_tokens = All-push IsToken h.tokens s.token h.are_tokens (IsToken-spelled s.token (take (raw_length rest) rest) s.spells);
+      builds = ap (λ (b : Bounded). b.built) (adds s.token s.spells) ∙ ap (λ b. absorb b s.token) h.builds ∙ sym (absorb_all_push start h.tokens s.token);
+      room = ap (λ (b : Bounded). b.room) (adds s.token s.spells) ∙ h.room ∙ ap (λ x. x.w64) (sym h.sums.head ∙ sums.head);
+    }
+
+-- ---- what is not whole, or refused
+
+pub nothing_left : (c : Context) (rest : List ℕ) → length rest ≡ 0 → (first_refusal (length rest) (token_steps c rest) ≡ None) × (length rest < raw_length rest)
+unfolding token_steps
+nothing_left c [] e = (refl, omega arith)
+nothing_left c (b ∷ rest) e = absurd (omega arith)
+
+pub judged_next : (header : List ℕ) (before : List (List ℕ)) (rest : List ℕ) (state : Bounded) (x : Result Totals Unread) → IsErr x
+    → IsNext (context header before) rest x → NextOf header before rest state x
+judged_next header before rest state (Ok place) e j = cc
+judged_next header before rest state (Err NeedMore) e j = j
+judged_next header before rest state (Err (Refused r)) e j = λ _. j

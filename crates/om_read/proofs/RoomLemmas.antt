@@ -1,0 +1,137 @@
+-- How many words on 64 bits the objects have that tokens build.
+use Rattle.std.proofs.Common.{◌≡◌, ℕ, ◌+◌, ◌<◌, ◌≤◌, List, [], ◌∷◌, ◌++◌, length, map, take, pos, Option, arith, ap, sym, ◌∙◌, refl, length-set, length-append}
+use Rattle.std.specs.List.{AllZip, concat}
+use Rattle.std.specs.Prelude.{All, Result, Ok, Err}
+use Rattle.std.proofs.lemmas.List.{length-replicate, length-take, take_at}
+use Rattle.std.proofs.lemmas.List.Elements.{All-nil, All-cons, All-head, All-tail}
+use Rattle.std.proofs.lemmas.List.Sums.{sum_by-cons, sum_by-set}
+use Rattle.om_model.specs.declared.value.Val.{Val}
+use Rattle.om_model.specs.declared.value.Val.TheVariants as vals
+use Rattle.om_model.specs.declared.value.Obj.{Obj}
+use Rattle.om_model.specs.declared.value.Obj.TheVariants as objs
+use Rattle.om_model.specs.declared.refusal.ReadRefusal.{ReadRefusal}
+use Rattle.om_format.specs.Words.{of_object, words64, all_words64}
+use Rattle.om_format.specs.Header.{header_length, head_of}
+use Rattle.om_format.specs.Token.{Token, integer, atom, shared, block, leaf, IsToken, measure_of, Spells}
+use Rattle.om_format.specs.Tree.{Tree, IsTree, tokens, value_of, objects_of}
+use Rattle.om_format.specs.Spelled.{SpelledUnder}
+use Rattle.om_format.proofs.SpellValues.{IsToken-spelled}
+use Rattle.om_format.proofs.TokenStepLemmas.{header_length-from, header_length-take, head_of-take}
+use Rattle.om_format.proofs.OneJudgement.{header_length-append}
+use Rattle.om_heap.specs.Heap.{object_at, with_field, set_field, object_words, heap_words}
+use Rattle.om_heap.proofs.WriteLemmas.{heap_words-append}
+use Rattle.om_read.specs.Build.{Building, start, fill, blank, blank_fields, absorb, absorb_all, AreOpen, WellOpen}
+use Rattle.om_read.specs.Reading.{IsRead, IsBounded}
+use Rattle.om_read.specs.declared.build.OpenBlock.{OpenBlock}
+use Rattle.om_read.specs.declared.value.Whole.{Whole}
+use Rattle.om_read.specs.declared.value.Whole.TheVariants.{Done, Cut}
+use Rattle.om_read.proofs.BuildLemmas.{AreOpen-append, WellOpen-absorb, WellOpen-start}
+use Rattle.om_read.proofs.TreeLemmas.{absorb_start}
+
+-- ---- a field
+
+words-with_field : (i : ℕ) (v : Val) (o : Obj) → object_words (with_field o i v) ≡ object_words o
+words-with_field i v (objs.Block tag values) = ap (λ n. 1 + n) (length-set values i v)
+words-with_field i v (objs.Bytes bytes) = refl
+words-with_field i v (objs.Double bits) = refl
+words-with_field i v (objs.Doubles all) = refl
+words-with_field i v (objs.I32 z) = refl
+words-with_field i v (objs.I64 z) = refl
+words-with_field i v (objs.Native z) = refl
+
+pub heap_words-set_field : (all : List Obj) (b i : ℕ) (v : Val) → b < length all → heap_words (set_field all b i v) ≡ heap_words all
+heap_words-set_field all b i v h =
+    let s = sum_by-set object_words all b (with_field (object_at all b) i v) (objs.I32 (pos 0)) h in
+    let w = words-with_field i v (object_at all b) in
+    omega arith
+
+-- ---- an object
+
+heap_words-one : (o : Obj) → heap_words (o ∷ []) ≡ object_words o
+heap_words-one o = let s = sum_by-cons object_words o [] in omega arith
+
+pub heap_words-push : (all : List Obj) (o : Obj) → heap_words (all ++ o ∷ []) ≡ heap_words all + object_words o
+heap_words-push all o = heap_words-append all (o ∷ []) ∙ ap (λ n. heap_words all + n) (heap_words-one o)
+
+-- the object that a token makes has the words of its measure
+heap_words-blank : (t : Token) → IsToken t → heap_words (blank t) ≡ of_object words64 (measure_of t)
+heap_words-blank (integer z) h = refl
+heap_words-blank (atom tag) h = refl
+heap_words-blank (shared offset) h = refl
+heap_words-blank (block tag size) h =
+    heap_words-one (objs.Block tag (blank_fields (block tag size))) ∙ ap (λ n. 1 + n) (length-replicate size (vals.Int (pos 0)))
+heap_words-blank (leaf (objs.Block tag values)) h = absurd h
+heap_words-blank (leaf (objs.Bytes bytes)) h = heap_words-one (objs.Bytes bytes)
+heap_words-blank (leaf (objs.Double bits)) h = heap_words-one (objs.Double bits)
+heap_words-blank (leaf (objs.Doubles all)) h = heap_words-one (objs.Doubles all)
+heap_words-blank (leaf (objs.I32 z)) h = heap_words-one (objs.I32 z)
+heap_words-blank (leaf (objs.I64 z)) h = heap_words-one (objs.I64 z)
+heap_words-blank (leaf (objs.Native z)) h = heap_words-one (objs.Native z)
+
+-- ---- tokens
+
+heap_words-fill : (v : Val) (all : List Obj) (bs : List OpenBlock) (r : Option Val) → AreOpen all bs → heap_words (fill v all bs r).objects ≡ heap_words all
+heap_words-fill v all [] r h = refl
+heap_words-fill v all (b ∷ outer) r h = heap_words-set_field all b.object b.next v h.0.object
+
+pub heap_words-absorb : (state : Building) (t : Token) → IsToken t → WellOpen state
+    → heap_words (absorb state t).objects ≡ heap_words state.objects + of_object words64 (measure_of t)
+heap_words-absorb state t h w =
+    heap_words-fill (value_of t (length state.objects)) (state.objects ++ blank t) state.open_blocks state.root
+    (AreOpen-append state.objects (blank t) state.open_blocks w.are_open)
+    ∙ heap_words-append state.objects (blank t)
+    ∙ ap (λ n. heap_words state.objects + n) (heap_words-blank t h)
+
+heap_words-absorb_all : (state : Building) (ts : List Token) → All IsToken ts → WellOpen state
+    → heap_words (absorb_all state ts).objects ≡ heap_words state.objects + all_words64 (map measure_of ts)
+heap_words-absorb_all state [] h w = omega arith
+heap_words-absorb_all state (t ∷ ts) h w =
+    let one : IsToken t = All-head IsToken t ts h in
+    let a = heap_words-absorb state t one w in
+    let b = heap_words-absorb_all (absorb state t) ts (All-tail IsToken t ts h) (WellOpen-absorb state t one w) in
+    let c = sum_by-cons (of_object words64) (measure_of t) (map measure_of ts) in
+    omega arith
+
+pub heap_words-from_start : (ts : List Token) → All IsToken ts → heap_words (absorb_all start ts).objects ≡ all_words64 (map measure_of ts)
+heap_words-from_start ts h = let e = heap_words-absorb_all start ts h WellOpen-start in omega arith
+
+-- ---- a whole value
+
+spelled_tokens : (ts : List Token) (pieces : List (List ℕ)) → AllZip Spells ts pieces → All IsToken ts
+spelled_tokens [] pieces s = All-nil IsToken
+spelled_tokens (t ∷ ts) [] s = absurd s
+spelled_tokens (t ∷ ts) (p ∷ pieces) s = All-cons IsToken t ts (IsToken-spelled t p s.0) (spelled_tokens ts pieces s.1)
+
+-- the objects of a tree have the words of its tokens
+heap_words-objects_of : (tree : Tree) → IsTree tree → All IsToken (tokens tree) → heap_words (objects_of tree 0) ≡ all_words64 (map measure_of (tokens tree))
+heap_words-objects_of tree h k = sym (ap (λ (b : Building). heap_words b.objects) (absorb_start tree h)) ∙ heap_words-from_start (tokens tree) k
+
+-- a whole header in front of the first n bytes states what all of them state
+head_in_front : (n : ℕ) (bytes header more : List ℕ) → length header ≡ header_length header → take n bytes ≡ header ++ more → head_of header ≡ head_of bytes
+head_in_front n bytes header more whole e =
+    let from = header_length-from header in
+    let front : header_length (header ++ more) ≡ header_length header = header_length-append header more whole in
+    let len : length (take n bytes) ≡ length header + length more = ap length e ∙ length-append header more in
+    let enough : length header ≤ n = omega (arith, length-take n bytes) in
+    let same : header_length bytes ≡ header_length header = sym (header_length-take n bytes (omega arith)) ∙ ap header_length e ∙ front in
+    ap head_of (sym (take_at header more (length header) refl))
+    ∙ head_of-take (length header) (header ++ more) (omega arith)
+    ∙ ap head_of (sym e)
+    ∙ head_of-take n bytes (omega arith)
+
+-- the words that a spelled tree takes
+pub spelled_words : (limit n : ℕ) (bytes : List ℕ) (tree : Tree) → SpelledUnder limit (take n bytes) tree
+    → (heap_words (objects_of tree 0) ≡ (head_of bytes).w64) × (heap_words (objects_of tree 0) ≤ limit)
+spelled_words limit n bytes tree s =
+    let same = head_in_front n bytes s.header (concat s.pieces) s.spells.is_header.whole s.bytes_are in
+    let words = heap_words-objects_of tree s.spells.is_tree (spelled_tokens (tokens tree) s.pieces s.spells.spells) in
+    let stated : heap_words (objects_of tree 0) ≡ (head_of s.header).w64 = words ∙ sym s.spells.states.w64 in
+    (stated ∙ ap (λ h. h.w64) same, omega (arith, s.words))
+
+pub bounded_from_says : (limit : ℕ) (bytes : List ℕ) (result : Result Whole ReadRefusal) → IsRead limit bytes result → IsBounded limit bytes result
+bounded_from_says limit bytes (Ok (Done read taken)) h =
+    let w = spelled_words limit taken bytes h.0 h.2 in
+    let same = ap heap_words h.3.heap in
+    (same ∙ w.0, omega (arith, w.1))
+bounded_from_says limit bytes (Ok Cut) h = tt
+bounded_from_says limit bytes (Err refusal) h = tt

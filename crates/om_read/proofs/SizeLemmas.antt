@@ -1,0 +1,128 @@
+-- How large the object of a token is, by the token's bytes.
+use Rattle.std.proofs.Common.{ℕ, zero, suc, ◌≡◌, ◌+◌, ◌*◌, ◌/◌, ◌^◌, ◌<◌, ◌≤◌, List, take, Option, Some, None, arith, get_or, subst}
+use Rattle.std.specs.Option.{ForSome}
+use Rattle.om_model.specs.declared.code.CodeKind.{CodeKind}
+use Rattle.om_model.specs.declared.code.CodeKind.TheVariants as kinds
+use Rattle.om_model.specs.declared.code.CustomKind.{CustomKind}
+use Rattle.om_model.specs.declared.code.CustomKind.TheVariants as customs
+use Rattle.om_model.specs.declared.code.Measure.{Measure}
+use Rattle.om_model.specs.declared.code.Measure.TheVariants as measures
+use Rattle.om_model.specs.Bytes.{number}
+use Rattle.om_format.specs.Code.{custom_of}
+use Rattle.om_format.specs.Raw.{fixed_bytes, variable_bytes, measure_after, block_measure, custom_measure, custom_bytes}
+use Rattle.om_format.specs.Words.{of_object, fields, words32, words64}
+use Rattle.om_headers.specs.Counting.{IsCountable}
+
+-- ---- a small measure
+
+AreSmall : Option Measure → Type 0
+AreSmall None = Unit {0}
+AreSmall (Some m) = IsCountable m
+
+for_some : (measure : Option Measure) → AreSmall measure → ForSome measure IsCountable
+unfolding AreSmall
+for_some None h m e = cc
+for_some (Some x) h m e = let same : x ≡ m = cc in subst IsCountable same h
+
+small_block : (n : ℕ) → of_object fields (block_measure n) < 2 ^ 60 → AreSmall (block_measure n)
+unfolding AreSmall
+small_block zero h = tt
+small_block (suc n) h = h
+
+small_custom : (custom : Option CustomKind) → AreSmall (custom_measure custom)
+unfolding AreSmall
+small_custom None = tt
+small_custom (Some customs.Int32) = (omega arith, omega arith)
+small_custom (Some customs.Int64) = (omega arith, omega arith)
+small_custom (Some customs.Native) = (omega arith, omega arith)
+
+are_small : (kind : CodeKind) (rest : List ℕ) → variable_bytes kind rest < 2 ^ 60 → of_object fields (measure_after kind rest) < 2 ^ 60 → AreSmall (measure_after kind rest)
+unfolding AreSmall
+are_small (kinds.SmallBlock tag size) rest v f = small_block size f
+are_small (kinds.SmallInt n) rest v f = tt
+are_small (kinds.SmallString n) rest v f = v
+are_small (kinds.Int width) rest v f = tt
+are_small (kinds.Shared width) rest v f = tt
+are_small (kinds.Block width) rest v f = small_block (number (take width rest) / 1024) f
+are_small (kinds.Str width) rest v f = v
+are_small (kinds.Double little) rest v f = tt
+are_small (kinds.Doubles width little) rest v f = omega arith
+are_small kinds.Custom rest v f = small_custom (custom_of (take 3 rest))
+
+-- the object of a token of few bytes and few fields is small
+pub measure_small : (kind : CodeKind) (rest : List ℕ) → variable_bytes kind rest < 2 ^ 60 → of_object fields (measure_after kind rest) < 2 ^ 60 → ForSome (measure_after kind rest) IsCountable
+measure_small kind rest v f = for_some (measure_after kind rest) (are_small kind rest v f)
+
+-- ---- words
+
+-- an object has no more words than this, on 32 and on 64 bits
+abbrev pub most_words : Measure → ℕ
+most_words (measures.Block n) = 1 + n
+most_words (measures.Bytes n) = 1 + (n + 4) / 4
+most_words measures.Double = 3
+most_words (measures.Doubles n) = 1 + 2 * n
+most_words (measures.Custom a b) = 2 + (a + b + 7) / 4
+
+-- words, on 32 bits or on 64
+abbrev pub AreWords : (Measure → ℕ) → Type 0
+AreWords words = (m : Measure) → words m ≤ most_words m
+
+pub words32-within : AreWords words32
+words32-within (measures.Block n) = omega arith
+words32-within (measures.Bytes n) = omega arith
+words32-within measures.Double = omega arith
+words32-within (measures.Doubles n) = omega arith
+words32-within (measures.Custom a b) = omega arith
+
+pub words64-within : AreWords words64
+words64-within (measures.Block n) = omega arith
+words64-within (measures.Bytes n) = omega arith
+words64-within measures.Double = omega arith
+words64-within (measures.Doubles n) = omega arith
+words64-within (measures.Custom a b) = omega arith
+
+-- the words of a small object
+pub words-small : (m : Measure) → IsCountable m → most_words m < 2 ^ 62
+words-small (measures.Block n) h = omega arith
+words-small (measures.Bytes n) h = omega arith
+words-small measures.Double h = omega arith
+words-small (measures.Doubles n) h = omega arith
+words-small (measures.Custom a b) h = omega arith
+
+-- ---- words against bytes
+
+-- a token takes fewer words than three for each of its bytes, and one for each of its fields
+abbrev pub AreFew : (Measure → ℕ) → Option Measure → ℕ → Type 0
+AreFew words measure n = of_object words measure + 1 ≤ 3 * n + of_object fields measure
+
+few_block : (n k : ℕ) → AreFew most_words (block_measure n) (1 + k)
+few_block zero k = omega arith
+few_block (suc n) k = omega arith
+
+few_custom : (custom : Option CustomKind) (kind : ℕ) → AreFew most_words (custom_measure custom) (1 + 3 + custom_bytes custom kind)
+few_custom None kind = omega arith
+few_custom (Some customs.Int32) kind = omega arith
+few_custom (Some customs.Int64) kind = omega arith
+few_custom (Some customs.Native) kind = omega arith
+
+few_most : (kind : CodeKind) (rest : List ℕ) → AreFew most_words (measure_after kind rest) (1 + fixed_bytes kind + variable_bytes kind rest)
+few_most (kinds.SmallBlock tag size) rest = few_block size 0
+few_most (kinds.SmallInt n) rest = omega arith
+few_most (kinds.SmallString n) rest = omega arith
+few_most (kinds.Int width) rest = omega arith
+few_most (kinds.Shared width) rest = omega arith
+few_most (kinds.Block width) rest = let h = few_block (number (take width rest) / 1024) width in omega arith
+few_most (kinds.Str width) rest = omega arith
+few_most (kinds.Double little) rest = omega arith
+few_most (kinds.Doubles width little) rest = omega arith
+few_most kinds.Custom rest = few_custom (custom_of (take 3 rest)) (get_or rest 3 0)
+
+few_by : (words : Measure → ℕ) (measure : Option Measure) (n : ℕ) → AreWords words → AreFew most_words measure n → AreFew words measure n
+few_by words None n w f = f
+few_by words (Some m) n w f = omega (arith, w m)
+
+pub few_words32 : (kind : CodeKind) (rest : List ℕ) → AreFew words32 (measure_after kind rest) (1 + fixed_bytes kind + variable_bytes kind rest)
+few_words32 kind rest = few_by words32 (measure_after kind rest) _ words32-within (few_most kind rest)
+
+pub few_words64 : (kind : CodeKind) (rest : List ℕ) → AreFew words64 (measure_after kind rest) (1 + fixed_bytes kind + variable_bytes kind rest)
+few_words64 kind rest = few_by words64 (measure_after kind rest) _ words64-within (few_most kind rest)

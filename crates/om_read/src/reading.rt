@@ -1,0 +1,82 @@
+//! The header and the tokens that were read whole, and what they build.
+
+ghost use Rattle.std.specs.Prelude.{◌≡◌, ◌++◌, ◌↔◌, ℕ, List, [], None, IsTrue};
+
+use crate::build::Builder;
+use crate::head::judge_header;
+use crate::read::next_token;
+use crate::totals::Totals;
+use crate::unread::Unread;
+use std::alloc::Global;
+
+/// The limit of words, the sums over the tokens once the header is whole, and what they build.
+#[derive(Drop)]
+pub struct Reading {
+    pub limit: u64,
+    pub totals: Option<Totals>,
+    pub builder: Builder,
+}
+
+impl Reading {
+    ghost use Rattle.om_read.specs.Pieces.{LeadsAs, IsWhole, NextRead};
+
+    /// Nothing is read.
+    pub fn new(alloc: Global, limit: u64) -> Reading
+        ensures limit { result.limit ≡ limit }
+        ensures leads { LeadsAs result.totals limit [] result.builder [] }
+    {
+        Reading {
+            limit,
+            totals: None,
+            builder: Builder::new(alloc, 0),
+        }
+    }
+
+    /// The last token of the value was read.
+    pub fn is_done(&self) -> bool
+        ensures { IsTrue result ↔ IsWhole self.now.totals }
+    {
+        match &self.totals {
+            None => false,
+            Some(totals) => totals.pending == 0,
+        }
+    }
+
+    /// Reads the header, where the bytes begin with all of it: how many bytes it has.
+    fn next_header(&mut self, bytes: &[u8]) -> Result<usize, Unread>
+        requires none { self.old.totals ≡ None }
+        requires leads { (taken part more : List ℕ) × LeadsAs None self.old.limit taken self.old.builder part × (bytes.now ≡ part ++ more) }
+        ensures limit { self.new.limit ≡ self.old.limit }
+        ensures next { (taken part more : List ℕ) → LeadsAs None self.old.limit taken self.old.builder part → bytes.now ≡ part ++ more →
+            NextRead self.old.limit taken part more self.new result }
+    {
+        match judge_header(bytes, self.limit) {
+            Ok(totals) => {
+                self.builder.allow(totals.head.w64);
+                self.totals = Some(totals);
+                Ok(totals.start as usize)
+            }
+            Err(stop) => Err(stop),
+        }
+    }
+
+    /// Reads the header, or after it the next token, where the bytes begin with all of it: how many bytes it has.
+    pub fn next(&mut self, alloc: Global, bytes: &[u8]) -> Result<usize, Unread>
+        requires open { IsWhole self.old.totals → ⊥ }
+        requires leads { (taken part more : List ℕ) × LeadsAs self.old.totals self.old.limit taken self.old.builder part × (bytes.now ≡ part ++ more) }
+        ensures limit { self.new.limit ≡ self.old.limit }
+        ensures next { (taken part more : List ℕ) → LeadsAs self.old.totals self.old.limit taken self.old.builder part → bytes.now ≡ part ++ more →
+            NextRead self.old.limit taken part more self.new result }
+    {
+        let Some(totals) = self.totals else {
+            return self.next_header(bytes);
+        };
+        match next_token(alloc, &mut self.builder, &totals, bytes) {
+            Ok(next) => {
+                self.totals = Some(next);
+                Ok((next.taken - totals.taken) as usize)
+            }
+            Err(stop) => Err(stop),
+        }
+    }
+}

@@ -1,0 +1,365 @@
+//! Where a token stands, and the steps that compare it with what came before.
+
+ghost use Rattle.std.specs.Prelude.{◌≡◌, ◌≤◌, ◌<◌, ◌+◌, ◌-◌, ◌*◌, ◌^◌, ◌++◌, ◌∷◌, [], length, take, slice_index, None, OnOk, IfOk, nat_lt, List, Option, ℕ, ◌==◌, if◌then◌else◌};
+ghost use Rattle.std.specs.Option.{ForSome};
+
+use crate::token::{
+    custom_at, field_len, fixed_len, measure_at, native_len, number_at, variable_len,
+};
+use crate::unread::{Unread, pass};
+use om_codes::code_kind;
+use om_headers::words_of;
+use om_model::bytes::{signed, skip};
+use om_model::code::{CodeFault, CodeKind, CustomKind, Measure};
+use om_model::header::Head;
+use om_model::refusal::{ReadRefusal, WordSum};
+
+/// The header, and sums over the tokens before the place: bytes, objects, values still to come, and words.
+#[derive(Clone, Copy)]
+pub struct Totals {
+    pub head: Head,
+    pub start: u64,
+    pub taken: u64,
+    pub objects: u64,
+    pub pending: u64,
+    pub w32: u64,
+    pub w64: u64,
+    ghost begins: { start ≤ 32 },
+    ghost short: { head.length < 2 ^ 48 },
+    ghost room: { taken + pending ≤ head.length },
+    ghost few: { objects ≤ taken },
+    ghost words32: { w32 ≤ 3 * taken + pending },
+    ghost words64: { w64 ≤ 3 * taken + pending },
+    ghost within: { w64 ≤ head.w64 },
+}
+
+impl Totals {
+    ghost use Rattle.om_format.specs.Code.{IsKind, custom_of, native_bytes};
+    ghost use Rattle.om_format.specs.Raw.{field_bytes, fixed_bytes, variable_bytes, sizing_bytes};
+    ghost use Rattle.om_format.specs.Words.{of_object, fields as fields_of, pending as pending_of, words32, words64, all_words32, all_words64, objects as objects_of_all};
+    ghost use Rattle.om_format.specs.Step.{Context, overlong as overlong_refusal, field_refusal as refusal_of_fields, shared_refusal as refusal_of_shared, integer_refusal as refusal_of_integer, code_refusal as refusal_of_code, native_steps, variable_steps, entry_steps, closing_steps, words32_refusal, words64_refusal, end_steps, or_else, place};
+    ghost use Rattle.om_read.specs.Totals.{AreTotals, IsNext, after_kind};
+    ghost use Rattle.om_headers.specs.Counting.{IsCountable};
+    ghost use Rattle.om_model.specs.declared.code.Measure.{Measure};
+    ghost use Rattle.om_read.specs.Progress.{answered, and_then, progress, of_refusal};
+
+    /// The place of the token's code, from the header's first byte.
+    fn at(&self) -> u64
+        ensures { result ≡ self.now.start + self.now.taken }
+    {
+        self.start + self.taken
+    }
+
+    /// More is needed than there are data bytes after the first `n` of the token.
+    fn overlong(&self, need: u128, n: u64) -> Option<ReadRefusal>
+        requires { self.now.taken + n ≤ self.now.head.length }
+        ensures refusal { (c : Context) → AreTotals self.now c → result ≡ overlong_refusal c need n }
+        ensures room { result ≡ None → self.now.taken + n + need ≤ self.now.head.length }
+    {
+        let left = self.head.length - (self.taken + n);
+        if u128::from(left) < need {
+            Some(ReadRefusal::Overlong(self.at(), need, left))
+        } else {
+            None
+        }
+    }
+
+    /// What is wrong with a reference.
+    fn shared_refusal(&self, offset: u64) -> Option<ReadRefusal>
+        ensures { (c : Context) → AreTotals self.now c → result ≡ refusal_of_shared c offset }
+    {
+        if offset == 0 || self.objects < offset {
+            Some(ReadRefusal::BadShared(self.at(), offset, self.objects))
+        } else if self.head.objects == 0 {
+            Some(ReadRefusal::NoTable(self.at()))
+        } else {
+            None
+        }
+    }
+
+    /// What is wrong with an integer of eight bytes.
+    fn integer_refusal(&self, value: i64) -> Option<ReadRefusal>
+        ensures { (c : Context) → AreTotals self.now c → result ≡ refusal_of_integer c value }
+    {
+        if value < -(1 << 62) || value >= 1 << 62 {
+            Some(ReadRefusal::IntRange(self.at(), value))
+        } else {
+            None
+        }
+    }
+
+    /// What is wrong with the token's fields: tag, offset, identifier, integer or length.
+    fn field_refusal(&self, code: u8, kind: CodeKind, rest: &[u8]) -> Option<ReadRefusal>
+        requires known { IsKind kind }
+        requires whole { field_bytes kind ≤ length rest.now }
+        ensures { (c : Context) → AreTotals self.now c → result ≡ refusal_of_fields c code kind rest.now }
+    {
+        match kind {
+            CodeKind::Int(8) => self.integer_refusal(signed(&rest[..8])),
+            CodeKind::Shared(width) => self.shared_refusal(number_at(rest, width)),
+            CodeKind::Block(width) => {
+                let tag = (number_at(rest, width) & 0xff) as u8;
+                if tag > 243 {
+                    Some(ReadRefusal::BadTag(self.at(), tag))
+                } else {
+                    None
+                }
+            }
+            CodeKind::Doubles(width, _) => {
+                if number_at(rest, width) == 0 {
+                    Some(ReadRefusal::ZeroArray(self.at()))
+                } else {
+                    None
+                }
+            }
+            CodeKind::Custom => {
+                if custom_at(rest).is_none() {
+                    Some(ReadRefusal::OtherCustom(self.at(), code))
+                } else {
+                    None
+                }
+            }
+            _ => None,
+        }
+    }
+
+    /// The steps of a `Nativeint` after its identifier.
+    fn native(&self, rest: &[u8]) -> Result<u64, Unread>
+        requires room { self.now.taken + 4 ≤ self.now.head.length }
+        requires known { 3 ≤ length rest.now }
+        ensures steps { (c : Context) → AreTotals self.now c → answered result ≡ progress (length rest.now + 1) (native_steps c (slice_index rest.now 3)) }
+        ensures len { IfOk result (λ len. (len ≡ 1 + native_bytes (slice_index rest.now 3)) × (self.now.taken + (4 + len) ≤ self.now.head.length)) }
+        ensures sized { OnOk result (4 ≤ length rest.now) }
+    {
+        pass(self.overlong(1, 4))?;
+        if rest.len() < 4 {
+            return Err(Unread::NeedMore);
+        }
+        let kind = rest[3];
+        let len = native_len(kind);
+        if len == 0 {
+            return Err(Unread::Refused(ReadRefusal::BadNative(self.at(), kind)));
+        }
+        pass(self.overlong(u128::from(len), 5))?;
+        Ok(1 + len)
+    }
+
+    /// What the kind's fixed bytes and its fields decide.
+    fn fields(&self, code: u8, kind: CodeKind, rest: &[u8]) -> Result<(), Unread>
+        requires open { 0 < self.now.pending }
+        requires known { IsKind kind }
+        ensures steps { (c : Context) → AreTotals self.now c → answered result ≡ progress (length rest.now + 1)
+            (entry_steps c code kind rest.now) }
+        ensures whole { OnOk result (field_bytes kind ≤ length rest.now) }
+        ensures room { OnOk result (self.now.taken + (1 + fixed_bytes kind) ≤ self.now.head.length) }
+    {
+        pass(self.overlong(u128::from(fixed_len(kind)), 1))?;
+        if rest.len() < field_len(kind) {
+            return Err(Unread::NeedMore);
+        }
+        pass(self.field_refusal(code, kind, rest))
+    }
+
+    /// What the bytes of a content decide, and how many there are.
+    fn variable(&self, kind: CodeKind, rest: &[u8]) -> Result<u64, Unread>
+        requires known { IsKind kind }
+        requires whole { field_bytes kind ≤ length rest.now }
+        requires room { self.now.taken + (1 + fixed_bytes kind) ≤ self.now.head.length }
+        ensures steps { (c : Context) → AreTotals self.now c → answered result ≡ progress (length rest.now + 1)
+            (variable_steps c kind (custom_of (take 3 rest.now)) rest.now) }
+        ensures len { IfOk result (λ len. len ≡ variable_bytes kind rest.now) }
+        ensures room { IfOk result (λ len. self.now.taken + (1 + fixed_bytes kind + len) ≤ self.now.head.length) }
+        ensures sized { OnOk result (sizing_bytes kind rest.now ≤ length rest.now) }
+    {
+        if kind == CodeKind::Custom && custom_at(rest) == Some(CustomKind::Native) {
+            return self.native(rest);
+        }
+        let len = variable_len(kind, rest);
+        pass(self.overlong(len, 1 + fixed_len(kind)))?;
+        Ok(len as u64)
+    }
+
+    /// How many values are to come after a token.
+    fn pending_after(&self, measure: Option<Measure>) -> u64
+        requires open { 0 < self.now.pending }
+        requires small { of_object fields_of measure < 2 ^ 60 }
+        ensures sum { result ≡ self.now.pending - 1 + of_object fields_of measure }
+        ensures total { (c : Context) → AreTotals self.now c → result ≡ pending_of (c.before ++ measure ∷ []) }
+    {
+        match measure {
+            Some(Measure::Block(size)) => self.pending - 1 + size,
+            _ => self.pending - 1,
+        }
+    }
+
+    /// The objects with one more, if the token makes one.
+    fn objects_after(&self, measure: Option<Measure>) -> u64
+        ensures sum { result ≡ self.now.objects + of_object (λ _. 1) measure }
+        ensures total { (c : Context) → AreTotals self.now c → result ≡ objects_of_all (c.before ++ measure ∷ []) }
+    {
+        match measure {
+            None => self.objects,
+            Some(_) => self.objects + 1,
+        }
+    }
+
+    /// The words with those of one object more.
+    fn words_after(&self, measure: Option<Measure>) -> (u64, u64)
+        requires { ForSome measure IsCountable }
+        ensures sum32 { result.0 ≡ self.now.w32 + of_object words32 measure }
+        ensures sum64 { result.1 ≡ self.now.w64 + of_object words64 measure }
+        ensures total32 { (c : Context) → AreTotals self.now c → result.0 ≡ all_words32 (c.before ++ measure ∷ []) }
+        ensures total64 { (c : Context) → AreTotals self.now c → result.1 ≡ all_words64 (c.before ++ measure ∷ []) }
+    {
+        match measure {
+            None => (self.w32, self.w64),
+            Some(measure) => {
+                let (w32, w64) = words_of(measure);
+                (self.w32 + w32, self.w64 + w64)
+            }
+        }
+    }
+
+    /// A sum of words exceeds what the header states.
+    fn exceeded(&self, w32: u64, w64: u64) -> Option<ReadRefusal>
+        ensures within { result ≡ None → w64 ≤ self.now.head.w64 }
+        ensures refusal { (c : Context) → AreTotals self.now c → (all : List (Option Measure)) → all_words32 all ≡ w32 → all_words64 all ≡ w64 →
+            result ≡ or_else (words32_refusal nat_lt (place c) c.head all) (words64_refusal nat_lt (place c) c.head all) }
+    {
+        if !self.head.big && self.head.w32 < w32 {
+            return Some(ReadRefusal::SizeMismatch(self.at(), WordSum::W32, self.head.w32, w32));
+        }
+        if self.head.w64 < w64 {
+            return Some(ReadRefusal::SizeMismatch(self.at(), WordSum::W64, self.head.w64, w64));
+        }
+        None
+    }
+
+    /// The whole value differs from what the header states.
+    fn differs(&self, n: u64, objects: u64, w32: u64, w64: u64) -> Option<ReadRefusal>
+        requires { self.now.taken + n ≤ self.now.head.length }
+        ensures { (c : Context) → AreTotals self.now c → (all : List (Option Measure)) → all_words32 all ≡ w32 → all_words64 all ≡ w64 →
+            objects_of_all all ≡ objects → (m : ℕ) → n ≤ m → of_refusal result ≡ progress m (end_steps c n all) }
+    {
+        let at = self.at() + n;
+        let left = self.head.length - (self.taken + n);
+        if left > 0 {
+            return Some(ReadRefusal::LengthMismatch(at, left));
+        }
+        if !self.head.big && self.head.w32 != w32 {
+            return Some(ReadRefusal::SizeMismatch(at, WordSum::W32, self.head.w32, w32));
+        }
+        if self.head.w64 != w64 {
+            return Some(ReadRefusal::SizeMismatch(at, WordSum::W64, self.head.w64, w64));
+        }
+        if self.head.objects != 0 && self.head.objects != objects {
+            return Some(ReadRefusal::CountMismatch(at, self.head.objects, objects));
+        }
+        None
+    }
+
+    /// After the last token the steps of the whole value, once its `n` bytes are there.
+    fn end(
+        &self,
+        rest: &[u8],
+        n: u64,
+        pending: u64,
+        objects: u64,
+        w32: u64,
+        w64: u64,
+    ) -> Result<(), Unread>
+        requires { self.now.taken + n ≤ self.now.head.length }
+        ensures { (c : Context) → AreTotals self.now c → (all : List (Option Measure)) → all_words32 all ≡ w32 → all_words64 all ≡ w64 →
+            objects_of_all all ≡ objects → pending_of all ≡ pending →
+            answered result ≡ progress (length rest.now + 1) (if pending_of all == 0 then end_steps c n all else []) }
+    {
+        if pending > 0 {
+            return Ok(());
+        }
+        if (rest.len() as u64) + 1 < n {
+            return Err(Unread::NeedMore);
+        }
+        pass(self.differs(n, objects, w32, w64))
+    }
+
+    /// The steps that need the token's size, and after the last token those of the whole value. The place after it.
+    #[tactic(auto, using(crate::proofs::SizeLemmas::measure_small, crate::proofs::SizeLemmas::few_words32, crate::proofs::SizeLemmas::few_words64))]
+    fn close(&self, kind: CodeKind, rest: &[u8], len: u64) -> Result<Totals, Unread>
+        requires open { 0 < self.now.pending }
+        requires known { IsKind kind }
+        requires whole { field_bytes kind ≤ length rest.now }
+        requires sized { sizing_bytes kind rest.now ≤ length rest.now }
+        requires len { len ≡ variable_bytes kind rest.now }
+        requires room { self.now.taken + (1 + fixed_bytes kind + len) ≤ self.now.head.length }
+        ensures steps { (c : Context) → AreTotals self.now c → answered result ≡ progress (length rest.now + 1) (closing_steps c kind rest.now) }
+        ensures next { IfOk result (λ next. (c : Context) → AreTotals self.now c → AreTotals next (after_kind c kind rest.now)) }
+        ensures len { IfOk result (λ next. next.taken ≡ self.now.taken + (1 + fixed_bytes kind + len)) }
+    {
+        let n = 1 + fixed_len(kind) + len;
+        let measure = measure_at(kind, rest);
+        let pending = self.pending_after(measure);
+        pass(self.overlong(u128::from(pending), n))?;
+        let (w32, w64) = self.words_after(measure);
+        pass(self.exceeded(w32, w64))?;
+        let objects = self.objects_after(measure);
+        self.end(rest, n, pending, objects, w32, w64)?;
+        Ok(Totals {
+            head: self.head,
+            start: self.start,
+            taken: self.taken + n,
+            objects,
+            pending,
+            w32,
+            w64,
+        })
+    }
+
+    /// The steps of a token of this kind, and the place after it.
+    fn steps(&self, code: u8, kind: CodeKind, rest: &[u8]) -> Result<Totals, Unread>
+        requires open { 0 < self.now.pending }
+        requires known { IsKind kind }
+        ensures steps { (c : Context) → AreTotals self.now c → answered result ≡
+            and_then (progress (length rest.now + 1) (entry_steps c code kind rest.now))
+            (and_then (progress (length rest.now + 1) (variable_steps c kind (custom_of (take 3 rest.now)) rest.now))
+            (progress (length rest.now + 1) (closing_steps c kind rest.now))) }
+        ensures next { IfOk result (λ next. (c : Context) → AreTotals self.now c → AreTotals next (after_kind c kind rest.now)) }
+        ensures len { IfOk result (λ next. next.taken ≡ self.now.taken + (1 + fixed_bytes kind + variable_bytes kind rest.now)) }
+    {
+        self.fields(code, kind, rest)?;
+        let len = self.variable(kind, rest)?;
+        self.close(kind, rest, len)
+    }
+
+    /// The refusal of a code that begins no token.
+    fn code_refusal(&self, fault: CodeFault, code: u8) -> ReadRefusal
+        ensures { (c : Context) → AreTotals self.now c → result ≡ refusal_of_code fault (place c) code }
+    {
+        match fault {
+            CodeFault::BadCode => ReadRefusal::BadCode(self.at(), code),
+            CodeFault::PointerCode => ReadRefusal::PointerCode(self.at(), code),
+            CodeFault::OldCustom | CodeFault::CustomLen => ReadRefusal::OtherCustom(
+                self.at(),
+                code,
+            ),
+        }
+    }
+
+    /// Judges the next token, by all the bytes that are there: the place after it, once it is whole and passes.
+    pub fn judge(&self, bytes: &[u8]) -> Result<Totals, Unread>
+        requires open { 0 < self.now.pending }
+        requires some { 0 < length bytes.now }
+        ensures { (c : Context) → AreTotals self.now c → IsNext c bytes.now result }
+    {
+        let code = bytes[0];
+        match code_kind(code) {
+            Err(fault) => Err(Unread::Refused(self.code_refusal(fault, code))),
+            Ok(kind) => {
+                let next = self.steps(code, kind, skip(bytes, 1))?;
+                if (bytes.len() as u64) < next.taken - self.taken {
+                    return Err(Unread::NeedMore);
+                }
+                Ok(next)
+            }
+        }
+    }
+}

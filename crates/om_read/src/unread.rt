@@ -1,0 +1,35 @@
+//! Why the steps of a header or a token end early.
+
+ghost use Rattle.std.specs.Prelude.{◌≡◌, OnOk, None};
+ghost use Rattle.om_read.specs.Progress.{answered, of_refusal};
+
+use om_model::Memory;
+use om_model::refusal::ReadRefusal;
+
+/// More bytes have to come, or a step fails.
+pub enum Unread {
+    NeedMore,
+    Refused(ReadRefusal),
+}
+
+impl From<Memory> for Unread {
+    ghost use Rattle.om_read.specs.declared.unread.Unread.TheVariants as stops;
+    ghost use Rattle.om_model.specs.declared.refusal.ReadRefusal.TheVariants as refusals;
+
+    ghost from_gives = { λ _ stop. stop ≡ stops.Refused refusals.Memory };
+
+    fn from(_: Memory) -> Unread {
+        Unread::Refused(ReadRefusal::Memory)
+    }
+}
+
+/// Goes on where a step does not fail.
+pub fn pass(refusal: Option<ReadRefusal>) -> Result<(), Unread>
+    ensures steps { answered result ≡ of_refusal refusal }
+    ensures goes { OnOk result (refusal ≡ None) }
+{
+    match refusal {
+        None => Ok(()),
+        Some(refusal) => Err(Unread::Refused(refusal)),
+    }
+}
