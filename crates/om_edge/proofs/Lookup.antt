@@ -10,7 +10,7 @@ use Rattle.std.proofs.lemmas.Slice.Eq.{bytes_eq-Decides}
 use Rattle.std.proofs.lemmas.Bool.{cases_lt}
 use Rattle.std.proofs.lemmas.List.Folds.{find_at}
 use Rattle.std.proofs.lemmas.Bool.Decides.{nat_tests, Decides-ltb}
-use Rattle.om_edge.specs.Files.{File, bytes_of, HasNoNameTwice}
+use Rattle.om_edge.specs.Files.{File, contents_of, HasNoNameTwice}
 use Rattle.om_edge.specs.Fakes.{files_of}
 
 position_or_len-map : {X Y : Type 0} (f : X → Y) (p : Y → Bool) (xs : List X) → position_or_len p (map f xs) ≡ position_or_len (λ x. p (f x)) xs
@@ -25,7 +25,7 @@ module _ (pairs : List (String Global × Vec ℕ Global)) (name : List ℕ) wher
   abbrev place : ℕ
   place = position_or_len (is_named name) pairs
 
-  look_up : bytes_of (files_of pairs) name ≡ option_map (λ file. file.1) (slice_get (files_of pairs) place)
+  look_up : contents_of (files_of pairs) name ≡ option_map (λ file. file.1) (slice_get (files_of pairs) place)
   look_up =
       let test : File → Bool = λ file. bytes_eq file.0 name in
       let pair_of : String Global × Vec ℕ Global → File = λ pair. (string_bytes pair.0, pair.1.items) in
@@ -33,7 +33,7 @@ module _ (pairs : List (String Global × Vec ℕ Global)) (name : List ℕ) wher
       (find_at test (files_of pairs) ∙ ap (slice_get (files_of pairs)) (position_or_len-map pair_of test pairs))
 
   pub found_at : (i : ℕ) → position (is_named name) pairs ≡ Some i
-      → (i < length (files_of pairs)) × (bytes_of (files_of pairs) name ≡ Some (get_or (files_of pairs) i ([], [])).1)
+      → (i < length (files_of pairs)) × (contents_of (files_of pairs) name ≡ Some (get_or (files_of pairs) i ([], [])).1)
   found_at i e =
       let both = cond_some (ltb place (length pairs)) place i e in
       let same : length (files_of pairs) ≡ length pairs = length-map pairs _ in
@@ -43,7 +43,7 @@ module _ (pairs : List (String Global × Vec ℕ Global)) (name : List ℕ) wher
       let within : i < length (files_of pairs) = omega arith in
       (within, look_up ∙ ap (λ found. option_map (λ file. file.1) found) (ap (slice_get (files_of pairs)) is ∙ slice_get-get_or (files_of pairs) i ([], []) within))
 
-  pub not_found : position (is_named name) pairs ≡ None → bytes_of (files_of pairs) name ≡ None
+  pub not_found : position (is_named name) pairs ≡ None → contents_of (files_of pairs) name ≡ None
   not_found e =
       let same : length (files_of pairs) ≡ length pairs = length-map pairs _ in
       let past : length pairs ≤ place = grind (arith, nat_tests) in
@@ -51,9 +51,6 @@ module _ (pairs : List (String Global × Vec ℕ Global)) (name : List ℕ) wher
 
   pub position_known : (i : ℕ) → place ≡ i → i < length pairs → position (is_named name) pairs ≡ Some i
   position_known i is less = rw (is, (Decides-ltb i (length pairs)).1 less)
-
-file_of : String Global × Vec ℕ Global → File
-file_of pair = (string_bytes pair.0, pair.1.items)
 
 false_unless : (b : Bool) → (b ≡ true → ⊥) → b ≡ false
 false_unless true h = absurd (h refl)

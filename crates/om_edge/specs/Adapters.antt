@@ -1,5 +1,6 @@
 -- What a clause reads of the adapters: what they are over, and how often a call failed.
-use Rattle.std.specs.Prelude.{ℕ}
+use Rattle.std.specs.Prelude.{ℕ, None}
+use Rattle.om_edge.specs.State.{ByteState}
 use Rattle.om_edge.specs.declared.real.StdSource.{StdSource}
 use Rattle.om_edge.specs.declared.real.StdSink.{StdSink}
 
@@ -14,3 +15,7 @@ writer_of sink = sink.writer
 
 abbrev pub write_faults_of : {W : Type 0} → StdSink W → ℕ
 write_faults_of sink = sink.faults
+
+-- the count alone: the bytes are not told
+abbrev pub untold : ℕ → ByteState
+untold faults = record { bytes = None; faults = faults }

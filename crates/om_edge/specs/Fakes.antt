@@ -1,9 +1,9 @@
 -- What the fakes in memory are: the bytes, and the numbers of the calls that fail.
-use Rattle.std.specs.Prelude.{◌≡◌, ℕ, ◌+◌, ◌<◌, ◌≤◌, min, Bool, List, [], map, drop, length, slice_index_or, Contains, Option, Some, None, IfSome, String, string_bytes, Vec}
-use Rattle.std.proofs.Common.{ap, arith}
+use Rattle.std.specs.Prelude.{ℕ, ◌+◌, ◌<◌, ◌≤◌, min, Bool, List, [], map, drop, length, slice_index_or, Contains, Option, Some, None, IfSome, String, string_bytes, Vec}
 use Rattle.std.specs.declared.alloc.Global.{Global}
 use Rattle.om_edge.specs.Faults.{last_count, count_after}
 use Rattle.om_edge.specs.Files.{File}
+use Rattle.om_edge.specs.State.{ByteState, FilesState}
 
 -- the calls of one kind: the numbers of those that fail, the number of the next, and how many failed
 pub record Plan : Type 0 where
@@ -22,10 +22,6 @@ after_call plan failed = record {
   calls = min (plan.calls + 1) last_count;
   faults = count_after plan.faults failed;
 }
-
--- with no numbers no call is one that fails
-pub no_call_fails : (plan : Plan) → plan.failing ≡ [] → ¬ FailsNext plan
-no_call_fails plan none call = absurd (omega (arith, ap length none, call.1))
 
 -- no call yet
 abbrev pub plan_of : List ℕ → Plan
@@ -50,6 +46,25 @@ pub record FilesValue : Type 0 where
   pub fetches : Plan
   pub reads : Plan
   pub last_open_fault : Option (List ℕ)
+
+-- ---- as a source, a sink and files
+
+abbrev pub source_state : SourceValue → ByteState
+source_state source = record { bytes = Some source.left; faults = source.takes.faults }
+
+abbrev pub sink_state : SinkValue → ByteState
+sink_state sink = record { bytes = Some sink.written; faults = sink.puts.faults }
+
+abbrev pub files_state : FilesValue → FilesState
+files_state files = record {
+  map = Some files.files;
+  left = Some files.left;
+  open_faults = files.fetches.faults;
+  last_open_fault = files.last_open_fault;
+  read_faults = files.reads.faults;
+}
+
+-- ---- the files of the pairs
 
 -- the names and bytes of the pairs
 abbrev pub files_of : List (String Global × Vec ℕ Global) → List File

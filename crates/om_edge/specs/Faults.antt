@@ -6,11 +6,11 @@ use Rattle.std.specs.Bool.{OnTrue, OnFalse}
 abbrev pub last_count : ℕ
 last_count = 2 ^ 64 - 1
 
--- the count rose, or stands at the last value
+-- the count rose, or is the last value
 abbrev pub RoseOrLast : ℕ → ℕ → Type 0
 RoseOrLast before after = (before < after) ⊎ (after ≡ last_count)
 
--- A call fails only where the count of faults rose, or stands at the last value. Another call leaves the count.
+-- A call fails only where the count of faults rose, or is the last value. Another call leaves the count.
 pub record HasCause (before after : ℕ) (failed : Bool) : Type 0 where
   pub never_falls : before ≤ after
   pub rose : OnTrue failed (RoseOrLast before after)

@@ -8,17 +8,17 @@ abbrev pub File : Type 0
 File = List ℕ × List ℕ
 
 -- the bytes of the file of this name
-abbrev pub bytes_of : List File → List ℕ → Option (List ℕ)
-bytes_of files name = option_map (λ file. file.1) (find (λ file. bytes_eq file.0 name) files)
+abbrev pub contents_of : List File → List ℕ → Option (List ℕ)
+contents_of files name = option_map (λ file. file.1) (find (λ file. bytes_eq file.0 name) files)
 
--- no name stands twice
+-- no name comes twice
 abbrev pub HasNoNameTwice : List File → Type 0
 HasNoNameTwice files = AllPairs (λ file other. file.0 ≢ other.0) files
 
 -- the map has the name, and its bytes are left to be taken
 pub record Opens (files : List File) (name : List ℕ) (left : Option (List ℕ)) : Type 0 where
-  pub found : IsSome (bytes_of files name)
-  pub whole : left ≡ bytes_of files name
+  pub found : IsSome (contents_of files name)
+  pub whole : left ≡ contents_of files name
 
 -- the answer is `Failed`
 abbrev pub has_failed : {T : Type 0} → Result T OpenError → Bool

@@ -5,3 +5,4 @@ pub mod Faults
 pub mod Files
 pub mod Sink
 pub mod Source
+pub mod State

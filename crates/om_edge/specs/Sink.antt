@@ -1,20 +1,30 @@
 -- What `put` and `put_all` do to the bytes written, where they are told.
-use Rattle.std.specs.Prelude.{◌≡◌, ℕ, ◌<◌, ◌≤◌, List, ◌++◌, length, take, Option, Some, is_some, Result, Ok, IfOk, OnErr, IfSome}
+use Rattle.std.specs.Prelude.{◌≡◌, ℕ, ◌<◌, ◌≤◌, List, ◌++◌, length, take, Option, Some, is_some, is_err, Result, IfOk, OnErr, IfSome, true, false}
+use Rattle.om_edge.specs.Faults.{HasCause}
+use Rattle.om_edge.specs.State.{ByteState, Change}
 
 -- The answer n is within the piece, and at least 1 where the piece has a byte. Where the bytes are told,
--- the first n of the piece were appended. A failed call appends none.
-pub record AppendsFront {E : Type 0} (before after : Option (List ℕ)) (result : Result ℕ E) (piece : List ℕ) : Type 0 where
+-- the first n of the piece were appended. A failed call appends none. The count of faults tells which call failed.
+pub record AppendsFront {E : Type 0} (before after : ByteState) (result : Result ℕ E) (piece : List ℕ) : Type 0 where
   pub within : IfOk result (λ n. n ≤ length piece)
   pub some : 0 < length piece → IfOk result (λ n. 0 < n)
-  pub appended : IfOk result (λ n. IfSome before (λ bytes. after ≡ Some (bytes ++ take n piece)))
-  pub failed : OnErr result (after ≡ before)
-  pub told : is_some after ≡ is_some before
+  pub appended : IfOk result (λ n. IfSome before.bytes (λ bytes. after.bytes ≡ Some (bytes ++ take n piece)))
+  pub failed : OnErr result (after.bytes ≡ before.bytes)
+  pub told : is_some after.bytes ≡ is_some before.bytes
+  pub cause : HasCause before.faults after.faults (is_err result)
 
 -- the bytes, and then some of the piece, but not all of it
 abbrev pub AppendsPart : List ℕ → List ℕ → Option (List ℕ) → Type 0
 AppendsPart bytes piece after = (n : ℕ) × (n < length piece) × (after ≡ Some (bytes ++ take n piece))
 
--- what an answer of n did, where the bytes are known
-pub appended_at : {E : Type 0} (before after : Option (List ℕ)) (n : ℕ) (piece bytes : List ℕ)
-    → AppendsFront {E = E} before after (Ok n) piece → before ≡ Some bytes → after ≡ Some (bytes ++ take n piece)
-appended_at before after n piece bytes call told = rw told at call.appended
+-- the text was put whole
+pub record Puts (sink : Change ByteState) (text : List ℕ) : Type 0 where
+  pub appended : IfSome sink.before.bytes (λ bytes. sink.after.bytes ≡ Some (bytes ++ text))
+  pub told : is_some sink.after.bytes ≡ is_some sink.before.bytes
+  pub cause : HasCause sink.before.faults sink.after.faults false
+
+-- a call failed, and not all of the text was put
+pub record PutsPart (sink : Change ByteState) (text : List ℕ) : Type 0 where
+  pub appended : IfSome sink.before.bytes (λ bytes. AppendsPart bytes text sink.after.bytes)
+  pub told : is_some sink.after.bytes ≡ is_some sink.before.bytes
+  pub cause : HasCause sink.before.faults sink.after.faults true

@@ -2,6 +2,7 @@
 #![tactic(auto)]
 
 mod files;
+mod input;
 mod memory;
 mod plan;
 mod real;
@@ -9,6 +10,7 @@ mod sink;
 mod source;
 
 pub use files::{OpenError, Opener};
+pub use input::MaybeClosed;
 pub use memory::{MemFiles, MemSink, MemSource};
 pub use real::{DiskFiles, StdSink, StdSource};
 pub use sink::{Sink, WriteError, put_all};

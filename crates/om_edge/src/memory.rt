@@ -1,12 +1,14 @@
 //! Fakes in memory. They tell their bytes, and fail at the calls that they are made to fail at.
 
-ghost use Rattle.std.specs.Prelude.{◌≡◌, ◌⊎◌, ◌↔◌, ◌<◌, ◌≤◌, min, [], length, take, Option, None, Some, Result, is_err, IsErr, IsErrOf, IsTrue, OnOk, OnErr, IfOk, option_copied, position, bytes_eq, string_bytes, slice_index_or};
+ghost use Rattle.std.specs.Prelude.{◌≡◌, ◌⊎◌, ◌↔◌, ◌<◌, ◌≤◌, min, [], length, take, None, Some, is_err, IsErr, IsErrOf, IsTrue, OnOk, OnErr, IfOk, option_copied, position, bytes_eq, string_bytes, slice_index_or};
 ghost use Rattle.std.specs.Bool.{OnTrue, OnFalse};
 ghost use Rattle.om_edge.specs.Faults.{HasCause};
 ghost use Rattle.om_edge.specs.Source.{TakesFront};
 ghost use Rattle.om_edge.specs.Sink.{AppendsFront};
 ghost use Rattle.om_edge.specs.Fakes.{FailsNext, after_call, plan_of, files_of};
 ghost use Rattle.om_edge.specs.Files.{HasNoNameTwice};
+ghost use Rattle.om_edge.specs.State.{as_source};
+ghost use Rattle.om_model.specs.Bytes.{AreBytes};
 
 use crate::plan::Plan;
 use crate::{Failed, OpenError, Opener, Sink, Source};
@@ -22,6 +24,13 @@ fn copy_front(from: &[u8], to: &mut [u8]) -> usize
     let n = from.len().min(to.len());
     to[..n].copy_from_slice(&from[..n]);
     n
+}
+
+// What is in a slice of bytes are bytes. The function does nothing: what it ensures is a law.
+fn are_bytes(bytes: &[u8])
+    ensures { AreBytes bytes.now }
+{
+    let _all = bytes;
 }
 
 /// A source of given bytes.
@@ -67,13 +76,12 @@ impl MemSource {
 }
 
 impl Source for MemSource {
-    ghost left = { λ s. Some s.left };
+    ghost use Rattle.om_edge.specs.Fakes.{source_state};
 
-    ghost faults = { λ s. s.takes.faults };
+    ghost state = { source_state };
 
     fn take(&mut self, buf: &mut [u8]) -> Result<usize, Failed>
-        ensures takes { TakesFront (Some self.old.left) (Some self.new.left) result buf.new }
-        ensures cause { HasCause self.old.takes.faults self.new.takes.faults (is_err result) }
+        ensures takes { TakesFront (source_state self.old) (source_state self.new) result buf.new }
 
         // Which calls fail, and how many bytes the others give.
         ensures fails { IsErr result ↔ FailsNext self.old.takes }
@@ -90,6 +98,12 @@ impl Source for MemSource {
         let n = copy_front(&rest[..self.piece.min(rest.len())], buf);
         self.at += n;
         Ok(n)
+    }
+
+    fn tells_bytes(&self)
+        ensures { AreBytes self.now.left }
+    {
+        are_bytes(&self.bytes[self.at..]);
     }
 }
 
@@ -118,14 +132,11 @@ impl MemSink {
     pub fn new(alloc: Global, room: usize, failing: Vec<u64>) -> Result<MemSink, Memory>
         ensures { IfOk result (λ sink. sink ≡ record { written = []; room = room; puts = plan_of failing.items }) }
     {
-        match Vec::with_capacity(alloc, room) {
-            Ok(bytes) => Ok(MemSink {
-                bytes,
-                room,
-                puts: Plan::new(failing),
-            }),
-            Err(_) => Err(Memory),
-        }
+        Ok(MemSink {
+            bytes: Vec::with_capacity(alloc, room)?,
+            room,
+            puts: Plan::new(failing),
+        })
     }
 
     /// The bytes written.
@@ -145,14 +156,12 @@ impl MemSink {
 
 impl Sink for MemSink {
     ghost use Rattle.std.specs.Prelude.{◌-◌};
+    ghost use Rattle.om_edge.specs.Fakes.{sink_state};
 
-    ghost written = { λ s. Some s.written };
-
-    ghost faults = { λ s. s.puts.faults };
+    ghost state = { sink_state };
 
     fn put(&mut self, piece: &[u8]) -> Result<usize, Failed>
-        ensures appends { AppendsFront (Some self.old.written) (Some self.new.written) result piece.now }
-        ensures cause { HasCause self.old.puts.faults self.new.puts.faults (is_err result) }
+        ensures appends { AppendsFront (sink_state self.old) (sink_state self.new) result piece.now }
 
         // Which calls fail, and how many bytes the others take.
         ensures fails { IsErr result ↔ (FailsNext self.old.puts ⊎ (length self.old.written ≡ self.old.room)) }
@@ -217,7 +226,7 @@ fn bytes_at(pairs: &[(String, Vec<u8>)], place: usize) -> &[u8]
 }
 
 impl MemFiles {
-    /// No name stands twice. The fetches of the numbers `failing` fail, and the takes of the numbers
+    /// No name comes twice. The fetches of the numbers `failing` fail, and the takes of the numbers
     /// `reads`, each counted from 0.
     pub fn new(
         alloc: Global,
@@ -245,7 +254,7 @@ impl MemFiles {
         }
     }
 
-    /// Whether no name stands twice, as `new` asks.
+    /// Whether no name comes twice, as `new` asks.
     pub fn have_no_name_twice(pairs: &[(String, Vec<u8>)]) -> bool
         ensures { IsTrue result ↔ HasNoNameTwice (files_of pairs.now) }
     {
@@ -283,29 +292,19 @@ impl MemFiles {
 }
 
 impl Opener for MemFiles {
-    ghost use Rattle.om_edge.specs.Files.{Opens, bytes_of, has_failed};
+    ghost use Rattle.om_edge.specs.Fakes.{files_state};
+    ghost use Rattle.om_edge.specs.Files.{Opens, contents_of, has_failed};
 
-    ghost files = { λ f. Some f.files };
-
-    ghost left = { λ f. Some f.left };
-
-    ghost open_faults = { λ f. f.fetches.faults };
-
-    ghost last_open_fault = { λ f. f.last_open_fault };
-
-    ghost read_faults = { λ f. f.reads.faults };
+    ghost state = { files_state };
 
     fn take(&mut self, buf: &mut [u8]) -> Result<usize, Failed>
-        ensures takes { TakesFront (Some self.old.left) (Some self.new.left) result buf.new }
-        ensures cause { HasCause self.old.reads.faults self.new.reads.faults (is_err result) }
-        ensures files { self.new.files ≡ self.old.files }
-        ensures last { self.new.last_open_fault ≡ self.old.last_open_fault }
+        ensures takes { TakesFront (as_source (files_state self.old)) (as_source (files_state self.new)) result buf.new }
+        ensures frame { self.new ≡ record self.old { left = self.new.left; reads = self.new.reads } }
 
         // Which calls fail, and how many bytes the others give.
         ensures fails { IsErr result ↔ FailsNext self.old.reads }
         ensures amount { IfOk result (λ n. n ≡ min (length self.old.left) (length buf.new)) }
         ensures counted { self.new.reads ≡ after_call self.old.reads (is_err result) }
-        ensures fetches { self.new.fetches ≡ self.old.fetches }
     {
         let failed = self.reads.fails_next();
         self.reads.count_call(failed);
@@ -323,12 +322,15 @@ impl Opener for MemFiles {
     fn fetch(&mut self, name: &str) -> Result<(), OpenError>
         ensures opened { OnOk result (Opens self.old.files name.now (Some self.new.left)) }
         ensures refused { OnErr result (self.new.left ≡ []) }
-        ensures missing { IsErrOf result OpenError.Missing → bytes_of self.old.files name.now ≡ None }
+        ensures missing { IsErrOf result OpenError.Missing → contents_of self.old.files name.now ≡ None }
         ensures cause { HasCause self.old.fetches.faults self.new.fetches.faults (has_failed result) }
         ensures named { OnTrue (has_failed result) (self.new.last_open_fault ≡ Some name.now) }
         ensures last { OnFalse (has_failed result) (self.new.last_open_fault ≡ self.old.last_open_fault) }
-        ensures files { self.new.files ≡ self.old.files }
-        ensures reads { self.new.reads ≡ self.old.reads }
+        ensures frame { self.new ≡ record self.old {
+          left = self.new.left;
+          fetches = self.new.fetches;
+          last_open_fault = self.new.last_open_fault;
+        } }
 
         // Which calls fail, unless memory runs out first.
         ensures fails { FailsNext self.old.fetches →

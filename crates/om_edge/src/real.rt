@@ -1,11 +1,12 @@
 //! Readers, writers and the file system. Each tells its faults, and as a source or a sink nothing of its bytes.
 
-ghost use Rattle.std.specs.Prelude.{◌≡◌, ℕ, Option, None, Some, option_copied, is_ok, is_err, IsErrOf, false};
+ghost use Rattle.std.specs.Prelude.{◌≡◌, None, Some, option_copied, is_ok, is_err, IsErrOf, false};
 ghost use Rattle.std.specs.Bool.{OnTrue, OnFalse};
 ghost use Rattle.std.specs.Io.KnownBytes.{ReadConsumes, WriteAppends};
 ghost use Rattle.om_edge.specs.Faults.{HasCause, count_after};
 ghost use Rattle.om_edge.specs.Source.{TakesFront};
 ghost use Rattle.om_edge.specs.Sink.{AppendsFront};
+ghost use Rattle.om_edge.specs.Adapters.{untold};
 
 use crate::{Failed, OpenError, Opener, Sink, Source};
 use std::alloc::Global;
@@ -43,13 +44,10 @@ impl<R> StdSource<R> {
 impl<R: Read> Source for StdSource<R> {
     ghost use Rattle.om_edge.specs.Adapters.{reader_of, read_faults_of};
 
-    ghost left = { λ _. None };
-
-    ghost faults = { read_faults_of };
+    ghost state = { λ source. untold (read_faults_of source) };
 
     fn take(&mut self, buf: &mut [u8]) -> Result<usize, Failed>
-        ensures takes { TakesFront None None result buf.new }
-        ensures cause { HasCause (read_faults_of self.old) (read_faults_of self.new) (is_err result) }
+        ensures takes { TakesFront (untold (read_faults_of self.old)) (untold (read_faults_of self.new)) result buf.new }
         ensures counted { read_faults_of self.new ≡ count_after (read_faults_of self.old) (is_err result) }
         // It gives what the reader gives, where the reader tells it.
         ensures bytes { ReadConsumes (R.remaining (reader_of self.old)) (R.remaining (reader_of self.new)) result buf.new }
@@ -62,6 +60,8 @@ impl<R: Read> Source for StdSource<R> {
             }
         }
     }
+
+    fn tells_bytes(&self) {}
 }
 
 /// A sink over a writer.
@@ -93,13 +93,10 @@ impl<W> StdSink<W> {
 impl<W: Write> Sink for StdSink<W> {
     ghost use Rattle.om_edge.specs.Adapters.{writer_of, write_faults_of};
 
-    ghost written = { λ _. None };
-
-    ghost faults = { write_faults_of };
+    ghost state = { λ sink. untold (write_faults_of sink) };
 
     fn put(&mut self, piece: &[u8]) -> Result<usize, Failed>
-        ensures appends { AppendsFront None None result piece.now }
-        ensures cause { HasCause (write_faults_of self.old) (write_faults_of self.new) (is_err result) }
+        ensures appends { AppendsFront (untold (write_faults_of self.old)) (untold (write_faults_of self.new)) result piece.now }
         ensures counted { write_faults_of self.new ≡ count_after (write_faults_of self.old) (is_err result) }
         // The writer takes what the answer says, where it tells what it holds.
         ensures bytes { WriteAppends (W.contents (writer_of self.old)) (W.contents (writer_of self.new)) result piece.now }
@@ -184,19 +181,16 @@ impl<R: Files> DiskFiles<R> {
 impl<R: Files> Opener for DiskFiles<R> {
     ghost use Rattle.om_edge.specs.Files.{has_failed};
 
-    ghost files = { λ _. None };
-
-    ghost left = { λ _. None };
-
-    ghost open_faults = { λ d. d.open_faults };
-
-    ghost last_open_fault = { λ d. d.last_open_fault };
-
-    ghost read_faults = { λ d. d.read_faults };
+    ghost state = { λ d. record {
+      map = None;
+      left = None;
+      open_faults = d.open_faults;
+      last_open_fault = d.last_open_fault;
+      read_faults = d.read_faults;
+    } };
 
     fn take(&mut self, buf: &mut [u8]) -> Result<usize, Failed>
-        ensures takes { TakesFront None None result buf.new }
-        ensures cause { HasCause self.old.read_faults self.new.read_faults (is_err result) }
+        ensures takes { TakesFront (untold self.old.read_faults) (untold self.new.read_faults) result buf.new }
         ensures counted { self.new ≡ record {
           is_open = self.old.is_open;
           left = self.new.left;

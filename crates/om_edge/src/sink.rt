@@ -1,12 +1,13 @@
 //! Where bytes go to.
 
-ghost use Rattle.std.specs.Prelude.{◌≡◌, ℕ, List, [], ◌++◌, Option, is_some, is_err, IsOk, OnOk, OnErr, IfSome};
-ghost use Rattle.om_edge.specs.Faults.{HasCause};
-ghost use Rattle.om_edge.specs.Sink.{AppendsFront, AppendsPart};
+ghost use Rattle.std.specs.Prelude.{◌≡◌, [], IsOk, MatchResult};
+ghost use Rattle.om_edge.specs.Sink.{AppendsFront, Puts, PutsPart};
+ghost use Rattle.om_edge.specs.State.{ByteState, change};
 ghost use Rattle.om_edge.specs.declared.sink.WriteError.TheVariants.{Fault, Memory as OutOfMemory};
 
 use crate::Failed;
 use om_model::Memory;
+use std::alloc::AllocError;
 use thiserror::Error;
 
 /// Why a value was not written.
@@ -34,30 +35,28 @@ impl From<Memory> for WriteError {
     }
 }
 
+impl From<AllocError> for WriteError {
+    ghost from_gives = { λ _ e. e ≡ OutOfMemory };
+
+    fn from(_: AllocError) -> Self {
+        WriteError::Memory
+    }
+}
+
 /// A sink of bytes.
 pub trait Sink {
-    /// The bytes written, where the sink tells them.
-    ghost written: { Self → Option (List ℕ) };
-
-    /// How often a call failed.
-    ghost faults: { Self → ℕ };
+    /// The bytes written, where the sink tells them, and how often a call failed.
+    ghost state: { Self → ByteState };
 
     /// Appends the piece's first bytes, and answers how many.
     fn put(&mut self, piece: &[u8]) -> Result<usize, Failed>
-        ensures appends { AppendsFront (written self.old) (written self.new) result piece.now }
-        ensures cause { HasCause (faults self.old) (faults self.new) (is_err result) };
+        ensures { AppendsFront (state self.old) (state self.new) result piece.now };
 }
 
-/// Puts all the bytes, in as many calls as the sink asks for.
+/// Puts all the bytes, in as many calls as the sink asks for. For no bytes there is no call.
 pub fn put_all<K: Sink>(sink: &mut K, bytes: &[u8]) -> Result<(), Failed>
-    ensures all { OnOk result (IfSome (K.written sink.old)
-        (λ written. K.written sink.new ≡ Some (written ++ bytes.now))) }
-    ensures part { OnErr result (IfSome (K.written sink.old)
-        (λ written. AppendsPart written bytes.now (K.written sink.new))) }
-    ensures told { is_some (K.written sink.new) ≡ is_some (K.written sink.old) }
-    ensures cause { HasCause (K.faults sink.old) (K.faults sink.new) (is_err result) }
-
-    // For no bytes there is no call.
+    ensures puts { MatchResult result (λ _. Puts (change (K.state sink.old) (K.state sink.new)) bytes.now)
+        (λ _. PutsPart (change (K.state sink.old) (K.state sink.new)) bytes.now) }
     ensures nothing { bytes.now ≡ [] → IsOk result }
     ensures untouched { bytes.now ≡ [] → sink.new ≡ sink.old }
 {

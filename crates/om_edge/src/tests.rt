@@ -1,3 +1,5 @@
+mod failing;
+
 use super::*;
 use om_model::Memory;
 use std::fs;
@@ -42,7 +44,7 @@ fn expect_file<O: Opener>(
     assert_eq!(rt; rest.len(), 0);
 }
 
-// The bytes behind the first n, which stand in the buffer's front.
+// The bytes after the first n, which stand in the buffer's front.
 fn without_front<'a>(rt: &impl Abort, bytes: &'a [u8], buf: &[u8], n: usize) -> &'a [u8] {
     assert!(rt; n <= bytes.len() && n <= buf.len());
     assert_eq!(rt; &bytes[..n], &buf[..n]);
@@ -153,7 +155,7 @@ fn files_in_memory_are_fetched_and_taken(rt: HostRuntime) -> Result<(), Fail> {
 }
 
 #[test]
-fn a_name_that_stands_twice_is_found(rt: HostRuntime) -> Result<(), Fail> {
+fn a_name_that_comes_twice_is_found(rt: HostRuntime) -> Result<(), Fail> {
     let alloc = rt.alloc();
     let mut pairs = Vec::new(alloc);
     for (name, answer) in [("a.ml", true), ("b.ml", true), ("a.ml", false)] {

@@ -1,10 +1,14 @@
-use Rattle.std.proofs.Common.{arith}
+use Rattle.std.proofs.Common.{◌≡◌, ◌<◌, ◌-◌, length, drop, Ok, length-drop, arith}
 use Rattle.std.proofs.lemmas.List.{take_rest}
-use Rattle.om_edge.proofs.Put.{HasPut-more}
+use Rattle.om_edge.specs.Sink.{AppendsFront}
+use Rattle.om_edge.specs.declared.source.Failed.{Failed}
+use Rattle.om_edge.proofs.Put.{put_more}
 use Rattle.om_edge.proofs.sink.put_all.Goals as goal
 
 pub loop-at-preserved : goal.loop-at-preserved
 loop-at-preserved g c =
-    let call = rw take_rest at c.in_ok-at.ensures.appends in
-    HasPut-more g.K.Sink.written g.K.Sink.faults c.args.sink.now c.loop-at.sink c.put.new.self c.args.bytes.now c.loop-at.at c.in_ok-at.field-0
-    c.loop-at.invariant (omega arith) call c.in_ok-at.ensures.cause.kept
+    let rest = drop c.loop-at.at c.args.bytes.now in
+    let call : AppendsFront {E = Failed} (g.K.Sink.state c.loop-at.sink) (g.K.Sink.state c.put.new.self) (Ok c.in_ok-at.field-0) rest = rw take_rest at c.in_ok-at.ensures in
+    let left : length rest ≡ length c.args.bytes.now - c.loop-at.at = length-drop c.loop-at.at c.args.bytes.now in
+    let some : 0 < c.in_ok-at.field-0 = call.some (omega arith) in
+    (put_more _ _ _ c.args.bytes.now c.loop-at.at c.loop-at.invariant.0 c.in_ok-at.field-0 call, λ none. absurd (omega arith))
