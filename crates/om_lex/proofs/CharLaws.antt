@@ -4,10 +4,10 @@ use Rattle.std.specs.List.{list_all, flat_map, AllByRecursion}
 use Rattle.std.specs.Char.{is_ascii_digit, is_ascii_hexdigit}
 use Rattle.std.proofs.lemmas.Bool.{eqb-true, eqb-false, ne_eqb, and_parts, and_from, or_parts, leb-true, le-leb, agree_below_at}
 use Rattle.std.proofs.lemmas.List.{drop_at, drop_all, drop_more, drop-drop, length-drop, flat_map_more, map_push}
-use Rattle.om_model.specs.declared.lexeme.LexemeKind.TheVariants as kinds
-use Rattle.om_model.specs.declared.lexeme.LexFault.TheVariants as faults
+use Rattle.om_lex.specs.declared.lexeme.LexemeKind.TheVariants as kinds
+use Rattle.om_lex.specs.declared.lexeme.LexFault.TheVariants as faults
 use Rattle.om_lex.specs.declared.found.Found.{Found}
-use Rattle.om_model.specs.Lexeme.{Quoted, form_bytes, number_in, CharForm, Plain, Named, Decimal, Hexadecimal, char_bytes, char_value, named_char, IsCharForm}
+use Rattle.om_lex.specs.Lexeme.{Quoted, form_bytes, number_in, CharForm, Plain, Named, Decimal, Hexadecimal, char_bytes, char_value, named_char, IsCharForm}
 use Rattle.om_lex.specs.Scan.{hexadecimal_at, decimal_at, escape_at, char_at, char_found, chars_of, ended_string, string_at}
 
 -- which way a test went
@@ -171,9 +171,6 @@ pub reads_further : (text : List ℕ) (at : ℕ) (value : List ℕ) (byte len : 
 reads_further text at value byte len r e =
     let f = found_char (char_at 34 (drop at text)) byte len e in
     omega (arith, (reads_more text at value byte len r e).inside, f.3, char_bytes-positive f.0)
-
-pub reads_none : (text : List ℕ) → ReadsChars text 0 []
-reads_none text = record { chars = []; each = tt; is = refl; long = refl; inside = omega arith; values = refl }
 
 -- the characters of a string are read, and no others
 pub chars_of-forms : (n : ℕ) (cs : List CharForm) (rest : List ℕ) → AllByRecursion (IsCharForm 34) cs → char_at 34 rest ≡ None → length (flat_map char_bytes cs) ≤ n → chars_of n (flat_map char_bytes cs ++ rest) ≡ (cs, rest)

@@ -2,11 +2,11 @@
 use Rattle.std.proofs.Common.{◌≡◌, ◌≢◌, ℕ, suc, ◌+◌, ◌≤◌, false, ◌&&◌, eqb, List, [], ◌∷◌, ◌++◌, length, drop, Option, Some, None, Result, Ok, Err, refl, sym, ap, subst, ◌∙◌, arith, inl, inr, length-append}
 use Rattle.std.specs.List.{flat_map, AllByRecursion}
 use Rattle.std.proofs.lemmas.Bool.{eqb-true, eqb-false, cases_Bool}
-use Rattle.om_model.specs.declared.lexeme.Symbol.TheVariants as symbols
-use Rattle.om_model.specs.declared.lexeme.LexFault.{LexFault}
-use Rattle.om_model.specs.declared.lexeme.LexFault.TheVariants as faults
-use Rattle.om_model.specs.Lexeme.{is_separator, CharForm, Plain, char_bytes, IsCharForm, Form, Quoted, Mark}
-use Rattle.om_model.specs.LexText.{Cut, cut_bytes, IsInside, Part, Separator, Comment, Word, part_bytes, IsPart, OpensString, StartsNoChar, StartsNothing, IsBadEscape, IsOpenString, IsOpenComment, IsOverlong, Breaks}
+use Rattle.om_lex.specs.declared.lexeme.Symbol.TheVariants as symbols
+use Rattle.om_lex.specs.declared.lexeme.LexFault.{LexFault}
+use Rattle.om_lex.specs.declared.lexeme.LexFault.TheVariants as faults
+use Rattle.om_lex.specs.Lexeme.{is_separator, CharForm, Plain, char_bytes, IsCharForm, Form, Quoted, Mark}
+use Rattle.om_lex.specs.LexText.{Cut, cut_bytes, IsInside, Part, Separator, Comment, Word, part_bytes, IsPart, OpensString, StartsNoChar, StartsNothing, IsBadEscape, IsOpenString, IsOpenComment, IsOverlong, Breaks}
 use Rattle.om_lex.specs.declared.found.Step.{Step}
 use Rattle.om_lex.specs.declared.found.Step.TheVariants as steps
 use Rattle.om_lex.specs.Scan.{begins_with, char_at, chars_of, string_form, form_at, in_range, found_at, ended_string, string_at, lexeme_at, closing, gap_of, word_of, step_at, moved, place_of}
@@ -137,18 +137,18 @@ none-line b bs none quote backslash =
 -- a string that stops before its end
 string_faults : (bs : List ℕ) (chars : List CharForm) (rest : List ℕ) → OpensString (34 ∷ bs) rest → AllByRecursion (IsCharForm 34) chars → bs ≡ flat_map char_bytes chars ++ rest → char_at 34 rest ≡ None → begins_with 34 rest ≡ false → IsStepAt (34 ∷ bs) (word_of (ended_string chars rest))
 string_faults bs chars [] opens each is none unclosed = record { breaks = λ place. (omega arith, inl opens); inside = omega arith }
-string_faults bs chars (b ∷ behind) opens each is none unclosed =
+string_faults bs chars (b ∷ after) opens each is none unclosed =
     elim (cases_Bool (eqb b 92)) [
       | inl backslash ↦
           let slash : b ≡ 92 = eqb-true b 92 backslash in
-          let opens' : OpensString (34 ∷ bs) (92 ∷ behind) = (chars, each, ap (λ t. 34 ∷ t) (is ∙ ap (λ (c : ℕ). flat_map char_bytes chars ++ c ∷ behind) slash)) in
-          let free : StartsNoChar (92 ∷ behind) = no_char-starts (92 ∷ behind) (ap (λ (c : ℕ). char_at 34 (c ∷ behind)) (sym slash) ∙ none) in
-          let long : length bs ≡ length (flat_map char_bytes chars) + suc (length behind) = ap length is ∙ length-append (flat_map char_bytes chars) (b ∷ behind) in
-          rw (unclosed, backslash) (record { breaks = λ place. inr (behind, opens', free, omega (arith, long)); inside = omega (arith, long) })
+          let opens' : OpensString (34 ∷ bs) (92 ∷ after) = (chars, each, ap (λ t. 34 ∷ t) (is ∙ ap (λ (c : ℕ). flat_map char_bytes chars ++ c ∷ after) slash)) in
+          let free : StartsNoChar (92 ∷ after) = no_char-starts (92 ∷ after) (ap (λ (c : ℕ). char_at 34 (c ∷ after)) (sym slash) ∙ none) in
+          let long : length bs ≡ length (flat_map char_bytes chars) + suc (length after) = ap length is ∙ length-append (flat_map char_bytes chars) (b ∷ after) in
+          rw (unclosed, backslash) (record { breaks = λ place. inr (after, opens', free, omega (arith, long)); inside = omega (arith, long) })
       | inr other ↦
-          let line : b ≡ 10 = none-line b behind none unclosed other in
-          let opens' : OpensString (34 ∷ bs) (10 ∷ behind) = (chars, each, ap (λ t. 34 ∷ t) (is ∙ ap (λ (c : ℕ). flat_map char_bytes chars ++ c ∷ behind) line)) in
-          rw (unclosed, other) (record { breaks = λ place. (omega arith, inr (behind, opens')); inside = omega arith })
+          let line : b ≡ 10 = none-line b after none unclosed other in
+          let opens' : OpensString (34 ∷ bs) (10 ∷ after) = (chars, each, ap (λ t. 34 ∷ t) (is ∙ ap (λ (c : ℕ). flat_map char_bytes chars ++ c ∷ after) line)) in
+          rw (unclosed, other) (record { breaks = λ place. (omega arith, inr (after, opens')); inside = omega arith })
     ]
 
 step_at-string : (bs : List ℕ) → IsStepAt (34 ∷ bs) (word_of (string_at bs))

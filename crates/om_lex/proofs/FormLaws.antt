@@ -5,8 +5,8 @@ use Rattle.std.specs.Char.{is_ascii_digit, is_ascii_hexdigit}
 use Rattle.std.proofs.lemmas.Bool.{false≢true, eqb-true, eqb-false, ltb-false, cases_Bool}
 use Rattle.std.proofs.lemmas.List.{take-append-drop, length-take-le, length-drop}
 use Rattle.std.proofs.lemmas.List.Folds.{length-prefix_len}
-use Rattle.om_model.specs.declared.lexeme.Symbol.{Symbol}
-use Rattle.om_model.specs.Lexeme.{starts_name, is_name_byte, CharForm, char_bytes, IsCharForm, minus_text, suffix_text, Form, Character, Number, Quoted, Double}
+use Rattle.om_lex.specs.declared.lexeme.Symbol.{Symbol}
+use Rattle.om_lex.specs.Lexeme.{starts_name, is_name_byte, CharForm, char_bytes, IsCharForm, minus_text, suffix_text, Form, Character, Number, Quoted, Double}
 use Rattle.om_lex.specs.Scan.{or_form, closed_char, character_form, quote_form, variable_form, tag_form, word_form, begins_with, char_at, one_more, chars_of, string_form, suffix_at, number_form, double_form, pair_at, single_symbol, or_symbol, symbol_form, form_at}
 use Rattle.om_lex.proofs.NumberLaws.{prefix_passes}
 use Rattle.om_lex.proofs.SymbolLaws.{single_symbol-is, pair_at-is}

@@ -2,7 +2,7 @@
 use Rattle.std.proofs.Common.{◌≡◌, ℕ, zero, suc, pred, ◌+◌, false, ◌&&◌, eqb, List, [], ◌∷◌, ◌++◌, length, Option, Some, None, refl, sym, ap, subst, ◌∙◌, arith, inl, inr}
 use Rattle.std.specs.List.{flat_map}
 use Rattle.std.proofs.lemmas.Bool.{eqb-true, and_parts, or_parts, or_from, cases_Bool}
-use Rattle.om_model.specs.LexText.{Cut, Opens, Closes, Other, cut_bytes, is_bracket, begins_bracket, IsCut, Nests}
+use Rattle.om_lex.specs.LexText.{Cut, Opens, Closes, Other, cut_bytes, is_bracket, begins_bracket, IsCut, Nests}
 use Rattle.om_lex.specs.declared.comments.Bracket.TheVariants.{Opening, Closing, Neither}
 use Rattle.om_lex.specs.Scan.{plus, bracket_of, closing, closing_by}
 use Rattle.om_lex.proofs.CharLaws.{no_value, some_is}

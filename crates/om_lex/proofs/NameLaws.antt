@@ -4,9 +4,9 @@ use Rattle.std.specs.List.{list_all, prefix_len, take_while}
 use Rattle.std.specs.Char.{is_ascii_uppercase, is_ascii_lowercase}
 use Rattle.std.proofs.lemmas.Bool.{false≢true, ne_eqb, or_cases, or_left, or_right, and_parts, and_from, cases_Bool}
 use Rattle.std.proofs.lemmas.List.{take-append-drop}
-use Rattle.om_model.specs.declared.lexeme.Keyword.{Keyword}
-use Rattle.om_model.specs.declared.lexeme.Keyword.TheVariants as keywords
-use Rattle.om_model.specs.Lexeme.{starts_lower, starts_name, is_name_byte, IsName, keyword_text, Form, Tag, Variable, form_bytes, IsForm, is_character}
+use Rattle.om_lex.specs.declared.lexeme.Keyword.{Keyword}
+use Rattle.om_lex.specs.declared.lexeme.Keyword.TheVariants as keywords
+use Rattle.om_lex.specs.Lexeme.{starts_lower, starts_name, is_name_byte, IsName, keyword_text, Form, Tag, Variable, form_bytes, IsForm, is_character}
 use Rattle.om_lex.specs.Scan.{keyword_of, cased_form, reserved_or, word_form, tag_form, variable_form}
 use Rattle.om_lex.proofs.WordLaws.{keyword_of-some}
 use Rattle.om_lex.proofs.NumberLaws.{prefix_passes}

@@ -6,8 +6,8 @@ use Rattle.std.proofs.Math.Nat.{pow-zero, pow-succ', mul_left_comm, mul_comm, mu
 use Rattle.std.proofs.lemmas.Bool.{le-ltb, and_parts, or_left, cases_lt, cases_Bool}
 use Rattle.std.proofs.lemmas.Bool.Decides.{nat_tests}
 use Rattle.std.proofs.lemmas.List.{take_more, length-take-le}
-use Rattle.om_model.specs.declared.lexeme.LexemeKind.TheVariants as kinds
-use Rattle.om_model.specs.Lexeme.{value_of_digit, number_in}
+use Rattle.om_lex.specs.declared.lexeme.LexemeKind.TheVariants as kinds
+use Rattle.om_lex.specs.Lexeme.{value_of_digit, number_in}
 use Rattle.om_lex.specs.declared.found.Found.{Found}
 use Rattle.om_lex.specs.Scan.{double_form, found_at}
 

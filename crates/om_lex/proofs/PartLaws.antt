@@ -3,12 +3,12 @@ use Rattle.std.proofs.Common.{◌≡◌, ◌≢◌, ℕ, ◌+◌, ◌-◌, ◌<�
 use Rattle.std.specs.Prelude.{IfOk, IfErr}
 use Rattle.std.specs.Global.{Vec}
 use Rattle.std.specs.List.{flat_map}
-use Rattle.std.proofs.lemmas.List.{append-nil, drop_at, drop_all, drop-drop, length-drop, flat_map_more}
-use Rattle.om_model.specs.declared.lexeme.Lexeme.{Lexeme}
-use Rattle.om_model.specs.declared.lexeme.LexFault.{LexFault}
-use Rattle.om_model.specs.declared.lexeme.LexFault.TheVariants as faults
-use Rattle.om_model.specs.Lexeme.{Form, form_bytes, IsForm}
-use Rattle.om_model.specs.LexText.{Part, Separator, Comment, Word, part_bytes, IsPart, AreParts, lexemes_of, Breaks, Lexes, Faults, UnlessMemory, Answers, Outcome, HasOneOutcome, SpansWithin}
+use Rattle.std.proofs.lemmas.List.{append-nil, drop_at, drop-drop, length-drop, flat_map_more}
+use Rattle.om_lex.specs.declared.lexeme.Lexeme.{Lexeme}
+use Rattle.om_lex.specs.declared.lexeme.LexFault.{LexFault}
+use Rattle.om_lex.specs.declared.lexeme.LexFault.TheVariants as faults
+use Rattle.om_lex.specs.Lexeme.{Form, form_bytes, IsForm}
+use Rattle.om_lex.specs.LexText.{Part, Separator, Comment, Word, part_bytes, IsPart, AreParts, lexemes_of, Breaks, Lexes, Faults, UnlessMemory, Answers, Outcome, HasOneOutcome, SpansWithin}
 use Rattle.om_lex.specs.declared.found.Step.{Step}
 use Rattle.om_lex.specs.declared.found.Step.TheVariants as steps
 use Rattle.om_lex.specs.Scan.{form_at, step_at, moved, place_of}
@@ -81,9 +81,6 @@ pub record Reached (text : List ℕ) (at : ℕ) (lexemes : List Lexeme) : Type 0
   pub inside : at ≤ length text
   pub found : lexemes ≡ lexemes_of 0 parts
 
-pub reached_none : (text : List ℕ) → Reached text 0 []
-reached_none text = record { parts = []; are = tt; is = refl; long = refl; inside = omega arith; found = refl }
-
 step_len-is : (text : List ℕ) (step : Step) (p : IsPartAt text step) → step_len step ≡ length (part_bytes p.part)
 step_len-is text step p = ap step_len (sym p.step_is) ∙ step_len-part p.part
 
@@ -113,11 +110,6 @@ reached_more text at lexemes step r p =
           ∙ ap (λ n. lexemes_of 0 r.parts ++ step_lexemes n (part_step p.part)) (omega (arith, r.long))
           ∙ sym (lexemes_push 0 r.parts p.part);
     }
-
-pub reached_end : (text : List ℕ) (at : ℕ) (lexemes : List Lexeme) → Reached text at lexemes → length text ≤ at → Lexes text lexemes
-reached_end text at lexemes r past =
-    let done = drop_all at text past in
-    (r.parts, subst (AreParts r.parts) done r.are, r.is ∙ ap (λ t. flat_map part_bytes r.parts ++ t) done ∙ append-nil (flat_map part_bytes r.parts), r.found)
 
 pub reached_fault : (text : List ℕ) (at : ℕ) (lexemes : List Lexeme) (fault : LexFault) → Reached text at lexemes → IsFaultAt (drop at text) fault → Faults text (moved at fault)
 reached_fault text at lexemes fault r f =

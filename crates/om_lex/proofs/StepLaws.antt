@@ -2,9 +2,9 @@
 use Rattle.std.proofs.Common.{◌≡◌, ◌≢◌, ℕ, ◌+◌, true, false, ◌&&◌, eqb, List, [], ◌∷◌, ◌++◌, length, Some, None, Ok, Err, refl, sym, ap, ◌∙◌, arith, inl, inr, length-append, append_assoc}
 use Rattle.std.specs.List.{flat_map}
 use Rattle.std.proofs.lemmas.Bool.{false≢true, true≢false, ne_eqb, eqb-true, and_parts, or_cases, false_from_ne_true, le-leb, lt-leb, leb-true, leb-false}
-use Rattle.om_model.specs.declared.lexeme.LexFault.TheVariants as faults
-use Rattle.om_model.specs.Lexeme.{is_separator, number_in, greatest, Form, Reserved, Lower, Upper, Tag, Variable, Character, Number, Quoted, Double, Mark, form_bytes, IsInRange, IsTooBig}
-use Rattle.om_model.specs.LexText.{Cut, cut_bytes, IsInside, IsTaken, Part, Separator, Comment, Word, part_bytes, IsPart}
+use Rattle.om_lex.specs.declared.lexeme.LexFault.TheVariants as faults
+use Rattle.om_lex.specs.Lexeme.{is_separator, number_in, greatest, Form, Reserved, Lower, Upper, Tag, Variable, Character, Number, Quoted, Double, Mark, form_bytes, IsInRange, IsTooBig}
+use Rattle.om_lex.specs.LexText.{Cut, cut_bytes, IsInside, IsTaken, Part, Separator, Comment, Word, part_bytes, IsPart}
 use Rattle.om_lex.specs.declared.found.Step.{Step}
 use Rattle.om_lex.specs.declared.found.Step.TheVariants as steps
 use Rattle.om_lex.specs.Scan.{begins_with, chars_of, string_form, pair_at, pair_symbol, single_symbol, symbol_form, form_at, in_range, found, found_at, string_at, lexeme_at, closing, gap_of, word_of, step_at}

@@ -1,10 +1,10 @@
 -- What is found as a symbol is spelled so.
 use Rattle.std.proofs.Common.{◌≡◌, ◌⊎◌, ℕ, Bool, true, false, ◌&&◌, cond, eqb, List, [], ◌∷◌, ◌++◌, length, Option, Some, None, Ok, refl, sym, ap, ◌∙◌, inl, inr, ⊎_elim}
 use Rattle.std.proofs.lemmas.Bool.{eqb-true, and_parts}
-use Rattle.om_model.specs.declared.lexeme.Symbol.{Symbol}
-use Rattle.om_model.specs.declared.lexeme.Symbol.TheVariants as symbols
-use Rattle.om_model.specs.Lexeme.{symbol_text}
-use Rattle.om_model.specs.declared.lexeme.LexemeKind.TheVariants as kinds
+use Rattle.om_lex.specs.declared.lexeme.Symbol.{Symbol}
+use Rattle.om_lex.specs.declared.lexeme.Symbol.TheVariants as symbols
+use Rattle.om_lex.specs.Lexeme.{symbol_text}
+use Rattle.om_lex.specs.declared.lexeme.LexemeKind.TheVariants as kinds
 use Rattle.om_lex.specs.declared.found.Found.{Found}
 use Rattle.om_lex.specs.Scan.{pair_symbol, single_symbol, pair_at, symbol_form, found_at}
 

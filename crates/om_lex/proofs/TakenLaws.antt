@@ -1,8 +1,8 @@
 -- The form that is found is the one that the grammar takes.
 use Rattle.std.proofs.Common.{◌≡◌, ◌≢◌, ℕ, List, ◌∷◌, ◌++◌, length, Option, Some, None, refl, sym, ap, subst, ◌∙◌, arith, inl, inr}
 use Rattle.std.proofs.lemmas.Bool.{true≢false, cases_Bool}
-use Rattle.om_model.specs.Lexeme.{Form, form_bytes, IsForm, is_character, Precedes}
-use Rattle.om_model.specs.LexText.{IsTaken}
+use Rattle.om_lex.specs.Lexeme.{Form, form_bytes, IsForm, is_character, Precedes}
+use Rattle.om_lex.specs.LexText.{IsTaken}
 use Rattle.om_lex.specs.Scan.{form_at}
 use Rattle.om_lex.proofs.CharLaws.{some_is}
 use Rattle.om_lex.proofs.FormLaws.{form_at-begins}

@@ -2,12 +2,12 @@
 use Rattle.std.proofs.Common.{◌≡◌, ℕ, ◌⊎◌, Bool, true, false, cond, List, length, take, Option, Some, None, refl, sym, ap, ◌∙◌, inl, inr}
 use Rattle.std.specs.Str.{bytes_eq}
 use Rattle.std.proofs.lemmas.Slice.Eq.{bytes_eq-Decides}
-use Rattle.om_model.specs.declared.lexeme.Keyword.{Keyword}
-use Rattle.om_model.specs.declared.lexeme.Keyword.TheVariants as keywords
+use Rattle.om_lex.specs.declared.lexeme.Keyword.{Keyword}
+use Rattle.om_lex.specs.declared.lexeme.Keyword.TheVariants as keywords
 use Rattle.std.specs.List.{prefix_len, take_while}
 use Rattle.std.proofs.lemmas.List.Folds.{length-prefix_len}
-use Rattle.om_model.specs.declared.lexeme.LexemeKind.TheVariants as kinds
-use Rattle.om_model.specs.Lexeme.{keyword_text, is_name_byte}
+use Rattle.om_lex.specs.declared.lexeme.LexemeKind.TheVariants as kinds
+use Rattle.om_lex.specs.Lexeme.{keyword_text, is_name_byte}
 use Rattle.om_lex.specs.declared.found.Found.{Found}
 use Rattle.om_lex.specs.Scan.{keyword_of, word_form, found}
 

@@ -1,1 +1,3 @@
+pub mod LexText
+pub mod Lexeme
 pub mod Scan

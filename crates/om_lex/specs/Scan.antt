@@ -3,15 +3,15 @@ use Rattle.std.specs.Prelude.{ℕ, zero, suc, pred, ◌+◌, Bool, true, false, 
 use Rattle.std.specs.List.{list_all, flat_map, prefix_len, take_while}
 use Rattle.std.specs.Char.{is_ascii_digit, is_ascii_hexdigit}
 use Rattle.std.specs.Str.{bytes_eq}
-use Rattle.om_model.specs.declared.lexeme.Keyword.{Keyword}
-use Rattle.om_model.specs.declared.lexeme.Keyword.TheVariants as keywords
-use Rattle.om_model.specs.declared.lexeme.Suffix.{Suffix}
-use Rattle.om_model.specs.declared.lexeme.Suffix.TheVariants as suffixes
-use Rattle.om_model.specs.declared.lexeme.Symbol.{Symbol}
-use Rattle.om_model.specs.declared.lexeme.Symbol.TheVariants as symbols
-use Rattle.om_model.specs.declared.lexeme.LexFault.{LexFault}
-use Rattle.om_model.specs.declared.lexeme.LexFault.TheVariants as faults
-use Rattle.om_model.specs.Lexeme.{is_separator, starts_lower, starts_name, is_name_byte, number_in, greatest, CharForm, Plain, Named, Decimal, Hexadecimal, char_bytes, char_value, named_char, keyword_text, Form, Reserved, Lower, Upper, Tag, Variable, Character, Number, Quoted, Double, Mark, form_bytes, form_kind}
+use Rattle.om_lex.specs.declared.lexeme.Keyword.{Keyword}
+use Rattle.om_lex.specs.declared.lexeme.Keyword.TheVariants as keywords
+use Rattle.om_lex.specs.declared.lexeme.Suffix.{Suffix}
+use Rattle.om_lex.specs.declared.lexeme.Suffix.TheVariants as suffixes
+use Rattle.om_lex.specs.declared.lexeme.Symbol.{Symbol}
+use Rattle.om_lex.specs.declared.lexeme.Symbol.TheVariants as symbols
+use Rattle.om_lex.specs.declared.lexeme.LexFault.{LexFault}
+use Rattle.om_lex.specs.declared.lexeme.LexFault.TheVariants as faults
+use Rattle.om_lex.specs.Lexeme.{is_separator, starts_lower, starts_name, is_name_byte, number_in, greatest, CharForm, Plain, Named, Decimal, Hexadecimal, char_bytes, char_value, named_char, keyword_text, Form, Reserved, Lower, Upper, Tag, Variable, Character, Number, Quoted, Double, Mark, form_bytes, form_kind}
 use Rattle.om_lex.specs.declared.comments.Bracket.{Bracket}
 use Rattle.om_lex.specs.declared.comments.Bracket.TheVariants.{Opening, Closing, Neither}
 use Rattle.om_lex.specs.declared.found.Found.{Found}
@@ -59,7 +59,7 @@ decimal_at (d ∷ []) = None
 decimal_at (d ∷ e ∷ []) = None
 decimal_at (d ∷ e ∷ f ∷ rest) = if (is_ascii_digit d && is_ascii_digit e && is_ascii_digit f) && nat_le (number_in 10 (d ∷ e ∷ f ∷ [])) 255 then Some (Decimal d e f) else None
 
--- behind a backslash
+-- after a backslash
 unfoldable pub escape_at : List ℕ → Option CharForm
 escape_at [] = None
 escape_at (b ∷ bs) = if is_some (named_char b) then Some (Named b) else (if b == 120 then hexadecimal_at bs else decimal_at (b ∷ bs))
@@ -88,7 +88,7 @@ abbrev pub or_form : Option Form → Option Form → Option Form
 or_form None other = other
 or_form (Some form) other = Some form
 
--- behind a quote
+-- after a quote
 unfoldable pub quote_form : List ℕ → Option Form
 quote_form text = or_form (character_form text) (variable_form text)
 
@@ -98,7 +98,7 @@ abbrev pub one_more : (List ℕ → List CharForm × List ℕ) → List ℕ → 
 one_more others text None = ([], text)
 one_more others text (Some c) = let more = others (drop (length (char_bytes c)) text) in (c ∷ more.0, more.1)
 
--- at most so many characters of a string, and the bytes behind them
+-- at most so many characters of a string, and the bytes after them
 unfoldable pub chars_of : ℕ → List ℕ → List CharForm × List ℕ
 chars_of zero text = ([], text)
 chars_of (suc n) text = one_more (chars_of n) text (char_at 34 text)
@@ -106,7 +106,7 @@ chars_of (suc n) text = one_more (chars_of n) text (char_at 34 text)
 abbrev pub closed_string : List CharForm × List ℕ → Option Form
 closed_string read = if begins_with 34 read.1 then Some (Quoted read.0) else None
 
--- behind a double quote
+-- after a double quote
 unfoldable pub string_form : List ℕ → Option Form
 string_form text = closed_string (chars_of (length text) text)
 

@@ -3,7 +3,7 @@
 ghost use Rattle.std.specs.Prelude.{◌≡◌, ◌<◌, IsTrue};
 ghost use Rattle.std.specs.Char.{is_ascii_hexdigit};
 ghost use Rattle.std.specs.List.{prefix_len};
-ghost use Rattle.om_model.specs.Lexeme.{is_separator, starts_lower, starts_name, is_name_byte, value_of_digit};
+ghost use Rattle.om_lex.specs.Lexeme.{is_separator, starts_lower, starts_name, is_name_byte, value_of_digit};
 
 /// Space, tab, line feed, form feed or carriage return.
 pub fn is_separator(b: u8) -> bool

@@ -1,14 +1,14 @@
 //! Characters and strings.
 
-ghost use Rattle.std.specs.Prelude.{◌≡◌, ◌≢◌, ◌≤◌, length, IsOk, IfSome};
-ghost use Rattle.om_model.specs.Lexeme.{named_char};
-ghost use Rattle.om_model.specs.LexText.{Answers};
+ghost use Rattle.std.specs.Prelude.{◌≡◌};
+ghost use Rattle.om_lex.specs.Lexeme.{named_char};
+ghost use Rattle.om_lex.specs.LexText.{Answers};
 ghost use Rattle.om_lex.specs.Scan.{hexadecimal_at, decimal_at, escape_at, char_at, char_found, quote_form, string_at, found_at};
 
 use crate::bytes::digit_value;
 use crate::found::Found;
+use crate::lexeme::{LexFault, LexemeKind};
 use crate::words::variable;
-use om_model::lexeme::{LexFault, LexemeKind};
 use om_model::list::List;
 use std::alloc::Global;
 
@@ -26,7 +26,7 @@ fn named_char(b: u8) -> Option<u8>
     }
 }
 
-/// Two hexadecimal digits behind a backslash and an `x`. This and the next ones also tell the bytes of the whole escape.
+/// Two hexadecimal digits after a backslash and an `x`. This and the next ones also tell the bytes of the whole escape.
 #[tactic(auto, unfolding(crate::specs::Scan::hexadecimal_at))]
 fn hexadecimal_at(text: &[u8]) -> Option<(u8, usize)>
     ensures { result ≡ char_found (hexadecimal_at text.now) }
@@ -41,7 +41,7 @@ fn hexadecimal_at(text: &[u8]) -> Option<(u8, usize)>
     }
 }
 
-/// Three decimal digits behind a backslash.
+/// Three decimal digits after a backslash.
 #[tactic(auto, unfolding(crate::specs::Scan::decimal_at))]
 fn decimal_at(text: &[u8]) -> Option<(u8, usize)>
     ensures { result ≡ char_found (decimal_at text.now) }

@@ -1,6 +1,6 @@
 //! What stands at the front of a text.
 
-use om_model::lexeme::LexemeKind;
+use crate::lexeme::LexemeKind;
 
 /// A lexeme, and how many bytes it takes.
 #[derive(Drop)]

@@ -5,6 +5,7 @@ mod bytes;
 mod characters;
 mod comments;
 mod found;
+pub mod lexeme;
 mod numbers;
 mod scan;
 mod symbols;

@@ -3,13 +3,13 @@
 ghost use Rattle.std.specs.Prelude.{◌≡◌, ◌-◌, ◌^◌, ◌≤◌, min, length, Some, None, IsTrue, if◌then◌else◌, nat_le};
 ghost use Rattle.std.specs.Char.{is_ascii_digit, is_ascii_hexdigit};
 ghost use Rattle.std.specs.List.{prefix_len, list_all};
-ghost use Rattle.om_model.specs.Lexeme.{number_in, signed, greatest, suffix_text};
-ghost use Rattle.om_model.specs.LexText.{Answers};
+ghost use Rattle.om_lex.specs.Lexeme.{number_in, signed, greatest, suffix_text};
+ghost use Rattle.om_lex.specs.LexText.{Answers};
 ghost use Rattle.om_lex.specs.Scan.{suffix_at, number_form, double_form, found_at};
 
 use crate::bytes::digit_value;
 use crate::found::Found;
-use om_model::lexeme::{Integer, LexFault, LexemeKind, Suffix};
+use crate::lexeme::{Integer, LexFault, LexemeKind, Suffix};
 
 /// How many decimal digits stand at the front.
 fn digits_len(text: &[u8]) -> usize
@@ -72,7 +72,7 @@ fn suffix_at(text: &[u8]) -> (Suffix, usize)
     }
 }
 
-/// The integer at the front, behind its minus where there is one.
+/// The integer at the front, after its minus where there is one.
 #[tactic(auto, unfolding(crate::specs::Scan::number_form))]
 pub fn integer(minus: bool, text: &[u8]) -> Result<Found, LexFault>
     ensures { Answers (λ w. w) result (found_at (number_form minus text.now)) }

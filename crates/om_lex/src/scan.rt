@@ -1,19 +1,19 @@
 //! The parts of a text, one after the other.
 
 ghost use Rattle.std.specs.Prelude.{◌≡◌, ◌+◌, ◌<◌, ◌^◌, ℕ, IfOk, IfErr, List, length};
-ghost use Rattle.om_model.specs.declared.lexeme.Lexeme.{Lexeme};
-ghost use Rattle.om_model.specs.declared.lexeme.LexFault.{LexFault};
-ghost use Rattle.om_model.specs.LexText.{Lexes, Faults, Answers, UnlessMemory, SpansWithin, HasOneOutcome};
+ghost use Rattle.om_lex.specs.declared.lexeme.Lexeme.{Lexeme};
+ghost use Rattle.om_lex.specs.declared.lexeme.LexFault.{LexFault};
+ghost use Rattle.om_lex.specs.LexText.{Lexes, Faults, Answers, UnlessMemory, SpansWithin, HasOneOutcome};
 ghost use Rattle.om_lex.specs.Scan.{lexeme_at, step_at, place_of, moved};
 
 use crate::bytes::{is_separator, starts_name};
 use crate::characters::{quoted, string};
 use crate::comments::closing;
 use crate::found::{Found, Step};
+use crate::lexeme::{LexFault, Lexeme, Span};
 use crate::numbers::{double, integer};
 use crate::symbols::symbol;
 use crate::words::{tag, word};
-use om_model::lexeme::{LexFault, Lexeme, Span};
 use std::alloc::Global;
 
 /// The lexeme at the front.
@@ -107,7 +107,7 @@ fn scan(alloc: Global, text: &[u8]) -> Result<Vec<Lexeme>, LexFault>
 
 /// The lexemes of a text in their order, or its first fault.
 pub fn tokens(alloc: Global, text: &[u8]) -> Result<Vec<Lexeme>, LexFault>
-    // What is answered are the text's lexemes, and a fault that is answered stands behind whole parts.
+    // What is answered are the text's lexemes, and a fault that is answered comes after whole parts.
     ensures lexemes { IfOk result (λ v. Lexes text.now v.items) }
     ensures fault { IfErr result (UnlessMemory (Faults text.now)) }
 

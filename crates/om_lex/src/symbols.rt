@@ -2,10 +2,10 @@
 
 ghost use Rattle.std.specs.Prelude.{◌≡◌};
 ghost use Rattle.om_lex.specs.Scan.{pair_symbol, single_symbol, pair_at, symbol_form, found_at};
-ghost use Rattle.om_model.specs.LexText.{Answers};
+ghost use Rattle.om_lex.specs.LexText.{Answers};
 
 use crate::found::Found;
-use om_model::lexeme::{LexFault, LexemeKind, Symbol};
+use crate::lexeme::{LexFault, LexemeKind, Symbol};
 
 /// The symbol of two bytes.
 #[tactic(auto, unfolding(crate::specs::Scan::pair_symbol))]

@@ -1,5 +1,5 @@
 use super::*;
-use om_model::lexeme::{LexFault, Lexeme, LexemeKind};
+use crate::lexeme::{LexFault, Lexeme, LexemeKind};
 use std::alloc::{AllocError, Global};
 use std::test::Fail;
 

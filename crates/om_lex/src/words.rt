@@ -2,15 +2,15 @@
 
 ghost use Rattle.std.specs.Prelude.{◌≡◌, ◌<◌, length, slice_index, IsTrue, Ok};
 ghost use Rattle.std.specs.List.{take_while};
-ghost use Rattle.om_model.specs.Lexeme.{starts_name, is_name_byte};
-ghost use Rattle.om_model.specs.LexText.{Answers};
+ghost use Rattle.om_lex.specs.Lexeme.{starts_name, is_name_byte};
+ghost use Rattle.om_lex.specs.LexText.{Answers};
 ghost use Rattle.om_lex.specs.Scan.{keyword_of, cased_form, word_form, tag_form, variable_form, found, found_at};
 
 use crate::bytes::{name_len, starts_lower, starts_name};
 use crate::found::Found;
-use om_model::lexeme::{Keyword, LexFault, LexemeKind};
+use crate::lexeme::{Keyword, LexFault, LexemeKind};
 use om_model::list::List;
-use std::alloc::{AllocError, Global};
+use std::alloc::Global;
 
 /// The keyword of this spelling.
 fn keyword_of(name: &[u8]) -> Option<Keyword>

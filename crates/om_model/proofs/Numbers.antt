@@ -1,4 +1,4 @@
--- The numbers that bytes spell: of bytes one behind another, of a front and of a rest, and how large they are.
+-- The numbers that bytes spell: of bytes one after another, of a front and of a rest, and how large they are.
 use Rattle.std.proofs.Common.{◌≡◌, ℕ, zero, suc, ◌+◌, ◌-◌, ◌*◌, ◌%◌, ◌^◌, ◌<◌, ◌≤◌, List, [], ◌∷◌, ◌++◌, length, get_or, take, drop, Fits, w8, refl, pos, negsuc, arith}
 use Rattle.std.proofs.Math.Nat.{pow-suc, mul-le-mul_right, pow-le-pow_right}
 use Rattle.std.proofs.lemmas.Nat.{pow-add, one_shl}
@@ -15,7 +15,7 @@ pub little_number-append : (xs ys : List ℕ) → little_number (xs ++ ys) ≡ l
 little_number-append [] ys = omega arith
 little_number-append (x ∷ xs) ys = rw (little_number-append xs ys, pow-suc 256 (length xs)) (omega arith)
 
--- one byte more than the first i, and than those behind the first i + 1
+-- one byte more than the first i, and than those after the first i + 1
 pub number_more : (bytes : List ℕ) (i : ℕ) → i < length bytes → number (take (i + 1) bytes) ≡ number (take i bytes) * 256 + get_or bytes i 0
 number_more bytes i h = rw (take_more bytes i 0 h, number-append (take i bytes) (get_or bytes i 0 ∷ [])) (omega arith)
 

@@ -1,6 +1,6 @@
 //! Numbers that bytes spell, as `intern.c` reads them.
 
-ghost use Rattle.std.specs.Prelude.{◌≡◌, ◌≤◌, length};
+ghost use Rattle.std.specs.Prelude.{◌≡◌, ◌≤◌, drop, length};
 ghost use Rattle.om_model.specs.Bytes.{number, little_number, number_in, signed as signed_number};
 
 /// The number of at most eight bytes, the most significant first (`intern.c`).
@@ -54,6 +54,17 @@ pub fn double(bytes: &[u8], little: bool) -> u64
     }
 }
 
+/// The bytes after the first `n`, or none.
+pub fn skip(bytes: &[u8], n: usize) -> &[u8]
+    ensures { result.now ≡ drop n bytes.now }
+{
+    if n < bytes.len() {
+        &bytes[n..]
+    } else {
+        &bytes[bytes.len()..]
+    }
+}
+
 #[cfg(test)]
 mod tests {
     use super::*;
@@ -72,5 +83,6 @@ mod tests {
         let one = 4607182418800017408;
         assert_eq!(rt; double(&[0x3f, 0xf0, 0, 0, 0, 0, 0, 0], false), one);
         assert_eq!(rt; double(&[0, 0, 0, 0, 0, 0, 0xf0, 0x3f], true), one);
+        assert_eq!(rt; skip(&magic, 3), [0xbe].as_slice());
     }
 }

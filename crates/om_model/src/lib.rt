@@ -1,19 +1,15 @@
-//! The plain data of the tool, and the definitions that its contracts cite.
+//! Plain data that several subjects share: lists, values and objects of a graph, codes, headers, refusals, paths and
+//! statuses; what a graph is; and numbers from bytes.
 #![tactic(auto)]
 
 pub mod bytes;
 pub mod code;
-pub mod fault;
 pub mod header;
-pub mod laws;
-pub mod lexeme;
 pub mod list;
-pub mod list_type;
+mod out_of_memory;
 pub mod path;
 pub mod refusal;
 pub mod status;
 pub mod value;
 
-/// Want of memory.
-#[derive(Clone, Copy, Debug, PartialEq, Eq)]
-pub struct Memory;
+pub use out_of_memory::Memory;

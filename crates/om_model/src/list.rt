@@ -1,6 +1,6 @@
 //! A list of the project's own, which contracts see as a list.
 
-ghost use Rattle.std.specs.Prelude.{◌≡◌, ◌++◌, ◌∷◌, [], ◌<◌, length, OnOk, OnErr, IfOk, slice_get};
+ghost use Rattle.std.specs.Prelude.{◌≡◌, ◌++◌, ◌∷◌, [], ◌<◌, length, OnOk, OnErr};
 
 use crate::Memory;
 use std::alloc::Global;
@@ -58,9 +58,7 @@ impl<T> List<T> {
         ensures ok { OnOk result (self.new ≡ self.old ++ item ∷ []) }
         ensures err { OnErr result (self.new ≡ self.old) }
     {
-        match self.items.push(item) {
-            Ok(()) => Ok(()),
-            Err(_) => Err(Memory),
-        }
+        self.items.push(item)?;
+        Ok(())
     }
 }

@@ -1,5 +1,11 @@
 //! Why bytes are refused as a value.
 
+ghost use Rattle.std.specs.Prelude.{◌≡◌};
+ghost use Rattle.om_model.specs.declared.refusal.ReadRefusal.TheVariants as refusals;
+
+use crate::Memory;
+use std::alloc::{AllocError, AllocFailed};
+
 /// What a header states too large.
 #[derive(Clone, Copy, Debug, PartialEq, Eq)]
 pub enum Stated {
@@ -49,6 +55,30 @@ pub enum ReadRefusal {
     CountMismatch(u64, u64, u64),
     /// How many data bytes are left after the value.
     LengthMismatch(u64, u64),
-    /// Want of memory.
+    /// Out of memory.
     Memory,
+}
+
+impl From<Memory> for ReadRefusal {
+    ghost from_gives = { λ _ e. e ≡ refusals.Memory };
+
+    fn from(_: Memory) -> ReadRefusal {
+        ReadRefusal::Memory
+    }
+}
+
+impl From<AllocError> for ReadRefusal {
+    ghost from_gives = { λ _ e. e ≡ refusals.Memory };
+
+    fn from(_e: AllocError) -> ReadRefusal {
+        ReadRefusal::Memory
+    }
+}
+
+impl<T: Drop> From<AllocFailed<T>> for ReadRefusal {
+    ghost from_gives = { λ _ e. e ≡ refusals.Memory };
+
+    fn from(_e: AllocFailed<T>) -> ReadRefusal {
+        ReadRefusal::Memory
+    }
 }

@@ -8,7 +8,7 @@ ghost use Rattle.om_model.specs.Status.{code_of};
 pub enum Status {
     /// Nothing was wrong.
     Well,
-    /// Some value has not the type.
+    /// Some value does not have the type.
     No,
     /// The words are none of the command set.
     Usage,
@@ -24,7 +24,7 @@ pub enum Status {
     WriteFault,
     /// A file was not opened.
     OpenFault,
-    /// Want of memory.
+    /// Out of memory.
     Memory,
     /// The input or a file has 2^48 bytes or more.
     TooLong,

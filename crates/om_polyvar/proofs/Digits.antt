@@ -3,7 +3,7 @@ use Rattle.std.proofs.Common.{◌≡◌, ℕ, ◌+◌, ◌*◌, ◌^◌, ◌%◌
 use Rattle.std.proofs.Math.Nat.{mod-add-mod, pow-succ'}
 use Rattle.std.proofs.lemmas.Nat.{mul-mod_second}
 use Rattle.std.proofs.lemmas.List.{take_more}
-use Rattle.om_model.specs.TagHash.{number_of_tag}
+use Rattle.om_polyvar.specs.TagHash.{number_of_tag}
 
 power-step : (x n : ℕ) → x * 223 ^ (n + 1) ≡ 223 * (x * 223 ^ n)
 power-step x n = rw (add-one, pow-succ') (omega arith)

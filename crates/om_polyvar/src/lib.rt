@@ -2,7 +2,7 @@
 #![tactic(auto)]
 
 ghost use Rattle.std.specs.Prelude.{◌≡◌, ◌%◌, ◌^◌, ◌<◌};
-ghost use Rattle.om_model.specs.TagHash.{number_of_tag, signed_31, tag_hash};
+ghost use Rattle.om_polyvar.specs.TagHash.{number_of_tag, signed_31, tag_hash};
 
 /// The bits that are kept.
 const MODULUS: u64 = 0x8000_0000;

@@ -1,5 +1,5 @@
 use Rattle.std.proofs.Common.{◌≡◌, ◌%◌, ◌^◌, take}
-use Rattle.om_model.specs.TagHash.{number_of_tag}
+use Rattle.om_polyvar.specs.TagHash.{number_of_tag}
 use Rattle.om_polyvar.proofs.low_bits.Given as goal
 
 abbrev pub invariant-loop-byte : goal.invariant-loop-byte

@@ -1,5 +1,5 @@
 use Rattle.std.proofs.Common.{◌≡◌, ◌+◌, ◌*◌, ◌-◌, ◌^◌, min, get_or, ◌∙◌}
-use Rattle.om_model.specs.Lexeme.{value_of_digit}
+use Rattle.om_lex.specs.Lexeme.{value_of_digit}
 use Rattle.om_lex.proofs.NumberLaws.{number_in-more}
 use Rattle.om_lex.proofs.numbers.number_in.Goals as goal
 

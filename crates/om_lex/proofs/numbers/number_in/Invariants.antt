@@ -1,5 +1,5 @@
 use Rattle.std.proofs.Common.{◌≡◌, ◌-◌, ◌^◌, min, take}
-use Rattle.om_model.specs.Lexeme.{number_in}
+use Rattle.om_lex.specs.Lexeme.{number_in}
 use Rattle.om_lex.proofs.numbers.number_in.Given as goal
 
 abbrev pub invariant-loop-digit : goal.invariant-loop-digit

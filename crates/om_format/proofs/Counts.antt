@@ -1,0 +1,73 @@
+-- How many objects the tokens of a tree make.
+use Rattle.std.proofs.Common.{◌≡◌, ℕ, suc, ◌+◌, List, ◌∷◌, ◌++◌, length, map, Option, refl, ap, ap₂, ◌∙◌, length-append}
+use Rattle.std.proofs.lemmas.List.{map-append}
+use Rattle.std.proofs.lemmas.List.Sums.{sum_by-append, sum_by-cons}
+use Rattle.om_model.specs.declared.code.Measure.{Measure}
+use Rattle.om_model.specs.declared.value.Obj.{Obj}
+use Rattle.om_model.specs.declared.value.Obj.TheVariants as objs
+use Rattle.om_model.specs.declared.value.Val.{Val}
+use Rattle.om_format.specs.Words.{of_object, fields, objects}
+use Rattle.om_format.specs.Token.{Token, integer, atom, shared, block, leaf, IsToken, measure_of, leaf_measure}
+use Rattle.om_format.specs.Tree.{Tree, Forest, node, none, more, trees_in, IsTree, AreTrees, tokens, forest_tokens, made, made_by, all_made, object_of, objects_of, all_objects, roots}
+
+-- the objects of tokens one after another
+
+pub objects-append : (ms ns : List (Option Measure)) → objects (ms ++ ns) ≡ objects ms + objects ns
+objects-append ms ns = sum_by-append (of_object (λ _. 1)) ms ns
+
+pub objects-tokens-cons : (t : Token) (ts : List Token) → objects (map measure_of (t ∷ ts)) ≡ made_by t + objects (map measure_of ts)
+objects-tokens-cons t ts = sum_by-cons (of_object (λ _. 1)) (measure_of t) (map measure_of ts)
+
+pub objects-tokens-append : (xs ys : List Token) → objects (map measure_of (xs ++ ys)) ≡ objects (map measure_of xs) + objects (map measure_of ys)
+objects-tokens-append xs ys = ap objects (map-append measure_of xs ys) ∙ objects-append (map measure_of xs) (map measure_of ys)
+
+-- a tree makes as many objects as its tokens
+mutual
+  pub objects-tokens : (tree : Tree) → objects (map measure_of (tokens tree)) ≡ made tree
+  objects-tokens (node t f) = objects-tokens-cons t (forest_tokens f) ∙ ap (λ n. made_by t + n) (objects-forest_tokens f)
+
+  pub objects-forest_tokens : (f : Forest) → objects (map measure_of (forest_tokens f)) ≡ all_made f
+  objects-forest_tokens none = refl
+  objects-forest_tokens (more tree f) = objects-tokens-append (tokens tree) (forest_tokens f) ∙ ap₂ ◌+◌ (objects-tokens tree) (objects-forest_tokens f)
+
+-- a leaf has no fields
+pub leaf_fields : (o : Obj) → of_object fields (leaf_measure o) ≡ 0
+leaf_fields (objs.Block tag values) = refl
+leaf_fields (objs.Bytes bytes) = refl
+leaf_fields (objs.Double bits) = refl
+leaf_fields (objs.Doubles all) = refl
+leaf_fields (objs.I32 z) = refl
+leaf_fields (objs.I64 z) = refl
+leaf_fields (objs.Native z) = refl
+
+-- a token makes the object that its measure says
+pub length-object_of : (t : Token) (values : List Val) → IsToken t → length (object_of t values) ≡ made_by t
+length-object_of (integer z) values h = refl
+length-object_of (atom tag) values h = refl
+length-object_of (shared offset) values h = refl
+length-object_of (block tag size) values h = refl
+length-object_of (leaf (objs.Block tag vs)) values h = absurd h
+length-object_of (leaf (objs.Bytes bytes)) values h = refl
+length-object_of (leaf (objs.Double bits)) values h = refl
+length-object_of (leaf (objs.Doubles all)) values h = refl
+length-object_of (leaf (objs.I32 z)) values h = refl
+length-object_of (leaf (objs.I64 z)) values h = refl
+length-object_of (leaf (objs.Native z)) values h = refl
+
+-- a tree's objects are as many as it makes
+mutual
+  pub length-objects_of : (tree : Tree) (c : ℕ) → IsTree tree → length (objects_of tree c) ≡ made tree
+  length-objects_of (node t f) c h =
+      length-append (object_of t (roots f (c + made_by t))) (all_objects f (c + made_by t))
+      ∙ ap₂ ◌+◌ (length-object_of t (roots f (c + made_by t)) h.0) (length-all_objects f (c + made_by t) h.2)
+
+  pub length-all_objects : (f : Forest) (c : ℕ) → AreTrees f → length (all_objects f c) ≡ all_made f
+  length-all_objects none c h = refl
+  length-all_objects (more tree f) c h =
+      length-append (objects_of tree c) (all_objects f (c + made tree))
+      ∙ ap₂ ◌+◌ (length-objects_of tree c h.0) (length-all_objects f (c + made tree) h.1)
+
+-- there are as many roots as trees
+pub length-roots : (f : Forest) (c : ℕ) → length (roots f c) ≡ trees_in f
+length-roots none c = refl
+length-roots (more tree f) c = ap suc (length-roots f (c + made tree))

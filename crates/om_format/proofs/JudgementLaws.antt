@@ -1,0 +1,55 @@
+-- One thing becomes of bytes, and nothing else.
+use Rattle.std.proofs.Common.{◌≡◌, ℕ, ◌≤◌, List, length, take, refl}
+use Rattle.om_model.specs.declared.refusal.ReadRefusal.{ReadRefusal}
+use Rattle.om_format.specs.Tree.{Tree}
+use Rattle.om_format.specs.Spelled.{SpelledUnder}
+use Rattle.om_format.specs.Front.{IsFront, IsRefused}
+use Rattle.om_format.specs.Judgement.{Judgement, front, value, refused, Judges, IsJudgement}
+use Rattle.om_format.specs.Laws.{HasOneJudgement}
+use Rattle.om_format.proofs.OneJudgement.{Closed, front_or_closed, front_or_refused, closed_or_refused, closed_at_once, refused_at_once}
+use Rattle.om_format.proofs.SpellTrees.{PassesWhole, PassesWhole-spelled, tree-same}
+use Rattle.om_format.proofs.StandLemmas.{Judges-some}
+
+-- a spelled value is closed
+pub Closed-spelled : (limit : ℕ) (bytes : List ℕ) (tree : Tree) (s : SpelledUnder limit bytes tree) → Closed limit bytes s.header s.pieces
+Closed-spelled limit bytes tree s =
+    let w : PassesWhole limit s.header s.pieces = PassesWhole-spelled limit bytes tree s in
+    record { bytes_are = s.bytes_are; header_passes = w.header_passes; tokens_pass = w.tokens_pass; none_pending = w.whole }
+
+-- a front begins with no value
+pub front_or_value : (limit : ℕ) (bytes : List ℕ) (n : ℕ) (tree : Tree) → IsFront limit bytes → SpelledUnder limit (take n bytes) tree → ⊥
+front_or_value limit bytes n tree f s = front_or_closed limit bytes n s.header s.pieces f (Closed-spelled limit (take n bytes) tree s)
+
+-- bytes that begin with a value are not refused
+pub value_or_refused : (limit : ℕ) (bytes : List ℕ) (n m : ℕ) (tree : Tree) (r : ReadRefusal) → SpelledUnder limit (take n bytes) tree → IsRefused limit (take m bytes) r → ⊥
+value_or_refused limit bytes n m tree r s f =
+    closed_or_refused limit bytes n m s.header s.pieces r (Closed-spelled limit (take n bytes) tree s) f
+
+-- they begin with one value
+pub value_at_once : (limit : ℕ) (bytes : List ℕ) (n m : ℕ) (t u : Tree) → n ≤ length bytes → m ≤ length bytes
+    → SpelledUnder limit (take n bytes) t → SpelledUnder limit (take m bytes) u → (n ≡ m) × (t ≡ u)
+value_at_once limit bytes n m t u p q s v =
+    let same = closed_at_once limit bytes n m s.header v.header s.pieces v.pieces p q
+    (Closed-spelled limit (take n bytes) t s) (Closed-spelled limit (take m bytes) u v) in
+    (same.0, tree-same limit limit (take n bytes) (take m bytes) t u s v same.2)
+
+-- two judgements are one
+pub Judges-same : (limit : ℕ) (bytes : List ℕ) (j k : Judgement) → Judges limit bytes j → Judges limit bytes k → j ≡ k
+Judges-same limit bytes front front p q = refl
+Judges-same limit bytes front (value m u) p q = absurd (front_or_value limit bytes m u p q.1)
+Judges-same limit bytes front (refused m s) p q = absurd (front_or_refused limit bytes m s p q.1)
+Judges-same limit bytes (value n t) front p q = absurd (front_or_value limit bytes n t q p.1)
+Judges-same limit bytes (value n t) (value m u) p q =
+    let same = value_at_once limit bytes n m t u p.0 q.0 p.1 q.1 in λ i. value (same.0 i) (same.1 i)
+Judges-same limit bytes (value n t) (refused m s) p q = absurd (value_or_refused limit bytes n m t s p.1 q.1)
+Judges-same limit bytes (refused n r) front p q = absurd (front_or_refused limit bytes n r q p.1)
+Judges-same limit bytes (refused n r) (value m u) p q = absurd (value_or_refused limit bytes m n u r q.1 p.1)
+Judges-same limit bytes (refused n r) (refused m s) p q =
+    let same = refused_at_once limit bytes n m r s p.0 q.0 p.1 q.1 in λ i. refused (same.0 i) (same.1 i)
+
+-- a judgement that holds is the only one
+pub IsJudgement-holds : (limit : ℕ) (bytes : List ℕ) (j : Judgement) → Judges limit bytes j → IsJudgement limit bytes j
+IsJudgement-holds limit bytes j p = record { holds = p; only = λ k q. Judges-same limit bytes k j q p }
+
+pub one_judgement_lem : HasOneJudgement
+one_judgement_lem limit bytes a = let some = Judges-some limit bytes a in (some.0, IsJudgement-holds limit bytes some.0 some.1)

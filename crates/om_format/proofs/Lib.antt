@@ -1,0 +1,27 @@
+mod CanonicalRows
+pub mod ContentLemmas
+pub mod Counts
+pub mod JudgementLaws
+pub mod KindLemmas
+pub mod NextLemmas
+pub mod OneJudgement
+pub mod Parsed
+pub mod Pending
+pub mod RawLemmas
+pub mod ReadingLemmas
+pub mod References
+pub mod SpellCustoms
+pub mod SpellFacts
+pub mod SpellFields
+pub mod SpellHeaders
+pub mod SpellLemmas
+pub mod SpellNumbers
+pub mod SpellSteps
+pub mod SpellTokens
+pub mod SpellTrees
+pub mod SpellValues
+pub mod SpellingLaws
+pub mod StandLemmas
+pub mod StepLemmas
+pub mod TokenStepLemmas
+pub mod Unique

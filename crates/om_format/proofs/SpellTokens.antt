@@ -1,0 +1,156 @@
+-- A raw token that passes its steps spells a token, and a spelled token that fits its place passes.
+use Rattle.std.proofs.Common.{ℕ, ◌+◌, ◌-◌, ◌<◌, ◌≤◌, ◌≡◌, false, List, [], ◌∷◌, ◌++◌, length, take, map, slice_index, Option, Some, None, Result, Ok, Err, ◌⊎◌, refl, sym, ◌∙◌, subst, arith}
+use Rattle.std.proofs.lemmas.List.Elements.{All-tail}
+use Rattle.std.specs.List.{concat}
+use Rattle.om_model.specs.declared.header.Head.{Head}
+use Rattle.om_model.specs.declared.code.CodeKind.{CodeKind}
+use Rattle.om_model.specs.declared.code.CodeKind.TheVariants as kinds
+use Rattle.om_model.specs.declared.code.CodeFault.{CodeFault}
+use Rattle.om_model.specs.declared.code.CustomKind.{CustomKind}
+use Rattle.om_model.specs.declared.code.CustomKind.TheVariants as customs
+use Rattle.om_model.specs.declared.code.Measure.{Measure}
+use Rattle.om_model.specs.Bytes.{AreBytes}
+use Rattle.om_format.specs.Code.{kind_of, custom_of, native_bytes}
+use Rattle.om_format.specs.Header.{head_of}
+use Rattle.om_format.specs.Raw.{fixed_bytes, length_after, measure_from, raw_measure, IsRaw}
+use Rattle.om_format.specs.Words.{objects, all_words32, all_words64, pending}
+use Rattle.om_format.specs.Step.{first_refusal, Context, left_after, steps_from, token_steps}
+use Rattle.om_format.specs.Front.{context, token_refusal}
+use Rattle.om_format.specs.Token.{Token, SpellsFrom, Spells}
+use Rattle.om_format.specs.Tree.{RefersBack}
+use Rattle.om_format.specs.Spelled.{IsNoReference}
+use Rattle.om_format.proofs.SpellLemmas.{spelled_length}
+use Rattle.om_format.proofs.SpellSteps.{steps_pass}
+use Rattle.om_format.proofs.KindLemmas.{InRange, kind_of-in_range}
+use Rattle.om_format.proofs.SpellFields.{AreSoundFields, IsTokenThere, spelled_of, sound_of}
+use Rattle.om_format.proofs.SpellFacts.{VariableFits, token_length, up_to, TokenFacts, facts_from_none, none_from_facts}
+
+-- after the last token, which ends after n bytes of the data: the header states what all of them take
+pub record EndsAt (head : Head) (n : ℕ) (all : List (Option Measure)) : Type 0 where
+  pub length : head.length ≡ n
+  pub w32 : head.big ≡ false → head.w32 ≡ all_words32 all
+  pub w64 : head.w64 ≡ all_words64 all
+  pub count : (head.objects ≡ 0) ⊎ (head.objects ≡ objects all)
+
+-- a token that ends after n bytes of the data fits, with the measures of all up to it
+pub record FitsUpTo (head : Head) (n : ℕ) (all : List (Option Measure)) : Type 0 where
+  pub within : n ≤ head.length
+  pub room : pending all ≤ head.length - n
+  pub w32 : head.big ≡ false → all_words32 all ≤ head.w32
+  pub w64 : all_words64 all ≤ head.w64
+  pub end : pending all ≡ 0 → EndsAt head n all
+
+-- after these tokens
+abbrev pub FitsAfter : Head → List (List ℕ) → List ℕ → Type 0
+FitsAfter head before piece = FitsUpTo head (length (concat before) + length piece) (map raw_measure before ++ raw_measure piece ∷ [])
+
+-- ---- from the steps
+
+-- a token that passes ends within the data
+within_from_facts : (c : Context) (kind : CodeKind) (custom : Option CustomKind) (rest : List ℕ) → custom ≡ custom_of (take 3 rest) → c.taken < c.head.length → fixed_bytes kind ≤ left_after c 1 → VariableFits c kind custom rest → c.taken + token_length kind rest ≤ c.head.length
+within_from_facts c kinds.Custom (Some customs.Native) rest e more fixed f = rw (← e) (omega (arith, f.0, f.1, f.2))
+within_from_facts c kind custom rest e more fixed f = omega arith
+
+-- and fits
+fits_from_facts : (c : Context) (kind : CodeKind) (rest : List ℕ) (n : ℕ) → n ≡ token_length kind rest → c.taken < c.head.length → TokenFacts c kind rest → FitsUpTo c.head (c.taken + n) (up_to c kind rest)
+fits_from_facts c kind rest n e more f =
+    let within : c.taken + token_length kind rest ≤ c.head.length = within_from_facts c kind (custom_of (take 3 rest)) rest refl more f.fixed f.variable in
+    rw e (record {
+      within = within;
+      room = f.room;
+      w32 = f.w32;
+      w64 = f.w64;
+      end = λ p. record { length = omega (arith, (f.end p).left); w32 = (f.end p).w32; w64 = (f.end p).w64; count = (f.end p).count };
+    })
+
+-- a raw token that passes
+abbrev PassesAs : Context → Result CodeKind CodeFault → List ℕ → Type 0
+PassesAs c r rest =
+    (t : Token) × SpellsFrom r rest t × IsTokenThere t (objects c.before) c.head.objects
+
+-- bytes that pass spell a token, by what the code begins
+token_after : (c : Context) (code : ℕ) (r : Result CodeKind CodeFault) (rest : List ℕ) → InRange r → AreBytes rest → length rest ≡ length_after r rest → first_refusal (length (code ∷ rest)) (steps_from c code r rest) ≡ None → PassesAs c r rest
+token_after c code (Ok kind) rest k a l p =
+    let facts = facts_from_none c code kind rest (length (code ∷ rest)) (omega arith) p in
+    spelled_of kind rest (objects c.before) c.head.objects k a l facts.fields
+token_after c code (Err fault) rest k a l p =
+    absurd (let none = (steps_pass (length (code ∷ rest)) (steps_from c code (Err fault) rest) (omega arith, tt) p).0 in cc (none))
+
+-- and fit, by what the code begins
+fits_after : (c : Context) (code : ℕ) (r : Result CodeKind CodeFault) (rest : List ℕ) → length rest ≡ length_after r rest → first_refusal (length (code ∷ rest)) (steps_from c code r rest) ≡ None → c.taken < c.head.length → FitsUpTo c.head (c.taken + length (code ∷ rest)) (c.before ++ measure_from r rest ∷ [])
+fits_after c code (Ok kind) rest l p more =
+    fits_from_facts c kind rest (length (code ∷ rest)) (omega arith) more (facts_from_none c code kind rest (length (code ∷ rest)) (omega arith) p)
+fits_after c code (Err fault) rest l p more =
+    absurd (let none = (steps_pass (length (code ∷ rest)) (steps_from c code (Err fault) rest) (omega arith, tt) p).0 in cc (none))
+
+-- ---- to the steps
+
+-- the variable bytes of a token within the data are there
+variable_from_within : (c : Context) (kind : CodeKind) (custom : Option CustomKind) (rest : List ℕ) → custom ≡ custom_of (take 3 rest) → AreSoundFields kind rest (objects c.before) c.head.objects → c.taken + token_length kind rest ≤ c.head.length → VariableFits c kind custom rest
+variable_from_within c kinds.Custom (Some customs.Native) rest e s h =
+    let some : 0 < native_bytes (slice_index rest 3) = rw (← e) at s in
+    let all : c.taken + (1 + 3 + (1 + native_bytes (slice_index rest 3))) ≤ c.head.length = rw (← e) at h in
+    (omega arith, some, omega arith)
+variable_from_within c kind custom rest e s h = omega arith
+
+-- the facts of a token that fits
+facts_from_fits : (c : Context) (kind : CodeKind) (rest : List ℕ) (n : ℕ) → n ≡ token_length kind rest → AreSoundFields kind rest (objects c.before) c.head.objects → FitsUpTo c.head (c.taken + n) (up_to c kind rest) → TokenFacts c kind rest
+facts_from_fits c kind rest n e s fits =
+    let f : FitsUpTo c.head (c.taken + token_length kind rest) (up_to c kind rest) = subst (λ m. FitsUpTo c.head (c.taken + m) (up_to c kind rest)) e fits in
+    record {
+      fixed = omega (arith, f.within);
+      fields = s;
+      variable = variable_from_within c kind (custom_of (take 3 rest)) rest refl s f.within;
+      room = f.room;
+      w32 = f.w32;
+      w64 = f.w64;
+      end = λ p. record { left = omega (arith, (f.end p).length); w32 = (f.end p).w32; w64 = (f.end p).w64; count = (f.end p).count };
+    }
+
+-- a spelled token that fits is not refused, by what the code begins
+no_refusal_after : (c : Context) (code : ℕ) (r : Result CodeKind CodeFault) (rest : List ℕ) (t : Token) → SpellsFrom r rest t → IsTokenThere t (objects c.before) c.head.objects → FitsUpTo c.head (c.taken + length (code ∷ rest)) (c.before ++ measure_from r rest ∷ []) → first_refusal (length (code ∷ rest)) (steps_from c code r rest) ≡ None
+no_refusal_after c code (Ok kind) rest t s there fits =
+    let l = spelled_length kind rest t s in
+    none_from_facts c code kind rest (length (code ∷ rest))
+    (facts_from_fits c kind rest (length (code ∷ rest)) (omega arith) (sound_of kind rest t (objects c.before) c.head.objects s there) fits)
+no_refusal_after c code (Err fault) rest t s there fits = absurd s
+
+-- ---- whole pieces
+
+-- the steps of a token, by what its code begins
+token_steps-are : (c : Context) (code : ℕ) (rest : List ℕ) (n : ℕ) → first_refusal n (token_steps c (code ∷ rest)) ≡ first_refusal n (steps_from c code (kind_of code) rest)
+unfolding token_steps
+token_steps-are c code rest n = refl
+
+-- the length of a raw token after its code
+after_code : (code : ℕ) (rest : List ℕ) → IsRaw (code ∷ rest) → length rest ≡ length_after (kind_of code) rest
+after_code code rest raw = omega (arith, raw)
+
+-- a token that bytes spell after these
+pub record SpelledThere (header : List ℕ) (before : List (List ℕ)) (piece : List ℕ) : Type 0 where
+  pub token : Token
+  pub spells : Spells token piece
+  pub refers_back : RefersBack token (objects (map raw_measure before))
+  pub table : (head_of header).objects ≡ 0 → IsNoReference token
+
+-- a raw token that passes its steps spells a token
+pub SpelledThere-passes : (header : List ℕ) (before : List (List ℕ)) (piece : List ℕ) → AreBytes piece → IsRaw piece → token_refusal header before piece ≡ None → SpelledThere header before piece
+SpelledThere-passes header before [] a raw p = absurd (omega (arith, raw))
+SpelledThere-passes header before (code ∷ rest) a raw p =
+    let c = context header before in
+    let t = token_after c code (kind_of code) rest (kind_of-in_range code) (All-tail (λ b. b < 256) code rest a) (after_code code rest raw) (sym (token_steps-are c code rest (length (code ∷ rest))) ∙ p) in
+    record { token = t.0; spells = (t.2.is_token, t.1); refers_back = t.2.refers_back; table = t.2.table }
+
+-- and fits its place, where data are left for it
+pub FitsAfter-passes : (header : List ℕ) (before : List (List ℕ)) (piece : List ℕ) → IsRaw piece → token_refusal header before piece ≡ None → length (concat before) < (head_of header).length → FitsAfter (head_of header) before piece
+FitsAfter-passes header before [] raw p more = absurd (omega (arith, raw))
+FitsAfter-passes header before (code ∷ rest) raw p more =
+    let c = context header before in
+    fits_after c code (kind_of code) rest (after_code code rest raw) (sym (token_steps-are c code rest (length (code ∷ rest))) ∙ p) more
+
+-- a spelled token that fits its place passes its steps
+pub passes-spelled : (header : List ℕ) (before : List (List ℕ)) (t : Token) (piece : List ℕ) → Spells t piece → RefersBack t (objects (map raw_measure before)) → ((head_of header).objects ≡ 0 → IsNoReference t) → FitsAfter (head_of header) before piece → token_refusal header before piece ≡ None
+passes-spelled header before t [] s back table fits = absurd s
+passes-spelled header before t (code ∷ rest) s back table fits =
+    let c = context header before in
+    token_steps-are c code rest (length (code ∷ rest)) ∙ no_refusal_after c code (kind_of code) rest t s.1 (record { is_token = s.0; refers_back = back; table = table }) fits

@@ -1,0 +1,176 @@
+-- Lists of steps: the first refusal among those that are decided in n bytes.
+use Rattle.std.proofs.Common.{◌≡◌, ℕ, ◌<◌, ◌≤◌, max, List, [], ◌∷◌, ◌++◌, Option, Some, None, ◌⊎◌, inl, inr, refl, sym, ◌∙◌, ap, subst, arith, le_refl, lt-ltb, le-ltb, nat_lt, if◌then◌else◌, ap₂}
+use Rattle.std.proofs.lemmas.Bool.{cases_lt, cond-true, cond-false}
+use Rattle.om_model.proofs.Options.{none_or_some}
+use Rattle.om_model.specs.declared.refusal.ReadRefusal.{ReadRefusal}
+use Rattle.om_format.specs.Step.{Step, or_else, first_refusal}
+
+-- a step that n bytes do not decide stops the list
+pub first_refusal-undecided : (n : ℕ) (s : Step) (steps : List Step) → n < s.ends → first_refusal n (s ∷ steps) ≡ None
+first_refusal-undecided n s steps l = cond-true (nat_lt n s.ends) None (or_else s.refusal (first_refusal n steps)) (lt-ltb n s.ends l)
+
+-- a step that they decide refuses, or leaves it to the next
+pub first_refusal-decided : (n : ℕ) (s : Step) (steps : List Step) → s.ends ≤ n → first_refusal n (s ∷ steps) ≡ or_else s.refusal (first_refusal n steps)
+first_refusal-decided n s steps l = cond-false (nat_lt n s.ends) None (or_else s.refusal (first_refusal n steps)) (le-ltb n s.ends l)
+
+-- of two continuations the second refuses as the first does
+or_else-mono : (o a b : Option ReadRefusal) (r : ReadRefusal) → (a ≡ Some r → b ≡ Some r) → or_else o a ≡ Some r → or_else o b ≡ Some r
+or_else-mono None a b r f h = f h
+or_else-mono (Some q) a b r f h = h
+
+-- a refusal stays with more bytes
+pub first_refusal-more : (n m : ℕ) (steps : List Step) (r : ReadRefusal) → n ≤ m → first_refusal n steps ≡ Some r → first_refusal m steps ≡ Some r
+first_refusal-more n m [] r l h = cc
+first_refusal-more n m (s ∷ steps) r l h =
+    elim (cases_lt n s.ends) [
+      | inl u ↦ let e : first_refusal n (s ∷ steps) ≡ None = first_refusal-undecided n s steps u in cc
+      | inr d ↦
+          let dm : s.ends ≤ m = omega arith in
+          first_refusal-decided m s steps dm
+          ∙ or_else-mono s.refusal (first_refusal n steps) (first_refusal m steps) r (first_refusal-more n m steps r l)
+          (sym (first_refusal-decided n s steps d) ∙ h)
+    ]
+
+-- what passes with more bytes passes with fewer
+pub first_refusal-fewer : (n m : ℕ) (steps : List Step) → n ≤ m → first_refusal m steps ≡ None → first_refusal n steps ≡ None
+first_refusal-fewer n m steps l h =
+    elim (none_or_some (first_refusal n steps)) [
+      | inl e ↦ e
+      | inr p ↦ let e : first_refusal m steps ≡ Some p.0 = first_refusal-more n m steps p.0 l p.1 in cc
+    ]
+
+-- the fewest bytes with which the steps refuse
+pub record LeastRefusal (m : ℕ) (steps : List Step) (r : ReadRefusal) : Type 0 where
+  pub least : ℕ
+  pub within : least ≤ m
+  pub refuses : first_refusal least steps ≡ Some r
+  pub before : (k : ℕ) → k < least → first_refusal k steps ≡ None
+
+-- where the first step passes, the others refuse, with no fewer bytes than the first step takes
+least_after : (m : ℕ) (s : Step) (steps : List Step) (r : ReadRefusal) → s.ends ≤ m → s.refusal ≡ None → LeastRefusal m steps r → LeastRefusal m (s ∷ steps) r
+least_after m s steps r d e h = record {
+  least = max s.ends h.least;
+  within = omega (arith, h.within);
+  refuses =
+      first_refusal-decided (max s.ends h.least) s steps (omega arith)
+      ∙ (ap (λ o. or_else o (first_refusal (max s.ends h.least) steps)) e
+      ∙ first_refusal-more h.least (max s.ends h.least) steps r (omega arith) h.refuses);
+  before = λ k l.
+      elim (cases_lt k s.ends) [
+        | inl u ↦ first_refusal-undecided k s steps u
+        | inr g ↦
+            first_refusal-decided k s steps g
+            ∙ (ap (λ o. or_else o (first_refusal k steps)) e
+            ∙ h.before k (omega arith))
+      ];
+}
+
+-- where it fails, it is the refusal
+least_here : (m : ℕ) (s : Step) (steps : List Step) (r : ReadRefusal) → s.ends ≤ m → s.refusal ≡ Some r → LeastRefusal m (s ∷ steps) r
+least_here m s steps r d e = record {
+  least = s.ends;
+  within = d;
+  refuses = first_refusal-decided s.ends s steps (le_refl s.ends) ∙ ap (λ o. or_else o (first_refusal s.ends steps)) e;
+  before = λ k l. first_refusal-undecided k s steps l;
+}
+
+-- by what the first step says
+least_from : (m : ℕ) (s : Step) (steps : List Step) (r : ReadRefusal) → s.ends ≤ m → (first_refusal m steps ≡ Some r → LeastRefusal m steps r)
+    → first_refusal m (s ∷ steps) ≡ Some r → LeastRefusal m (s ∷ steps) r
+least_from m s steps r d rest h =
+    let f : or_else s.refusal (first_refusal m steps) ≡ Some r = sym (first_refusal-decided m s steps d) ∙ h in
+    elim (none_or_some s.refusal) [
+      | inl e ↦ least_after m s steps r d e (rest (rw e at f))
+      | inr p ↦ least_here m s steps r d (p.1 ∙ (rw p.1 at f))
+    ]
+
+-- steps that refuse do so with some fewest bytes
+pub least_refusal : (m : ℕ) (steps : List Step) (r : ReadRefusal) → first_refusal m steps ≡ Some r → LeastRefusal m steps r
+least_refusal m [] r h = absurd (let e : None ≡ Some r = h in cc)
+least_refusal m (s ∷ steps) r h =
+    elim (cases_lt m s.ends) [
+      | inl u ↦ let e : first_refusal m (s ∷ steps) ≡ None = first_refusal-undecided m s steps u in absurd (cc)
+      | inr d ↦ least_from m s steps r d (least_refusal m steps r) h
+    ]
+
+-- every step takes at least low bytes, and at most high
+abbrev pub EndWithin : ℕ → ℕ → List Step → Type 0
+EndWithin low high [] = Unit {0}
+EndWithin low high (s ∷ steps) = (low ≤ s.ends) × (s.ends ≤ high) × EndWithin low high steps
+
+pub EndWithin-append : (low high : ℕ) (steps more : List Step) → EndWithin low high steps → EndWithin low high more → EndWithin low high (steps ++ more)
+EndWithin-append low high [] more h k = k
+EndWithin-append low high (s ∷ steps) more h k = (h.0, h.1, EndWithin-append low high steps more h.2 k)
+
+-- with wider bounds
+pub EndWithin-wider : (low high lower higher : ℕ) (steps : List Step) → lower ≤ low → high ≤ higher → EndWithin low high steps → EndWithin lower higher steps
+EndWithin-wider low high lower higher [] p q h = tt
+EndWithin-wider low high lower higher (s ∷ steps) p q h =
+    (omega (arith, h.0), omega (arith, h.1), EndWithin-wider low high lower higher steps p q h.2)
+
+-- a refusal takes at least the bytes that every step takes
+pub EndWithin-low : (low high n : ℕ) (steps : List Step) (r : ReadRefusal) → EndWithin low high steps → first_refusal n steps ≡ Some r → low ≤ n
+EndWithin-low low high n [] r w h = absurd (let e : None ≡ Some r = h in cc)
+EndWithin-low low high n (s ∷ steps) r w h =
+    elim (cases_lt n s.ends) [
+      | inl u ↦ let e : first_refusal n (s ∷ steps) ≡ None = first_refusal-undecided n s steps u in absurd (cc)
+      | inr d ↦ omega (arith, w.0)
+    ]
+
+-- with the bytes that the steps take at most, everything is decided
+pub EndWithin-high : (low high n : ℕ) (steps : List Step) → EndWithin low high steps → high ≤ n → first_refusal n steps ≡ first_refusal high steps
+EndWithin-high low high n [] w l = refl
+EndWithin-high low high n (s ∷ steps) w l =
+    first_refusal-decided n s steps (omega (arith, w.1))
+    ∙ (ap (λ o. or_else s.refusal o) (EndWithin-high low high n steps w.2 l)
+    ∙ sym (first_refusal-decided high s steps w.1))
+
+-- so the fewest bytes of a refusal stand between the bounds
+pub least_refusal-within : (low high m : ℕ) (steps : List Step) (r : ReadRefusal) → EndWithin low high steps → (h : LeastRefusal m steps r)
+    → (low ≤ h.least) × (h.least ≤ high)
+least_refusal-within low high m steps r w h = (
+  EndWithin-low low high h.least steps r w h.refuses,
+  elim (cases_lt high h.least) [
+    | inl u ↦ let a : first_refusal high steps ≡ None = h.before high u in
+        let b : first_refusal h.least steps ≡ first_refusal high steps = EndWithin-high low high h.least steps w (omega arith) in
+        let c : first_refusal h.least steps ≡ Some r = h.refuses in absurd (cc)
+    | inr g ↦ g
+  ],
+)
+
+-- as far as n bytes decide, the two have the same steps
+abbrev pub AgreeUpTo : ℕ → List Step → List Step → Type 0
+AgreeUpTo n [] [] = Unit {0}
+AgreeUpTo n [] (t ∷ more) = n < t.ends
+AgreeUpTo n (s ∷ steps) [] = n < s.ends
+AgreeUpTo n (s ∷ steps) (t ∷ more) = ((s ≡ t) × AgreeUpTo n steps more) ⊎ ((n < s.ends) × (n < t.ends))
+
+pub agree_itself : (n : ℕ) (steps : List Step) → AgreeUpTo n steps steps
+agree_itself n [] = tt
+agree_itself n (s ∷ steps) = inl (refl, agree_itself n steps)
+
+-- equal steps agree
+pub agree_same : (n : ℕ) (steps more : List Step) → steps ≡ more → AgreeUpTo n steps more
+agree_same n steps more e = subst (λ ss. AgreeUpTo n steps ss) e (agree_itself n steps)
+
+-- what agrees as far as n bytes decide does so with fewer
+pub agree_fewer : (n k : ℕ) (steps more : List Step) → AgreeUpTo n steps more → k ≤ n → AgreeUpTo k steps more
+agree_fewer n k [] [] h l = tt
+agree_fewer n k [] (t ∷ more) h l = omega arith
+agree_fewer n k (s ∷ steps) [] h l = omega arith
+agree_fewer n k (s ∷ steps) (t ∷ more) h l =
+    elim h [
+      | inl p ↦ inl (p.0, agree_fewer n k steps more p.1 l)
+      | inr u ↦ inr (omega (arith, u.0), omega (arith, u.1))
+    ]
+
+-- what agrees refuses alike, with up to so many bytes
+pub agree_refuses : (n k : ℕ) (steps more : List Step) → AgreeUpTo n steps more → k ≤ n → first_refusal k steps ≡ first_refusal k more
+agree_refuses n k [] [] h l = refl
+agree_refuses n k [] (t ∷ more) h l = sym (first_refusal-undecided k t more (omega arith))
+agree_refuses n k (s ∷ steps) [] h l = first_refusal-undecided k s steps (omega arith)
+agree_refuses n k (s ∷ steps) (t ∷ more) h l =
+    elim h [
+      | inl p ↦ ap₂ (λ x o. if nat_lt k x.ends then None else or_else x.refusal o) p.0 (agree_refuses n k steps more p.1 l)
+      | inr u ↦ first_refusal-undecided k s steps (omega (arith, u.0)) ∙ sym (first_refusal-undecided k t more (omega (arith, u.1)))
+    ]

@@ -1,0 +1,129 @@
+-- The bytes that the runtime writes (`extern.c`): one spelling of each token, and a header with the full count.
+use Rattle.std.specs.Prelude.{ℕ, suc, ◌+◌, ◌-◌, ◌*◌, ◌^◌, Bool, ◌&&◌, ◌||◌, nat_lt, nat_le, List, [], ◌∷◌, ◌++◌, length, map, flat_map, if◌then◌else◌, ℤ, pos, negsuc}
+use Rattle.std.specs.Int.{bytes_high_first, bytes_low_first}
+use Rattle.om_model.specs.declared.value.Obj.{Obj}
+use Rattle.om_model.specs.declared.value.Obj.TheVariants as objects
+use Rattle.om_model.specs.declared.code.Custom.{Custom}
+use Rattle.om_model.specs.declared.code.Custom.TheVariants as customs
+use Rattle.om_model.specs.declared.header.Head.{Head}
+use Rattle.om_format.specs.Header.{small_magic, big_magic}
+use Rattle.om_format.specs.Words.{objects as object_count, all_words32, all_words64}
+use Rattle.om_format.specs.Token.{Token, integer, atom, shared, block, leaf, measure_of}
+use Rattle.om_format.specs.Tree.{Tree, tokens}
+
+-- from -2 ^ k up to 2 ^ k - 1
+abbrev pub is_signed : ℕ → ℤ → Bool
+is_signed k (pos n) = nat_lt n (2 ^ k)
+is_signed k (negsuc n) = nat_lt n (2 ^ k)
+
+-- so many bytes in two's complement, the most significant first
+abbrev pub signed_bytes : ℕ → ℤ → List ℕ
+signed_bytes width (pos n) = bytes_high_first width n
+signed_bytes width (negsuc n) = bytes_high_first width (256 ^ width - suc n)
+
+-- the eight bytes of a double, the least significant first
+abbrev pub double_bytes : ℕ → List ℕ
+double_bytes bits = bytes_low_first 0 8 bits
+
+-- ---- a token
+
+-- an integer by a code and its bytes
+abbrev pub wide_integer : ℤ → List ℕ
+wide_integer z =
+    if is_signed 7 z then 0x00 ∷ signed_bytes 1 z
+    else if is_signed 15 z then 0x01 ∷ signed_bytes 2 z
+    else if is_signed 30 z then 0x02 ∷ signed_bytes 4 z
+    else 0x03 ∷ signed_bytes 8 z
+
+-- an integer: from 0 to 63 it is in the code
+unfoldable pub integer_spelling : ℤ → List ℕ
+integer_spelling (pos n) = if nat_lt n 64 then (0x40 + n) ∷ [] else wide_integer (pos n)
+integer_spelling (negsuc n) = wide_integer (negsuc n)
+
+-- the header word of a block, with bits 8 and 9 at 0
+abbrev pub block_word : ℕ → ℕ → ℕ
+block_word tag size = tag + 1024 * size
+
+-- a block by its tag and size, and an atom as a block of size 0
+unfoldable pub block_spelling : ℕ → ℕ → List ℕ
+block_spelling tag size =
+    if nat_lt tag 16 && nat_lt size 8 then (0x80 + 16 * size + tag) ∷ []
+    else if nat_lt (block_word tag size) (2 ^ 32) then 0x08 ∷ bytes_high_first 4 (block_word tag size)
+    else 0x13 ∷ bytes_high_first 8 (block_word tag size)
+
+-- what comes before the content of a string, by its length
+unfoldable pub string_front : ℕ → List ℕ
+string_front n =
+    if nat_lt n 32 then (0x20 + n) ∷ []
+    else if nat_lt n (2 ^ 8) then 0x09 ∷ bytes_high_first 1 n
+    else if nat_lt n (2 ^ 32) then 0x0a ∷ bytes_high_first 4 n
+    else 0x15 ∷ bytes_high_first 8 n
+
+-- a reference by its offset
+unfoldable pub shared_spelling : ℕ → List ℕ
+shared_spelling offset =
+    if nat_lt offset (2 ^ 8) then 0x04 ∷ bytes_high_first 1 offset
+    else if nat_lt offset (2 ^ 16) then 0x05 ∷ bytes_high_first 2 offset
+    else if nat_lt offset (2 ^ 32) then 0x06 ∷ bytes_high_first 4 offset
+    else 0x14 ∷ bytes_high_first 8 offset
+
+-- what comes before the elements of a double array, by its length
+unfoldable pub doubles_front : ℕ → List ℕ
+doubles_front n =
+    if nat_lt n (2 ^ 8) then 0x0e ∷ bytes_high_first 1 n
+    else if nat_lt n (2 ^ 32) then 0x07 ∷ bytes_high_first 4 n
+    else 0x17 ∷ bytes_high_first 8 n
+
+-- the number of a `Nativeint` after its kind byte
+abbrev pub native_spelling : ℤ → List ℕ
+native_spelling z = if is_signed 31 z then 1 ∷ signed_bytes 4 z else 2 ∷ signed_bytes 8 z
+
+-- a custom: code, identifier and data
+unfoldable pub custom_spelling : Custom → List ℕ
+custom_spelling (customs.I32 z) = 0x19 ∷ 95 ∷ 105 ∷ 0 ∷ signed_bytes 4 z
+custom_spelling (customs.I64 z) = 0x19 ∷ 95 ∷ 106 ∷ 0 ∷ signed_bytes 8 z
+custom_spelling (customs.Native z) = 0x19 ∷ 95 ∷ 110 ∷ 0 ∷ native_spelling z
+
+-- an object without fields
+abbrev pub leaf_spelling : Obj → List ℕ
+leaf_spelling (objects.Block tag values) = []
+leaf_spelling (objects.Bytes bytes) = string_front (length bytes) ++ bytes
+leaf_spelling (objects.Double bits) = 0x0c ∷ double_bytes bits
+leaf_spelling (objects.Doubles all) = doubles_front (length all) ++ flat_map double_bytes all
+leaf_spelling (objects.I32 z) = custom_spelling (customs.I32 z)
+leaf_spelling (objects.I64 z) = custom_spelling (customs.I64 z)
+leaf_spelling (objects.Native z) = custom_spelling (customs.Native z)
+
+abbrev pub spelling : Token → List ℕ
+spelling (integer z) = integer_spelling z
+spelling (atom tag) = block_spelling tag 0
+spelling (shared offset) = shared_spelling offset
+spelling (block tag size) = block_spelling tag size
+spelling (leaf object) = leaf_spelling object
+
+-- ---- a value
+
+-- five numbers of four bytes; in a big header reserved bytes after the magic number, and then three numbers of eight bytes
+unfoldable pub header_spelling : Head → List ℕ
+header_spelling head =
+    if head.big then flat_map (bytes_high_first 4) (big_magic ∷ 0 ∷ []) ++ flat_map (bytes_high_first 8) (head.length ∷ head.objects ∷ head.w64 ∷ [])
+    else flat_map (bytes_high_first 4) (small_magic ∷ head.length ∷ head.objects ∷ head.w32 ∷ head.w64 ∷ [])
+
+abbrev pub data_spelling : List Token → List ℕ
+data_spelling all = flat_map spelling all
+
+-- one of three numbers does not fit four bytes
+abbrev pub is_big : ℕ → ℕ → ℕ → Bool
+is_big n w32 w64 = nat_le (2 ^ 32) n || (nat_le (2 ^ 32) w32 || nat_le (2 ^ 32) w64)
+
+-- the header states the length, the number of all objects, and their words
+abbrev pub canonical_head : List Token → Head
+canonical_head all =
+    let n = length (data_spelling all) in
+    let w32 = all_words32 (map measure_of all) in
+    let w64 = all_words64 (map measure_of all) in
+    record { big = is_big n w32 w64; length = n; objects = object_count (map measure_of all); w32 = w32; w64 = w64 }
+
+-- the bytes of a value
+unfoldable pub canon : Tree → List ℕ
+canon tree = header_spelling (canonical_head (tokens tree)) ++ data_spelling (tokens tree)

@@ -1,0 +1,54 @@
+-- The codes that begin tokens (`intext.h`).
+use Rattle.std.specs.Prelude.{ℕ, ◌/◌, ◌%◌, ◌<◌, ◌≤◌, true, false, List, [], ◌∷◌, Option, Some, None, Result, Ok, Err, nat_le, ◌==◌, ◌&&◌, if◌then◌else◌, slice_index_or, slice_index}
+use Rattle.om_model.specs.declared.code.CodeKind.{CodeKind}
+use Rattle.om_model.specs.declared.code.CodeKind.TheVariants.{SmallBlock, SmallInt, SmallString, Int, Shared, Block, Str, Double, Doubles, Custom}
+use Rattle.om_model.specs.declared.code.CodeFault.{CodeFault}
+use Rattle.om_model.specs.declared.code.CodeFault.TheVariants.{BadCode, PointerCode, OldCustom, CustomLen}
+use Rattle.om_model.specs.declared.code.CustomKind.{CustomKind}
+use Rattle.om_model.specs.declared.code.CustomKind.TheVariants.{Int32, Int64, Native}
+
+-- the codes below 32, from 0x00 on, and BadCode after the last
+abbrev pub large_kinds : List (Result CodeKind CodeFault)
+large_kinds =
+    Ok (Int 1) ∷ Ok (Int 2) ∷ Ok (Int 4) ∷ Ok (Int 8)
+    ∷ Ok (Shared 1) ∷ Ok (Shared 2) ∷ Ok (Shared 4) ∷ Ok (Doubles 4 true)
+    ∷ Ok (Block 4) ∷ Ok (Str 1) ∷ Ok (Str 4) ∷ Ok (Double false)
+    ∷ Ok (Double true) ∷ Ok (Doubles 1 false) ∷ Ok (Doubles 1 true) ∷ Ok (Doubles 4 false)
+    ∷ Err PointerCode ∷ Err PointerCode ∷ Err OldCustom ∷ Ok (Block 8)
+    ∷ Ok (Shared 8) ∷ Ok (Str 8) ∷ Ok (Doubles 8 false) ∷ Ok (Doubles 8 true)
+    ∷ Err CustomLen ∷ Ok Custom ∷ []
+
+-- what a code begins
+unfoldable pub kind_of : ℕ → Result CodeKind CodeFault
+kind_of code =
+    if nat_le 128 code then Ok (SmallBlock (code % 16) (code / 16 % 8))
+    else if nat_le 64 code then Ok (SmallInt (code % 64))
+    else if nat_le 32 code then Ok (SmallString (code % 32))
+    else slice_index_or large_kinds code (Err BadCode)
+
+-- the identifiers end in a zero byte: `_i`, `_j` and `_n`
+unfoldable pub custom_of : List ℕ → Option CustomKind
+custom_of bytes =
+    if (slice_index bytes 0 == 95) && (slice_index bytes 2 == 0) then
+    if slice_index bytes 1 == 105 then Some Int32
+    else if slice_index bytes 1 == 106 then Some Int64
+    else if slice_index bytes 1 == 110 then Some Native
+    else None
+    else None
+
+-- a custom's data: four bytes, eight, and after a kind byte of 1 or 2 four or eight
+abbrev pub native_bytes : ℕ → ℕ
+native_bytes kind = if kind == 1 then 4 else if kind == 2 then 8 else 0
+
+-- the widths of numbers and the small numbers that kinds have
+abbrev pub IsKind : CodeKind → Type 0
+IsKind (SmallBlock tag size) = (tag < 16) × (size < 8)
+IsKind (SmallInt n) = n < 64
+IsKind (SmallString n) = n < 32
+IsKind (Int width) = (1 ≤ width) × (width ≤ 8)
+IsKind (Shared width) = (1 ≤ width) × (width ≤ 8)
+IsKind (Block width) = (1 ≤ width) × (width ≤ 8)
+IsKind (Str width) = (1 ≤ width) × (width ≤ 8)
+IsKind (Double little) = Unit {0}
+IsKind (Doubles width little) = (1 ≤ width) × (width ≤ 8)
+IsKind Custom = Unit {0}

@@ -1,0 +1,89 @@
+-- Which bytes may still become a value, and which are refused (this project's own, over the format of `intern.c`).
+use Rattle.std.specs.Prelude.{ℕ, ◌<◌, ◌≡◌, ◌⊎◌, List, [], ◌∷◌, ◌++◌, length, take, map, Option, Some, None}
+use Rattle.std.specs.List.{concat}
+use Rattle.om_model.specs.declared.refusal.ReadRefusal.{ReadRefusal}
+use Rattle.om_format.specs.Header.{header_length, head_of}
+use Rattle.om_format.specs.Raw.{raw_length, raw_measure, IsRaw, IsPart}
+use Rattle.om_format.specs.Words.{pending}
+use Rattle.om_format.specs.Step.{Context, first_refusal, header_steps, token_steps}
+
+-- where a token comes after these bytes of a header and these tokens
+abbrev pub context : List ℕ → List (List ℕ) → Context
+context header before = record {
+  head = head_of header;
+  start = length header;
+  taken = length (concat before);
+  before = map raw_measure before;
+}
+
+-- the tokens with the next one of the bytes that are left
+abbrev pub with_next : List (List ℕ) → List ℕ → List (List ℕ)
+with_next before rest = before ++ take (raw_length rest) rest ∷ []
+
+-- the refusal of the first step that these bytes of a token decide and fail
+abbrev pub token_refusal : List ℕ → List (List ℕ) → List ℕ → Option ReadRefusal
+token_refusal header before token = first_refusal (length token) (token_steps (context header before) token)
+
+abbrev pub header_refusal : ℕ → List ℕ → Option ReadRefusal
+header_refusal limit bytes = first_refusal (length bytes) (header_steps limit bytes)
+
+-- some value is still to come after these tokens
+abbrev pub IsOpen : List (List ℕ) → Type 0
+IsOpen before = 0 < pending (map raw_measure before)
+
+-- a whole raw token that passes its steps, where one is still to come
+pub record TokenPasses (header : List ℕ) (before : List (List ℕ)) (token : List ℕ) : Type 0 where
+  pub open_before : IsOpen before
+  pub raw : IsRaw token
+  pub passes : token_refusal header before token ≡ None
+
+-- tokens that pass, one after another
+abbrev pub TokensPass : List ℕ → List (List ℕ) → List (List ℕ) → Type 0
+TokensPass header before [] = Unit {0}
+TokensPass header before (token ∷ tokens) = TokenPasses header before token × TokensPass header (before ++ token ∷ []) tokens
+
+-- a raw header that passes its steps
+pub record HeaderPasses (limit : ℕ) (header : List ℕ) : Type 0 where
+  pub raw : length header ≡ header_length header
+  pub passes : header_refusal limit header ≡ None
+
+-- a proper part of a raw header, which passes the steps decided in it
+pub record InHeader (limit : ℕ) (bytes : List ℕ) : Type 0 where
+  pub part : length bytes < header_length bytes
+  pub passes : header_refusal limit bytes ≡ None
+
+-- a header and tokens that pass, and a part of the next token, which passes the steps decided in it
+pub record InTokens (limit : ℕ) (bytes header : List ℕ) (tokens : List (List ℕ)) (last : List ℕ) : Type 0 where
+  pub bytes_are : bytes ≡ header ++ (concat tokens ++ last)
+  pub header_passes : HeaderPasses limit header
+  pub tokens_pass : TokensPass header [] tokens
+  pub open_before : IsOpen tokens
+  pub part : IsPart last
+  pub passes : token_refusal header tokens last ≡ None
+
+-- the bytes are a front of a value: more have to come
+abbrev pub IsFront : ℕ → List ℕ → Type 0
+IsFront limit bytes =
+    InHeader limit bytes ⊎ ((header : List ℕ) × (tokens : List (List ℕ)) × (last : List ℕ) × InTokens limit bytes header tokens last)
+
+-- the last byte decides a step of the header that fails, or one of the token that it belongs to
+pub record RefusedInHeader (limit : ℕ) (bytes : List ℕ) (refusal : ReadRefusal) : Type 0 where
+  pub front : List ℕ
+  pub last : ℕ
+  pub bytes_are : bytes ≡ front ++ last ∷ []
+  pub in_header : InHeader limit front
+  pub refused : header_refusal limit bytes ≡ Some refusal
+
+pub record RefusedInTokens (limit : ℕ) (bytes : List ℕ) (refusal : ReadRefusal) : Type 0 where
+  pub front : List ℕ
+  pub last : ℕ
+  pub header : List ℕ
+  pub tokens : List (List ℕ)
+  pub part : List ℕ
+  pub bytes_are : bytes ≡ front ++ last ∷ []
+  pub in_tokens : InTokens limit front header tokens part
+  pub refused : token_refusal header tokens (part ++ last ∷ []) ≡ Some refusal
+
+-- all but the last byte are a front, and the last decides the first step that fails
+abbrev pub IsRefused : ℕ → List ℕ → ReadRefusal → Type 0
+IsRefused limit bytes refusal = RefusedInHeader limit bytes refusal ⊎ RefusedInTokens limit bytes refusal

@@ -1,0 +1,16 @@
+-- Tokens one after another, in preorder.
+use Rattle.std.specs.Prelude.{ℕ, ◌+◌, ◌<◌, List, [], ◌∷◌, ◌++◌, Option}
+use Rattle.om_model.specs.declared.code.Measure.{Measure}
+use Rattle.om_format.specs.Words.{pending}
+use Rattle.om_format.specs.Token.{Token, measure_of}
+use Rattle.om_format.specs.Tree.{made_by, RefersBack}
+
+-- after these measures each token comes while a value is still to come
+abbrev pub OpenBefore : List (Option Measure) → List Token → Type 0
+OpenBefore before [] = Unit {0}
+OpenBefore before (token ∷ tokens) = (0 < pending before) × OpenBefore (before ++ measure_of token ∷ []) tokens
+
+-- after c objects each reference leads to one that was made before it
+abbrev pub EachRefersBack : ℕ → List Token → Type 0
+EachRefersBack c [] = Unit {0}
+EachRefersBack c (token ∷ tokens) = RefersBack token c × EachRefersBack (c + made_by token) tokens

@@ -1,0 +1,186 @@
+-- The steps that a header, a token and the end of a tree have to pass, in their order (`intern.c`; the limits and the
+-- places are this project's own).
+use Rattle.std.specs.Prelude.{ℕ, ◌+◌, ◌-◌, ◌%◌, ◌^◌, ◌==◌, ◌||◌, ◌&&◌, not, nat_lt, Bool, true, false, List, [], ◌∷◌, ◌++◌, take, Option, Some, None, is_none, Result, Ok, Err, slice_index, if◌then◌else◌, ℤ, pos, negsuc}
+use Rattle.om_model.specs.declared.refusal.ReadRefusal.{ReadRefusal}
+use Rattle.om_model.specs.declared.refusal.ReadRefusal.TheVariants.{BadMagic, Compressed, TooLarge, BadCode, PointerCode, OtherCustom, BadTag, BadShared, NoTable, BadNative, IntRange, ZeroArray, Overlong, SizeMismatch, CountMismatch, LengthMismatch}
+use Rattle.om_model.specs.declared.refusal.Stated.TheVariants.{Words, Length}
+use Rattle.om_model.specs.declared.refusal.WordSum.TheVariants.{W32, W64}
+use Rattle.om_model.specs.declared.header.Head.{Head}
+use Rattle.om_model.specs.declared.code.CodeKind.{CodeKind}
+use Rattle.om_model.specs.declared.code.CodeKind.TheVariants as kinds
+use Rattle.om_model.specs.declared.code.CodeFault.{CodeFault}
+use Rattle.om_model.specs.declared.code.CodeFault.TheVariants as faults
+use Rattle.om_model.specs.declared.code.CustomKind.{CustomKind}
+use Rattle.om_model.specs.declared.code.CustomKind.TheVariants as customs
+use Rattle.om_model.specs.declared.code.Measure.{Measure}
+use Rattle.om_model.specs.Bytes.{number, signed}
+use Rattle.om_format.specs.Code.{kind_of, custom_of, native_bytes}
+use Rattle.om_format.specs.Header.{magic, small_magic, big_magic, compressed_magic, header_length, head_of}
+use Rattle.om_format.specs.Raw.{fixed_bytes, field_bytes, sizing_bytes, variable_bytes, measure_after}
+use Rattle.om_format.specs.Words.{objects, all_words32, all_words64, pending}
+
+-- a step: how many bytes of the header or the token hold the fields that it reads, and the refusal where it fails
+pub record Step : Type 0 where
+  pub ends : ℕ
+  pub refusal : Option ReadRefusal
+
+abbrev pub step : ℕ → Option ReadRefusal → Step
+step n r = record { ends = n; refusal = r }
+
+abbrev pub fails_if : Bool → ReadRefusal → Option ReadRefusal
+fails_if true r = Some r
+fails_if false r = None
+
+abbrev pub or_else : Option ReadRefusal → Option ReadRefusal → Option ReadRefusal
+or_else None next = next
+or_else (Some r) next = Some r
+
+-- A step is decided once the fields that it and the earlier ones read are among the first n bytes. The refusal of the
+-- first step that is decided and fails.
+abbrev pub first_refusal : ℕ → List Step → Option ReadRefusal
+first_refusal n [] = None
+first_refusal n (s ∷ steps) = if nat_lt n s.ends then None else or_else s.refusal (first_refusal n steps)
+
+-- ---- the header
+
+abbrev pub magic_refusal : ℕ → Option ReadRefusal
+magic_refusal m =
+    if m == compressed_magic then Some Compressed
+    else fails_if (not ((m == small_magic) || (m == big_magic))) (BadMagic m)
+
+-- the data of a value, in bytes
+abbrev pub length_limit : ℕ
+length_limit = 2 ^ 48 - 1
+
+-- of a value of at most so many words on 64 bits
+unfoldable pub header_steps : ℕ → List ℕ → List Step
+header_steps limit header =
+    let n = header_length header in
+    let head = head_of header in
+    step 4 (magic_refusal (magic header))
+    ∷ step n (fails_if (nat_lt limit head.w64) (TooLarge Words head.w64 limit))
+    ∷ step n (fails_if (nat_lt length_limit head.length) (TooLarge Length head.length length_limit))
+    ∷ step n (fails_if (head.length == 0) (Overlong n 1 0))
+    ∷ []
+
+-- ---- a token
+
+-- where a token stands: after which header, after how many of its bytes and of those of the data, and after which tokens
+pub record Context : Type 0 where
+  pub head : Head
+  pub start : ℕ
+  pub taken : ℕ
+  pub before : List (Option Measure)
+
+abbrev pub place : Context → ℕ
+place c = c.start + c.taken
+
+-- the data bytes after the first n of the token
+abbrev pub left_after : Context → ℕ → ℕ
+left_after c n = c.head.length - (c.taken + n)
+
+-- more bytes, or more values, are needed than there are bytes left after the first n of the token
+abbrev pub overlong : Context → ℕ → ℕ → Option ReadRefusal
+overlong c need n = fails_if (nat_lt (left_after c n) need) (Overlong (place c) need (left_after c n))
+
+abbrev pub code_refusal : CodeFault → ℕ → ℕ → ReadRefusal
+code_refusal faults.BadCode p code = BadCode p code
+code_refusal faults.PointerCode p code = PointerCode p code
+code_refusal faults.OldCustom p code = OtherCustom p code
+code_refusal faults.CustomLen p code = OtherCustom p code
+
+-- outside 63 bits
+abbrev pub is_integer : ℤ → Bool
+is_integer (pos n) = nat_lt n (2 ^ 62)
+is_integer (negsuc n) = nat_lt n (2 ^ 62)
+
+-- an integer of eight bytes
+abbrev pub integer_refusal : Context → ℤ → Option ReadRefusal
+integer_refusal c z = fails_if (not (is_integer z)) (IntRange (place c) z)
+
+-- an offset, which counts back from the next object, and then the header's count
+abbrev pub shared_refusal : Context → ℕ → Option ReadRefusal
+shared_refusal c offset =
+    or_else
+    (fails_if ((offset == 0) || nat_lt (objects c.before) offset) (BadShared (place c) offset (objects c.before)))
+    (fails_if (c.head.objects == 0) (NoTable (place c)))
+
+-- what is wrong with the token's fields: its tag, its offset, its identifier, its integer or its length
+abbrev pub field_refusal : Context → ℕ → CodeKind → List ℕ → Option ReadRefusal
+field_refusal c code (kinds.SmallBlock tag size) rest = None
+field_refusal c code (kinds.SmallInt n) rest = None
+field_refusal c code (kinds.SmallString n) rest = None
+field_refusal c code (kinds.Int width) rest = if width == 8 then integer_refusal c (signed (take 8 rest)) else None
+field_refusal c code (kinds.Shared width) rest = shared_refusal c (number (take width rest))
+field_refusal c code (kinds.Block width) rest =
+    let tag = number (take width rest) % 256 in fails_if (nat_lt 243 tag) (BadTag (place c) tag)
+field_refusal c code (kinds.Str width) rest = None
+field_refusal c code (kinds.Double little) rest = None
+field_refusal c code (kinds.Doubles width little) rest = fails_if (number (take width rest) == 0) (ZeroArray (place c))
+field_refusal c code kinds.Custom rest = fails_if (is_none (custom_of (take 3 rest))) (OtherCustom (place c) code)
+
+-- the kind byte of a `Nativeint` is taken first, and then its number
+abbrev pub native_steps : Context → ℕ → List Step
+native_steps c kind =
+    step 4 (overlong c 1 4)
+    ∷ step 5 (fails_if (native_bytes kind == 0) (BadNative (place c) kind))
+    ∷ step 5 (overlong c (native_bytes kind) 5)
+    ∷ []
+
+abbrev pub variable_steps : Context → CodeKind → Option CustomKind → List ℕ → List Step
+variable_steps c kinds.Custom (Some customs.Native) rest = native_steps c (slice_index rest 3)
+variable_steps c kind custom rest =
+    step (1 + field_bytes kind) (overlong c (variable_bytes kind rest) (1 + fixed_bytes kind)) ∷ []
+
+-- a sum of words against the header's, which in a big one states none on 32 bits
+abbrev pub words32_refusal : (ℕ → ℕ → Bool) → ℕ → Head → List (Option Measure) → Option ReadRefusal
+words32_refusal differ p head all =
+    fails_if (not head.big && differ head.w32 (all_words32 all)) (SizeMismatch p W32 head.w32 (all_words32 all))
+
+abbrev pub words64_refusal : (ℕ → ℕ → Bool) → ℕ → Head → List (Option Measure) → Option ReadRefusal
+words64_refusal differ p head all =
+    fails_if (differ head.w64 (all_words64 all)) (SizeMismatch p W64 head.w64 (all_words64 all))
+
+abbrev pub nat_ne : ℕ → ℕ → Bool
+nat_ne a b = not (a == b)
+
+-- after the last token, which has n bytes: the bytes left, the words and the objects
+abbrev pub end_steps : Context → ℕ → List (Option Measure) → List Step
+end_steps c n all =
+    let p = place c + n in
+    step n (fails_if (nat_lt 0 (left_after c n)) (LengthMismatch p (left_after c n)))
+    ∷ step n (words32_refusal nat_ne p c.head all)
+    ∷ step n (words64_refusal nat_ne p c.head all)
+    ∷ step n (fails_if (not (c.head.objects == 0) && nat_ne c.head.objects (objects all)) (CountMismatch p c.head.objects (objects all)))
+    ∷ []
+
+-- the bytes of each token of the kind, and its fields
+abbrev pub entry_steps : Context → ℕ → CodeKind → List ℕ → List Step
+entry_steps c code kind rest =
+    step 1 (overlong c (fixed_bytes kind) 1)
+    ∷ step (1 + field_bytes kind) (field_refusal c code kind rest)
+    ∷ []
+
+-- the values that are to come and the words, and after the last token the tree's end
+abbrev pub closing_steps : Context → CodeKind → List ℕ → List Step
+closing_steps c kind rest =
+    let n = 1 + fixed_bytes kind + variable_bytes kind rest in
+    let sized = 1 + sizing_bytes kind rest in
+    let all = c.before ++ measure_after kind rest ∷ [] in
+    step sized (overlong c (pending all) n)
+    ∷ step sized (words32_refusal nat_lt (place c) c.head all)
+    ∷ step sized (words64_refusal nat_lt (place c) c.head all)
+    ∷ (if pending all == 0 then end_steps c n all else [])
+
+-- the steps of a token of this kind
+abbrev pub steps_after : Context → ℕ → CodeKind → List ℕ → List Step
+steps_after c code kind rest =
+    entry_steps c code kind rest ++ (variable_steps c kind (custom_of (take 3 rest)) rest ++ closing_steps c kind rest)
+
+abbrev pub steps_from : Context → ℕ → Result CodeKind CodeFault → List ℕ → List Step
+steps_from c code (Ok kind) rest = steps_after c code kind rest
+steps_from c code (Err fault) rest = step 1 (Some (code_refusal fault (place c) code)) ∷ []
+
+unfoldable pub token_steps : Context → List ℕ → List Step
+token_steps c [] = []
+token_steps c (code ∷ rest) = steps_from c code (kind_of code) rest

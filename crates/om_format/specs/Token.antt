@@ -1,0 +1,97 @@
+-- Tokens, and the bytes that spell them: `intern.c` reads each width and byte order.
+use Rattle.std.specs.Prelude.{ℕ, zero, suc, ◌/◌, ◌%◌, ◌<◌, ◌≤◌, ◌≡◌, List, [], ◌∷◌, length, take, drop, ℤ, pos, Option, Some, None, Result, Ok, Err, ◌⊎◌}
+use Rattle.om_model.specs.declared.value.Obj.{Obj}
+use Rattle.om_model.specs.declared.value.Obj.TheVariants as objects
+use Rattle.om_model.specs.declared.code.CodeKind.{CodeKind}
+use Rattle.om_model.specs.declared.code.CodeKind.TheVariants as kinds
+use Rattle.om_model.specs.declared.code.CodeFault.{CodeFault}
+use Rattle.om_model.specs.declared.code.Measure.{Measure}
+use Rattle.om_model.specs.declared.code.Measure.TheVariants as measures
+use Rattle.om_model.specs.Bytes.{number, number_in, signed, SpellsDoubles}
+use Rattle.om_model.specs.Graph.{IsInteger, IsObject}
+use Rattle.om_format.specs.Code.{kind_of}
+
+-- an integer; an atom, by its tag; a reference to the object so many places back from the next one; a block, by tag and
+-- size, whose fields are the values after it; and an object without fields
+pub data Token : Type 0 where
+  integer : ℤ → Token
+  atom : ℕ → Token
+  shared : ℕ → Token
+  block : ℕ → ℕ → Token
+  leaf : Obj → Token
+
+-- an object without fields
+abbrev pub IsLeaf : Obj → Type 0
+IsLeaf (objects.Block tag values) = ⊥
+IsLeaf (objects.Bytes bytes) = IsObject 0 (objects.Bytes bytes)
+IsLeaf (objects.Double bits) = IsObject 0 (objects.Double bits)
+IsLeaf (objects.Doubles all) = IsObject 0 (objects.Doubles all)
+IsLeaf (objects.I32 z) = IsObject 0 (objects.I32 z)
+IsLeaf (objects.I64 z) = IsObject 0 (objects.I64 z)
+IsLeaf (objects.Native z) = IsObject 0 (objects.Native z)
+
+abbrev pub IsToken : Token → Type 0
+IsToken (integer z) = IsInteger z
+IsToken (atom tag) = tag ≤ 243
+IsToken (shared offset) = Unit {0}
+IsToken (block tag size) = (tag ≤ 243) × (0 < size)
+IsToken (leaf object) = IsLeaf object
+
+-- how large the object is that a token makes, where it makes one
+abbrev pub leaf_measure : Obj → Option Measure
+leaf_measure (objects.Block tag values) = None
+leaf_measure (objects.Bytes bytes) = Some (measures.Bytes (length bytes))
+leaf_measure (objects.Double bits) = Some measures.Double
+leaf_measure (objects.Doubles all) = Some (measures.Doubles (length all))
+leaf_measure (objects.I32 z) = Some (measures.Custom 4 4)
+leaf_measure (objects.I64 z) = Some (measures.Custom 8 8)
+leaf_measure (objects.Native z) = Some (measures.Custom 4 8)
+
+abbrev pub measure_of : Token → Option Measure
+measure_of (integer z) = None
+measure_of (atom tag) = None
+measure_of (shared offset) = None
+measure_of (block tag size) = Some (measures.Block size)
+measure_of (leaf object) = leaf_measure object
+
+-- a block of no fields is an atom
+abbrev pub block_or_atom : ℕ → ℕ → Token
+block_or_atom tag zero = atom tag
+block_or_atom tag (suc n) = block tag (suc n)
+
+-- what a header word says: the tag in bits 0 to 7, the size from bit 10 on, and bits 8 and 9 anything
+abbrev pub word_token : ℕ → Token
+word_token word = block_or_atom (word % 256) (word / 1024)
+
+-- after the code of a custom: its identifier, and then its data
+abbrev pub SpellsCustom : List ℕ → Token → Type 0
+SpellsCustom rest token =
+    ((content : List ℕ) × (rest ≡ 95 ∷ 105 ∷ 0 ∷ content) × (length content ≡ 4) × (token ≡ leaf (objects.I32 (signed content))))
+    ⊎ (((content : List ℕ) × (rest ≡ 95 ∷ 106 ∷ 0 ∷ content) × (length content ≡ 8) × (token ≡ leaf (objects.I64 (signed content))))
+    ⊎ (((content : List ℕ) × (rest ≡ 95 ∷ 110 ∷ 0 ∷ 1 ∷ content) × (length content ≡ 4) × (token ≡ leaf (objects.Native (signed content))))
+    ⊎ ((content : List ℕ) × (rest ≡ 95 ∷ 110 ∷ 0 ∷ 2 ∷ content) × (length content ≡ 8) × (token ≡ leaf (objects.Native (signed content))))))
+
+-- what may come after a code of this kind, and the token that it spells
+abbrev pub SpellsAfter : CodeKind → List ℕ → Token → Type 0
+SpellsAfter (kinds.SmallBlock tag size) rest token = (rest ≡ []) × (token ≡ block_or_atom tag size)
+SpellsAfter (kinds.SmallInt n) rest token = (rest ≡ []) × (token ≡ integer (pos n))
+SpellsAfter (kinds.SmallString n) rest token = (length rest ≡ n) × (token ≡ leaf (objects.Bytes rest))
+SpellsAfter (kinds.Int width) rest token = (length rest ≡ width) × (token ≡ integer (signed rest))
+SpellsAfter (kinds.Shared width) rest token = (length rest ≡ width) × (token ≡ shared (number rest))
+SpellsAfter (kinds.Block width) rest token = (length rest ≡ width) × (token ≡ word_token (number rest))
+SpellsAfter (kinds.Str width) rest token =
+    (width ≤ length rest) × (length (drop width rest) ≡ number (take width rest)) × (token ≡ leaf (objects.Bytes (drop width rest)))
+SpellsAfter (kinds.Double little) rest token = (length rest ≡ 8) × (token ≡ leaf (objects.Double (number_in little rest)))
+SpellsAfter (kinds.Doubles width little) rest token =
+    (all : List ℕ) × (width ≤ length rest) × (length all ≡ number (take width rest)) × SpellsDoubles little all (drop width rest)
+    × (token ≡ leaf (objects.Doubles all))
+SpellsAfter kinds.Custom rest token = SpellsCustom rest token
+
+abbrev pub SpellsFrom : Result CodeKind CodeFault → List ℕ → Token → Type 0
+SpellsFrom (Ok kind) rest token = SpellsAfter kind rest token
+SpellsFrom (Err fault) rest token = ⊥
+
+-- the bytes spell the token
+abbrev pub Spells : Token → List ℕ → Type 0
+Spells token [] = ⊥
+Spells token (code ∷ rest) = IsToken token × SpellsFrom (kind_of code) rest token

@@ -1,0 +1,57 @@
+-- The texts of refusals: the name, the numbers in parentheses and the place.
+use Rattle.std.specs.Prelude.{ℕ, ◌/◌, ◌%◌, List, [], ◌∷◌, ◌++◌, flat_map, slice_index, codes, decimal}
+use Rattle.std.specs.Fmt.{signed_decimal}
+use Rattle.std.specs.Int.{w32, to_be_bytes}
+use Rattle.om_model.specs.declared.refusal.ReadRefusal.{ReadRefusal}
+use Rattle.om_model.specs.declared.refusal.ReadRefusal.TheVariants.{BadMagic, Compressed, TooLarge, BadCode, PointerCode, OtherCustom, BadTag, BadShared, NoTable, BadNative, IntRange, ZeroArray, Overlong, SizeMismatch, CountMismatch, LengthMismatch, Memory}
+use Rattle.om_model.specs.declared.refusal.Stated.{Stated}
+use Rattle.om_model.specs.declared.refusal.Stated.TheVariants.{Words, Length}
+use Rattle.om_model.specs.declared.refusal.WordSum.{WordSum}
+use Rattle.om_model.specs.declared.refusal.WordSum.TheVariants.{W32, W64}
+
+-- ---- hexadecimal numbers, in lower case
+
+abbrev pub hex_digit : ℕ → ℕ
+hex_digit n = slice_index (codes "0123456789abcdef") n
+
+-- two digits
+abbrev pub hex_byte : ℕ → List ℕ
+hex_byte n = hex_digit (n / 16) ∷ hex_digit (n % 16) ∷ []
+
+-- eight digits
+abbrev pub hex_word : ℕ → List ℕ
+hex_word n = flat_map hex_byte (to_be_bytes w32 n)
+
+-- ---- refusals
+
+abbrev pub stated_text : Stated → List ℕ
+stated_text Words = codes "words"
+stated_text Length = codes "length"
+
+abbrev pub sum_text : WordSum → List ℕ
+sum_text W32 = codes "w32"
+sum_text W64 = codes "w64"
+
+-- out of memory has no text of its own here: it is no refusal of the bytes
+unfoldable pub refusal_text : ReadRefusal → List ℕ
+refusal_text (BadMagic magic) = codes "BadMagic(" ++ hex_word magic ++ codes ")"
+refusal_text Compressed = codes "Compressed"
+refusal_text (TooLarge which stated limit) = codes "TooLarge(" ++ stated_text which ++ codes ", " ++ decimal stated ++ codes ", " ++ decimal limit ++ codes ")"
+refusal_text (BadCode place code) = codes "BadCode(" ++ hex_byte code ++ codes ") at " ++ decimal place
+refusal_text (PointerCode place code) = codes "PointerCode(" ++ hex_byte code ++ codes ") at " ++ decimal place
+refusal_text (OtherCustom place code) = codes "OtherCustom(" ++ hex_byte code ++ codes ") at " ++ decimal place
+refusal_text (BadTag place tag) = codes "BadTag(" ++ decimal tag ++ codes ") at " ++ decimal place
+refusal_text (BadShared place offset have) = codes "BadShared(" ++ decimal offset ++ codes ", " ++ decimal have ++ codes ") at " ++ decimal place
+refusal_text (NoTable place) = codes "NoTable at " ++ decimal place
+refusal_text (BadNative place kind) = codes "BadNative(" ++ decimal kind ++ codes ") at " ++ decimal place
+refusal_text (IntRange place value) = codes "IntRange(" ++ signed_decimal value ++ codes ") at " ++ decimal place
+refusal_text (ZeroArray place) = codes "ZeroArray at " ++ decimal place
+refusal_text (Overlong place need left) = codes "Overlong(" ++ decimal need ++ codes ", " ++ decimal left ++ codes ") at " ++ decimal place
+refusal_text (SizeMismatch place which stated found) = codes "SizeMismatch(" ++ sum_text which ++ codes ", " ++ decimal stated ++ codes ", " ++ decimal found ++ codes ") at " ++ decimal place
+refusal_text (CountMismatch place stated found) = codes "CountMismatch(" ++ decimal stated ++ codes ", " ++ decimal found ++ codes ") at " ++ decimal place
+refusal_text (LengthMismatch place left) = codes "LengthMismatch(" ++ decimal left ++ codes ") at " ++ decimal place
+refusal_text Memory = []
+
+-- the input ended after so many bytes of a value
+abbrev pub truncated_text : ℕ → List ℕ
+truncated_text taken = codes "Truncated(" ++ decimal taken ++ codes ")"
