@@ -1,19 +1,19 @@
 -- The account of a call, from what each stage gave.
-use Rattle.std.proofs.Common.{◌≡◌, ◌⊎◌, ℕ, List, [], Option, Some, None, IfSome, Ok, Err, inl, inr, refl, sym, ap, ◌∙◌, subst, arith}
+use Rattle.std.proofs.Common.{◌≡◌, ◌⊎◌, ℕ, List, [], Option, Some, None, IfSome, Ok, Err, inl, inr, refl, ◌∙◌, subst, arith}
 use Rattle.om_model.specs.declared.status.Status.{Status}
-use Rattle.om_model.specs.declared.list_type.ListType.{ListType}
-use Rattle.om_model.specs.Outcome.{Taken, unasked, Found, unfetched, opened, whole, ReadsFile, Given, Stop, usage, out_of_memory, stopped, Request, check, Asks, typed_by, Task, ReadsTypeOf, Prepares}
+use Rattle.om_types.specs.declared.list_type.ListType.{ListType}
+use Rattle.om_outcome.specs.Outcome.{Found, unfetched, Given, Stop, usage, out_of_memory, stopped, Request, check, Asks, typed_by, Task, ReadsTypeOf, Prepares}
+use Rattle.om_edge.specs.State.{ByteState, FilesState, Change, change}
 use Rattle.om_session.specs.declared.stop.Stop.TheVariants as stops
 use Rattle.om_session.specs.declared.stop.Stop as codes
-use Rattle.om_session.specs.Call.{Seen, SeenFiles, Change, call}
+use Rattle.om_session.specs.Call.{call}
 use Rattle.om_session.specs.Check.{EndsValues, ChecksValues}
-use Rattle.om_session.specs.Given.{TakesFrom, Took, Fetched}
+use Rattle.om_session.specs.Given.{TakesFrom, Gathers, Fetched}
 use Rattle.om_session.specs.Lists.{lists}
 use Rattle.om_session.specs.Run.{nothing, FetchesFor, MayEnd, PutsLine, Completes, Breaks, Account, IsUsage}
 use Rattle.om_session.specs.Stops.{stop_of, Reports}
 use Rattle.om_session.specs.Types.{GivesType}
 use Rattle.om_session.specs.Values.{checks}
-use Rattle.om_session.proofs.PutLemmas.{from_to}
 use Rattle.om_session.proofs.CheckLemmas.{puts_nothing}
 
 -- ---- nothing taken
@@ -22,21 +22,22 @@ nothing_told : (o : Option (List ℕ)) → IfSome o (λ bytes. (rest : List ℕ)
 nothing_told None = tt
 nothing_told (Some bytes) = (bytes, record { front = refl; ends = λ e. cc e }, refl)
 
-took_nothing : (a : Seen) → Took (from_to a a) nothing
+took_nothing : (a : ByteState) → Gathers (change a a) nothing
 took_nothing a = record {
   told = nothing_told a.bytes;
   measured = tt;
+  are_bytes = λ k d less. absurd (omega arith);
   cause = record { never_falls = omega arith; rose = tt; kept = refl; at_last = λ e. e };
 }
 
 -- ---- a stop before the values
 
-module _ (words : List (List ℕ)) (file : List ℕ → Found) (input out : Seen) (files : Change SeenFiles) (fetches : FetchesFor words files file) (err : Change Seen) (status : Status) where
+module _ (words : List (List ℕ)) (file : List ℕ → Found) (input out : ByteState) (files : Change FilesState) (fetches : FetchesFor words files file) (err : Change ByteState) (status : Status) where
   abbrev given : Given
   given = record { file = file; input = nothing }
 
   abbrev Ended : Type 0
-  Ended = Account lists words (call (from_to input input) files (from_to out out) err status)
+  Ended = Account lists words (call (change input input) files (change out out) err status)
 
   account_of : (s : Stop) → MayEnd lists words given (stopped s) → PutsLine err status (stopped s) → Ended
   account_of s may line = record {
@@ -63,13 +64,13 @@ module _ (words : List (List ℕ)) (file : List ℕ → Found) (input out : Seen
 
 -- ---- the words
 
-pub usage_account : (words : List (List ℕ)) → IsUsage words → (input out : Seen) (files : SeenFiles) (err : Change Seen) (status : Status)
-    → Reports usage err status → Account lists words (call (from_to input input) (record { before = files; after = files }) (from_to out out) err status)
+pub usage_account : (words : List (List ℕ)) → IsUsage words → (input out : ByteState) (files : FilesState) (err : Change ByteState) (status : Status)
+    → Reports usage err status → Account lists words (call (change input input) (record { before = files; after = files }) (change out out) err status)
 usage_account words none input out files err status r =
     stop_account words (λ name. unfetched) input out (record { before = files; after = files })
     (record { asked = λ request asks. absurd (none request asks); unasked = λ unasked. refl }) err status usage (inl (Err usage, (none, refl), refl)) r
 
-module _ (words : List (List ℕ)) (file type_text : List ℕ) (asks : Asks words (check file type_text)) (files : Change SeenFiles) (found : Found) (fetched : Fetched files file found) where
+module _ (words : List (List ℕ)) (file type_text : List ℕ) (asks : Asks words (check file type_text)) (files : Change FilesState) (found : Found) (fetched : Fetched files file found) where
   asked : (request : Request) → Asks words request → IfSome (typed_by request) (λ typed. Fetched files typed.0 found)
   asked (check f t) other =
       let first = asks.0 in let second = other.0 in
@@ -97,13 +98,13 @@ module _ (words : List (List ℕ)) (file type_text : List ℕ) (asks : Asks word
   gives_err stops.TooLong h = inl (prepared_err _ h)
 
   -- there is no type
-  pub type_account : (stop : codes.Stop) → GivesType file type_text found (Err stop) → (input out : Seen) (err : Change Seen) (status : Status)
-      → Reports (stop_of stop) err status → Account lists words (call (from_to input input) files (from_to out out) err status)
+  pub type_account : (stop : codes.Stop) → GivesType file type_text found (Err stop) → (input out : ByteState) (err : Change ByteState) (status : Status)
+      → Reports (stop_of stop) err status → Account lists words (call (change input input) files (change out out) err status)
   type_account stop gives input out err status r =
       stop_account words (λ name. found) input out files fetches err status (stop_of stop) (gives_err stop gives) r
 
   -- the values are checked at the type
-  pub values_account : (t : ListType) → GivesType file type_text found (Ok t) → (input out err : Change Seen) (status : Status)
+  pub values_account : (t : ListType) → GivesType file type_text found (Ok t) → (input out err : Change ByteState) (status : Status)
       → ChecksValues t input out err status → Account lists words (call input files out err status)
   values_account t gives input out err status v = record { given = given; input = v.1; files = fetches; asked = inr (checks file type_text t, prepared_ok t gives); ends = ends (v.2 file type_text) } where
     task : Task ListType

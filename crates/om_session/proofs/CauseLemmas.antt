@@ -3,14 +3,15 @@ use Rattle.std.proofs.Common.{◌≡◌, ◌⊎◌, ℕ, suc, ◌+◌, ◌^◌, 
 use Rattle.std.specs.Prelude.{IsSome, IsSomeAnd, MatchResult, if◌then◌else◌}
 use Rattle.om_model.specs.declared.status.Status.{Status}
 use Rattle.om_model.specs.declared.status.Status.TheVariants as statuses
-use Rattle.om_model.specs.Stream.{End, clean, refused, cut, Stream}
-use Rattle.om_model.specs.Tree.{Tree}
-use Rattle.om_model.specs.Outcome.{Taken, Until, at_end, at_fault, at_length, unasked, whole, Found, opened, missing, failed, unfetched, Given, Stop, usage, declarations, read_fault, too_long, status_of, Ending, stopped, or_no, Request, check, Task, Language, ReadsFile, ReadsTypeOf, Prepares, Says, SaysFirst, SaysValues, out_of_memory, text_of, err_line, Closes, says, stops, TreatsAll, fault_of, limit_of, Asks}
+use Rattle.om_format.specs.Stream.{End, clean, refused, cut, Stream}
+use Rattle.om_format.specs.Tree.{Tree}
+use Rattle.om_outcome.specs.Outcome.{Taken, InputEnd, at_end, at_fault, at_length, unasked, whole, Found, opened, missing, failed, unfetched, Given, Stop, usage, declarations, read_fault, too_long, status_of, Ending, stopped, or_no, Request, check, Task, Language, ReadsFile, ReadsTypeOf, Prepares, RunEnds, IsOutputOfFirst, ValuesEnd, out_of_memory, stop_text, err_line, Closes, says, stops, RepliesEnd, fault_of, limit_of, Asks}
 use Rattle.om_edge.specs.Faults.{HasCause, RoseOrLast}
-use Rattle.om_edge.specs.Files.{File, bytes_of}
+use Rattle.om_edge.specs.Files.{File, contents_of}
+use Rattle.om_edge.specs.Sink.{Puts, PutsPart}
 use Rattle.om_session.specs.Call.{Call}
-use Rattle.om_session.specs.Given.{Puts, PutsPart, IsFoundOf, TakesFrom, Fetched, IsMeasured, is_fault, has_read_fault}
-use Rattle.om_session.specs.Run.{nothing, MayEnd, PutsLine, Completes, Breaks, Account, IsUsage, IsFileOf, CannotOpen, OnlyUsage, OnlyReadFault, OnlyWriteFault, OnlyOpenFault, OnlyTooLong, IfUsage, IsUnsaid, TellsWriteFault, TellsOpenFault, TellsReadFault, IsTyped, IsRefusedType, OnlyTypes, OnlyValue, IfMissing}
+use Rattle.om_session.specs.Given.{IsFoundOf, TakesFrom, Fetched, IsMeasured, is_fault, has_read_fault}
+use Rattle.om_session.specs.Run.{nothing, MayEnd, PutsLine, Completes, Breaks, Account, IsUsage, AsksForFile, CannotOpen, OnlyUsage, OnlyReadFault, OnlyWriteFault, OnlyOpenFault, OnlyTooLong, IfUsage, IsUnsaid, TellsWriteFault, TellsOpenFault, TellsReadFault, AsksFor, IsRefusedType, OnlyTypes, OnlyValue, IfMissing}
 use Rattle.std.proofs.lemmas.Option.{IfSome_then}
 use Rattle.om_session.proofs.HeadlineLemmas.{no_stop}
 use Rattle.om_session.proofs.CompleteLemmas.{IsLawful, prepares_once}
@@ -38,7 +39,7 @@ IsReady {D} {T} language words given = (task : Task T) × Prepares language word
 -- memory ran out: out has the texts of some first values, and err the line that tells it
 abbrev pub IsSpent : {D T : Type 0} → Language D T → List (List ℕ) → Call → Given → Type 0
 IsSpent language words call given =
-    (text : List ℕ) × SaysFirst language words given text × Puts call.out text × Puts call.err (err_line (text_of out_of_memory))
+    (text : List ℕ) × IsOutputOfFirst language words given text × Puts call.out text × Puts call.err (err_line (stop_text out_of_memory))
 
 -- err failed within its line
 abbrev pub IsUnput : {D T : Type 0} → Language D T → List (List ℕ) → Call → Given → Type 0
@@ -49,11 +50,11 @@ pub data Why {D T : Type 0} (language : Language D T) (words : List (List ℕ)) 
   all_well : IsReady language words given → given.input.until ≡ at_end → Why language words call given statuses.Well
   some_no : IsReady language words given → given.input.until ≡ at_end → Why language words call given statuses.No
   not_plain : IsUsage words → Why language words call given statuses.Usage
-  not_there : (name : List ℕ) → IsFileOf words name → given.file name ≡ missing → Why language words call given statuses.OpenFault
-  not_opened : (name : List ℕ) → IsFileOf words name → given.file name ≡ failed → Why language words call given statuses.OpenFault
-  no_types : (name type text : List ℕ) → IsTyped words name type → given.file name ≡ opened (whole text) → IsRefusedType language text type → Why language words call given statuses.Types
-  file_fault : (name : List ℕ) (taken : Taken) → IsFileOf words name → given.file name ≡ opened taken → taken.until ≡ at_fault → Why language words call given statuses.ReadFault
-  file_long : (name : List ℕ) (taken : Taken) → IsFileOf words name → given.file name ≡ opened taken → taken.until ≡ at_length → Why language words call given statuses.TooLong
+  not_there : (name : List ℕ) → AsksForFile words name → given.file name ≡ missing → Why language words call given statuses.OpenFault
+  not_opened : (name : List ℕ) → AsksForFile words name → given.file name ≡ failed → Why language words call given statuses.OpenFault
+  no_types : (name type text : List ℕ) → AsksFor words name type → given.file name ≡ opened (whole text) → IsRefusedType language text type → Why language words call given statuses.Types
+  file_fault : (name : List ℕ) (taken : Taken) → AsksForFile words name → given.file name ≡ opened taken → taken.until ≡ at_fault → Why language words call given statuses.ReadFault
+  file_long : (name : List ℕ) (taken : Taken) → AsksForFile words name → given.file name ≡ opened taken → taken.until ≡ at_length → Why language words call given statuses.TooLong
   no_value : IsReady language words given → (request : Request) → Asks words request → given.input.until ≡ at_end → (trees : List Tree) (end : End) → Stream given.input.bytes (limit_of request) trees end → end ≢ clean → Why language words call given statuses.Value
   input_fault : given.input.until ≡ at_fault → Why language words call given statuses.ReadFault
   input_long : IsReady language words given → given.input.until ≡ at_length → Why language words call given statuses.TooLong
@@ -78,14 +79,14 @@ module _ {D T : Type 0} (language : Language D T) (words : List (List ℕ)) (cal
   or_no_why s (out_fault breaks) = out_fault breaks
   or_no_why s (err_fault unput) = err_fault unput
 
-  well_why : (well : Bool) (s : Status) → Why language words call given s → Why language words call given (if well then s else or_no s)
+  well_why : (has_type : Bool) (s : Status) → Why language words call given s → Why language words call given (if has_type then s else or_no s)
   well_why true s why = why
   well_why false s why = or_no_why s why
 
   -- FILE was not read to its end
-  file_why : (name : List ℕ) → IsFileOf words name → (found : Found) → given.file name ≡ found → (s : Stop) → ReadsFile name found (Err s) → Why language words call given (status_of s)
+  file_why : (name : List ℕ) → AsksForFile words name → (found : Found) → given.file name ≡ found → (s : Stop) → ReadsFile name found (Err s) → Why language words call given (status_of s)
   file_why name is (opened taken) e s r = until_why taken.until refl r where
-    until_why : (u : Until) → taken.until ≡ u → fault_of u ≡ Some s → Why language words call given (status_of s)
+    until_why : (u : InputEnd) → taken.until ≡ u → fault_of u ≡ Some s → Why language words call given (status_of s)
     until_why at_end same r = absurd (cc r)
     until_why at_fault same r = let stop : read_fault ≡ s = cc in subst (λ s. Why language words call given (status_of s)) stop (file_fault name taken is e same)
     until_why at_length same r = let stop : too_long ≡ s = cc in subst (λ s. Why language words call given (status_of s)) stop (file_long name taken is e same)
@@ -94,9 +95,9 @@ module _ {D T : Type 0} (language : Language D T) (words : List (List ℕ)) (cal
   file_why name is failed e s r = subst (λ s. Why language words call given (status_of s)) (sym r) (not_opened name is e)
   file_why name is unfetched e s r = absurd r
 
-  type_why : (f t : List ℕ) → IsTyped words f t → (s : Stop) → ReadsTypeOf language given.file (f, t) (Err s) → Why language words call given (status_of s)
+  type_why : (f t : List ℕ) → AsksFor words f t → (s : Stop) → ReadsTypeOf language given.file (f, t) (Err s) → Why language words call given (status_of s)
   type_why f t is s (Err stop, r, same) =
-      let e : stop ≡ s = cc in subst (λ s. Why language words call given (status_of s)) e (file_why f (is.0, t, is.1, is.2) (given.file f) refl stop r)
+      let e : stop ≡ s = cc in subst (λ s. Why language words call given (status_of s)) e (file_why f (t, is) (given.file f) refl stop r)
   type_why f t is s (Ok text, r, (Err stop, (refusal, reads, e), same)) =
       let told : declarations refusal ≡ s = cc in subst (λ s. Why language words call given (status_of s)) told (no_types f t text is r (inl (refusal, reads)))
   type_why f t is s (Ok text, r, (Ok decls, reads, (refusal, unread, e))) = subst (λ s. Why language words call given (status_of s)) (sym e) (no_types f t text is r (inr (decls, refusal, reads, unread)))
@@ -110,7 +111,7 @@ module _ {D T : Type 0} (language : Language D T) (words : List (List ℕ)) (cal
       let told : first ≡ s = cc in
       subst (λ s. Why language words call given (status_of s)) told (type_why f t (check f t, asks, refl) first reads)
 
-  closes_why : IsReady language words given → (request : Request) (trees : List Tree) (u : Until) (end : End) (e : Ending) → Asks words request → Stream given.input.bytes (limit_of request) trees end → given.input.until ≡ u → Closes request trees u end e → Why language words call given e.status
+  closes_why : IsReady language words given → (request : Request) (trees : List Tree) (u : InputEnd) (end : End) (e : Ending) → Asks words request → Stream given.input.bytes (limit_of request) trees end → given.input.until ≡ u → Closes request trees u end e → Why language words call given e.status
   closes_why ready (check f t) trees at_end clean e asks stream same h = subst (λ e. Why language words call given e.status) (sym h) (all_well ready same)
   closes_why ready request trees at_end (refused refusal) e asks stream same h = subst (λ e. Why language words call given e.status) (sym h) (no_value ready request asks same trees (refused refusal) stream (λ no_end. cc))
   closes_why ready request trees at_end (cut n) e asks stream same h = subst (λ e. Why language words call given e.status) (sym h) (no_value ready request asks same trees (cut n) stream (λ no_end. cc))
@@ -118,12 +119,12 @@ module _ {D T : Type 0} (language : Language D T) (words : List (List ℕ)) (cal
   closes_why ready request trees at_length end e asks stream same h = subst (λ e. Why language words call given e.status) (sym h) (input_long ready same)
   closes_why ready request trees unasked end e asks stream same h = absurd h
 
-  treats_why : (task : Task T) (C : Ending → Type 0) → ((e : Ending) → C e → Why language words call given e.status) → (k : ℕ) (trees : List Tree) (e : Ending)
-      → TreatsAll language task C k trees e → Why language words call given e.status
-  treats_why task C why k [] e h = why e h
-  treats_why task C why k (tree ∷ trees) e (says text well, treats, (rest, goes, same)) =
-      subst (λ e. Why language words call given e.status) (sym same) (well_why well rest.status (treats_why task C why (suc k) trees rest goes))
-  treats_why task C why k (tree ∷ trees) e (stops stop, treats, same) = absurd (no_stop language task.request task.type k tree stop treats)
+  replies_why : (task : Task T) (C : Ending → Type 0) → ((e : Ending) → C e → Why language words call given e.status) → (k : ℕ) (trees : List Tree) (e : Ending)
+      → RepliesEnd language task C k trees e → Why language words call given e.status
+  replies_why task C why k [] e h = why e h
+  replies_why task C why k (tree ∷ trees) e (says text has_type, replies, (rest, goes, same)) =
+      subst (λ e. Why language words call given e.status) (sym same) (well_why has_type rest.status (replies_why task C why (suc k) trees rest goes))
+  replies_why task C why k (tree ∷ trees) e (stops stop, replies, same) = absurd (no_stop language task.request task.type k tree stop replies)
 
   task_asks : (task : Task T) → Prepares language words given.file (Ok task) → Asks words task.request
   task_asks task (Err stop, h, same) = absurd (cc same)
@@ -131,10 +132,10 @@ module _ {D T : Type 0} (language : Language D T) (words : List (List ℕ)) (cal
   task_asks task (Ok request, asks, (Ok type, h, same)) =
       let told : task ≡ record { request = request; type = type } = cc in subst (λ t. Asks words t.request) (sym told) asks
 
-  says_why : (ending : Ending) → Says language words given ending → Why language words call given ending.status
+  says_why : (ending : Ending) → RunEnds language words given ending → Why language words call given ending.status
   says_why ending (Err stop, p, same) = subst (λ e. Why language words call given e.status) (sym same) (prepares_why stop p)
-  says_why ending (Ok task, p, (trees, end, stream, treats)) =
-      treats_why task (Closes task.request trees given.input.until end) (λ e h. closes_why (task, p) task.request trees given.input.until end e (task_asks task p) stream refl h) 0 trees ending treats
+  says_why ending (Ok task, p, (trees, end, stream, replies)) =
+      replies_why task (Closes task.request trees given.input.until end) (λ e h. closes_why (task, p) task.request trees given.input.until end e (task_asks task p) stream refl h) 0 trees ending replies
 
 module _ {D T : Type 0} (language : Language D T) (words : List (List ℕ)) (call : Call) (a : Account language words call) where
   pub account_why : Why language words call a.given call.status
@@ -149,8 +150,8 @@ module _ {D T : Type 0} (language : Language D T) (words : List (List ℕ)) (cal
         may (inl said) = says_why language words call a.given c.ending said
         may (inr (text, first, e)) = subst (λ e. Why language words call a.given e.status) (sym e) (memory (text, first, subst (λ e. Puts call.out e.out) e c.out, subst (λ e. Puts call.err e.err) e line))
 
-  pub file_fetched : (name : List ℕ) → IsFileOf words name → Fetched call.files name (a.given.file name)
-  file_fetched name (request, type, asks, typed) = subst (λ o. IfSome o (λ t. Fetched call.files t.0 (a.given.file t.0))) typed (a.files.asked request asks)
+  pub file_fetched : (name : List ℕ) → AsksForFile words name → Fetched call.files name (a.given.file name)
+  file_fetched name (type, (request, asks, typed)) = subst (λ o. IfSome o (λ t. Fetched call.files t.0 (a.given.file t.0))) typed (a.files.asked request asks)
 
   -- ---- the causes
 
@@ -178,10 +179,10 @@ module _ {D T : Type 0} (language : Language D T) (words : List (List ℕ)) (cal
   pub only_read_fault : OnlyReadFault call
   only_read_fault e = read_of (subst (λ s. Why language words call a.given s) e account_why)
 
-  open_of : Why language words call a.given statuses.OpenFault → (name : List ℕ) × IsFileOf words name × CannotOpen call.files name
+  open_of : Why language words call a.given statuses.OpenFault → (name : List ℕ) × AsksForFile words name × CannotOpen call.files name
   open_of (not_there name is found) =
       let f = subst (λ o. Fetched call.files name o) found (file_fetched name is) in
-      (name, is, inr (some_and call.files.before.map (λ all. bytes_of all name ≡ None) (f.told refl) f.map))
+      (name, is, inr (some_and call.files.before.map (λ all. contents_of all name ≡ None) (f.told refl) f.map))
   open_of (not_opened name is found) =
       let f = subst (λ o. Fetched call.files name o) found (file_fetched name is) in
       (name, is, inl (f.opening.rose, f.named refl))
@@ -191,7 +192,7 @@ module _ {D T : Type 0} (language : Language D T) (words : List (List ℕ)) (cal
 
   long_of : Why language words call a.given statuses.TooLong
       → IfSome call.input.before.bytes (λ bytes. 2 ^ 48 ≤ length bytes)
-      ⊎ ((name : List ℕ) × IsFileOf words name × IfSome call.files.before.map (λ all. IsSomeAnd (bytes_of all name) (λ bytes. 2 ^ 48 ≤ length bytes)))
+      ⊎ ((name : List ℕ) × AsksForFile words name × IfSome call.files.before.map (λ all. IsSomeAnd (contents_of all name) (λ bytes. 2 ^ 48 ≤ length bytes)))
   long_of (input_long ready e) =
       let long = subst (λ u. IsMeasured u (length a.given.input.bytes)) e a.input.measured in
       inl (IfSome_then call.input.before.bytes a.input.told (λ bytes t. longer bytes a.given.input t.0 t.1 long))
@@ -202,7 +203,7 @@ module _ {D T : Type 0} (language : Language D T) (words : List (List ℕ)) (cal
         name,
         is,
         IfSome_then call.files.before.map f.map (λ all h.
-            and_then (bytes_of all name) (λ bytes. (rest : List ℕ) × TakesFrom bytes taken rest) (λ bytes. 2 ^ 48 ≤ length bytes) h
+            and_then (contents_of all name) (λ bytes. (rest : List ℕ) × TakesFrom bytes taken rest) (λ bytes. 2 ^ 48 ≤ length bytes) h
             (λ bytes t. longer bytes taken t.0 t.1 long)),
       )
 
@@ -211,7 +212,7 @@ module _ {D T : Type 0} (language : Language D T) (words : List (List ℕ)) (cal
 
   -- ---- what has to be told
 
-  usage_says : IsUsage words → (ending : Ending) → Says language words a.given ending → ending.status ≡ statuses.Usage
+  usage_says : IsUsage words → (ending : Ending) → RunEnds language words a.given ending → ending.status ≡ statuses.Usage
   usage_says none ending (Ok task, (Err stop, h, same), said) = absurd (cc same)
   usage_says none ending (Ok task, (Ok request, asks, more), said) = absurd (none request asks)
   usage_says none ending (Err stop, (Err first, h, same), e) =
@@ -219,7 +220,7 @@ module _ {D T : Type 0} (language : Language D T) (words : List (List ℕ)) (cal
   usage_says none ending (Err stop, (Ok request, asks, more), e) = absurd (none request asks)
 
   -- the status where all that was said was put; else it is 7, or memory ran out and it is 9
-  said_status : (P : Status → Type 0) → ((ending : Ending) → Says language words a.given ending → P ending.status) → P call.status ⊎ IsUnsaid call.status
+  said_status : (P : Status → Type 0) → ((ending : Ending) → RunEnds language words a.given ending → P ending.status) → P call.status ⊎ IsUnsaid call.status
   said_status P says_P = ends a.ends where
     ends : Completes language words a.given call ⊎ Breaks language words a.given call → P call.status ⊎ IsUnsaid call.status
     ends (inr b) = inr (inr b.status)
@@ -251,7 +252,7 @@ module _ {D T : Type 0} (language : Language D T) (words : List (List ℕ)) (cal
   stop_status : (ending : Ending) (found : Result T Stop) (type : Result (Option T) Stop) (prepared : Result (Task T) Stop) (request : Request) (s : Stop)
       → found ≡ Err s → MatchResult found (λ x. type ≡ Ok (Some x)) (λ stop. type ≡ Err stop)
       → MatchResult type (λ x. prepared ≡ Ok (record { request = request; type = x })) (λ stop. prepared ≡ Err stop)
-      → MatchResult prepared (λ task. SaysValues language task a.given.input ending) (λ stop. ending ≡ stopped stop)
+      → MatchResult prepared (λ task. ValuesEnd language task a.given.input ending) (λ stop. ending ≡ stopped stop)
       → ending.status ≡ status_of s
   stop_status ending (Ok x) type prepared request s e f g h = absurd (cc e)
   stop_status ending (Err s1) (Ok x) prepared request s e f g h = absurd (cc f)
@@ -276,10 +277,10 @@ module _ {D T : Type 0} (language : Language D T) (words : List (List ℕ)) (cal
     reading_at less unfetched same text r told = absurd (risen _ _ (subst (λ o. Fetched call.files f o) same fetched).reading.kept less)
     reading_at less failed same text r told = absurd (risen _ _ (subst (λ o. Fetched call.files f o) same fetched).reading.kept less)
     reading_at less (opened taken) same text r told = until_at taken.until refl text r told where
-      reads : (u : Until) → taken.until ≡ u → HasCause call.files.before.read_faults call.files.after.read_faults (is_fault u)
+      reads : (u : InputEnd) → taken.until ≡ u → HasCause call.files.before.read_faults call.files.after.read_faults (is_fault u)
       reads u e = subst (λ u. HasCause call.files.before.read_faults call.files.after.read_faults (is_fault u)) e (subst (λ o. Fetched call.files f o) same fetched).reading
 
-      until_at : (u : Until) → taken.until ≡ u → (text : Result (List ℕ) Stop) → ReadsFile f (opened taken) text
+      until_at : (u : InputEnd) → taken.until ≡ u → (text : Result (List ℕ) Stop) → ReadsFile f (opened taken) text
           → ((s : Stop) → text ≡ Err s → ending.status ≡ status_of s) → ending.status ≡ statuses.ReadFault
       until_at at_end e text r told = absurd (risen _ _ (reads at_end e).kept less)
       until_at at_length e text r told = absurd (risen _ _ (reads at_length e).kept less)
@@ -289,13 +290,13 @@ module _ {D T : Type 0} (language : Language D T) (words : List (List ℕ)) (cal
           let h : fault_of at_fault ≡ Some s = subst (λ u. fault_of u ≡ Some s) e r in
           let stop : read_fault ≡ s = cc in told s refl ∙ ap status_of (sym stop)
 
-  opening_says : call.files.before.open_faults < call.files.after.open_faults → (ending : Ending) → Says language words a.given ending → ending.status ≡ statuses.OpenFault
+  opening_says : call.files.before.open_faults < call.files.after.open_faults → (ending : Ending) → RunEnds language words a.given ending → ending.status ≡ statuses.OpenFault
   opening_says less ending (prepared, (Err stop, none, rest), said) = absurd (risen _ _ (ap (λ f. f.open_faults) (a.files.unasked none.0)) less)
   opening_says less ending (prepared, (Ok (check f t), asks, (type, (found, (text, r, more), e), rest)), said) =
       opening_at f (a.files.asked (check f t) asks) ending less (a.given.file f) refl text r
       (λ s same. stop_status ending found type prepared (check f t) s (rw same at more) e rest said)
 
-  reading_says : call.files.before.read_faults < call.files.after.read_faults → (ending : Ending) → Says language words a.given ending → ending.status ≡ statuses.ReadFault
+  reading_says : call.files.before.read_faults < call.files.after.read_faults → (ending : Ending) → RunEnds language words a.given ending → ending.status ≡ statuses.ReadFault
   reading_says less ending (prepared, (Err stop, none, rest), said) = absurd (risen _ _ (ap (λ f. f.read_faults) (a.files.unasked none.0)) less)
   reading_says less ending (prepared, (Ok (check f t), asks, (type, (found, (text, r, more), e), rest)), said) =
       reading_at f (a.files.asked (check f t) asks) ending less (a.given.file f) refl text r
@@ -305,18 +306,18 @@ module _ {D T : Type 0} (language : Language D T) (words : List (List ℕ)) (cal
   tells_open_fault less = said_status (λ s. s ≡ statuses.OpenFault) (opening_says less)
 
   -- a take of the input that failed is told
-  treats_fault : (task : Task T) (C : Ending → Type 0) → ((e : Ending) → C e → e.status ≡ statuses.ReadFault) → (k : ℕ) (trees : List Tree) (e : Ending)
-      → TreatsAll language task C k trees e → e.status ≡ statuses.ReadFault
-  treats_fault task C fault k [] e h = fault e h
-  treats_fault task C fault k (tree ∷ trees) e (says text well, treats, (rest, goes, same)) =
-      ap (λ e. e.status) same ∙ kept well rest.status (treats_fault task C fault (suc k) trees rest goes) where
-        kept : (well : Bool) (s : Status) → s ≡ statuses.ReadFault → (if well then s else or_no s) ≡ statuses.ReadFault
+  replies_fault : (task : Task T) (C : Ending → Type 0) → ((e : Ending) → C e → e.status ≡ statuses.ReadFault) → (k : ℕ) (trees : List Tree) (e : Ending)
+      → RepliesEnd language task C k trees e → e.status ≡ statuses.ReadFault
+  replies_fault task C fault k [] e h = fault e h
+  replies_fault task C fault k (tree ∷ trees) e (says text has_type, replies, (rest, goes, same)) =
+      ap (λ e. e.status) same ∙ kept has_type rest.status (replies_fault task C fault (suc k) trees rest goes) where
+        kept : (has_type : Bool) (s : Status) → s ≡ statuses.ReadFault → (if has_type then s else or_no s) ≡ statuses.ReadFault
         kept true s e = e
         kept false s e = ap or_no e
-  treats_fault task C fault k (tree ∷ trees) e (stops stop, treats, same) = absurd (no_stop language task.request task.type k tree stop treats)
+  replies_fault task C fault k (tree ∷ trees) e (stops stop, replies, same) = absurd (no_stop language task.request task.type k tree stop replies)
 
   module _ (lawful : IsLawful language) where
-    input_says : call.input.before.faults < call.input.after.faults → (u : Until) → a.given.input.until ≡ u → (ending : Ending) → Says language words a.given ending → ending.status ≡ statuses.ReadFault
+    input_says : call.input.before.faults < call.input.after.faults → (u : InputEnd) → a.given.input.until ≡ u → (ending : Ending) → RunEnds language words a.given ending → ending.status ≡ statuses.ReadFault
     input_says less at_end e ending said = absurd (risen _ _ (rw e at a.input.cause).kept less)
     input_says less at_length e ending said = absurd (risen _ _ (rw e at a.input.cause).kept less)
     input_says less unasked e ending said = absurd (risen _ _ (rw e at a.input.cause).kept less)
@@ -324,9 +325,9 @@ module _ {D T : Type 0} (language : Language D T) (words : List (List ℕ)) (cal
       untaken : (a.given.input ≡ nothing) ⊎ IsReady language words a.given → ⊥
       untaken (inl none) = cc (sym e ∙ ap (λ t. t.until) none)
       untaken (inr (task, ready)) = let once = prepares_once language lawful a.given.file words task (Err stop) ready p in cc once
-    input_says less at_fault e ending (Ok task, p, (trees, end, stream, treats)) =
-        treats_fault task (Closes task.request trees at_fault end) (λ e h. ap (λ e. e.status) h) 0 trees ending
-        (subst (λ u. TreatsAll language task (Closes task.request trees u end) 0 trees ending) e treats)
+    input_says less at_fault e ending (Ok task, p, (trees, end, stream, replies)) =
+        replies_fault task (Closes task.request trees at_fault end) (λ e h. ap (λ e. e.status) h) 0 trees ending
+        (subst (λ u. RepliesEnd language task (Closes task.request trees u end) 0 trees ending) e replies)
 
     pub tells_read_fault : TellsReadFault call
     tells_read_fault = record {
@@ -340,10 +341,10 @@ module _ {D T : Type 0} (language : Language D T) (words : List (List ℕ)) (cal
   contents_are (Some all) bytes (rest, t) = ap (λ b. Some b) (t.front ∙ (ap (λ r. bytes ++ r) (t.ends refl) ∙ append-nil bytes))
 
   types_of : Why language words call a.given statuses.Types
-      → (name type text : List ℕ) × IsTyped words name type × IfSome call.files.before.map (λ all. bytes_of all name ≡ Some text) × IsRefusedType language text type
+      → (name type text : List ℕ) × AsksFor words name type × IfSome call.files.before.map (λ all. contents_of all name ≡ Some text) × IsRefusedType language text type
   types_of (no_types name type text is found why) =
-      let f = subst (λ o. Fetched call.files name o) found (file_fetched name (is.0, type, is.1, is.2)) in
-      (name, type, text, is, IfSome_then call.files.before.map f.map (λ all h. contents_are (bytes_of all name) text h), why)
+      let f = subst (λ o. Fetched call.files name o) found (file_fetched name (type, is)) in
+      (name, type, text, is, IfSome_then call.files.before.map f.map (λ all h. contents_are (contents_of all name) text h), why)
 
   pub only_types : OnlyTypes language words call
   only_types e = types_of (subst (λ s. Why language words call a.given s) e account_why)
@@ -365,13 +366,13 @@ module _ {D T : Type 0} (language : Language D T) (words : List (List ℕ)) (cal
   pub only_value : OnlyValue words call
   only_value e = value_of (subst (λ s. Why language words call a.given s) e account_why)
 
-  -- where the map has not FILE, it cannot be opened
-  missing_at : (f : List ℕ) → Fetched call.files f (a.given.file f) → IsSomeAnd call.files.before.map (λ all. bytes_of all f ≡ None) → (ending : Ending)
+  -- where the map does not have FILE, it cannot be opened
+  missing_at : (f : List ℕ) → Fetched call.files f (a.given.file f) → IsSomeAnd call.files.before.map (λ all. contents_of all f ≡ None) → (ending : Ending)
       → (o : Found) → a.given.file f ≡ o → (text : Result (List ℕ) Stop) → ReadsFile f o text
       → ((s : Stop) → text ≡ Err s → ending.status ≡ status_of s) → ending.status ≡ statuses.OpenFault
   missing_at f fetched none ending (opened taken) same text r told =
       absurd (not_opened_of call.files.before.map none (subst (λ o. Fetched call.files f o) same fetched).map) where
-        not_opened_of : (map : Option (List File)) → IsSomeAnd map (λ all. bytes_of all f ≡ None) → IfSome map (λ all. IsFoundOf (bytes_of all f) (opened taken)) → ⊥
+        not_opened_of : (map : Option (List File)) → IsSomeAnd map (λ all. contents_of all f ≡ None) → IfSome map (λ all. IsFoundOf (contents_of all f) (opened taken)) → ⊥
         not_opened_of None h found = h
         not_opened_of (Some all) h found = subst (λ o. IsSomeAnd o (λ bytes. (rest : List ℕ) × TakesFrom bytes taken rest)) h found
   missing_at f fetched none ending missing same (Ok bytes) r told = absurd (cc r)
@@ -381,15 +382,15 @@ module _ {D T : Type 0} (language : Language D T) (words : List (List ℕ)) (cal
   missing_at f fetched none ending unfetched same (Ok bytes) r told = absurd (cc r)
   missing_at f fetched none ending unfetched same (Err s) r told = absurd r
 
-  missing_says : (name : List ℕ) → IsFileOf words name → IsSomeAnd call.files.before.map (λ all. bytes_of all name ≡ None)
-      → (ending : Ending) → Says language words a.given ending → ending.status ≡ statuses.OpenFault
-  missing_says name (request, type, other, typed) none ending (prepared, (Err stop, h, rest), said) = absurd (h.0 request other)
-  missing_says name (check g u, type, other, typed) none ending (prepared, (Ok (check f t), asks, (found_type, (found, (text, r, more), e), rest)), said) =
+  missing_says : (name : List ℕ) → AsksForFile words name → IsSomeAnd call.files.before.map (λ all. contents_of all name ≡ None)
+      → (ending : Ending) → RunEnds language words a.given ending → ending.status ≡ statuses.OpenFault
+  missing_says name (type, (request, other, typed)) none ending (prepared, (Err stop, h, rest), said) = absurd (h.0 request other)
+  missing_says name (type, (check g u, other, typed)) none ending (prepared, (Ok (check f t), asks, (found_type, (found, (text, r, more), e), rest)), said) =
       let one = asks.0 in let two = other.0 in
       let same : g ≡ f = cc in
       let pair : ◌≡◌ {A = List ℕ × List ℕ} (g, u) (name, type) = cc in
       let file : name ≡ f = sym (ap (λ p. p.0) pair) ∙ same in
-      missing_at f (a.files.asked (check f t) asks) (subst (λ n. IsSomeAnd call.files.before.map (λ all. bytes_of all n ≡ None)) file none) ending
+      missing_at f (a.files.asked (check f t) asks) (subst (λ n. IsSomeAnd call.files.before.map (λ all. contents_of all n ≡ None)) file none) ending
       (a.given.file f) refl text r (λ s same. stop_status ending found found_type prepared (check f t) s (rw same at more) e rest said)
 
   pub if_missing : IfMissing words call

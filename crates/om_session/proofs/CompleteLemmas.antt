@@ -4,17 +4,19 @@ use Rattle.std.specs.Prelude.{codes, flat_map, MatchResult}
 use Rattle.std.specs.List.{AllByRecursion}
 use Rattle.om_model.specs.declared.status.Status.{Status}
 use Rattle.om_model.specs.declared.status.Status.TheVariants as statuses
-use Rattle.om_model.specs.declared.list_type.Base.{Base}
-use Rattle.om_model.specs.declared.list_type.Base.TheVariants as bases
-use Rattle.om_model.specs.declared.list_type.ListType.{ListType}
-use Rattle.om_model.specs.ListShapes.{base_text}
-use Rattle.om_model.specs.VerdictLaws.{FaultsExcludeTypes}
-use Rattle.om_model.specs.Laws.{HasOneJudgement}
-use Rattle.om_model.specs.Tree.{Tree, root, objects_of}
-use Rattle.om_model.specs.Stream.{clean}
-use Rattle.om_model.specs.Outcome.{whole, at_end, Found, opened, Stop, Ending, stopped, Request, check, Task, Language, ReadsFile, ReadsTypeOf, Prepares, SaysValues, Closes, says, stops, Treats, TreatsAll, limit_of, found_of}
-use Rattle.om_edge.specs.Files.{File, bytes_of}
+use Rattle.om_model.specs.Bytes.{AreBytes}
+use Rattle.om_types.specs.declared.list_type.Base.{Base}
+use Rattle.om_types.specs.declared.list_type.Base.TheVariants as bases
+use Rattle.om_types.specs.declared.list_type.ListType.{ListType}
+use Rattle.om_types.specs.ListShapes.{base_text}
+use Rattle.om_types.specs.VerdictLaws.{FaultsExcludeTypes}
+use Rattle.om_format.specs.Laws.{HasOneJudgement}
+use Rattle.om_format.specs.Tree.{Tree, root, objects_of}
+use Rattle.om_format.specs.Stream.{clean}
+use Rattle.om_outcome.specs.Outcome.{whole, at_end, Found, opened, Stop, Ending, stopped, Request, check, Task, Language, ReadsFile, ReadsTypeOf, Prepares, ValuesEnd, Closes, says, stops, IsReply, RepliesEnd, limit_of, found_of}
+use Rattle.om_edge.specs.Files.{File, contents_of}
 use Rattle.om_session.specs.Call.{Call}
+use Rattle.om_session.specs.Given.{TellsBytes}
 use Rattle.om_session.specs.Lists.{lists}
 use Rattle.om_session.specs.Run.{Account, IsAllWell, IsComplete, HasOutcome}
 use Rattle.om_session.proofs.HeadlineLemmas.{no_stop, headline}
@@ -26,7 +28,7 @@ pub record IsLawful {D T : Type 0} (language : Language D T) : Type 0 where
   pub same_declarations : (text : List ℕ) (d e : D) → language.ReadsDeclarations text (Ok d) → language.ReadsDeclarations text (Ok e) → d ≡ e
   pub type_once : (d : D) (text : List ℕ) (t : T) (refusal : List ℕ) → language.ReadsType d text (Ok t) → language.ReadsType d text (Err refusal) → ⊥
   pub same_type : (d : D) (text : List ℕ) (t u : T) → language.ReadsType d text (Ok t) → language.ReadsType d text (Ok u) → t ≡ u
-  pub verdict_once : (t : T) (tree : Tree) (line other : List ℕ) → language.SaysVerdict t tree line true → language.SaysVerdict t tree other false → ⊥
+  pub verdict_once : (t : T) (tree : Tree) (line other : List ℕ) → language.LineOf t tree line true → language.LineOf t tree other false → ⊥
 
 -- ---- lists
 
@@ -131,40 +133,43 @@ is_memory statuses.OpenFault = inr (λ e. cc e)
 is_memory statuses.TooLong = inr (λ e. cc e)
 
 module _ {D T : Type 0} (language : Language D T) (lawful : IsLawful language) (type : T) where
-  verdict_of : (request : Request) (o : Option T) (k : ℕ) (tree : Tree) (text : List ℕ) (well : Bool) → o ≡ Some type → Treats language request o k tree (says text well)
-      → (verdict : List ℕ) × language.SaysVerdict type tree verdict well
-  verdict_of (check f u) None k tree text well e h = absurd (cc e)
-  verdict_of (check f u) (Some t) k tree text well e h = let same : t ≡ type = cc in (h.0, subst (λ t. language.SaysVerdict t tree h.0 well) same h.1)
+  verdict_of : (request : Request) (o : Option T) (k : ℕ) (tree : Tree) (text : List ℕ) (has_type : Bool) → o ≡ Some type → IsReply language request o k tree (says text has_type)
+      → (verdict : List ℕ) × language.LineOf type tree verdict has_type
+  verdict_of (check f u) None k tree text has_type e h = absurd (cc e)
+  verdict_of (check f u) (Some t) k tree text has_type e h = let same : t ≡ type = cc in (h.0, subst (λ t. language.LineOf t tree h.0 has_type) same h.1)
 
-  treats_well : (task : Task T) → task.type ≡ Some type → (C : Ending → Type 0) → ((e : Ending) → C e → e.status ≡ statuses.Well) → (k : ℕ) (trees : List Tree) (e : Ending)
-      → AllByRecursion (λ tree. (line : List ℕ) × language.SaysVerdict type tree line true) trees → TreatsAll language task C k trees e → e.status ≡ statuses.Well
-  treats_well task typed C well k [] e all h = well e h
-  treats_well task typed C well k (tree ∷ trees) e all (says text true, treats, (rest, goes, same)) =
-      ap (λ e. e.status) same ∙ treats_well task typed C well (suc k) trees rest all.1 goes
-  treats_well task typed C well k (tree ∷ trees) e all (says text false, treats, (rest, goes, same)) =
-      let v = verdict_of task.request task.type k tree text false typed treats in absurd (lawful.verdict_once type tree all.0.0 v.0 all.0.1 v.1)
-  treats_well task typed C well k (tree ∷ trees) e all (stops stop, treats, same) = absurd (no_stop language task.request task.type k tree stop treats)
+  replies_well : (task : Task T) → task.type ≡ Some type → (C : Ending → Type 0) → ((e : Ending) → C e → e.status ≡ statuses.Well) → (k : ℕ) (trees : List Tree) (e : Ending)
+      → AllByRecursion (λ tree. (line : List ℕ) × language.LineOf type tree line true) trees → RepliesEnd language task C k trees e → e.status ≡ statuses.Well
+  replies_well task typed C well k [] e all h = well e h
+  replies_well task typed C well k (tree ∷ trees) e all (says text true, replies, (rest, goes, same)) =
+      ap (λ e. e.status) same ∙ replies_well task typed C well (suc k) trees rest all.1 goes
+  replies_well task typed C well k (tree ∷ trees) e all (says text false, replies, (rest, goes, same)) =
+      let v = verdict_of task.request task.type k tree text false typed replies in absurd (lawful.verdict_once type tree all.0.0 v.0 all.0.1 v.1)
+  replies_well task typed C well k (tree ∷ trees) e all (stops stop, replies, same) = absurd (no_stop language task.request task.type k tree stop replies)
 
   finishes_well : (request : Request) (trees : List Tree) (e : Ending) → Closes request trees at_end clean e → e.status ≡ statuses.Well
   finishes_well (check f u) trees e h = ap (λ e. e.status) h
 
 module _ {D T : Type 0} (language : Language D T) (lawful : IsLawful language) (law : HasOneJudgement) (words : List (List ℕ)) (call : Call) where
-  ends_well : (input : List ℕ) (files : List File) → (all : IsAllWell language words input files) → (o : HasOutcome language words call input files) → call.status ≡ statuses.Well
-  ends_well input files all o = o.status ∙ from o.outcome.0 (prepares_once language lawful (λ name. found_of (bytes_of files name)) words all.task o.outcome.0 all.prepared o.outcome.1) o.outcome.2 where
+  ends_well : (input : List ℕ) (files : List File) → AreBytes input → (all : IsAllWell language words input files) → (o : HasOutcome language words call input files) → call.status ≡ statuses.Well
+  ends_well input files are_bytes all o = o.status ∙ from o.outcome.0 (prepares_once language lawful (λ name. found_of (contents_of files name)) words all.task o.outcome.0 all.prepared o.outcome.1) o.outcome.2 where
     from : (prepared : Result (Task T) Stop) → Ok all.task ≡ prepared
-        → MatchResult prepared (λ task. SaysValues language task (whole input) o.ending) (λ stop. o.ending ≡ stopped stop) → o.ending.status ≡ statuses.Well
+        → MatchResult prepared (λ task. ValuesEnd language task (whole input) o.ending) (λ stop. o.ending ≡ stopped stop) → o.ending.status ≡ statuses.Well
     from (Err s) e h = absurd (cc e)
     from (Ok task) e h =
         let same : task ≡ all.task = cc in
-        let v = subst (λ task. SaysValues language task (whole input) o.ending) same h in
-        let once = stream_once law (limit_of all.task.request) input all.trees v.0 v.1 all.bytes all.spelled v.2 in
-        let goes = subst (λ trees. TreatsAll language all.task (Closes all.task.request trees at_end v.1) 0 trees o.ending) (sym once.0) v.3 in
-        let ends = subst (λ end. TreatsAll language all.task (Closes all.task.request all.trees at_end end) 0 all.trees o.ending) once.1 goes in
-        treats_well language lawful all.type all.task all.typed (Closes all.task.request all.trees at_end clean)
+        let v = subst (λ task. ValuesEnd language task (whole input) o.ending) same h in
+        let once = stream_once law (limit_of all.task.request) input all.trees v.0 v.1 are_bytes all.spelled v.2 in
+        let goes = subst (λ trees. RepliesEnd language all.task (Closes all.task.request trees at_end v.1) 0 trees o.ending) (sym once.0) v.3 in
+        let ends = subst (λ end. RepliesEnd language all.task (Closes all.task.request all.trees at_end end) 0 all.trees o.ending) once.1 goes in
+        replies_well language lawful all.type all.task all.typed (Closes all.task.request all.trees at_end clean)
         (λ e closes. finishes_well language lawful all.type all.task.request all.trees e closes) 0 all.trees o.ending all.have_type ends
 
-  pub complete : Account language words call → IsComplete language words call
-  complete a input files honest all = decide (is_memory call.status) where
+  pub complete : TellsBytes call.input → Account language words call → IsComplete language words call
+  complete tells a input files honest all = decide (is_memory call.status) where
+    are_bytes : AreBytes input
+    are_bytes = rw honest.well_read.input_told at tells
+
     decide : (call.status ≡ statuses.Memory) ⊎ (call.status ≢ statuses.Memory) → (call.status ≡ statuses.Well) ⊎ (call.status ≡ statuses.Memory)
     decide (inl memory) = inr memory
-    decide (inr some) = inl (ends_well input files all (headline language words call a input files honest some))
+    decide (inr some) = inl (ends_well input files are_bytes all (headline language words call a input files honest some))

@@ -2,12 +2,13 @@
 use Rattle.std.proofs.Common.{◌≡◌, ◌⊎◌, ℕ, suc, Bool, true, false, List, [], ◌∷◌, Option, Some, None, Result, Ok, Err, inl, inr, refl, sym, ap, ◌∙◌, subst}
 use Rattle.std.specs.Prelude.{MatchResult}
 use Rattle.om_model.specs.Bytes.{AreBytes}
-use Rattle.om_model.specs.Laws.{HasOneJudgement}
-use Rattle.om_model.specs.Tree.{Tree}
-use Rattle.om_model.specs.Stream.{End, clean, refused, cut}
-use Rattle.om_model.specs.Outcome.{whole, at_end, Found, opened, missing, failed, unfetched, Stop, usage, declarations, requested_type, status_of, Ending, stopped, behind, or_no, Request, check, Asks, Then, OrRefusal, Task, Language, ReadsFile, ReadsTypeOf, Prepares, SaysValues, Closes, says, stops, Treats, TreatsAll, limit_of, found_of, Outcome}
-use Rattle.om_edge.specs.Files.{File, bytes_of}
+use Rattle.om_format.specs.Laws.{HasOneJudgement}
+use Rattle.om_format.specs.Tree.{Tree}
+use Rattle.om_format.specs.Stream.{End, clean, refused, cut}
+use Rattle.om_outcome.specs.Outcome.{whole, at_end, Found, opened, missing, failed, unfetched, Stop, usage, declarations, requested_type, status_of, Ending, stopped, with_output, or_no, Request, check, Asks, Then, OrRefusal, Task, Language, ReadsFile, ReadsTypeOf, Prepares, ValuesEnd, Closes, says, stops, IsReply, RepliesEnd, limit_of, found_of, Outcome}
+use Rattle.om_edge.specs.Files.{File, contents_of}
 use Rattle.om_session.specs.Call.{Call}
+use Rattle.om_session.specs.Given.{TellsBytes}
 use Rattle.om_session.specs.Run.{Account, IsDecided}
 use Rattle.om_session.proofs.HeadlineLemmas.{no_stop, headline}
 use Rattle.om_session.proofs.CompleteLemmas.{IsLawful, prepares_once}
@@ -75,28 +76,28 @@ module _ {D T : Type 0} (language : Language D T) (lawful : IsLawful language) (
 -- ---- the values
 
 module _ {D T : Type 0} (language : Language D T) (lawful : IsLawful language) where
-  one_wellness : (request : Request) (type : Option T) (k : ℕ) (tree : Tree) (text other : List ℕ) (well good : Bool)
-      → Treats language request type k tree (says text well) → Treats language request type k tree (says other good) → well ≡ good
-  one_wellness (check f u) None k tree text other well good h g = absurd h
+  one_wellness : (request : Request) (type : Option T) (k : ℕ) (tree : Tree) (text other : List ℕ) (has_type next_has_type : Bool)
+      → IsReply language request type k tree (says text has_type) → IsReply language request type k tree (says other next_has_type) → has_type ≡ next_has_type
+  one_wellness (check f u) None k tree text other has_type next_has_type h g = absurd h
   one_wellness (check f u) (Some t) k tree text other true true h g = refl
   one_wellness (check f u) (Some t) k tree text other false false h g = refl
   one_wellness (check f u) (Some t) k tree text other true false h g = absurd (lawful.verdict_once t tree h.0 g.0 h.1 g.1)
   one_wellness (check f u) (Some t) k tree text other false true h g = absurd (lawful.verdict_once t tree g.0 h.0 g.1 h.1)
 
-  same_behind : (text other : List ℕ) (well : Bool) (e e' : Ending) → e.status ≡ e'.status → (behind text well e).status ≡ (behind other well e').status
-  same_behind text other true e e' same = same
-  same_behind text other false e e' same = ap or_no same
+  same_after : (text other : List ℕ) (has_type : Bool) (e e' : Ending) → e.status ≡ e'.status → (with_output text has_type e).status ≡ (with_output other has_type e').status
+  same_after text other true e e' same = same
+  same_after text other false e e' same = ap or_no same
 
-  treats_status : (task : Task T) (C : Ending → Type 0) → ((e e' : Ending) → C e → C e' → e.status ≡ e'.status) → (k : ℕ) (trees : List Tree) (e e' : Ending)
-      → TreatsAll language task C k trees e → TreatsAll language task C k trees e' → e.status ≡ e'.status
-  treats_status task C once k [] e e' h h' = once e e' h h'
-  treats_status task C once k (tree ∷ trees) e e' (stops stop, treats, same) h' = absurd (no_stop language task.request task.type k tree stop treats)
-  treats_status task C once k (tree ∷ trees) e e' (says text well, treats, rest) (stops stop, treats', same) = absurd (no_stop language task.request task.type k tree stop treats')
-  treats_status task C once k (tree ∷ trees) e e' (says text well, treats, (rest, goes, same)) (says other good, treats', (rest', goes', same')) =
-      let is : well ≡ good = one_wellness task.request task.type k tree text other well good treats treats' in
-      let next = treats_status task C once (suc k) trees rest rest' goes goes' in
-      ap (λ e. e.status) same ∙ (same_behind text other well rest rest' next
-      ∙ (ap (λ w. (behind other w rest').status) is ∙ sym (ap (λ e. e.status) same')))
+  replies_status : (task : Task T) (C : Ending → Type 0) → ((e e' : Ending) → C e → C e' → e.status ≡ e'.status) → (k : ℕ) (trees : List Tree) (e e' : Ending)
+      → RepliesEnd language task C k trees e → RepliesEnd language task C k trees e' → e.status ≡ e'.status
+  replies_status task C once k [] e e' h h' = once e e' h h'
+  replies_status task C once k (tree ∷ trees) e e' (stops stop, replies, same) h' = absurd (no_stop language task.request task.type k tree stop replies)
+  replies_status task C once k (tree ∷ trees) e e' (says text has_type, replies, rest) (stops stop, replies', same) = absurd (no_stop language task.request task.type k tree stop replies')
+  replies_status task C once k (tree ∷ trees) e e' (says text has_type, replies, (rest, goes, same)) (says other next_has_type, replies', (rest', goes', same')) =
+      let is : has_type ≡ next_has_type = one_wellness task.request task.type k tree text other has_type next_has_type replies replies' in
+      let next = replies_status task C once (suc k) trees rest rest' goes goes' in
+      ap (λ e. e.status) same ∙ (same_after text other has_type rest rest' next
+      ∙ (ap (λ w. (with_output other w rest').status) is ∙ sym (ap (λ e. e.status) same')))
 
   closes_once : (request : Request) (trees : List Tree) (end : End) (e e' : Ending) → Closes request trees at_end end e → Closes request trees at_end end e' → e.status ≡ e'.status
   closes_once (check f u) trees clean e e' h h' = ap (λ e. e.status) (h ∙ sym h')
@@ -104,25 +105,25 @@ module _ {D T : Type 0} (language : Language D T) (lawful : IsLawful language) w
   closes_once request trees (cut n) e e' h h' = ap (λ e. e.status) (h ∙ sym h')
 
   values_status : (law : HasOneJudgement) (task : Task T) (input : List ℕ) → AreBytes input → (e e' : Ending)
-      → SaysValues language task (whole input) e → SaysValues language task (whole input) e' → e.status ≡ e'.status
+      → ValuesEnd language task (whole input) e → ValuesEnd language task (whole input) e' → e.status ≡ e'.status
   values_status law task input are_bytes e e' (trees, end, stream, goes) (trees', end', stream', goes') =
       let once = streams_once law (limit_of task.request) input trees trees' end end' are_bytes stream stream' in
-      let moved = subst (λ trees. TreatsAll language task (Closes task.request trees at_end end') 0 trees e') (sym once.0) goes' in
-      let ends = subst (λ end. TreatsAll language task (Closes task.request trees at_end end) 0 trees e') (sym once.1) moved in
-      treats_status task (Closes task.request trees at_end end) (closes_once task.request trees end) 0 trees e e' goes ends
+      let moved = subst (λ trees. RepliesEnd language task (Closes task.request trees at_end end') 0 trees e') (sym once.0) goes' in
+      let ends = subst (λ end. RepliesEnd language task (Closes task.request trees at_end end) 0 trees e') (sym once.1) moved in
+      replies_status task (Closes task.request trees at_end end) (closes_once task.request trees end) 0 trees e e' goes ends
 
 -- ---- the whole run
 
 module _ {D T : Type 0} (language : Language D T) (lawful : IsLawful language) (law : HasOneJudgement) (words : List (List ℕ)) where
   one_status : (files : List File) (input : List ℕ) → AreBytes input → (e e' : Ending)
-      → Outcome language words (bytes_of files) input e → Outcome language words (bytes_of files) input e' → e.status ≡ e'.status
+      → Outcome language words (contents_of files) input e → Outcome language words (contents_of files) input e' → e.status ≡ e'.status
   one_status files input are_bytes e e' (prepared, p, m) (prepared', p', m') = from prepared prepared' p p' m m' where
     file : List ℕ → Found
-    file name = found_of (bytes_of files name)
+    file name = found_of (contents_of files name)
 
     from : (prepared prepared' : Result (Task T) Stop) → Prepares language words file prepared → Prepares language words file prepared'
-        → MatchResult prepared (λ task. SaysValues language task (whole input) e) (λ stop. e ≡ stopped stop)
-        → MatchResult prepared' (λ task. SaysValues language task (whole input) e') (λ stop. e' ≡ stopped stop) → e.status ≡ e'.status
+        → MatchResult prepared (λ task. ValuesEnd language task (whole input) e) (λ stop. e ≡ stopped stop)
+        → MatchResult prepared' (λ task. ValuesEnd language task (whole input) e') (λ stop. e' ≡ stopped stop) → e.status ≡ e'.status
     from (Ok task) (Err s) p p' m m' = let k = prepares_once language lawful file words task (Err s) p p' in absurd (cc k)
     from (Err s) (Ok task) p p' m m' = let k = prepares_once language lawful file words task (Err s) p' p in absurd (cc k)
     from (Err s) (Err s') p p' m m' =
@@ -131,9 +132,10 @@ module _ {D T : Type 0} (language : Language D T) (lawful : IsLawful language) (
     from (Ok task) (Ok task') p p' m m' =
         let k = prepares_once language lawful file words task (Ok task') p p' in
         let same : task' ≡ task = cc in
-        values_status language lawful law task input are_bytes e e' m (subst (λ task. SaysValues language task (whole input) e') same m')
+        values_status language lawful law task input are_bytes e e' m (subst (λ task. ValuesEnd language task (whole input) e') same m')
 
-  pub decided : (call : Call) → Account language words call → IsDecided language words call
-  decided call a input files honest are_bytes some ending outcome =
+  pub decided : (call : Call) → TellsBytes call.input → Account language words call → IsDecided language words call
+  decided call tells a input files honest some ending outcome =
+      let are_bytes : AreBytes input = rw honest.well_read.input_told at tells in
       let o = headline language words call a input files honest some in
       o.status ∙ one_status files input are_bytes o.ending ending o.outcome outcome

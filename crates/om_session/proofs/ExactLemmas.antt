@@ -3,18 +3,19 @@ use Rattle.std.proofs.Common.{◌≡◌, ◌⊎◌, ℕ, ◌^◌, ◌<◌, ◌�
 use Rattle.std.specs.Prelude.{IsSomeAnd, MatchResult}
 use Rattle.om_model.specs.declared.status.Status.{Status}
 use Rattle.om_model.specs.declared.status.Status.TheVariants as statuses
-use Rattle.om_model.specs.Outcome.{Taken, at_end, at_length, whole, Found, opened, missing, failed, unfetched, Stop, Request, check, Task, Language, ReadsTypeOf, Prepares, found_of}
-use Rattle.om_edge.specs.Files.{File, bytes_of}
-use Rattle.om_session.specs.Call.{SeenFiles, Change, Call}
+use Rattle.om_outcome.specs.Outcome.{Taken, at_end, at_length, whole, Found, opened, missing, failed, unfetched, Stop, Request, check, Task, Language, ReadsTypeOf, Prepares, found_of}
+use Rattle.om_edge.specs.Files.{File, contents_of}
+use Rattle.om_edge.specs.State.{FilesState, Change}
+use Rattle.om_session.specs.Call.{Call}
 use Rattle.om_session.specs.Given.{IsFoundOf, TakesFrom, Fetched, IsMeasured}
-use Rattle.om_session.specs.Run.{Account, IsFileOf, IsTyped, IsRefusedType, IsOutside, TellsFile, IfTypes, IfTooLong}
+use Rattle.om_session.specs.Run.{Account, IsUsage, AsksForFile, AsksFor, IsRefusedType, IsOutside, TellsFile, IfTypes, IfTooLong}
 use Rattle.om_session.proofs.HeadlineLemmas.{all_taken}
 use Rattle.om_session.proofs.CompleteLemmas.{IsLawful}
 use Rattle.om_session.proofs.CauseLemmas.{IsReady, Why, all_well, some_no, not_plain, not_there, not_opened, no_types, file_fault, file_long, no_value, input_fault, input_long, memory, out_fault, err_fault, account_why, file_fetched, contents_are, longer}
 
 -- ---- plain words have one FILE and one TYPE
 
-pub one_typed : (words : List (List ℕ)) (name type other type' : List ℕ) → IsTyped words name type → IsTyped words other type' → (name ≡ other) × (type ≡ type')
+pub one_typed : (words : List (List ℕ)) (name type other type' : List ℕ) → AsksFor words name type → AsksFor words other type' → (name ≡ other) × (type ≡ type')
 one_typed words name type other type' (check f t, asks, is) (check g u, asks', is') =
     let one = asks.0 in let two = asks'.0 in
     let pair : ◌≡◌ {A = List ℕ × List ℕ} (f, t) (name, type) = cc in
@@ -22,9 +23,6 @@ one_typed words name type other type' (check f t, asks, is) (check g u, asks', i
     let names : f ≡ g = cc in
     let types : t ≡ u = cc in
     (sym (ap (λ p. p.0) pair) ∙ (names ∙ ap (λ p. p.0) pair'), sym (ap (λ p. p.1) pair) ∙ (types ∙ ap (λ p. p.1) pair'))
-
-pub typed_file : (words : List (List ℕ)) (name : List ℕ) (is : IsFileOf words name) → IsTyped words name is.1
-typed_file words name is = (is.0, is.2, is.3)
 
 -- ---- what is accepted
 
@@ -59,14 +57,14 @@ module _ {D T : Type 0} (language : Language D T) where
   type_found file f u task request (Err s') (Err s) reads found same = absurd (cc same)
 
   pub prepared_accepts : (words : List (List ℕ)) (file : List ℕ → Found) (task : Task T) → Prepares language words file (Ok task)
-      → (name type : List ℕ) → IsTyped words name type → AcceptsFile file name type
+      → (name type : List ℕ) → AsksFor words name type → AcceptsFile file name type
   prepared_accepts words file task (Err s, h, same) name type is = absurd (cc same)
   prepared_accepts words file task (Ok (check f u), asks, (result, (r, reads, found), same)) name type is =
       let once = one_typed words f u name type (check f u, asks, refl) is in
       let here : AcceptsFile file f u = type_found file f u task (check f u) result r reads found same in
       subst (λ n. AcceptsFile file n type) once.0 (subst (λ t. AcceptsFile file f t) once.1 here)
 
-  pub prepared_asks : (words : List (List ℕ)) (file : List ℕ → Found) (task : Task T) → Prepares language words file (Ok task) → (name : List ℕ) × (type : List ℕ) × IsTyped words name type
+  pub prepared_asks : (words : List (List ℕ)) (file : List ℕ → Found) (task : Task T) → Prepares language words file (Ok task) → (name : List ℕ) × (type : List ℕ) × AsksFor words name type
   prepared_asks words file task (Err s, h, same) = absurd (cc same)
   prepared_asks words file task (Ok (check f u), asks, rest) = (f, u, (check f u, asks, refl))
 
@@ -87,12 +85,12 @@ text_in failed = []
 text_in unfetched = []
 
 -- a file that is told was found so
-found_in : (map : Option (List File)) (name bytes : List ℕ) (taken : Taken) → IfSome map (λ all. IsFoundOf (bytes_of all name) (opened taken)) → IsSomeAnd map (λ all. bytes_of all name ≡ Some bytes)
+found_in : (map : Option (List File)) (name bytes : List ℕ) (taken : Taken) → IfSome map (λ all. IsFoundOf (contents_of all name) (opened taken)) → IsSomeAnd map (λ all. contents_of all name ≡ Some bytes)
     → (rest : List ℕ) × TakesFrom bytes taken rest
 found_in None name bytes taken found told = absurd told
 found_in (Some all) name bytes taken found told = subst (λ c. IsSomeAnd c (λ bytes. (rest : List ℕ) × TakesFrom bytes taken rest)) told found
 
-module _ (files : Change SeenFiles) (name bytes : List ℕ) (told : TellsFile files name bytes) (taken : Taken) (fetched : Fetched files name (opened taken)) where
+module _ (files : Change FilesState) (name bytes : List ℕ) (told : TellsFile files name bytes) (taken : Taken) (fetched : Fetched files name (opened taken)) where
   found_told : (rest : List ℕ) × TakesFrom bytes taken rest
   found_told = found_in files.before.map name bytes taken fetched.map told
 
@@ -114,24 +112,45 @@ module _ {D T : Type 0} (language : Language D T) (lawful : IsLawful language) (
   abbrev Cause : Status → Type 0
   Cause status = Why language words call a.given status
 
+  -- a cause that is none of the outside's is that of this status
+  module _ (target : Status) (unended : IsReady language words a.given → a.given.input.until ≡ at_end → ⊥) (plain : ¬ IsUsage words)
+      (types : (name type text : List ℕ) → AsksFor words name type → a.given.file name ≡ opened (whole text) → IsRefusedType language text type → statuses.Types ≡ target)
+      (file : (name : List ℕ) (taken : Taken) → AsksForFile words name → a.given.file name ≡ opened taken → taken.until ≡ at_length → statuses.TooLong ≡ target)
+      (input : IsReady language words a.given → statuses.TooLong ≡ target) where
+    cause_or_outside : (s : Status) → Cause s → (s ≡ target) ⊎ IsOutside s
+    cause_or_outside s (all_well ready e) = absurd (unended ready e)
+    cause_or_outside s (some_no ready e) = absurd (unended ready e)
+    cause_or_outside s (not_plain none) = absurd (plain none)
+    cause_or_outside s (not_there n f e) = inr (inr (inl refl))
+    cause_or_outside s (not_opened n f e) = inr (inr (inl refl))
+    cause_or_outside s (no_types n t x f e why) = inl (types n t x f e why)
+    cause_or_outside s (file_fault n taken f e u) = inr (inl refl)
+    cause_or_outside s (file_long n taken f e u) = inl (file n taken f e u)
+    cause_or_outside s (no_value ready request asks e trees end stream some) = absurd (unended ready e)
+    cause_or_outside s (input_fault e) = inr (inl refl)
+    cause_or_outside s (input_long ready e) = inl (input ready)
+    cause_or_outside s (memory spent) = inr (inr (inr (inl refl)))
+    cause_or_outside s (out_fault breaks) = inr (inr (inr (inr refl)))
+    cause_or_outside s (err_fault unput) = inr (inr (inr (inr refl)))
+
   -- what an accepted FILE that is told holds
-  ready_text : IsReady language words a.given → (name type text : List ℕ) → IsTyped words name type → TellsFile call.files name text
+  ready_text : IsReady language words a.given → (name type text : List ℕ) → AsksFor words name type → TellsFile call.files name text
       → (length text < 2 ^ 48) × IsAccepted language text type
   ready_text (task, p) name type text is told =
       let here : AcceptsFile language a.given.file name type = prepared_accepts language words a.given.file task p name type is in
       let fetched : Fetched call.files name (opened (whole here.text)) =
-      subst (λ o. Fetched call.files name o) here.found (file_fetched language words call a name (is.0, type, is.1, is.2)) in
+      subst (λ o. Fetched call.files name o) here.found (file_fetched language words call a name (type, is)) in
       let same : whole here.text ≡ whole text = told_whole call.files name text told (whole here.text) fetched refl in
       (told_short call.files name text told (whole here.text) fetched refl, subst (λ t. IsAccepted language t type) (ap (λ t. t.bytes) same) here.accepted)
 
-  module _ (name type text : List ℕ) (is : IsTyped words name type) (told : TellsFile call.files name text) where
-    is_file : IsFileOf words name
-    is_file = (is.0, type, is.1, is.2)
+  module _ (name type text : List ℕ) (is : AsksFor words name type) (told : TellsFile call.files name text) where
+    is_file : AsksForFile words name
+    is_file = (type, is)
 
     -- FILE of the words is the one that was found
-    fetched_as : (other : List ℕ) → IsFileOf words other → (o : Found) → a.given.file other ≡ o → Fetched call.files name o
+    fetched_as : (other : List ℕ) → AsksForFile words other → (o : Found) → a.given.file other ≡ o → Fetched call.files name o
     fetched_as other is' o e =
-        let once = one_typed words other is'.1 name type (typed_file words other is') is in
+        let once = one_typed words other is'.0 name type is'.1 is in
         subst (λ n. Fetched call.files n o) once.0 (subst (λ o. Fetched call.files other o) e (file_fetched language words call a other is'))
 
     module _ (short : length text < 2 ^ 48) (refused : IsRefusedType language text type) where
@@ -139,47 +158,26 @@ module _ {D T : Type 0} (language : Language D T) (lawful : IsLawful language) (
       not_ready ready = accepted_or_refused language lawful text type (ready_text ready name type text is told).1 refused
 
       types_cause : (s : Status) → Cause s → (s ≡ statuses.Types) ⊎ IsOutside s
-      types_cause s (all_well ready e) = absurd (not_ready ready)
-      types_cause s (some_no ready e) = absurd (not_ready ready)
-      types_cause s (not_plain none) = absurd (none is.0 is.1)
-      types_cause s (not_there n f e) = inr (inr (inl refl))
-      types_cause s (not_opened n f e) = inr (inr (inl refl))
-      types_cause s (no_types n t x f e why) = inl refl
-      types_cause s (file_fault n taken f e u) = inr (inl refl)
-      types_cause s (file_long n taken f e u) =
-          let long = told_long call.files name text told taken (fetched_as n f (opened taken) e) u in absurd (omega arith)
-      types_cause s (no_value ready request asks e trees end stream some) = absurd (not_ready ready)
-      types_cause s (input_fault e) = inr (inl refl)
-      types_cause s (input_long ready e) = absurd (not_ready ready)
-      types_cause s (memory spent) = inr (inr (inr (inl refl)))
-      types_cause s (out_fault breaks) = inr (inr (inr (inr refl)))
-      types_cause s (err_fault unput) = inr (inr (inr (inr refl)))
+      types_cause =
+          cause_or_outside statuses.Types (λ ready e. not_ready ready) (λ none. none is.0 is.1) (λ n t x typed e why. refl)
+          (λ n taken f e u. let long = told_long call.files name text told taken (fetched_as n f (opened taken) e) u in absurd (omega arith))
+          (λ ready. absurd (not_ready ready))
 
     module _ (long : 2 ^ 48 ≤ length text) where
       unread : IsReady language words a.given → ⊥
       unread ready = let short = (ready_text ready name type text is told).0 in omega arith
 
       file_cause : (s : Status) → Cause s → (s ≡ statuses.TooLong) ⊎ IsOutside s
-      file_cause s (all_well ready e) = absurd (unread ready)
-      file_cause s (some_no ready e) = absurd (unread ready)
-      file_cause s (not_plain none) = absurd (none is.0 is.1)
-      file_cause s (not_there n f e) = inr (inr (inl refl))
-      file_cause s (not_opened n f e) = inr (inr (inl refl))
-      file_cause s (no_types n t x f e why) =
-          let short = told_short call.files name text told (whole x) (fetched_as n (f.0, t, f.1, f.2) (opened (whole x)) e) refl in absurd (omega arith)
-      file_cause s (file_fault n taken f e u) = inr (inl refl)
-      file_cause s (file_long n taken f e u) = inl refl
-      file_cause s (no_value ready request asks e trees end stream some) = absurd (unread ready)
-      file_cause s (input_fault e) = inr (inl refl)
-      file_cause s (input_long ready e) = inl refl
-      file_cause s (memory spent) = inr (inr (inr (inl refl)))
-      file_cause s (out_fault breaks) = inr (inr (inr (inr refl)))
-      file_cause s (err_fault unput) = inr (inr (inr (inr refl)))
+      file_cause =
+          cause_or_outside statuses.TooLong (λ ready e. unread ready) (λ none. none is.0 is.1)
+          (λ n t x typed e why.
+          let short = told_short call.files name text told (whole x) (fetched_as n (t, typed) (opened (whole x)) e) refl in absurd (omega arith))
+          (λ n taken f e u. refl) (λ ready. refl)
 
   pub if_types : IfTypes language words call
   if_types name type text is told short refused = types_cause name type text is told short refused call.status (account_why language words call a)
 
-  module _ (files : List File) (task : Task T) (bytes : List ℕ) (map : call.files.before.map ≡ Some files) (prepared : Prepares language words (λ name. found_of (bytes_of files name)) (Ok task))
+  module _ (files : List File) (task : Task T) (bytes : List ℕ) (map : call.files.before.map ≡ Some files) (prepared : Prepares language words (λ name. found_of (contents_of files name)) (Ok task))
       (told : call.input.before.bytes ≡ Some bytes) (long : 2 ^ 48 ≤ length bytes) where
     -- what was taken of the input is not all
     not_at_end : a.given.input.until ≡ at_end → ⊥
@@ -188,34 +186,24 @@ module _ {D T : Type 0} (language : Language D T) (lawful : IsLawful language) (
         let short = all_short bytes a.given.input taken.0 taken.1 e a.input.measured in omega arith
 
     -- a FILE that the map has as it was found is not refused
-    map_accepts : (name type text : List ℕ) → IsTyped words name type → a.given.file name ≡ opened (whole text) → IsAccepted language text type
+    map_accepts : (name type text : List ℕ) → AsksFor words name type → a.given.file name ≡ opened (whole text) → IsAccepted language text type
     map_accepts name type text is found =
-        let here : AcceptsFile language (λ name. found_of (bytes_of files name)) name type = prepared_accepts language words (λ name. found_of (bytes_of files name)) task prepared name type is in
-        let fetched : Fetched call.files name (opened (whole text)) = subst (λ o. Fetched call.files name o) found (file_fetched language words call a name (is.0, type, is.1, is.2)) in
-        let is_found : IsFoundOf (bytes_of files name) (opened (whole text)) = rw map at fetched.map in
-        let contents : bytes_of files name ≡ Some text = contents_are language words call a (bytes_of files name) text is_found in
+        let here : AcceptsFile language (λ name. found_of (contents_of files name)) name type = prepared_accepts language words (λ name. found_of (contents_of files name)) task prepared name type is in
+        let fetched : Fetched call.files name (opened (whole text)) = subst (λ o. Fetched call.files name o) found (file_fetched language words call a name (type, is)) in
+        let is_found : IsFoundOf (contents_of files name) (opened (whole text)) = rw map at fetched.map in
+        let contents : contents_of files name ≡ Some text = contents_are language words call a (contents_of files name) text is_found in
         let same : opened (whole text) ≡ opened (whole here.text) = sym (ap found_of contents) ∙ here.found in
         let texts : here.text ≡ text = sym (ap text_in same) in
         subst (λ t. IsAccepted language t type) texts here.accepted
 
     input_cause : (s : Status) → Cause s → (s ≡ statuses.TooLong) ⊎ IsOutside s
-    input_cause s (all_well ready e) = absurd (not_at_end e)
-    input_cause s (some_no ready e) = absurd (not_at_end e)
-    input_cause s (not_plain none) = let asked = prepared_asks language words (λ name. found_of (bytes_of files name)) task prepared in absurd (none asked.2.0 asked.2.1)
-    input_cause s (not_there n f e) = inr (inr (inl refl))
-    input_cause s (not_opened n f e) = inr (inr (inl refl))
-    input_cause s (no_types n t x f e why) = absurd (accepted_or_refused language lawful x t (map_accepts n t x f e) why)
-    input_cause s (file_fault n taken f e u) = inr (inl refl)
-    input_cause s (file_long n taken f e u) = inl refl
-    input_cause s (no_value ready request asks e trees end stream some) = absurd (not_at_end e)
-    input_cause s (input_fault e) = inr (inl refl)
-    input_cause s (input_long ready e) = inl refl
-    input_cause s (memory spent) = inr (inr (inr (inl refl)))
-    input_cause s (out_fault breaks) = inr (inr (inr (inr refl)))
-    input_cause s (err_fault unput) = inr (inr (inr (inr refl)))
+    input_cause =
+        let asked = prepared_asks language words (λ name. found_of (contents_of files name)) task prepared in
+        cause_or_outside statuses.TooLong (λ ready e. not_at_end e) (λ none. none asked.2.0 asked.2.1)
+        (λ n t x typed e why. absurd (accepted_or_refused language lawful x t (map_accepts n t x typed e) why)) (λ n taken f e u. refl) (λ ready. refl)
 
   pub if_too_long : IfTooLong language words call
   if_too_long = record {
-    file = λ name bytes is told long. file_cause name is.1 bytes (typed_file words name is) told long call.status (account_why language words call a);
+    file = λ name bytes is told long. file_cause name is.0 bytes is.1 told long call.status (account_why language words call a);
     input = λ files task bytes map prepared told long. input_cause files task bytes map prepared told long call.status (account_why language words call a);
   }

@@ -1,27 +1,28 @@
--- The texts of some first values are a front of an outcome's text: there is one that goes on behind them.
+-- The texts of some first values are a front of an outcome's text: there is one that goes on after them.
 use Rattle.std.proofs.Common.{◌≡◌, ◌⊎◌, ℕ, zero, suc, ◌+◌, ◌-◌, ◌<◌, ◌≤◌, Bool, List, [], ◌∷◌, ◌++◌, length, take, drop, Option, Some, None, Result, Ok, Err, inl, inr, refl, sym, ap, ◌∙◌, subst, append_assoc, arith}
 use Rattle.std.specs.Prelude.{MatchResult}
 use Rattle.std.proofs.lemmas.List.{take-append-drop, length-drop, length-take-le}
 use Rattle.std.proofs.lemmas.List.Elements.{All-drop}
 use Rattle.om_model.specs.declared.status.Status.TheVariants as statuses
 use Rattle.om_model.specs.Bytes.{AreBytes}
-use Rattle.om_model.specs.Judgement.{Judgement, value, Judges}
-use Rattle.om_model.specs.Judgement as j
-use Rattle.om_model.specs.Laws.{HasOneJudgement}
-use Rattle.om_model.specs.Tree.{Tree}
-use Rattle.om_model.specs.Stream.{SpellAll, End, clean, refused, cut, Stream}
-use Rattle.om_model.specs.RefusalText.{refusal_text, truncated_text}
-use Rattle.om_model.specs.Outcome as o
-use Rattle.om_model.specs.Outcome.{Taken, at_end, whole, Found, opened, missing, Given, Stop, usage, cannot_open, declarations, requested_type, out_of_memory, text_of, err_line, Ending, stopped, ended, behind, line, Request, check, Asks, typed_by, Task, Language, ReadsFile, ReadsTypeOf, Prepares, Says, SaysValues, SaysSome, SaysFirst, Closes, says, stops, Treats, TreatsAll, limit_of, found_of, Outcome}
-use Rattle.om_edge.specs.Files.{File, bytes_of}
-use Rattle.om_model.proofs.JudgementLaws.{one_judgement_lem}
+use Rattle.om_format.specs.Judgement.{Judgement, value, Judges}
+use Rattle.om_format.specs.Judgement as j
+use Rattle.om_format.specs.Laws.{HasOneJudgement}
+use Rattle.om_format.specs.Tree.{Tree}
+use Rattle.om_format.specs.Stream.{SpellAll, End, clean, refused, cut, Stream}
+use Rattle.om_outcome.specs.RefusalText.{refusal_text, truncated_text}
+use Rattle.om_outcome.specs.Outcome as o
+use Rattle.om_outcome.specs.Outcome.{Taken, at_end, whole, Found, opened, missing, Given, Stop, usage, cannot_open, declarations, requested_type, out_of_memory, stop_text, err_line, Ending, stopped, ended, with_output, line, Request, check, Asks, typed_by, Task, Language, ReadsFile, ReadsTypeOf, Prepares, RunEnds, ValuesEnd, IsOutputOfFirstValues, IsOutputOfFirst, Closes, says, stops, IsReply, RepliesEnd, limit_of, found_of, Outcome}
+use Rattle.om_edge.specs.Files.{File, contents_of}
+use Rattle.om_format.proofs.JudgementLaws.{one_judgement_lem}
+use Rattle.om_edge.specs.Sink.{Puts}
 use Rattle.om_session.specs.StreamLaws.{HasOneStream}
 use Rattle.om_session.specs.Call.{Call}
-use Rattle.om_session.specs.Given.{TakesFrom, Puts}
+use Rattle.om_session.specs.Given.{TakesFrom, TellsBytes}
 use Rattle.om_session.specs.Run.{MayEnd, Account, IsWellRead, IsFrontOfOutcome, IfMemory, IfWriteFault, OutBreaks, ErrBreaks, IsUsage}
 use Rattle.om_session.proofs.HeadlineLemmas.{no_stop, prepares_same, says_same}
 use Rattle.om_session.proofs.LineLemmas.{spelled_some}
-use Rattle.om_session.proofs.StreamLemmas.{bytes_behind, streams_once}
+use Rattle.om_session.proofs.StreamLemmas.{bytes_after, streams_once}
 use Rattle.om_session.proofs.CauseLemmas.{Why, memory, out_fault, err_fault, account_why}
 use Rattle.om_session.proofs.TotalLemmas.{IsTotal, plain_or_not}
 
@@ -29,18 +30,18 @@ use Rattle.om_session.proofs.TotalLemmas.{IsTotal, plain_or_not}
 
 pub spell_append : (limit : ℕ) (bytes rest tail : List ℕ) (trees more : List Tree) → SpellAll limit bytes trees rest → SpellAll limit rest more tail → SpellAll limit bytes (trees ++ more) tail
 spell_append limit bytes rest tail [] more same next = subst (λ bytes. SpellAll limit bytes more tail) (sym same) next
-spell_append limit bytes rest tail (tree ∷ trees) more (first, behind, same, spelled, all) next = (first, behind, same, spelled, spell_append limit behind rest tail trees more all next)
+spell_append limit bytes rest tail (tree ∷ trees) more (first, after, same, spelled, all) next = (first, after, same, spelled, spell_append limit after rest tail trees more all next)
 
--- bytes behind those that are spelled stay behind
-pub spell_behind : (limit : ℕ) (bytes rest more : List ℕ) (trees : List Tree) → SpellAll limit bytes trees rest → SpellAll limit (bytes ++ more) trees (rest ++ more)
-spell_behind limit bytes rest more [] same = ap (λ bytes. bytes ++ more) same
-spell_behind limit bytes rest more (tree ∷ trees) (first, behind, same, spelled, all) =
-    (first, behind ++ more, ap (λ bytes. bytes ++ more) same ∙ append_assoc first behind more, spelled, spell_behind limit behind rest more trees all)
+-- bytes after those that are spelled stay after
+pub spell_after : (limit : ℕ) (bytes rest more : List ℕ) (trees : List Tree) → SpellAll limit bytes trees rest → SpellAll limit (bytes ++ more) trees (rest ++ more)
+spell_after limit bytes rest more [] same = ap (λ bytes. bytes ++ more) same
+spell_after limit bytes rest more (tree ∷ trees) (first, after, same, spelled, all) =
+    (first, after ++ more, ap (λ bytes. bytes ++ more) same ∙ append_assoc first after more, spelled, spell_after limit after rest more trees all)
 
 spell_bytes : (limit : ℕ) (bytes rest : List ℕ) (trees : List Tree) → SpellAll limit bytes trees rest → AreBytes bytes → AreBytes rest
 spell_bytes limit bytes rest [] same are_bytes = subst AreBytes same are_bytes
-spell_bytes limit bytes rest (tree ∷ trees) (first, behind, same, spelled, all) are_bytes =
-    spell_bytes limit behind rest trees all (bytes_behind first behind (subst AreBytes same are_bytes))
+spell_bytes limit bytes rest (tree ∷ trees) (first, more, same, spelled, all) are_bytes =
+    spell_bytes limit more rest trees all (bytes_after first more (subst AreBytes same are_bytes))
 
 module _ (law : HasOneJudgement) (limit : ℕ) where
   -- bytes are a stream of values
@@ -48,8 +49,8 @@ module _ (law : HasOneJudgement) (limit : ℕ) where
   stream_in fuel [] fits are_bytes = ([], clean, ([], refl, refl))
   stream_in zero (b ∷ bytes) fits are_bytes = absurd (omega arith)
   stream_in (suc fuel) (b ∷ bytes) fits are_bytes =
-      let one = law limit (b ∷ bytes) are_bytes in at (λ behind. stream_in fuel behind) one.0 one.1.holds where
-        at : ((behind : List ℕ) → length behind ≤ fuel → AreBytes behind → (trees : List Tree) × (end : End) × Stream behind limit trees end)
+      let one = law limit (b ∷ bytes) are_bytes in at (λ more. stream_in fuel more) one.0 one.1.holds where
+        at : ((more : List ℕ) → length more ≤ fuel → AreBytes more → (trees : List Tree) × (end : End) × Stream more limit trees end)
             → (judgement : Judgement) → Judges limit (b ∷ bytes) judgement → (trees : List Tree) × (end : End) × Stream (b ∷ bytes) limit trees end
         at next_stream j.front f = ([], cut (length (b ∷ bytes)), (b ∷ bytes, refl, (omega arith, refl, f)))
         at next_stream (j.refused n refusal) r = ([], refused refusal, (b ∷ bytes, refl, (n, r.0, r.1)))
@@ -81,36 +82,36 @@ one_stream_lem limit bytes are_bytes =
 -- ---- the values have texts
 
 module _ {D T : Type 0} (language : Language D T) (task : Task T) where
-  -- behind the texts of some first values come those of the others
-  pub treats_append : (C : Ending → Type 0) (k n : ℕ) (trees more : List Tree) (e rest : Ending) → n ≡ k + length trees
-      → TreatsAll language task (λ closing. closing ≡ ended) k trees e → TreatsAll language task C n more rest
-      → (all : Ending) × TreatsAll language task C k (trees ++ more) all × (all.out ≡ e.out ++ rest.out)
-  treats_append C k n [] more e rest at same next =
+  -- after the texts of some first values come those of the others
+  pub replies_append : (C : Ending → Type 0) (k n : ℕ) (trees more : List Tree) (e rest : Ending) → n ≡ k + length trees
+      → RepliesEnd language task (λ closing. closing ≡ ended) k trees e → RepliesEnd language task C n more rest
+      → (all : Ending) × RepliesEnd language task C k (trees ++ more) all × (all.out ≡ e.out ++ rest.out)
+  replies_append C k n [] more e rest at same next =
       let here : n ≡ k = omega arith in
-      (rest, subst (λ n. TreatsAll language task C n more rest) here next, ap (λ e. e.out ++ rest.out) (sym same))
-  treats_append C k n (tree ∷ trees) more e rest at (stops stop, treats, same) next = absurd (no_stop language task.request task.type k tree stop treats)
-  treats_append C k n (tree ∷ trees) more e rest at (says text well, treats, (closing, goes, same)) next =
-      let all = treats_append C (suc k) n trees more closing rest (omega arith) goes next in (
-        behind text well all.0,
-        (says text well, treats, (all.0, all.1, refl)),
+      (rest, subst (λ n. RepliesEnd language task C n more rest) here next, ap (λ e. e.out ++ rest.out) (sym same))
+  replies_append C k n (tree ∷ trees) more e rest at (stops stop, replies, same) next = absurd (no_stop language task.request task.type k tree stop replies)
+  replies_append C k n (tree ∷ trees) more e rest at (says text has_type, replies, (closing, goes, same)) next =
+      let all = replies_append C (suc k) n trees more closing rest (omega arith) goes next in (
+        with_output text has_type all.0,
+        (says text has_type, replies, (all.0, all.1, refl)),
         ap (λ out. text ++ out) all.2 ∙ (sym (append_assoc text closing.out rest.out) ∙ ap (λ e. e.out ++ rest.out) (sym same)),
       )
 
   module _ (total : IsTotal language) where
     -- each value has its text
-    pub treats_exist : (C : Ending → Type 0) (closing : Ending) → C closing → (type : T) → task.type ≡ Some type → (k : ℕ) (trees : List Tree) → (all : Ending) × TreatsAll language task C k trees all
-    treats_exist C closing closes type typed k [] = (closing, closes)
-    treats_exist C closing closes type typed k (tree ∷ trees) =
-        let rest = treats_exist C closing closes type typed (suc k) trees in
+    pub replies_exist : (C : Ending → Type 0) (closing : Ending) → C closing → (type : T) → task.type ≡ Some type → (k : ℕ) (trees : List Tree) → (all : Ending) × RepliesEnd language task C k trees all
+    replies_exist C closing closes type typed k [] = (closing, closes)
+    replies_exist C closing closes type typed k (tree ∷ trees) =
+        let rest = replies_exist C closing closes type typed (suc k) trees in
         let said = total.verdict type tree in
-        (behind (line said.0) said.1 rest.0, (says (line said.0) said.1, treated task.request task.type typed said.0 said.1 said.2, (rest.0, rest.1, refl))) where
-          treated : (request : Request) (o : Option T) → o ≡ Some type → (verdict : List ℕ) (well : Bool) → language.SaysVerdict type tree verdict well
-              → Treats language request o k tree (says (line verdict) well)
-          treated (check f u) None e verdict well said = absurd (cc e)
-          treated (check f u) (Some t) e verdict well said =
-              let same : type ≡ t = cc in (verdict, subst (λ t. language.SaysVerdict t tree verdict well) same said, refl)
+        (with_output (line said.0) said.1 rest.0, (says (line said.0) said.1, replied task.request task.type typed said.0 said.1 said.2, (rest.0, rest.1, refl))) where
+          replied : (request : Request) (o : Option T) → o ≡ Some type → (verdict : List ℕ) (has_type : Bool) → language.LineOf type tree verdict has_type
+              → IsReply language request o k tree (says (line verdict) has_type)
+          replied (check f u) None e verdict has_type said = absurd (cc e)
+          replied (check f u) (Some t) e verdict has_type said =
+              let same : type ≡ t = cc in (verdict, subst (λ t. language.LineOf t tree verdict has_type) same said, refl)
 
--- something is said behind the values at the input's end
+-- something is said after the values at the input's end
 closes_exist : (request : Request) (trees : List Tree) (end : End) → (closing : Ending) × Closes request trees at_end end closing
 closes_exist (check f u) trees clean = (ended, refl)
 closes_exist request trees (refused refusal) = (stopped (o.value (length trees) (refusal_text refusal)), refl)
@@ -135,10 +136,10 @@ module _ {D T : Type 0} (language : Language D T) (file : List ℕ → Found) wh
 
 module _ {D T : Type 0} (language : Language D T) (total : IsTotal language) (files : List File) where
   abbrev in_map : List ℕ → Found
-  in_map name = found_of (bytes_of files name)
+  in_map name = found_of (contents_of files name)
 
   reads_exist : (f u : List ℕ) → (result : Result T Stop) × ReadsTypeOf language in_map (f, u) result
-  reads_exist f u = at (bytes_of files f) refl where
+  reads_exist f u = at (contents_of files f) refl where
     types : (text : List ℕ) → in_map f ≡ opened (whole text) → (d : D) → language.ReadsDeclarations text (Ok d)
         → ((t : T) × language.ReadsType d u (Ok t)) ⊎ ((refusal : List ℕ) × language.ReadsType d u (Err refusal))
         → (result : Result T Stop) × ReadsTypeOf language in_map (f, u) result
@@ -151,7 +152,7 @@ module _ {D T : Type 0} (language : Language D T) (total : IsTotal language) (fi
     decls text found (inl (d, reads)) = types text found d reads (total.type d u)
     decls text found (inr (refusal, reads)) = (Err (declarations refusal), (Ok text, found, (Err (declarations refusal), (refusal, reads, refl), refl)))
 
-    at : (contents : Option (List ℕ)) → bytes_of files f ≡ contents → (result : Result T Stop) × ReadsTypeOf language in_map (f, u) result
+    at : (contents : Option (List ℕ)) → contents_of files f ≡ contents → (result : Result T Stop) × ReadsTypeOf language in_map (f, u) result
     at None e = (Err (cannot_open f), (Err (cannot_open f), subst (λ o. ReadsFile f o (Err (cannot_open f))) (sym (ap found_of e)) refl, refl))
     at (Some text) e = decls text (ap found_of e) (total.declarations text)
 
@@ -167,16 +168,16 @@ module _ {D T : Type 0} (language : Language D T) (total : IsTotal language) (fi
 
   module _ (law : HasOneJudgement) (words : List (List ℕ)) (input : List ℕ) (are_bytes : AreBytes input) where
     -- some first values, and then the others
-    front_of_values : (task : Task T) → Prepares language words in_map (Ok task) → (text : List ℕ) → SaysSome language task input text → IsFrontOfOutcome language words input files text
-    front_of_values task prepared text (trees, rest, spelled, e, treats, same) =
+    front_of_values : (task : Task T) → Prepares language words in_map (Ok task) → (text : List ℕ) → IsOutputOfFirstValues language task input text → IsFrontOfOutcome language words input files text
+    front_of_values task prepared text (trees, rest, spelled, e, replies, same) =
         let limit = limit_of task.request in
         let stream = stream_of law limit rest (spell_bytes limit input rest trees spelled are_bytes) in
         let typed = task_typed language in_map words task prepared in
         let all : List Tree = trees ++ stream.0 in
         let closing = closes_exist task.request all stream.1 in
         let C : Ending → Type 0 = λ e. Closes task.request all at_end stream.1 e in
-        let others = treats_exist language task total C closing.0 closing.1 typed.0 typed.1 (length trees) stream.0 in
-        let both = treats_append language task C 0 (length trees) trees stream.0 e others.0 (omega arith) treats others.1 in
+        let others = replies_exist language task total C closing.0 closing.1 typed.0 typed.1 (length trees) stream.0 in
+        let both = replies_append language task C 0 (length trees) trees stream.0 e others.0 (omega arith) replies others.1 in
         record {
           ending = both.0;
           rest = others.0.out;
@@ -196,13 +197,13 @@ module _ {D T : Type 0} (language : Language D T) (total : IsTotal language) (fi
 module _ {D T : Type 0} (language : Language D T) (total : IsTotal language) (law : HasOneJudgement) (words : List (List ℕ)) (call : Call) (a : Account language words call)
     (input : List ℕ) (files : List File) (h : IsWellRead call input files) (are_bytes : AreBytes input) where
   -- what is said of some first of the bytes taken is said of the input
-  some_of_input : (task : Task T) (text : List ℕ) → SaysSome language task a.given.input.bytes text → SaysSome language task input text
-  some_of_input task text (trees, rest, spelled, e, treats, same) =
+  some_of_input : (task : Task T) (text : List ℕ) → IsOutputOfFirstValues language task a.given.input.bytes text → IsOutputOfFirstValues language task input text
+  some_of_input task text (trees, rest, spelled, e, replies, same) =
       let taken : (rest : List ℕ) × TakesFrom input a.given.input rest × (call.input.after.bytes ≡ Some rest) = rw h.input_told at a.input.told in
-      let all = spell_behind (limit_of task.request) a.given.input.bytes rest taken.0 trees spelled in
-      (trees, rest ++ taken.0, subst (λ bytes. SpellAll (limit_of task.request) bytes trees (rest ++ taken.0)) (sym taken.1.front) all, e, treats, same)
+      let all = spell_after (limit_of task.request) a.given.input.bytes rest taken.0 trees spelled in
+      (trees, rest ++ taken.0, subst (λ bytes. SpellAll (limit_of task.request) bytes trees (rest ++ taken.0)) (sym taken.1.front) all, e, replies, same)
 
-  first_front : (text : List ℕ) → SaysFirst language words a.given text → IsFrontOfOutcome language words input files text
+  first_front : (text : List ℕ) → IsOutputOfFirst language words a.given text → IsFrontOfOutcome language words input files text
   first_front text (inl none) = subst (IsFrontOfOutcome language words input files) (sym none) (front_of_none language total files law words input are_bytes)
   first_front text (inr (task, p, some)) =
       front_of_values language total files law words input are_bytes task
@@ -210,7 +211,7 @@ module _ {D T : Type 0} (language : Language D T) (total : IsTotal language) (la
 
   -- an ending with what an outcome says, or where memory ran out
   ending_front : (ending : Ending) → MayEnd language words a.given ending
-      → Outcome language words (bytes_of files) input ending
+      → Outcome language words (contents_of files) input ending
       ⊎ (IsFrontOfOutcome language words input files ending.out × (ending ≡ record (stopped out_of_memory) { out = ending.out }))
   ending_front ending (inl said) = inl (says_same language words call a input files h ending said)
   ending_front ending (inr (text, first, same)) =
@@ -218,14 +219,20 @@ module _ {D T : Type 0} (language : Language D T) (total : IsTotal language) (la
       inr (subst (IsFrontOfOutcome language words input files) out (first_front text first), same ∙ ap (λ out. record (stopped out_of_memory) { out = out }) out)
 
 module _ {D T : Type 0} (language : Language D T) (total : IsTotal language) (law : HasOneJudgement) (words : List (List ℕ)) (call : Call) (a : Account language words call) where
-  pub if_memory : IfMemory language words call
-  if_memory input files h are_bytes e = at (subst (Why language words call a.given) e (account_why language words call a)) where
+  pub if_memory : TellsBytes call.input → IfMemory language words call
+  if_memory tells input files h e = at (subst (Why language words call a.given) e (account_why language words call a)) where
+    are_bytes : AreBytes input
+    are_bytes = rw h.input_told at tells
+
     at : Why language words call a.given statuses.Memory
-        → (text : List ℕ) × IsFrontOfOutcome language words input files text × Puts call.out text × Puts call.err (err_line (text_of out_of_memory))
+        → (text : List ℕ) × IsFrontOfOutcome language words input files text × Puts call.out text × Puts call.err (err_line (stop_text out_of_memory))
     at (memory (text, first, out, err)) = (text, first_front language total law words call a input files h are_bytes text first, out, err)
 
-  pub if_write_fault : IfWriteFault language words call
-  if_write_fault input files h are_bytes e = at (subst (Why language words call a.given) e (account_why language words call a)) where
+  pub if_write_fault : TellsBytes call.input → IfWriteFault language words call
+  if_write_fault tells input files h e = at (subst (Why language words call a.given) e (account_why language words call a)) where
+    are_bytes : AreBytes input
+    are_bytes = rw h.input_told at tells
+
     at : Why language words call a.given statuses.WriteFault → OutBreaks language words call input files ⊎ ErrBreaks language words call input files
     at (out_fault breaks) = inl (breaks.text, first_front language total law words call a input files h are_bytes breaks.text breaks.first, breaks.out, breaks.err)
     at (err_fault (ending, may, out, part)) = inr (ending, out, part, ending_front language total law words call a input files h are_bytes ending may)

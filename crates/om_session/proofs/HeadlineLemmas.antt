@@ -2,13 +2,14 @@
 use Rattle.std.proofs.Common.{◌≡◌, ◌≢◌, ◌⊎◌, ℕ, suc, ◌+◌, ◌^◌, ◌<◌, ◌≤◌, List, [], ◌∷◌, ◌++◌, length, Option, Some, None, Result, Ok, Err, inl, inr, refl, sym, ap, ◌∙◌, subst, append-nil, length-append, arith}
 use Rattle.std.specs.Prelude.{IsSomeAnd, MatchResult}
 use Rattle.om_model.specs.declared.status.Status.TheVariants as statuses
-use Rattle.om_model.specs.Stream.{End}
-use Rattle.om_model.specs.Tree.{Tree}
-use Rattle.om_model.specs.Outcome.{Taken, Until, at_end, at_fault, at_length, unasked, whole, Found, opened, missing, failed, unfetched, Stop, Ending, stopped, Request, check, Task, Language, ReadsFile, ReadsTypeOf, Prepares, Says, SaysValues, Closes, says, stops, Treats, TreatsAll, found_of, Outcome, fault_of}
+use Rattle.om_format.specs.Stream.{End}
+use Rattle.om_format.specs.Tree.{Tree}
+use Rattle.om_outcome.specs.Outcome.{Taken, InputEnd, at_end, at_fault, at_length, unasked, whole, Found, opened, missing, failed, unfetched, Stop, Ending, stopped, Request, check, Task, Language, ReadsFile, ReadsTypeOf, Prepares, RunEnds, ValuesEnd, Closes, says, stops, IsReply, RepliesEnd, found_of, Outcome, fault_of}
 use Rattle.om_edge.specs.Faults.{RoseOrLast}
-use Rattle.om_edge.specs.Files.{File, bytes_of}
-use Rattle.om_session.specs.Call.{Seen, SeenFiles, Change, Call}
-use Rattle.om_session.specs.Given.{TakesFrom, Took, Fetched, IsFoundOf, IsMeasured}
+use Rattle.om_edge.specs.Files.{File, contents_of}
+use Rattle.om_edge.specs.State.{ByteState, FilesState, Change}
+use Rattle.om_session.specs.Call.{Call}
+use Rattle.om_session.specs.Given.{TakesFrom, Gathers, Fetched, IsFoundOf, IsMeasured}
 use Rattle.om_session.specs.Run.{FetchesFor, MayEnd, PutsLine, Completes, Breaks, Account, IsWellRead, IsHonest, HasOutcome, Headline}
 
 -- ---- what was taken, where it is told and there is no fault
@@ -26,45 +27,45 @@ too_short bytes taken rest t short long =
 
 -- ---- the files
 
-module _ (files : Change SeenFiles) (all : List File) (told : files.before.map ≡ Some all)
-    (short : (name bytes : List ℕ) → bytes_of all name ≡ Some bytes → length bytes < 2 ^ 48)
+module _ (files : Change FilesState) (all : List File) (told : files.before.map ≡ Some all)
+    (short : (name bytes : List ℕ) → contents_of all name ≡ Some bytes → length bytes < 2 ^ 48)
     (opens : ¬ RoseOrLast files.before.open_faults files.after.open_faults) (reads : ¬ RoseOrLast files.before.read_faults files.after.read_faults)
     (name : List ℕ) where
   -- a file that was opened was read to its end
-  opened_whole : (taken : Taken) → Fetched files name (opened taken) → (contents : Option (List ℕ)) → bytes_of all name ≡ contents
-      → (u : Until) → taken.until ≡ u → (fault_of u ≡ None → u ≡ at_end) → opened taken ≡ found_of contents
+  opened_whole : (taken : Taken) → Fetched files name (opened taken) → (contents : Option (List ℕ)) → contents_of all name ≡ contents
+      → (u : InputEnd) → taken.until ≡ u → (fault_of u ≡ None → u ≡ at_end) → opened taken ≡ found_of contents
   opened_whole taken f None none u e asked =
-      let found : IsFoundOf (bytes_of all name) (opened taken) = rw told at f.map in
+      let found : IsFoundOf (contents_of all name) (opened taken) = rw told at f.map in
       absurd (subst (λ c. IsSomeAnd c (λ bytes. (rest : List ℕ) × TakesFrom bytes taken rest)) none found)
   opened_whole taken f (Some bytes) some at_end e asked =
-      let found : IsFoundOf (bytes_of all name) (opened taken) = rw told at f.map in
+      let found : IsFoundOf (contents_of all name) (opened taken) = rw told at f.map in
       let t = subst (λ c. IsSomeAnd c (λ bytes. (rest : List ℕ) × TakesFrom bytes taken rest)) some found in
       ap opened (all_taken bytes taken t.0 t.1 e)
   opened_whole taken f (Some bytes) some at_fault e asked = absurd (reads (rw e at f.reading).rose)
   opened_whole taken f (Some bytes) some at_length e asked =
-      let found : IsFoundOf (bytes_of all name) (opened taken) = rw told at f.map in
+      let found : IsFoundOf (contents_of all name) (opened taken) = rw told at f.map in
       let t = subst (λ c. IsSomeAnd c (λ bytes. (rest : List ℕ) × TakesFrom bytes taken rest)) some found in
       absurd (too_short bytes taken t.0 t.1 (short name bytes some) (subst (λ u. IsMeasured u (length taken.bytes)) e f.measured))
   opened_whole taken f (Some bytes) some unasked e asked = let no : unasked ≡ at_end = asked refl in absurd (cc no)
 
   -- what was found is what the map has, where something was read of it
-  found_same : (found : Found) (result : Result (List ℕ) Stop) → Fetched files name found → ReadsFile name found result → found ≡ found_of (bytes_of all name)
+  found_same : (found : Found) (result : Result (List ℕ) Stop) → Fetched files name found → ReadsFile name found result → found ≡ found_of (contents_of all name)
   found_same (opened taken) (Ok bytes) f r =
       let same : taken ≡ whole bytes = cc in
-      opened_whole taken f (bytes_of all name) refl taken.until refl (λ none. ap (λ t. t.until) same)
-  found_same (opened taken) (Err stop) f r = opened_whole taken f (bytes_of all name) refl taken.until refl (λ none. absurd (cc (none, r)))
-  found_same missing result f r = let gone : IsFoundOf (bytes_of all name) missing = rw told at f.map in sym (ap found_of gone)
+      opened_whole taken f (contents_of all name) refl taken.until refl (λ none. ap (λ t. t.until) same)
+  found_same (opened taken) (Err stop) f r = opened_whole taken f (contents_of all name) refl taken.until refl (λ none. absurd (cc (none, r)))
+  found_same missing result f r = let gone : IsFoundOf (contents_of all name) missing = rw told at f.map in sym (ap found_of gone)
   found_same failed result f r = absurd (opens f.opening.rose)
   found_same unfetched (Ok bytes) f r = absurd (cc r)
   found_same unfetched (Err stop) f r = absurd r
 
 -- the stages say the same of the map
-module _ {D T : Type 0} (language : Language D T) (words : List (List ℕ)) (files : Change SeenFiles) (all : List File) (told : files.before.map ≡ Some all)
-    (short : (name bytes : List ℕ) → bytes_of all name ≡ Some bytes → length bytes < 2 ^ 48)
+module _ {D T : Type 0} (language : Language D T) (words : List (List ℕ)) (files : Change FilesState) (all : List File) (told : files.before.map ≡ Some all)
+    (short : (name bytes : List ℕ) → contents_of all name ≡ Some bytes → length bytes < 2 ^ 48)
     (opens : ¬ RoseOrLast files.before.open_faults files.after.open_faults) (reads : ¬ RoseOrLast files.before.read_faults files.after.read_faults)
     (file : List ℕ → Found) (fetches : FetchesFor words files file) where
   abbrev in_map : List ℕ → Found
-  in_map name = found_of (bytes_of all name)
+  in_map name = found_of (contents_of all name)
 
   reads_same : (f t : List ℕ) → Fetched files f (file f) → (result : Result T Stop) → ReadsTypeOf language file (f, t) result → ReadsTypeOf language in_map (f, t) result
   reads_same f t fetched result (text, r, more) =
@@ -76,42 +77,42 @@ module _ {D T : Type 0} (language : Language D T) (words : List (List ℕ)) (fil
       (Ok (check f t), asks, (found, (type, reads_same f t (fetches.asked (check f t) asks) type r, same), rest))
 
 -- `check` stops at no value
-pub no_stop : {D T : Type 0} (language : Language D T) (request : Request) (type : Option T) (k : ℕ) (tree : Tree) (stop : Stop) → Treats language request type k tree (stops stop) → ⊥
+pub no_stop : {D T : Type 0} (language : Language D T) (request : Request) (type : Option T) (k : ℕ) (tree : Tree) (stop : Stop) → IsReply language request type k tree (stops stop) → ⊥
 no_stop language (check f t) None k tree stop h = h
 no_stop language (check f t) (Some type) k tree stop h = h
 
--- so its values lead to what is said behind them
-treats_close : {D T : Type 0} (language : Language D T) (task : Task T) (C : Ending → Type 0) → ((e : Ending) → C e → ⊥) → (k : ℕ) (trees : List Tree) (e : Ending)
-    → TreatsAll language task C k trees e → ⊥
-treats_close language task C none k [] e h = none e h
-treats_close language task C none k (tree ∷ trees) e (says text well, treats, (rest, goes, same)) = treats_close language task C none (suc k) trees rest goes
-treats_close language task C none k (tree ∷ trees) e (stops stop, treats, same) = no_stop language task.request task.type k tree stop treats
+-- so its values lead to what is said after them
+replies_close : {D T : Type 0} (language : Language D T) (task : Task T) (C : Ending → Type 0) → ((e : Ending) → C e → ⊥) → (k : ℕ) (trees : List Tree) (e : Ending)
+    → RepliesEnd language task C k trees e → ⊥
+replies_close language task C none k [] e h = none e h
+replies_close language task C none k (tree ∷ trees) e (says text has_type, replies, (rest, goes, same)) = replies_close language task C none (suc k) trees rest goes
+replies_close language task C none k (tree ∷ trees) e (stops stop, replies, same) = no_stop language task.request task.type k tree stop replies
 
-module _ {D T : Type 0} (language : Language D T) (task : Task T) (source : Change Seen) (input : List ℕ) (told : source.before.bytes ≡ Some input)
-    (short : length input < 2 ^ 48) (no_fault : ¬ RoseOrLast source.before.faults source.after.faults) (taken : Taken) (took : Took source taken) (ending : Ending) where
+module _ {D T : Type 0} (language : Language D T) (task : Task T) (source : Change ByteState) (input : List ℕ) (told : source.before.bytes ≡ Some input)
+    (short : length input < 2 ^ 48) (no_fault : ¬ RoseOrLast source.before.faults source.after.faults) (taken : Taken) (took : Gathers source taken) (ending : Ending) where
   taken_input : (rest : List ℕ) × TakesFrom input taken rest × (source.after.bytes ≡ Some rest)
   taken_input = rw told at took.told
 
-  says_input : (u : Until) → taken.until ≡ u → SaysValues language task taken ending → SaysValues language task (whole input) ending
-  says_input at_end e said = subst (λ t. SaysValues language task t ending) (all_taken input taken taken_input.0 taken_input.1 e) said
+  says_input : (u : InputEnd) → taken.until ≡ u → ValuesEnd language task taken ending → ValuesEnd language task (whole input) ending
+  says_input at_end e said = subst (λ t. ValuesEnd language task t ending) (all_taken input taken taken_input.0 taken_input.1 e) said
   says_input at_fault e said = absurd (no_fault (rw e at took.cause).rose)
   says_input at_length e said = absurd (too_short input taken taken_input.0 taken_input.1 short (subst (λ u. IsMeasured u (length taken.bytes)) e took.measured))
-  says_input unasked e (trees, end, stream, treats) =
-      absurd (treats_close language task (Closes task.request trees unasked end) (λ e closes. closes_not task.request trees end e closes) 0 trees ending
-      (subst (λ u. TreatsAll language task (Closes task.request trees u end) 0 trees ending) e treats)) where
+  says_input unasked e (trees, end, stream, replies) =
+      absurd (replies_close language task (Closes task.request trees unasked end) (λ e closes. closes_not task.request trees end e closes) 0 trees ending
+      (subst (λ u. RepliesEnd language task (Closes task.request trees u end) 0 trees ending) e replies)) where
         closes_not : (request : Request) (trees : List Tree) (end : End) (e : Ending) → Closes request trees unasked end e → ⊥
         closes_not request trees end e h = h
 
 module _ {D T : Type 0} (language : Language D T) (words : List (List ℕ)) (call : Call) (a : Account language words call) where
-  pub says_same : (input : List ℕ) (files : List File) → IsWellRead call input files → (ending : Ending) → Says language words a.given ending → Outcome language words (bytes_of files) input ending
+  pub says_same : (input : List ℕ) (files : List File) → IsWellRead call input files → (ending : Ending) → RunEnds language words a.given ending → Outcome language words (contents_of files) input ending
   says_same input files h ending (prepared, p, rest) = (
     prepared,
     prepares_same language words call.files files h.files_told h.files_short h.opens h.reads a.given.file a.files prepared p,
     goes prepared rest,
   ) where
     goes : (prepared : Result (Task T) Stop)
-        → MatchResult prepared (λ task. SaysValues language task a.given.input ending) (λ stop. ending ≡ stopped stop)
-        → MatchResult prepared (λ task. SaysValues language task (whole input) ending) (λ stop. ending ≡ stopped stop)
+        → MatchResult prepared (λ task. ValuesEnd language task a.given.input ending) (λ stop. ending ≡ stopped stop)
+        → MatchResult prepared (λ task. ValuesEnd language task (whole input) ending) (λ stop. ending ≡ stopped stop)
     goes (Ok task) said = says_input language task call.input input h.input_told h.input_short h.takes a.given.input a.input ending a.given.input.until refl said
     goes (Err stop) same = same
 

@@ -16,5 +16,5 @@ pub mod TakeLemmas
 pub mod TypeLemmas
 pub mod ValueLemmas
 pub mod WordLemmas
-pub mod ReadLemmas
 pub mod DecidedLemmas
+pub mod PromiseLemmas

@@ -1,24 +1,24 @@
 -- The lines of the values, one more at a time.
-use Rattle.std.proofs.Common.{◌≡◌, ℕ, zero, suc, ◌+◌, ◌<◌, ◌≤◌, ◌==◌, Bool, true, false, cond, List, [], ◌∷◌, ◌++◌, length, take, drop, Ok, Err, refl, sym, ap, ◌∙◌, subst, length-append, append-nil, arith}
-use Rattle.std.specs.Prelude.{◌&&◌}
+use Rattle.std.proofs.Common.{◌≡◌, ℕ, zero, suc, ◌+◌, ◌<◌, ◌≤◌, ◌==◌, Bool, true, false, cond, List, [], ◌∷◌, ◌++◌, length, take, drop, Result, Ok, Err, refl, sym, ap, ◌∙◌, subst, length-append, append-nil, arith}
+use Rattle.std.specs.Prelude.{◌&&◌, IsErrAnd}
 use Rattle.std.specs.List.{concat}
 use Rattle.std.proofs.lemmas.Bool.{eqb-true}
-use Rattle.om_model.specs.declared.list_type.ListType.{ListType}
-use Rattle.om_model.specs.Header.{header_length}
-use Rattle.om_model.specs.Tree.{Tree, objects_of}
-use Rattle.om_model.specs.Spelled.{SpelledUnder}
-use Rattle.om_model.specs.Stream.{IsTail}
-use Rattle.om_model.specs.Outcome.{line}
+use Rattle.om_types.specs.declared.list_type.ListType.{ListType}
+use Rattle.om_format.specs.Header.{header_length}
+use Rattle.om_format.specs.Tree.{Tree, objects_of}
+use Rattle.om_format.specs.Spelled.{SpelledUnder}
+use Rattle.om_format.specs.Stream.{IsTail}
 use Rattle.om_edge.specs.declared.sink.WriteError.{WriteError}
 use Rattle.om_edge.specs.declared.sink.WriteError.TheVariants as errors
 use Rattle.om_read.specs.declared.value.Value.{Value}
+use Rattle.om_read.specs.Reading.{IsValueOf}
+use Rattle.om_edge.specs.Sink.{Puts}
+use Rattle.om_edge.specs.State.{ByteState, Change, change}
+use Rattle.om_session.specs.declared.values.Next.{Next}
 use Rattle.om_session.specs.declared.values.StreamEnd.{StreamEnd}
-use Rattle.om_session.specs.Call.{Seen}
-use Rattle.om_session.specs.Given.{Puts}
-use Rattle.om_session.specs.Lists.{lists, IsLine}
-use Rattle.om_session.specs.Read.{IsValueOf}
-use Rattle.om_session.specs.Values.{SaysFront, HasLine, PutsNext, PutsValues, checks, end_of, word_limit}
-use Rattle.om_session.proofs.PutLemmas.{from_to, puts_then, part_then}
+use Rattle.om_session.specs.Lists.{lists, SaysLine}
+use Rattle.om_session.specs.Values.{HasOutputOfFirst, HasFrontLine, PutsNext, PutsValues, checks, end_of, word_limit}
+use Rattle.om_session.proofs.PutLemmas.{puts_then, part_then}
 use Rattle.om_session.proofs.ValueLemmas.{says_more}
 
 -- a header has some bytes
@@ -37,39 +37,43 @@ taken_some : (limit : ℕ) (n : ℕ) (bytes : List ℕ) (tree : Tree) → Spelle
 taken_some limit zero bytes tree s = spelled_some limit [] tree s
 taken_some limit (suc n) bytes tree s = omega arith
 
-pub has_line : (t : ListType) (bytes : List ℕ) (value : Value) (taken : ℕ) (verdict : List ℕ) (well : Bool) (tree : Tree)
-    → taken ≤ length bytes → SpelledUnder word_limit (take taken bytes) tree → IsValueOf value tree → IsLine t value.heap value.root verdict well
-    → HasLine t bytes taken (line verdict) well
-has_line t bytes value taken verdict well tree fits spelled is_value is_line = record {
+pub has_line : (t : ListType) (bytes : List ℕ) (value : Value) (taken : ℕ) (text : List ℕ) (has_type : Bool) (tree : Tree)
+    → taken ≤ length bytes → SpelledUnder word_limit (take taken bytes) tree → IsValueOf value tree → SaysLine t value.heap value.root text has_type
+    → HasFrontLine t bytes taken text has_type
+has_line t bytes value taken text has_type tree fits spelled is_value says = record {
   tree = tree;
-  verdict = verdict;
   some = taken_some word_limit taken bytes tree spelled;
   fits = fits;
   spelled = spelled;
-  is_line = subst (λ v. IsLine t (objects_of tree 0) v verdict well) is_value.root (subst (λ h. IsLine t h value.root verdict well) is_value.heap is_line);
-  text_is = refl;
+  says = subst (λ v. SaysLine t (objects_of tree 0) v text has_type) is_value.root (subst (λ h. SaysLine t h value.root text has_type) is_value.heap says);
 }
 
-module _ (file type_text bytes rest text : List ℕ) (t : ListType) (well : Bool) (count : ℕ) (before : SaysFront lists (checks file type_text t) bytes rest text well count) where
-  -- the line of the next value comes behind
-  pub line_more : (taken : ℕ) (more : List ℕ) (good : Bool) → HasLine t rest taken more good
-      → SaysFront lists (checks file type_text t) bytes (drop taken rest) (text ++ more) (well && good) (count + 1)
-  line_more taken more good h =
-      says_more lists (checks file type_text t) bytes rest text more well good count taken h.tree h.fits h.spelled (h.verdict, h.is_line, h.text_is) before
+-- a failed call on out, by `?`
+pub put_fault : (t : ListType) (bytes : List ℕ) (out : Change ByteState) (result : Result Next WriteError)
+    → IsErrAnd result (λ e. e ≡ errors.Fault) → PutsNext t bytes out (Err errors.Fault) → PutsNext t bytes out result
+put_fault t bytes out (Ok next) is part = absurd is
+put_fault t bytes out (Err e) is part = subst (λ e. PutsNext t bytes out (Err e)) (sym is) part
 
-  module _ (a b c : Seen) (put : Puts (from_to a b) text) where
-    pub nothing_more : Puts (from_to b c) [] → Puts (from_to a c) text
-    nothing_more none = subst (λ all. Puts (from_to a c) all) (append-nil text) (puts_then a b c text [] put none)
+module _ (file type_text bytes rest text : List ℕ) (t : ListType) (has_type : Bool) (count : ℕ) (before : HasOutputOfFirst lists (checks file type_text t) bytes rest text has_type count) where
+  -- the line of the next value comes after
+  pub line_more : (taken : ℕ) (more : List ℕ) (next_has_type : Bool) → HasFrontLine t rest taken more next_has_type
+      → HasOutputOfFirst lists (checks file type_text t) bytes (drop taken rest) (text ++ more) (has_type && next_has_type) (count + 1)
+  line_more taken more next_has_type h =
+      says_more lists (checks file type_text t) bytes rest text more has_type next_has_type count taken h.tree h.fits h.spelled h.says before
 
-    pub values_end : (end : StreamEnd) → IsTail word_limit rest (end_of end) → Puts (from_to b c) []
-        → PutsValues (checks file type_text t) bytes (from_to a c) (Ok (record { end = end; well = well; count = count }))
+  module _ (a b c : ByteState) (put : Puts (change a b) text) where
+    pub nothing_more : Puts (change b c) [] → Puts (change a c) text
+    nothing_more none = subst (λ all. Puts (change a c) all) (append-nil text) (puts_then a b c text [] put none)
+
+    pub values_end : (end : StreamEnd) → IsTail word_limit rest (end_of end) → Puts (change b c) []
+        → PutsValues (checks file type_text t) bytes (change a c) (Ok (record { end = end; has_type = has_type; count = count }))
     values_end end tail none = (text, rest, before, tail, nothing_more none)
 
-    pub values_err : (error : WriteError) → PutsNext t rest (from_to b c) (Err error)
-        → PutsValues (checks file type_text t) bytes (from_to a c) (Err error)
-    values_err errors.Memory none = (text, rest, well, count, before, nothing_more none)
+    pub values_err : (error : WriteError) → PutsNext t rest (change b c) (Err error)
+        → PutsValues (checks file type_text t) bytes (change a c) (Err error)
+    values_err errors.Memory none = (text, rest, has_type, count, before, nothing_more none)
     values_err errors.Fault part =
-        (text ++ part.0, drop part.1 rest, well && part.2, count + 1, line_more part.1 part.0 part.2 part.3, part_then a b c text part.0 put part.4)
+        (text ++ part.0, drop part.1 rest, has_type && part.2, count + 1, line_more part.1 part.0 part.2 part.3, part_then a b c text part.0 put part.4)
 
 pub no_bytes : (xs : List ℕ) → true ≡ (length xs == 0) → xs ≡ []
 no_bytes [] e = refl

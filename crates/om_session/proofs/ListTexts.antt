@@ -4,10 +4,10 @@ use Rattle.std.specs.Prelude.{◌↔◌, ◌≢◌, codes}
 use Rattle.std.proofs.Math.Nat.{suc-add}
 use Rattle.std.proofs.lemmas.List.{append_cancel_left, append-nil}
 use Rattle.std.proofs.lemmas.Option.{same_Some, none-some}
-use Rattle.om_model.specs.declared.list_type.Base.{Base}
-use Rattle.om_model.specs.declared.list_type.Base.TheVariants as bases
-use Rattle.om_model.specs.declared.list_type.ListType.{ListType}
-use Rattle.om_model.specs.ListShapes.{base_text, lists_text, IsListTypeText}
+use Rattle.om_types.specs.declared.list_type.Base.{Base}
+use Rattle.om_types.specs.declared.list_type.Base.TheVariants as bases
+use Rattle.om_types.specs.declared.list_type.ListType.{ListType}
+use Rattle.om_types.specs.ListShapes.{base_text, lists_text, IsListTypeText}
 
 -- ---- lists
 
@@ -19,7 +19,7 @@ pub lists_text-add : (m n : ℕ) → lists_text (m + n) ≡ lists_text m ++ list
 lists_text-add zero n = ap lists_text (zero-add n)
 lists_text-add (suc m) n = ap lists_text (suc-add m n) ∙ ap (λ rest. codes " list" ++ rest) (lists_text-add m n)
 
--- behind i lists the rest of n lists is n - i
+-- after i lists the rest of n lists is n - i
 rest_of_lists : (text rest : List ℕ) (i n : ℕ) → text ≡ lists_text i ++ rest → text ≡ lists_text n → (i ≤ n) × (rest ≡ lists_text (n - i))
 rest_of_lists text rest i n front whole =
     let lengths : 5 * i + length rest ≡ 5 * n = omega (arith, ap length front, ap length whole, length-append (lists_text i) rest, length-lists_text i, length-lists_text n) in
@@ -65,7 +65,7 @@ base_of_text bases.Text bases.Text x y same = (refl, append_cancel_left (codes "
 base_of_text bases.Int bases.Text x y same = absurd (bases_differ x y same)
 base_of_text bases.Text bases.Int x y same = absurd (bases_differ y x (sym same))
 
--- a base and lists behind it
+-- a base and lists after it
 pub some_type : (text rest : List ℕ) (base : Base) (lists : ℕ) → text ≡ base_text base ++ rest → ((n : ℕ) → (Some lists ≡ Some n) ↔ ((rest ≡ lists_text n) × (n ≤ 199))) → (t : ListType) → (Some (record { base = base; lists = lists }) ≡ Some t) ↔ IsListTypeText text t
 some_type text rest base lists front counted t = (
   λ same.

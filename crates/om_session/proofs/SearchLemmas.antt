@@ -6,17 +6,18 @@ use Rattle.std.proofs.lemmas.List.Elements.{Contains-append_left, Contains-push}
 use Rattle.std.proofs.lemmas.Option.{same_Some, none-some, slice_get_within, slice_get-get_or, slice_get_read, get_or_from_slice_get}
 use Rattle.std.proofs.lemmas.Bool.{false≢true, cases_lt}
 use Rattle.std.proofs.lemmas.Bool.Decides.{Decides-and, Decides-eqb, Decides-ltb}
+use Rattle.om_model.proofs.Options.{IsSomeAnd-some, Contains-none}
 use Rattle.om_model.specs.declared.value.Val.{Val}
 use Rattle.om_model.specs.declared.value.Val.TheVariants as vals
 use Rattle.om_model.specs.declared.value.Obj.{Obj}
 use Rattle.om_model.specs.declared.value.Obj.TheVariants as objects
-use Rattle.om_model.specs.declared.list_type.ListType.{ListType}
-use Rattle.om_model.specs.Typing.{values_of, field_at, IsListed, IsHeld, IsTyping, HasType}
-use Rattle.om_model.specs.Fault.{type_of_field, step, place_at, IsMisfit}
-use Rattle.om_model.specs.ListShapes.{is_pair, is_list, element, fits_base, fits, needs, list_shapes}
+use Rattle.om_types.specs.declared.list_type.ListType.{ListType}
+use Rattle.om_types.specs.Typing.{values_of, field_at, IsListed, IsHeld, IsTyping, HasType}
+use Rattle.om_types.specs.Fault.{type_of_field, step, value_at, IsMisfit}
+use Rattle.om_types.specs.ListShapes.{is_pair, is_list, element, fits_base, fits, needs, list_shapes}
 use Rattle.om_heap.specs.Heap as heap
 use Rattle.om_session.specs.declared.check.Pair.{Pair}
-use Rattle.om_session.specs.Search.{pair_of, pairs_of, AreOrdered, AreSound, Grows, IsMet, IsDone, IsMisfitOf, TestsField, TestsPair, Lists, IsExplored, LeadsAs}
+use Rattle.om_session.specs.Search.{pair_of, pairs_of, PairsAreOrdered, PairsAreSound, Grows, IsMet, IsDone, IsMisfitOf, TestsField, TestsPair, Lists, IsExplored, LeadsAs}
 
 -- ---- places in lists
 
@@ -52,13 +53,6 @@ map-Contains f (y ∷ xs) (suc k) x at_k =
     let rest = map-Contains f xs k x at_k in
     (suc rest.0, omega (arith, rest.1), rest.2)
 
-IsSomeAnd-some : {A : Type 0} (o : Option A) (P : A → Type 0) → IsSomeAnd o P → (x : A) × (o ≡ Some x) × P x
-IsSomeAnd-some None P holds = absurd holds
-IsSomeAnd-some (Some x) P holds = (x, refl, holds)
-
-Contains-none : {X : Type 0} (x : X) → Contains [] x → ⊥
-Contains-none x (k, below, is) = omega arith
-
 -- ---- more pairs
 
 Contains-more : (old added : List Pair) (x : ℕ × ListType) → Contains (pairs_of old) x → Contains (pairs_of (old ++ added)) x
@@ -79,7 +73,7 @@ IsMet-more graph old added p i met = λ t needed. held_more graph old added t (f
 pub IsDone-more : (graph : List Obj) (old added : List Pair) (p : Pair) → IsDone graph old p → IsDone graph (old ++ added) p
 IsDone-more graph old added p done = λ i t needed. held_more graph old added t (field_at graph p.object i) (done i t needed)
 
-pub Grows-same : (graph : List Obj) (pairs : List Pair) → AreSound graph pairs → Grows graph pairs pairs
+pub Grows-same : (graph : List Obj) (pairs : List Pair) → PairsAreSound graph pairs → Grows graph pairs pairs
 Grows-same graph pairs sound = record { added = []; extends = sym (append-nil pairs); sound = sound }
 
 pub Grows-twice : (graph : List Obj) (old middle new : List Pair) → Grows graph old middle → Grows graph middle new → Grows graph old new
@@ -94,7 +88,7 @@ at_k_later graph old new k p grows at_k =
     subst (λ pairs. slice_get pairs k ≡ Some p) (sym grows.extends) (slice_get-append_left old grows.added k p at_k)
 
 -- a pair that a field of an earlier one leads to, and that fits, may be listed
-pub AreSound-push : (graph : List Obj) (pairs : List Pair) (p q : Pair) → AreSound graph pairs → slice_get pairs p.parent ≡ Some q → step list_shapes graph (vals.Ref q.object) q.ty p.step ≡ Some (vals.Ref p.object, p.ty) → fits graph (vals.Ref p.object) p.ty ≡ true → AreSound graph (pairs ++ p ∷ [])
+pub AreSound-push : (graph : List Obj) (pairs : List Pair) (p q : Pair) → PairsAreSound graph pairs → slice_get pairs p.parent ≡ Some q → step list_shapes graph (vals.Ref q.object) q.ty p.step ≡ Some (vals.Ref p.object, p.ty) → fits graph (vals.Ref p.object) p.ty ≡ true → PairsAreSound graph (pairs ++ p ∷ [])
 AreSound-push graph pairs p q sound at_parent leads fit = record {
   ordered = λ k r later at_k. ⊎_elim
       (λ before. sound.ordered k r later before)
@@ -177,12 +171,12 @@ list_at pairs k p list is =
     let at_k = place_is pairs k p (slice_get_within pairs k some.0 some.1) is in
     (at_k, subst (λ q. 0 < q.ty.lists) (same_Some some.0 p (sym some.1 ∙ at_k)) some.2)
 
-pub field_is_there : (graph : List Obj) (pairs : List Pair) (k i : ℕ) (p : Pair) → AreSound graph pairs → IsSomeAnd (slice_get pairs k) (λ q. 0 < q.ty.lists) → p ≡ get_or pairs k p → i < 2 → i < length (heap.fields_of (heap.object_at graph p.object))
+pub field_is_there : (graph : List Obj) (pairs : List Pair) (k i : ℕ) (p : Pair) → PairsAreSound graph pairs → IsSomeAnd (slice_get pairs k) (λ q. 0 < q.ty.lists) → p ≡ get_or pairs k p → i < 2 → i < length (heap.fields_of (heap.object_at graph p.object))
 field_is_there graph pairs k i p sound list is below =
     let known = list_at pairs k p list is in
     (cell_has graph p.object i (list_is_cell graph p.object p.ty (sound.fit k p known.0) known.1) below).0
 
-pub is_read : (graph : List Obj) (pairs : List Pair) (k i : ℕ) (p : Pair) (v : Val) (t : ListType) → AreSound graph pairs → IsSomeAnd (slice_get pairs k) (λ q. 0 < q.ty.lists) → p ≡ get_or pairs k p → i < 2 → type_of_field ((0, element p.ty) ∷ (1, p.ty) ∷ []) i ≡ Some t → v ≡ heap.field_at graph p.object i → IsRead graph pairs k i p v t
+pub is_read : (graph : List Obj) (pairs : List Pair) (k i : ℕ) (p : Pair) (v : Val) (t : ListType) → PairsAreSound graph pairs → IsSomeAnd (slice_get pairs k) (λ q. 0 < q.ty.lists) → p ≡ get_or pairs k p → i < 2 → type_of_field ((0, element p.ty) ∷ (1, p.ty) ∷ []) i ≡ Some t → v ≡ heap.field_at graph p.object i → IsRead graph pairs k i p v t
 is_read graph pairs k i p v t sound list is below typed read =
     let known = list_at pairs k p list is in
     let fit = sound.fit k p known.0 in
@@ -197,10 +191,10 @@ is_read graph pairs k i p v t sound list is below typed read =
 
 misfit_at : (graph : List Obj) (p : Pair) (i : ℕ) (v : Val) (t : ListType) → step list_shapes graph (vals.Ref p.object) p.ty i ≡ Some (v, t) → fits graph v t ≡ false → IsMisfitOf graph p i
 misfit_at graph p i v t leads unfit =
-    subst (λ next. IsSomeAnd (option_and_then (λ place. place_at list_shapes graph place.0 place.1 []) next) (λ place. fits graph place.0 place.1 ≡ true → ⊥)) (sym leads)
+    subst (λ next. IsSomeAnd (option_and_then (λ place. value_at list_shapes graph place.0 place.1 []) next) (λ place. fits graph place.0 place.1 ≡ true → ⊥)) (sym leads)
     (λ fit. false≢true (sym unfit ∙ fit))
 
-pub tests_misfit : (graph : List Obj) (pairs : List Pair) (k i : ℕ) (p : Pair) (v : Val) (t : ListType) → AreSound graph pairs → IsRead graph pairs k i p v t → fits graph v t ≡ false → TestsField graph pairs pairs k i false
+pub tests_misfit : (graph : List Obj) (pairs : List Pair) (k i : ℕ) (p : Pair) (v : Val) (t : ListType) → PairsAreSound graph pairs → IsRead graph pairs k i p v t → fits graph v t ≡ false → TestsField graph pairs pairs k i false
 tests_misfit graph pairs k i p v t sound read unfit = record {
   grows = Grows-same graph pairs sound;
   tested = λ q at_k. subst (λ r. IsMisfitOf graph r i) (same_Some p q (sym read.at_k ∙ at_k)) (misfit_at graph p i v t read.leads unfit);
@@ -216,16 +210,16 @@ listed_without pairs (vals.Int z) t other = tt
 listed_without pairs (vals.Atom tag) t other = tt
 listed_without pairs (vals.Ref o) t other = absurd (other o refl)
 
-pub tests_plain : (graph : List Obj) (pairs : List Pair) (k i : ℕ) (p : Pair) (v : Val) (t : ListType) → AreSound graph pairs → IsRead graph pairs k i p v t → fits graph v t ≡ true → ((o : ℕ) → v ≡ vals.Ref o → ⊥) → TestsField graph pairs pairs k i true
+pub tests_plain : (graph : List Obj) (pairs : List Pair) (k i : ℕ) (p : Pair) (v : Val) (t : ListType) → PairsAreSound graph pairs → IsRead graph pairs k i p v t → fits graph v t ≡ true → ((o : ℕ) → v ≡ vals.Ref o → ⊥) → TestsField graph pairs pairs k i true
 tests_plain graph pairs k i p v t sound read fit other = record {
   grows = Grows-same graph pairs sound;
   tested = λ q at_k. subst (λ r. IsMet graph pairs r i) (same_Some p q (sym read.at_k ∙ at_k)) (met_at graph pairs pairs k i p v t read (record { fits = fit; listed = listed_without (pairs_of pairs) v t other }));
 }
 
-Grows-push : (graph : List Obj) (old new : List Pair) (p : Pair) → AreSound graph (old ++ p ∷ []) → new ≡ old ++ p ∷ [] → Grows graph old new
-Grows-push graph old new p sound is = record { added = p ∷ []; extends = is; sound = subst (AreSound graph) (sym is) sound }
+Grows-push : (graph : List Obj) (old new : List Pair) (p : Pair) → PairsAreSound graph (old ++ p ∷ []) → new ≡ old ++ p ∷ [] → Grows graph old new
+Grows-push graph old new p sound is = record { added = p ∷ []; extends = is; sound = subst (PairsAreSound graph) (sym is) sound }
 
-pub tests_reference : (graph : List Obj) (old new : List Pair) (k i : ℕ) (p : Pair) (o : ℕ) (t : ListType) → AreSound graph old → IsRead graph old k i p (vals.Ref o) t → fits graph (vals.Ref o) t ≡ true → Lists old new (record { object = o; ty = t; parent = k; step = i }) → TestsField graph old new k i true
+pub tests_reference : (graph : List Obj) (old new : List Pair) (k i : ℕ) (p : Pair) (o : ℕ) (t : ListType) → PairsAreSound graph old → IsRead graph old k i p (vals.Ref o) t → fits graph (vals.Ref o) t ≡ true → Lists old new (record { object = o; ty = t; parent = k; step = i }) → TestsField graph old new k i true
 tests_reference graph old new k i p o t sound read fit lists =
     let next : Pair = record { object = o; ty = t; parent = k; step = i } in
     record {
@@ -245,7 +239,7 @@ Lists-push old new p is = record {
 -- ---- one pair
 
 -- an integer or a string has no fields
-pub tests_leaf : (graph : List Obj) (pairs : List Pair) (k : ℕ) (p : Pair) → AreSound graph pairs → k < length pairs → p ≡ get_or pairs k p → p.ty.lists ≡ 0 → TestsPair graph pairs pairs k None
+pub tests_leaf : (graph : List Obj) (pairs : List Pair) (k : ℕ) (p : Pair) → PairsAreSound graph pairs → k < length pairs → p ≡ get_or pairs k p → p.ty.lists ≡ 0 → TestsPair graph pairs pairs k None
 tests_leaf graph pairs k p sound within is none =
     let at_p = place_is pairs k p within is in
     record {
@@ -274,29 +268,12 @@ tests_more graph old middle new k i grows tests met = (
       (cases_lt j i),
 )
 
-two_needs : (a b t : ListType) (i : ℕ) → Contains {X = ℕ × ListType} ((0, a) ∷ (1, b) ∷ []) (i, t) → (i < 2) × (type_of_field ((0, a) ∷ (1, b) ∷ []) i ≡ Some t)
-two_needs a b t i (zero, below, is) = subst (λ need. (need.0 < 2) × (type_of_field ((0, a) ∷ (1, b) ∷ []) need.0 ≡ Some need.1)) is (omega arith, refl)
-two_needs a b t i (suc zero, below, is) = subst (λ need. (need.0 < 2) × (type_of_field ((0, a) ∷ (1, b) ∷ []) need.0 ≡ Some need.1)) is (omega arith, refl)
-two_needs a b t i (suc (suc k), below, is) = absurd (omega arith)
-
-pub tests_all : (graph : List Obj) (old new : List Pair) (k n : ℕ) (p : Pair) → AreSound graph old → Grows graph old new → k < length old → p ≡ get_or old k p → 0 < p.ty.lists → 2 ≤ n → ((j : ℕ) (q : Pair) → j < n → slice_get old k ≡ Some q → IsMet graph new q j) → TestsPair graph old new k None
-tests_all graph old new k n p sound grows within is list enough met =
-    let at_p = place_is old k p within is in
-    let two = needs_of_list graph p.object p.ty (sound.fit k p at_p) list in
-    record {
-      grows = grows;
-      tested = λ q at_k. subst (IsDone graph new) (same_Some p q (sym at_p ∙ at_k)) (λ i t needed.
-          let known = two_needs (element p.ty) p.ty t i (subst (λ all. Contains all (i, t)) two needed) in
-          let below = known.0 in
-          met i p (omega arith) at_p t (ap (λ all. type_of_field all i) two ∙ known.1));
-    }
-
 -- ---- paths
 
 -- one step back
 pub LeadsAs-back : (pairs : List Pair) (j k : ℕ) (path other : List ℕ) (p : Pair) → 0 < j → slice_get pairs j ≡ Some p → LeadsAs pairs j path k other → LeadsAs pairs p.parent (p.step ∷ path) k other
 LeadsAs-back pairs j k path other p later at_j leads = λ graph q r linked at_q at_r.
-    ap (λ next. option_and_then (λ place. place_at list_shapes graph place.0 place.1 path) next) (linked j p q later at_j at_q)
+    ap (λ next. option_and_then (λ place. value_at list_shapes graph place.0 place.1 path) next) (linked j p q later at_j at_q)
     ∙ leads graph p r linked at_j at_r
 
 -- ---- the whole list
@@ -344,7 +321,7 @@ misfit_of_root graph o t old new n i path explored within tests leads =
     subst (λ x. IsMisfit list_shapes graph (vals.Ref x.0) x.1 path) explored.root.2 misfit
 
 -- one step back, in the loop
-pub leads_back : (pairs : List Pair) (j k i : ℕ) (old new : List ℕ) (d : Pair) → AreOrdered pairs → (j < length pairs) × LeadsAs pairs j (reverse old) k (i ∷ []) → 0 < j → new ≡ old ++ (get_or pairs j d).step ∷ [] → ((get_or pairs j d).parent < length pairs) × LeadsAs pairs (get_or pairs j d).parent (reverse new) k (i ∷ [])
+pub leads_back : (pairs : List Pair) (j k i : ℕ) (old new : List ℕ) (d : Pair) → PairsAreOrdered pairs → (j < length pairs) × LeadsAs pairs j (reverse old) k (i ∷ []) → 0 < j → new ≡ old ++ (get_or pairs j d).step ∷ [] → ((get_or pairs j d).parent < length pairs) × LeadsAs pairs (get_or pairs j d).parent (reverse new) k (i ∷ [])
 leads_back pairs j k i old new d ordered leads later is =
     let p = get_or pairs j d in
     let at_p = slice_get-get_or pairs j d leads.0 in

@@ -3,14 +3,14 @@ use Rattle.std.proofs.Common.{◌≡◌, ℕ, ◌+◌, ◌≤◌, ◌<◌, List,
 use Rattle.std.proofs.Math.Seq.{take-append_seam, drop-append_seam}
 use Rattle.std.proofs.lemmas.List.Elements.{All-drop}
 use Rattle.om_model.specs.Bytes.{AreBytes}
-use Rattle.om_model.specs.Tree.{Tree}
-use Rattle.om_model.specs.Spelled.{SpelledUnder}
+use Rattle.om_format.specs.Tree.{Tree}
+use Rattle.om_format.specs.Spelled.{SpelledUnder}
 use Rattle.om_model.specs.declared.refusal.ReadRefusal.{ReadRefusal}
-use Rattle.om_model.specs.Front.{IsRefused}
-use Rattle.om_model.specs.Judgement.{Judgement, value, Judges, IsJudgement}
-use Rattle.om_model.specs.Judgement as j
-use Rattle.om_model.specs.Laws.{HasOneJudgement}
-use Rattle.om_model.specs.Stream.{SpellAll, End, clean, refused, cut, IsTail, Stream}
+use Rattle.om_format.specs.Front.{IsRefused}
+use Rattle.om_format.specs.Judgement.{Judgement, value, Judges, IsJudgement}
+use Rattle.om_format.specs.Judgement as j
+use Rattle.om_format.specs.Laws.{HasOneJudgement}
+use Rattle.om_format.specs.Stream.{SpellAll, End, clean, refused, cut, IsTail, Stream}
 use Rattle.om_session.proofs.LineLemmas.{spelled_some}
 
 -- a list with a last element is not empty
@@ -20,8 +20,8 @@ empty n front last e =
     let zero : length (take {A = ℕ} n []) ≡ min n (length {A = ℕ} []) = length-take {A = ℕ} n [] in
     let same : length (take {A = ℕ} n []) ≡ length (front ++ last ∷ []) = ap length e in omega arith
 
-pub bytes_behind : (first more : List ℕ) → AreBytes (first ++ more) → AreBytes more
-bytes_behind first more h = subst AreBytes (drop-append_seam first more) (All-drop (λ b. b < 256) (length first) (first ++ more) h)
+pub bytes_after : (first more : List ℕ) → AreBytes (first ++ more) → AreBytes more
+bytes_after first more h = subst AreBytes (drop-append_seam first more) (All-drop (λ b. b < 256) (length first) (first ++ more) h)
 
 module _ (law : HasOneJudgement) (limit : ℕ) where
   judged : (first more : List ℕ) (tree : Tree) → SpelledUnder limit first tree → Judges limit (first ++ more) (value (length first) tree)
@@ -47,7 +47,7 @@ module _ (law : HasOneJudgement) (limit : ℕ) where
   nothing_refused n refusal (inl r) = empty n r.front r.last r.bytes_are
   nothing_refused n refusal (inr r) = empty n r.front r.last r.bytes_are
 
-  -- where a value stands, no tail begins
+  -- where there is a value, no tail begins
   value_or_tail : (first more tail : List ℕ) (t : Tree) (e : End) → AreBytes tail → SpelledUnder limit first t → tail ≡ first ++ more → IsTail limit tail e → ⊥
   value_or_tail first more tail t clean are_bytes spelled same h =
       let some : 0 < length first = spelled_some limit first t spelled in
@@ -88,12 +88,12 @@ module _ (law : HasOneJudgement) (limit : ℕ) where
   streams_once bytes (t ∷ trees) (u ∷ others) end other are_bytes (tail, (first, more, same, spelled, rest), is) (tail', (first', more', same', spelled', rest'), is') =
       let whole : AreBytes (first ++ more) = subst AreBytes same are_bytes in
       let one = one_value first more first' more' t u whole (sym same ∙ same') spelled spelled' in
-      let behind : more ≡ more' =
+      let after : more ≡ more' =
       sym (drop-append_seam first more) ∙ (ap (λ n. drop n (first ++ more)) one.1 ∙ (ap (λ b. drop (length first') b) (sym same ∙ same') ∙ drop-append_seam first' more')) in
-      let next = streams_once more trees others end other (bytes_behind first more whole) (tail, rest, is) (tail', subst (λ m. SpellAll limit m others tail') (sym behind) rest', is') in
+      let next = streams_once more trees others end other (bytes_after first more whole) (tail, rest, is) (tail', subst (λ m. SpellAll limit m others tail') (sym after) rest', is') in
       (let head : t ≡ u = one.0 in let tails : trees ≡ others = next.0 in cc, next.1)
 
-  -- bytes that are values to their end are no other values, and nothing stands behind them
+  -- bytes that are values to their end are no other values, and nothing comes after them
   pub stream_once : (bytes : List ℕ) (trees others : List Tree) (end : End) → AreBytes bytes → SpellAll limit bytes trees [] → Stream bytes limit others end
       → (trees ≡ others) × (end ≡ clean)
   stream_once bytes trees others end are_bytes all other =

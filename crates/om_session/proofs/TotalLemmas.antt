@@ -2,12 +2,12 @@
 use Rattle.std.proofs.Common.{◌≡◌, ◌≢◌, ◌⊎◌, ℕ, zero, suc, ◌<◌, ◌≤◌, Bool, List, [], ◌∷◌, Ok, Err, inl, inr, refl, ap, ◌∙◌, subst, arith, get_or}
 use Rattle.std.specs.Prelude.{codes}
 use Rattle.std.proofs.lemmas.Bool.{cases_lt}
-use Rattle.om_model.specs.declared.list_type.Base.{Base}
-use Rattle.om_model.specs.declared.list_type.Base.TheVariants as bases
-use Rattle.om_model.specs.declared.list_type.ListType.{ListType}
-use Rattle.om_model.specs.ListShapes.{list_type_text, IsListTypeText}
-use Rattle.om_model.specs.Tree.{Tree, root, objects_of}
-use Rattle.om_model.specs.Outcome.{Language, Request, check, Asks, IsArgument}
+use Rattle.om_types.specs.declared.list_type.Base.{Base}
+use Rattle.om_types.specs.declared.list_type.Base.TheVariants as bases
+use Rattle.om_types.specs.declared.list_type.ListType.{ListType}
+use Rattle.om_types.specs.ListShapes.{list_type_text, IsListTypeText}
+use Rattle.om_format.specs.Tree.{Tree, root, objects_of}
+use Rattle.om_outcome.specs.Outcome.{Language, Request, check, Asks, IsArgument}
 use Rattle.om_typing.specs.ListLaws.{ListLines}
 use Rattle.om_session.specs.Lists.{lists}
 use Rattle.om_session.specs.Run.{IsUsage}
@@ -16,7 +16,7 @@ use Rattle.om_session.specs.Run.{IsUsage}
 pub record IsTotal {D T : Type 0} (language : Language D T) : Type 0 where
   pub declarations : (text : List ℕ) → ((d : D) × language.ReadsDeclarations text (Ok d)) ⊎ ((refusal : List ℕ) × language.ReadsDeclarations text (Err refusal))
   pub type : (d : D) (text : List ℕ) → ((t : T) × language.ReadsType d text (Ok t)) ⊎ ((refusal : List ℕ) × language.ReadsType d text (Err refusal))
-  pub verdict : (t : T) (tree : Tree) → (line : List ℕ) × (well : Bool) × language.SaysVerdict t tree line well
+  pub verdict : (t : T) (tree : Tree) → (line : List ℕ) × (has_type : Bool) × language.LineOf t tree line has_type
 
 -- ---- the same or not
 

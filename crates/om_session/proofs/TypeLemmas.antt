@@ -1,9 +1,9 @@
 -- What a FILE and a TYPE are read as.
 use Rattle.std.proofs.Common.{◌≡◌, ◌≢◌, ℕ, List, [], Some, Result, Ok, Err, refl, ap}
 use Rattle.std.specs.Prelude.{codes}
-use Rattle.om_model.specs.declared.list_type.ListType.{ListType}
-use Rattle.om_model.specs.ListShapes.{IsListTypeText}
-use Rattle.om_model.specs.Outcome.{at_end, Taken, Found, opened, missing, failed, Stop, cannot_open, declarations, requested_type, fault_of, ReadsTypeOf}
+use Rattle.om_types.specs.declared.list_type.ListType.{ListType}
+use Rattle.om_types.specs.ListShapes.{IsListTypeText}
+use Rattle.om_outcome.specs.Outcome.{at_end, Taken, Found, opened, missing, failed, Stop, cannot_open, declarations, requested_type, fault_of, ReadsTypeOf}
 use Rattle.om_session.specs.Lists.{lists}
 
 module _ (file type : List ℕ) where

@@ -6,7 +6,6 @@ pub mod Fetch
 pub mod Gathered
 pub mod Given
 pub mod Lists
-pub mod Read
 pub mod Run
 pub mod Stops
 pub mod Types

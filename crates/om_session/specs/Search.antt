@@ -2,10 +2,10 @@
 use Rattle.std.specs.Prelude.{ℕ, ◌<◌, ◌≡◌, ◌⊎◌, Bool, true, List, [], ◌∷◌, ◌++◌, map, Option, Some, slice_get, Contains, IsSomeAnd, MatchBool, MatchOption}
 use Rattle.om_model.specs.declared.value.Val.TheVariants as vals
 use Rattle.om_model.specs.declared.value.Obj.{Obj}
-use Rattle.om_model.specs.declared.list_type.ListType.{ListType}
-use Rattle.om_model.specs.Typing.{field_at, IsHeld}
-use Rattle.om_model.specs.Fault.{type_of_field, step, place_at, IsMisfit}
-use Rattle.om_model.specs.ListShapes.{fits, needs, list_shapes}
+use Rattle.om_types.specs.declared.list_type.ListType.{ListType}
+use Rattle.om_types.specs.Typing.{field_at, IsHeld}
+use Rattle.om_types.specs.Fault.{type_of_field, step, value_at, IsMisfit}
+use Rattle.om_types.specs.ListShapes.{fits, needs, list_shapes}
 use Rattle.om_session.specs.declared.check.Pair.{Pair}
 
 -- an object and its type
@@ -16,8 +16,8 @@ abbrev pub pairs_of : List Pair → List (ℕ × ListType)
 pairs_of pairs = map pair_of pairs
 
 -- each pair but the first comes after the one that led to it
-abbrev pub AreOrdered : List Pair → Type 0
-AreOrdered pairs = (k : ℕ) (p : Pair) → 0 < k → slice_get pairs k ≡ Some p → p.parent < k
+abbrev pub PairsAreOrdered : List Pair → Type 0
+PairsAreOrdered pairs = (k : ℕ) (p : Pair) → 0 < k → slice_get pairs k ≡ Some p → p.parent < k
 
 -- and a field of that one leads to it
 abbrev pub AreLinked : List Obj → List Pair → Type 0
@@ -28,8 +28,8 @@ AreLinked graph pairs =
 abbrev pub AllFit : List Obj → List Pair → Type 0
 AllFit graph pairs = (k : ℕ) (p : Pair) → slice_get pairs k ≡ Some p → fits graph (vals.Ref p.object) p.ty ≡ true
 
-pub record AreSound (graph : List Obj) (pairs : List Pair) : Type 0 where
-  pub ordered : AreOrdered pairs
+pub record PairsAreSound (graph : List Obj) (pairs : List Pair) : Type 0 where
+  pub ordered : PairsAreOrdered pairs
   pub linked : AreLinked graph pairs
   pub fit : AllFit graph pairs
 
@@ -37,7 +37,7 @@ pub record AreSound (graph : List Obj) (pairs : List Pair) : Type 0 where
 pub record Grows (graph : List Obj) (old new : List Pair) : Type 0 where
   pub added : List Pair
   pub extends : new ≡ old ++ added
-  pub sound : AreSound graph new
+  pub sound : PairsAreSound graph new
 
 -- a field of a pair fits and is listed, where it is needed
 abbrev pub IsMet : List Obj → List Pair → Pair → ℕ → Type 0
@@ -81,11 +81,11 @@ IsRoot pairs o t = (p : Pair) × (slice_get pairs 0 ≡ Some p) × (pair_of p �
 -- the list so far, of which n pairs are done
 pub record IsExplored (graph : List Obj) (o : ℕ) (t : ListType) (pairs : List Pair) (n : ℕ) : Type 0 where
   pub root : IsRoot pairs o t
-  pub sound : AreSound graph pairs
+  pub sound : PairsAreSound graph pairs
   pub done : AreDone graph pairs n
 
 -- a path from pair j leads where another one leads from pair k
 abbrev pub LeadsAs : List Pair → ℕ → List ℕ → ℕ → List ℕ → Type 0
 LeadsAs pairs j path k other =
     (graph : List Obj) (p q : Pair) → AreLinked graph pairs → slice_get pairs j ≡ Some p → slice_get pairs k ≡ Some q
-    → place_at list_shapes graph (vals.Ref p.object) p.ty path ≡ place_at list_shapes graph (vals.Ref q.object) q.ty other
+    → value_at list_shapes graph (vals.Ref p.object) p.ty path ≡ value_at list_shapes graph (vals.Ref q.object) q.ty other

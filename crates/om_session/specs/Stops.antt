@@ -2,12 +2,12 @@
 use Rattle.std.specs.Prelude.{◌≡◌, ◌⊎◌, codes}
 use Rattle.om_model.specs.declared.status.Status.{Status}
 use Rattle.om_model.specs.declared.status.Status.TheVariants.{WriteFault}
-use Rattle.om_model.specs.RefusalText.{refusal_text, truncated_text}
-use Rattle.om_model.specs.Outcome as outcome
+use Rattle.om_outcome.specs.RefusalText.{refusal_text, truncated_text}
+use Rattle.om_outcome.specs.Outcome as outcome
+use Rattle.om_edge.specs.Sink.{Puts, PutsPart}
+use Rattle.om_edge.specs.State.{ByteState, Change}
 use Rattle.om_session.specs.declared.stop.Stop.{Stop}
 use Rattle.om_session.specs.declared.stop.Stop.TheVariants as stops
-use Rattle.om_session.specs.Call.{Seen, Change}
-use Rattle.om_session.specs.Given.{Puts, PutsPart}
 
 abbrev pub stop_of : Stop → outcome.Stop
 stop_of stops.Usage = outcome.usage
@@ -21,8 +21,8 @@ stop_of stops.TooLong = outcome.too_long
 stop_of stops.Memory = outcome.out_of_memory
 
 -- the line of the stop, or that memory ran out, is put and its status answered; or the line could not be put whole
-pub record Reports (stop : outcome.Stop) (err : Change Seen) (status : Status) : Type 0 where
+pub record Reports (stop : outcome.Stop) (err : Change ByteState) (status : Status) : Type 0 where
   pub said : outcome.Stop
   pub which : (said ≡ stop) ⊎ (said ≡ outcome.out_of_memory)
-  pub line : (Puts err (outcome.err_line (outcome.text_of said)) × (status ≡ outcome.status_of said))
-      ⊎ (PutsPart err (outcome.err_line (outcome.text_of said)) × (status ≡ WriteFault))
+  pub line : (Puts err (outcome.err_line (outcome.stop_text said)) × (status ≡ outcome.status_of said))
+      ⊎ (PutsPart err (outcome.err_line (outcome.stop_text said)) × (status ≡ WriteFault))

@@ -1,10 +1,10 @@
 -- Bytes are one stream of values.
 use Rattle.std.specs.Prelude.{ℕ, ◌≡◌, List}
 use Rattle.om_model.specs.Bytes.{AreBytes}
-use Rattle.om_model.specs.Tree.{Tree}
-use Rattle.om_model.specs.Stream.{End, Stream}
+use Rattle.om_format.specs.Tree.{Tree}
+use Rattle.om_format.specs.Stream.{End, Stream}
 
--- the values and what stands behind them: they are what the bytes are, and nothing else is
+-- the values and what comes after them: they are what the bytes are, and nothing else is
 pub record IsStream (limit : ℕ) (bytes : List ℕ) (trees : List Tree) (end : End) : Type 0 where
   pub holds : Stream bytes limit trees end
   pub only : (others : List Tree) (other : End) → Stream bytes limit others other → (others ≡ trees) × (other ≡ end)

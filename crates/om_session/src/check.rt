@@ -4,18 +4,18 @@
 ghost use Rattle.std.specs.Prelude.{◌≡◌, ◌<◌, ◌↔◌, ◌∷◌, ◌++◌, [], length, reverse, slice_get, vec_len, IfOk, OnOk, IsTrue, IsSomeAnd, Contains, Some};
 ghost use Rattle.om_model.specs.declared.value.Val.TheVariants as vals;
 ghost use Rattle.om_model.specs.Graph.{IsValue};
-ghost use Rattle.om_model.specs.ListShapes as shapes;
-ghost use Rattle.om_model.specs.Fault.{type_of_field};
+ghost use Rattle.om_types.specs.ListShapes as shapes;
+ghost use Rattle.om_types.specs.Fault.{type_of_field};
 ghost use Rattle.om_session.specs.Verdict.{IsVerdict};
-ghost use Rattle.om_session.specs.Search.{AreSound, AreOrdered, TestsPair, TestsField, Lists, LeadsAs, pairs_of};
+ghost use Rattle.om_session.specs.Search.{PairsAreSound, PairsAreOrdered, TestsPair, TestsField, Lists, LeadsAs, pairs_of};
 
 use om_heap::{Heap, Kind};
 use om_model::Memory;
-use om_model::fault::Fault;
-use om_model::laws::faults_exclude_types;
-use om_model::list_type::{Base, ListType};
 use om_model::path::Path;
 use om_model::value::Val;
+use om_types::fault::Fault;
+use om_types::laws::faults_exclude_types;
+use om_types::list_type::{Base, ListType};
 use std::alloc::Global;
 
 /// Whether a value has a type, and if not a fault.
@@ -81,7 +81,7 @@ fn check_object(alloc: Global, heap: &Heap, object: u64, ty: ListType) -> Result
 /// fit.
 fn test_pair(heap: &Heap, pairs: &mut Vec<Pair>, k: usize) -> Result<Option<u64>, Memory>
     requires in_range { k < vec_len pairs.old }
-    requires sound { AreSound heap.now pairs.old.items }
+    requires sound { PairsAreSound heap.now pairs.old.items }
     ensures { IfOk result (TestsPair heap.now pairs.old.items pairs.new.items k) }
 {
     if pairs[k].ty.lists == 0 {
@@ -99,7 +99,7 @@ fn test_pair(heap: &Heap, pairs: &mut Vec<Pair>, k: usize) -> Result<Option<u64>
 fn test_field(heap: &Heap, pairs: &mut Vec<Pair>, k: usize, step: u64) -> Result<bool, Memory>
     requires in_range { step < 2 }
     requires list { IsSomeAnd (slice_get pairs.old.items k) (λ p. 0 < p.ty.lists) }
-    requires sound { AreSound heap.now pairs.old.items }
+    requires sound { PairsAreSound heap.now pairs.old.items }
     ensures { IfOk result (TestsField heap.now pairs.old.items pairs.new.items k step) }
 {
     let pair = pairs[k];
@@ -164,16 +164,13 @@ fn is_listed(pairs: &[Pair], object: u64, ty: ListType) -> bool
 fn put(pairs: &mut Vec<Pair>, pair: Pair) -> Result<(), Memory>
     ensures { OnOk result (pairs.new.items ≡ pairs.old.items ++ pair ∷ []) }
 {
-    match pairs.push(pair) {
-        Ok(()) => Ok(()),
-        Err(_) => Err(Memory),
-    }
+    Ok(pairs.push(pair)?)
 }
 
 /// The path to field `step` of pair k: its steps are found from the last one back.
 fn path_to(alloc: Global, pairs: &[Pair], k: usize, step: u64) -> Result<Path, Memory>
     requires in_range { k < length pairs.now }
-    requires ordered { AreOrdered pairs.now }
+    requires ordered { PairsAreOrdered pairs.now }
     ensures { IfOk result (λ path. LeadsAs pairs.now 0 path k (step ∷ [])) }
 {
     let mut steps = Vec::new(alloc);
@@ -190,10 +187,7 @@ fn path_to(alloc: Global, pairs: &[Pair], k: usize, step: u64) -> Result<Path, M
 fn put_step(steps: &mut Vec<u64>, step: u64) -> Result<(), Memory>
     ensures { OnOk result (steps.new.items ≡ steps.old.items ++ step ∷ []) }
 {
-    match steps.push(step) {
-        Ok(()) => Ok(()),
-        Err(_) => Err(Memory),
-    }
+    Ok(steps.push(step)?)
 }
 
 /// The path of these steps, the last one first.

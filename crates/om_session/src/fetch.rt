@@ -1,12 +1,12 @@
 //! A file, fetched and taken whole.
 
 ghost use Rattle.std.specs.Prelude.{◌≡◌, MatchResult};
-ghost use Rattle.om_session.specs.Call.{seen, seen_files};
-ghost use Rattle.om_session.specs.Fetch.{found_of, FetchedSome};
-ghost use Rattle.om_session.specs.Gathered.{taken_of, TookSome};
-ghost use Rattle.om_session.specs.Given.{Took, Fetched};
+ghost use Rattle.om_edge.specs.State.{as_source, change};
+ghost use Rattle.om_session.specs.Fetch.{fetch_found, FetchedSome};
+ghost use Rattle.om_session.specs.Gathered.{taken_of, GathersSome};
+ghost use Rattle.om_session.specs.Given.{Gathers, Fetched};
 
-use crate::gather::{Gathered, LENGTH_LIMIT, Until};
+use crate::gather::{Gathered, InputEnd, LENGTH_LIMIT, store};
 use om_edge::{OpenError, Opener};
 use om_model::Memory;
 use std::alloc::Global;
@@ -21,11 +21,12 @@ pub enum Fetch {
 
 // Takes the bytes of the file fetched last, up to their end, a fault or 2^48 bytes.
 fn gather_file<O: Opener>(alloc: Global, files: &mut O) -> Result<Gathered, Memory>
-    ensures taken { MatchResult result (λ g. Took (seen O.left O.read_faults files.old files.new) (taken_of g))
-        (λ _. TookSome (seen O.left O.read_faults files.old files.new)) }
-    ensures files { O.files files.new ≡ O.files files.old }
-    ensures opens { O.open_faults files.new ≡ O.open_faults files.old }
-    ensures last { O.last_open_fault files.new ≡ O.last_open_fault files.old }
+    ensures taken { MatchResult result (λ g. Gathers (change (as_source (O.state files.old)) (as_source (O.state files.new))) (taken_of g))
+        (λ _. GathersSome (change (as_source (O.state files.old)) (as_source (O.state files.new)))) }
+    ensures frame { O.state files.new ≡ record (O.state files.old) {
+      left = (O.state files.new).left;
+      read_faults = (O.state files.new).read_faults;
+    } }
 {
     let mut bytes = Vec::new(alloc);
     let mut buffer = [0; 4096];
@@ -33,36 +34,31 @@ fn gather_file<O: Opener>(alloc: Global, files: &mut O) -> Result<Gathered, Memo
         let Ok(n) = files.take(&mut buffer) else {
             return Ok(Gathered {
                 bytes,
-                until: Until::Fault,
+                until: InputEnd::Fault,
             });
         };
         if n == 0 {
             return Ok(Gathered {
                 bytes,
-                until: Until::End,
+                until: InputEnd::End,
             });
         }
-        if bytes.extend_from_slice(&buffer[..n]).is_err() {
-            return Err(Memory);
-        }
+        store(&mut bytes, &buffer[..n])?;
     }
     Ok(Gathered {
         bytes,
-        until: Until::Length,
+        until: InputEnd::Length,
     })
 }
 
 /// Fetches a file and takes its bytes.
 pub fn fetch_file<O: Opener>(alloc: Global, files: &mut O, name: &str) -> Result<Fetch, Memory>
     ensures { MatchResult result
-        (λ f. Fetched (seen_files O.files O.open_faults O.last_open_fault O.read_faults files.old files.new) name.now (found_of f))
-        (λ _. FetchedSome (seen_files O.files O.open_faults O.last_open_fault O.read_faults files.old files.new) name.now) }
+        (λ f. Fetched (change (O.state files.old) (O.state files.new)) name.now (fetch_found f))
+        (λ _. FetchedSome (change (O.state files.old) (O.state files.new)) name.now) }
 {
     match files.fetch(name) {
-        Ok(()) => match gather_file(alloc, files) {
-            Ok(gathered) => Ok(Fetch::Opened(gathered)),
-            Err(Memory) => Err(Memory),
-        },
+        Ok(()) => Ok(Fetch::Opened(gather_file(alloc, files)?)),
         Err(OpenError::Missing) => Ok(Fetch::Missing),
         Err(OpenError::Failed) => Ok(Fetch::Failed),
         Err(OpenError::Memory) => Err(Memory),

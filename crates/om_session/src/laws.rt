@@ -2,7 +2,7 @@
 
 ghost use Rattle.om_session.specs.StreamLaws.{HasOneStream};
 
-/// Bytes are one list of values, one behind another, and one end behind them.
+/// Bytes are one list of values, one after another, and one end after them.
 pub fn one_stream()
     ensures { HasOneStream }
 {}

@@ -6,7 +6,6 @@ mod fetch;
 mod gather;
 pub mod laws;
 mod list_type;
-mod read;
 mod refusal_text;
 mod report;
 mod stop;

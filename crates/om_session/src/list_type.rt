@@ -1,10 +1,10 @@
 //! The text of a list type.
 
 ghost use Rattle.std.specs.Prelude.{◌≡◌, ◌≤◌, ◌↔◌, ◌++◌, ℕ};
-ghost use Rattle.om_model.specs.declared.list_type.ListType.{ListType as SomeType};
-ghost use Rattle.om_model.specs.ListShapes.{IsListTypeText, base_text, lists_text};
+ghost use Rattle.om_types.specs.declared.list_type.ListType.{ListType as SomeType};
+ghost use Rattle.om_types.specs.ListShapes.{IsListTypeText, base_text, lists_text};
 
-use om_model::list_type::{Base, ListType};
+use om_types::list_type::{Base, ListType};
 
 /// The type of this text: `int` or `string`, and then at most 199 times a space and `list`.
 pub fn read_list_type(text: &[u8]) -> Option<ListType>
@@ -16,7 +16,7 @@ pub fn read_list_type(text: &[u8]) -> Option<ListType>
     }
 }
 
-/// The type of a base and the text of lists behind it.
+/// The type of a base and the text of lists after it.
 fn lists_of(base: Base, lists: &[u8]) -> Option<ListType>
     ensures { (t : SomeType) → (result ≡ Some t) ↔ IsListTypeText (base_text base ++ lists.now) t }
 {

@@ -2,7 +2,7 @@
 
 ghost use Rattle.std.specs.Prelude.{◌≡◌, ◌++◌, codes, decimal, IfOk, string_bytes};
 ghost use Rattle.std.specs.Fmt.{signed_decimal};
-ghost use Rattle.om_model.specs.RefusalText.{refusal_text as text_of, truncated_text as text_of_cut, stated_text as stated, sum_text as sum, hex_byte, hex_word};
+ghost use Rattle.om_outcome.specs.RefusalText.{refusal_text as text_of, truncated_text as text_of_cut, stated_text as stated, sum_text as sum, hex_byte, hex_word};
 
 use itoa::Buffer;
 use om_model::refusal::{ReadRefusal, Stated, WordSum};
@@ -107,7 +107,7 @@ fn overlong_text(alloc: Global, need: u128, left: u64, place: u64) -> Result<Str
 }
 
 /// The text of a refusal.
-#[tactic(auto, unfolding(om_model::specs::RefusalText::refusal_text))]
+#[tactic(auto, unfolding(om_outcome::specs::RefusalText::refusal_text))]
 pub fn refusal_text(alloc: Global, refusal: ReadRefusal) -> Result<String, AllocError>
     ensures { IfOk result (λ text. string_bytes text ≡ text_of refusal) }
 {
@@ -144,7 +144,7 @@ pub fn refusal_text(alloc: Global, refusal: ReadRefusal) -> Result<String, Alloc
     }
 }
 
-/// The text of a value that is cut short behind so many bytes.
+/// The text of a value that is cut short after so many bytes.
 pub fn truncated_text(alloc: Global, taken: u64) -> Result<String, AllocError>
     ensures { IfOk result (λ text. string_bytes text ≡ text_of_cut taken) }
 {

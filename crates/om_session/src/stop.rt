@@ -1,8 +1,8 @@
 //! Why a run stops before its end.
 
 ghost use Rattle.std.specs.Prelude.{◌≡◌, ◌++◌, codes, decimal, IfOk, string_bytes};
-ghost use Rattle.om_model.specs.Outcome.{status_of, text_of};
-ghost use Rattle.om_session.specs.Call.{seen};
+ghost use Rattle.om_outcome.specs.Outcome.{status_of, stop_text, err_line};
+ghost use Rattle.om_edge.specs.State.{change};
 ghost use Rattle.om_session.specs.Stops.{stop_of, Reports};
 
 use crate::refusal_text::{refusal_text, truncated_text};
@@ -48,7 +48,7 @@ fn value_text(alloc: Global, number: u64, refusal: &str) -> Result<String, Alloc
 }
 
 fn text(alloc: Global, stop: Stop) -> Result<String, AllocError>
-    ensures { IfOk result (λ text. string_bytes text ≡ text_of (stop_of stop.entry)) }
+    ensures { IfOk result (λ text. string_bytes text ≡ stop_text (stop_of stop.entry)) }
 {
     match stop {
         Stop::Usage => String::from_str(alloc, "usage"),
@@ -69,12 +69,20 @@ fn text(alloc: Global, stop: Stop) -> Result<String, AllocError>
     }
 }
 
+// The line of a stop.
+fn line(alloc: Global, stop: Stop) -> Result<String, AllocError>
+    ensures { IfOk result (λ line. string_bytes line ≡ err_line (stop_text (stop_of stop.entry))) }
+{
+    let text = text(alloc, stop)?;
+    format!(in alloc; "omarshal: {text}\n")
+}
+
 /// Puts the line of a stop on err, and answers its status. Where memory runs out for the line, this is told.
 pub fn report_stop<E: Sink>(alloc: Global, err: &mut E, stop: Stop) -> Status
-    ensures { Reports (stop_of stop.entry) (seen E.written E.faults err.old err.new) result }
+    ensures { Reports (stop_of stop.entry) (change (E.state err.old) (E.state err.new)) result }
 {
-    match text(alloc, stop) {
-        Ok(text) => report(err, text.as_bytes(), status(stop)),
-        Err(_) => report(err, b"out of memory", Status::Memory),
+    match line(alloc, stop) {
+        Ok(line) => report(err, line.as_bytes(), status(stop)),
+        Err(_) => report(err, b"omarshal: out of memory\n", Status::Memory),
     }
 }

@@ -1,7 +1,7 @@
 //! Whole runs over a source, files and sinks in memory. Each row is run with the input in pieces of 1 byte, of 7 and of
 //! 4096, and must end alike.
 
-ghost use Rattle.std.specs.Prelude.{◌<◌, ◌≤◌};
+ghost use Rattle.std.specs.Prelude.{◌≤◌};
 
 mod failing_calls;
 mod refusals;
@@ -11,8 +11,9 @@ mod verdicts;
 use crate::run;
 use om_edge::{MemFiles, MemSink, MemSource};
 use om_model::status::Status;
-use std::alloc::{AllocError, Global};
+use std::alloc::Global;
 use std::process::Abort;
+use std::test::Fail;
 
 /// Checks an input at a type, with an empty `t.ml`, room for all texts, and no call that fails.
 struct Case {
@@ -35,6 +36,8 @@ struct Row {
     failing_fetch: Option<u64>,
     failing_read: Option<u64>,
     failing_take: Option<u64>,
+    /// On out and on err.
+    failing_put: Option<u64>,
     /// So many bytes fit on out and on err.
     out_room: usize,
     err_room: usize,
@@ -52,7 +55,7 @@ struct Faults {
     takes: u64,
 }
 
-/// What stands around a run.
+/// What is around a run.
 #[derive(Drop)]
 struct Outside {
     input: MemSource,
@@ -67,45 +70,26 @@ const STRING: &str = "8495a6be 00000004 00000001 00000002 00000002 23616263";
 
 const LIST: &str = "8495a6be 00000005 00000002 00000006 00000006 a041a04240";
 
-const BYTE_BEHIND: &str = "8495a6be 00000002 00000000 00000000 00000000 4141";
+const BYTE_AFTER: &str = "8495a6be 00000002 00000000 00000000 00000000 4141";
 
 const ALL_FITS: usize = 4096;
 
-fn digit(text: u8) -> u8
-    ensures { result < 16 }
-{
-    match text {
-        b'0'..=b'9' => text - b'0',
-        b'a'..=b'f' => text - b'a' + 10,
-        _ => 0,
-    }
-}
-
 // Adds the bytes that hexadecimal digits spell. The spaces between them are for the reader.
-fn push_hex(bytes: &mut Vec<u8>, hex: &str) -> Result<(), AllocError> {
-    let mut high = None;
-    for text in hex.as_bytes() {
-        if *text == b' ' {
-            continue;
-        }
-        match high {
-            None => high = Some(digit(*text)),
-            Some(first) => {
-                bytes.push(first << 4 | digit(*text))?;
-                high = None;
-            }
-        }
+fn push_hex(alloc: Global, bytes: &mut Vec<u8>, digits: &str) -> Result<(), Fail> {
+    for word in digits.split(' ') {
+        let more = hex::decode(alloc, word.as_bytes())?;
+        bytes.extend_from_slice(more.as_slice())?;
     }
     Ok(())
 }
 
-fn push_word(alloc: Global, words: &mut Vec<String>, word: &str) -> Result<(), AllocError> {
+fn push_word(alloc: Global, words: &mut Vec<String>, word: &str) -> Result<(), Fail> {
     words.push(String::from_str(alloc, word)?)?;
     Ok(())
 }
 
 // `check` with a FILE and a TYPE.
-fn check_words(alloc: Global, file: &str, type_text: &str) -> Result<Vec<String>, AllocError> {
+fn check_words(alloc: Global, file: &str, type_text: &str) -> Result<Vec<String>, Fail> {
     let mut words = Vec::new(alloc);
     push_word(alloc, &mut words, "check")?;
     push_word(alloc, &mut words, file)?;
@@ -113,7 +97,7 @@ fn check_words(alloc: Global, file: &str, type_text: &str) -> Result<Vec<String>
     Ok(words)
 }
 
-fn one_or_none(alloc: Global, number: Option<u64>) -> Result<Vec<u64>, AllocError> {
+fn one_or_none(alloc: Global, number: Option<u64>) -> Result<Vec<u64>, Fail> {
     let mut numbers = Vec::new(alloc);
     if let Some(number) = number {
         numbers.push(number)?;
@@ -121,7 +105,7 @@ fn one_or_none(alloc: Global, number: Option<u64>) -> Result<Vec<u64>, AllocErro
     Ok(numbers)
 }
 
-fn row_of(alloc: Global, case: &Case) -> Result<Row, AllocError> {
+fn row_of(alloc: Global, case: &Case) -> Result<Row, Fail> {
     check_row(
         alloc,
         case.type_text,
@@ -140,9 +124,9 @@ fn check_row(
     status: Status,
     out: &str,
     err: &str,
-) -> Result<Row, AllocError> {
+) -> Result<Row, Fail> {
     let mut bytes = Vec::new(alloc);
-    push_hex(&mut bytes, input)?;
+    push_hex(alloc, &mut bytes, input)?;
     Ok(Row {
         words: check_words(alloc, "t.ml", type_text)?,
         file: Some(Vec::new(alloc)),
@@ -150,6 +134,7 @@ fn check_row(
         failing_fetch: None,
         failing_read: None,
         failing_take: None,
+        failing_put: None,
         out_room: ALL_FITS,
         err_room: ALL_FITS,
         status,
@@ -164,7 +149,7 @@ fn check_row(
 }
 
 // `t.ml`, or no file.
-fn files_of(rt: &impl Abort, alloc: Global, row: &Row) -> Result<MemFiles, AllocError> {
+fn files_of(rt: &impl Abort, alloc: Global, row: &Row) -> Result<MemFiles, Fail> {
     let mut pairs = Vec::new(alloc);
     if let Some(bytes) = &row.file {
         let bytes = bytes.as_slice().to_vec(alloc)?;
@@ -177,7 +162,7 @@ fn files_of(rt: &impl Abort, alloc: Global, row: &Row) -> Result<MemFiles, Alloc
 }
 
 // The input, of which a call gives at most so many bytes.
-fn input_of(alloc: Global, row: &Row, piece: usize) -> Result<MemSource, AllocError>
+fn input_of(alloc: Global, row: &Row, piece: usize) -> Result<MemSource, Fail>
     requires { 1 ≤ piece }
 {
     let takes = one_or_none(alloc, row.failing_take)?;
@@ -185,22 +170,18 @@ fn input_of(alloc: Global, row: &Row, piece: usize) -> Result<MemSource, AllocEr
     Ok(MemSource::new(bytes, piece, takes))
 }
 
-fn sink_of(rt: &impl Abort, alloc: Global, room: usize) -> MemSink {
-    MemSink::new(alloc, room, Vec::new(alloc)).expect(rt, "there is memory")
+fn sink_of(rt: &impl Abort, alloc: Global, row: &Row, room: usize) -> Result<MemSink, Fail> {
+    let puts = one_or_none(alloc, row.failing_put)?;
+    Ok(MemSink::new(alloc, room, puts).expect(rt, "there is memory"))
 }
 
-fn outside_of(
-    rt: &impl Abort,
-    alloc: Global,
-    row: &Row,
-    piece: usize,
-) -> Result<Outside, AllocError> {
+fn outside_of(rt: &impl Abort, alloc: Global, row: &Row, piece: usize) -> Result<Outside, Fail> {
     assert!(rt; piece >= 1);
     Ok(Outside {
         input: input_of(alloc, row, piece)?,
         files: files_of(rt, alloc, row)?,
-        out: sink_of(rt, alloc, row.out_room),
-        err: sink_of(rt, alloc, row.err_room),
+        out: sink_of(rt, alloc, row, row.out_room)?,
+        err: sink_of(rt, alloc, row, row.err_room)?,
     })
 }
 
@@ -230,7 +211,7 @@ fn expect_in_pieces(
     shows: &str,
     row: &Row,
     piece: usize,
-) -> Result<(), AllocError> {
+) -> Result<(), Fail> {
     let mut outside = outside_of(rt, alloc, row, piece)?;
     let status = run_outside(alloc, row.words.as_slice(), &mut outside);
     assert_eq!(rt; status, row.status, "{shows}, in pieces of {piece}");
@@ -252,14 +233,14 @@ fn expect_in_pieces(
     Ok(())
 }
 
-fn expect_row(rt: &impl Abort, alloc: Global, shows: &str, row: &Row) -> Result<(), AllocError> {
+fn expect_row(rt: &impl Abort, alloc: Global, shows: &str, row: &Row) -> Result<(), Fail> {
     expect_in_pieces(rt, alloc, shows, row, 1)?;
     expect_in_pieces(rt, alloc, shows, row, 7)?;
     expect_in_pieces(rt, alloc, shows, row, 4096)?;
     Ok(())
 }
 
-fn expect_cases(rt: &impl Abort, alloc: Global, cases: &[Case]) -> Result<(), AllocError> {
+fn expect_cases(rt: &impl Abort, alloc: Global, cases: &[Case]) -> Result<(), Fail> {
     for case in cases {
         let row = row_of(alloc, case)?;
         expect_row(rt, alloc, case.shows, &row)?;

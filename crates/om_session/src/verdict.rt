@@ -4,40 +4,41 @@ ghost use Rattle.std.specs.Prelude.{◌≡◌, ◌++◌, length, OnOk, IfOk, IfS
 ghost use Rattle.std.specs.Fmt.{signed_decimal};
 ghost use Rattle.om_model.specs.Graph.{IsValue};
 ghost use Rattle.om_model.specs.PathText.{path_text};
-ghost use Rattle.om_model.specs.Fault.{step as step_of, place_at, IsFault};
-ghost use Rattle.om_model.specs.ListShapes.{list_shapes, list_type_text, base_text};
-ghost use Rattle.om_model.specs.VerdictText.{kind_text, IsVerdictLine};
-ghost use Rattle.om_session.specs.Lists.{IsLine};
-ghost use Rattle.om_session.specs.Verdict.{IsVerdict, IsLineOf, PutsFault, object_text};
+ghost use Rattle.om_types.specs.Fault.{step as step_of, value_at, IsFault};
+ghost use Rattle.om_types.specs.ListShapes.{list_shapes, list_type_text, base_text};
+ghost use Rattle.om_types.specs.VerdictText.{kind_text};
+ghost use Rattle.om_session.specs.Lists.{IsListLine, SaysLine};
+ghost use Rattle.om_session.specs.Verdict.{IsVerdict, IsLineOf, PutsFault, is_yes, text_of_kind};
 
 use crate::check::{Verdict, check, field_type, is_pair};
 use itoa::Buffer;
 use om_heap::{Heap, Kind};
 use om_model::Memory;
 use om_model::code::Custom;
-use om_model::fault::Fault;
 use om_model::list::List;
-use om_model::list_type::{Base, ListType};
 use om_model::path::Path;
 use om_model::value::Val;
+use om_types::fault::Fault;
+use om_types::list_type::{Base, ListType};
 use std::alloc::Global;
 
-/// The line of a verdict, and whether the value has the type.
+/// The line of a verdict with its line feed, and whether the value has the type.
 #[derive(Drop)]
 pub struct Line {
     pub text: List<u8>,
-    pub well: bool,
+    pub has_type: bool,
 }
 
 /// Checks a value against a type, and says what comes of that.
 pub fn verdict_line(alloc: Global, heap: &Heap, root: Val, ty: ListType) -> Result<Line, Memory>
     requires { IsValue (length heap.now) root }
-    ensures { IfOk result (λ line. IsLine ty heap.now root line.text line.well) }
+    ensures { IfOk result (λ line. SaysLine ty heap.now root line.text line.has_type) }
 {
     let verdict = check(alloc, heap, root, ty)?;
-    let text = verdict_text(alloc, heap, root, ty, &verdict)?;
-    let well = matches!(verdict, Verdict::Yes);
-    Ok(Line { text, well })
+    let mut text = verdict_text(alloc, heap, root, ty, &verdict)?;
+    text.push(b'\n')?;
+    let has_type = matches!(verdict, Verdict::Yes);
+    Ok(Line { text, has_type })
 }
 
 /// The line of a verdict: `yes`, or `no` and the fault.
@@ -51,7 +52,7 @@ pub fn verdict_text(
     requires value { IsValue (length heap.now) root }
     requires verdict { IsVerdict heap.now root ty verdict.now }
     ensures exact { IfOk result (IsLineOf heap.now root ty verdict.now) }
-    ensures line { IfOk result (IsVerdictLine list_shapes list_type_text heap.now root ty) }
+    ensures line { IfOk result (λ line. IsListLine ty heap.now root line (is_yes verdict.now)) }
 {
     let mut text = Vec::new(alloc);
     match verdict {
@@ -110,7 +111,7 @@ fn put_fault(
 /// The value and its type at the end of a path, if it leads anywhere.
 fn walk(heap: &Heap, root: Val, ty: ListType, path: &Path) -> Option<(Val, ListType)>
     requires { IsValue (length heap.now) root }
-    ensures place { result ≡ place_at list_shapes heap.now root ty path.now }
+    ensures place { result ≡ value_at list_shapes heap.now root ty path.now }
     ensures value { IfSome result (λ place. IsValue (length heap.now) place.0) }
 {
     let mut value = root;
@@ -177,7 +178,7 @@ fn put_kind(text: &mut Vec<u8>, heap: &Heap, v: Val) -> Result<(), Memory>
 
 /// Puts at the end what an object is.
 fn put_object(text: &mut Vec<u8>, kind: Kind) -> Result<(), Memory>
-    ensures { OnOk result (text.new.items ≡ text.old.items ++ object_text kind) }
+    ensures { OnOk result (text.new.items ≡ text.old.items ++ text_of_kind kind) }
 {
     match kind {
         Kind::Block(tag, size) => {
@@ -221,10 +222,7 @@ fn put_integer(text: &mut Vec<u8>, n: i64) -> Result<(), Memory>
 fn put(text: &mut Vec<u8>, bytes: &[u8]) -> Result<(), Memory>
     ensures { OnOk result (text.new.items ≡ text.old.items ++ bytes.now) }
 {
-    match text.extend_from_slice(bytes) {
-        Ok(()) => Ok(()),
-        Err(_) => Err(Memory),
-    }
+    Ok(text.extend_from_slice(bytes)?)
 }
 
 #[cfg(test)]

@@ -1,7 +1,7 @@
 //! The words of the command line.
 
 ghost use Rattle.std.specs.Prelude.{◌↔◌, IsTrue, MatchOption};
-ghost use Rattle.om_model.specs.Outcome.{IsArgument, Asks};
+ghost use Rattle.om_outcome.specs.Outcome.{IsArgument, Asks};
 ghost use Rattle.om_session.specs.Run.{IsUsage};
 ghost use Rattle.om_session.specs.Words.{texts, request_of};
 

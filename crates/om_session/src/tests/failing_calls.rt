@@ -1,17 +1,17 @@
-//! Calls that fail behind the type: those that take from the input, and those that put on out and on err.
+//! Calls that fail after the type: those that take from the input, and those that put on out and on err.
 
 use super::{
-    ALL_FITS, BYTE_BEHIND, INTEGER, STRING, check_row, expect_in_pieces, expect_row, push_hex,
+    ALL_FITS, BYTE_AFTER, INTEGER, STRING, check_row, expect_in_pieces, expect_row, push_hex,
 };
 use om_model::status::Status;
-use std::alloc::{AllocError, Global};
+use std::alloc::Global;
 use std::process::Abort;
 use std::test::Fail;
 
 /// An integer in two bytes of data.
 const WIDE_INTEGER: &str = "8495a6be 00000002 00000000 00000000 00000000 0041";
 
-/// So many bytes in a call, the number of the take that fails, and what stands on out.
+/// So many bytes in a call, the number of the take that fails, and what is on out.
 static TAKES: [(usize, u64, &str); 13] = [
     (1, 0, ""),
     (1, 20, ""),
@@ -34,10 +34,10 @@ fn expect_failed_take(
     piece: usize,
     take: u64,
     out: &str,
-) -> Result<(), AllocError> {
+) -> Result<(), Fail> {
     let err = "omarshal: read fault\n";
     let mut row = check_row(alloc, "int", INTEGER, Status::ReadFault, out, err)?;
-    push_hex(&mut row.input, INTEGER)?;
+    push_hex(alloc, &mut row.input, INTEGER)?;
     row.failing_take = Some(take);
     row.faults.takes = 1;
     expect_in_pieces(rt, alloc, "a take that fails", &row, piece)
@@ -45,16 +45,16 @@ fn expect_failed_take(
 
 // Two integers of 21 bytes each, and one take that fails. The values whose bytes came before it have their lines.
 #[test]
-fn a_fault_of_the_input_is_told_behind_the_values(rt: HostRuntime) -> Result<(), Fail> {
+fn a_fault_of_the_input_is_told_after_the_values(rt: HostRuntime) -> Result<(), Fail> {
     for (piece, take, out) in &TAKES {
         expect_failed_take(&rt, rt.alloc(), *piece, *take, out)?;
     }
     Ok(())
 }
 
-// The calls behind the end of the input, of the file, and behind the one fetch are at hand to fail, and are not made.
+// The calls after the end of the input, of the file, and after the one fetch are at hand to fail, and are not made.
 #[test]
-fn no_more_is_asked_for_behind_an_end(rt: HostRuntime) -> Result<(), Fail> {
+fn no_more_is_asked_for_after_an_end(rt: HostRuntime) -> Result<(), Fail> {
     let mut row = check_row(rt.alloc(), "int", INTEGER, Status::Well, "yes\n", "")?;
     row.failing_fetch = Some(1);
     row.failing_read = Some(1);
@@ -69,14 +69,14 @@ fn expect_first_take(
     alloc: Global,
     wide: usize,
     lines: usize,
-) -> Result<(), AllocError> {
+) -> Result<(), Fail> {
     let err = "omarshal: read fault\n";
     let mut row = check_row(alloc, "int", "", Status::ReadFault, "", err)?;
     for _ in 0..wide {
-        push_hex(&mut row.input, WIDE_INTEGER)?;
+        push_hex(alloc, &mut row.input, WIDE_INTEGER)?;
     }
     for _ in 0..200 {
-        push_hex(&mut row.input, INTEGER)?;
+        push_hex(alloc, &mut row.input, INTEGER)?;
     }
     for _ in 0..lines {
         row.out.extend_from_slice(b"yes\n")?;
@@ -94,14 +94,14 @@ fn a_take_is_asked_for_4096_bytes(rt: HostRuntime) -> Result<(), Fail> {
     Ok(())
 }
 
-// The take behind all bytes fails.
-fn expect_fault_behind(
+// The take after all bytes fails.
+fn expect_fault_after(
     rt: &impl Abort,
     alloc: Global,
     shows: &str,
     value: &str,
     out: &str,
-) -> Result<(), AllocError> {
+) -> Result<(), Fail> {
     let err = "omarshal: read fault\n";
     let mut row = check_row(alloc, "int", value, Status::ReadFault, out, err)?;
     row.failing_take = Some(row.input.len() as u64);
@@ -109,14 +109,14 @@ fn expect_fault_behind(
     expect_in_pieces(rt, alloc, shows, &row, 1)
 }
 
-// The fault is told, and not what stands in front of it.
+// The fault is told, and not what comes before it.
 #[test]
 fn a_fault_of_the_input_comes_before_a_refusal_and_a_no(rt: HostRuntime) -> Result<(), Fail> {
     let no = "no .: expected int, found string\n";
-    expect_fault_behind(&rt, rt.alloc(), "a no", STRING, no)?;
-    expect_fault_behind(&rt, rt.alloc(), "a refusal", BYTE_BEHIND, "")?;
-    expect_fault_behind(&rt, rt.alloc(), "a cut", "8495a6", "")?;
-    expect_fault_behind(&rt, rt.alloc(), "nothing", "", "")?;
+    expect_fault_after(&rt, rt.alloc(), "a no", STRING, no)?;
+    expect_fault_after(&rt, rt.alloc(), "a refusal", BYTE_AFTER, "")?;
+    expect_fault_after(&rt, rt.alloc(), "a cut", "8495a6", "")?;
+    expect_fault_after(&rt, rt.alloc(), "nothing", "", "")?;
     Ok(())
 }
 
@@ -171,7 +171,7 @@ static FULL_SINKS: [SinkCase; 8] = [
     SinkCase {
         shows: "a full out comes before a later refusal",
         first: INTEGER,
-        second: BYTE_BEHIND,
+        second: BYTE_AFTER,
         out_room: 0,
         err_room: ALL_FITS,
         out: "",
@@ -180,7 +180,7 @@ static FULL_SINKS: [SinkCase; 8] = [
     SinkCase {
         shows: "err has no room",
         first: INTEGER,
-        second: BYTE_BEHIND,
+        second: BYTE_AFTER,
         out_room: ALL_FITS,
         err_room: 0,
         out: "yes\n",
@@ -189,7 +189,7 @@ static FULL_SINKS: [SinkCase; 8] = [
     SinkCase {
         shows: "err has room for a part of a line",
         first: INTEGER,
-        second: BYTE_BEHIND,
+        second: BYTE_AFTER,
         out_room: ALL_FITS,
         err_room: 14,
         out: "yes\n",
@@ -206,10 +206,10 @@ static FULL_SINKS: [SinkCase; 8] = [
     },
 ];
 
-fn expect_full_sink(rt: &impl Abort, alloc: Global, case: &SinkCase) -> Result<(), AllocError> {
+fn expect_full_sink(rt: &impl Abort, alloc: Global, case: &SinkCase) -> Result<(), Fail> {
     let status = Status::WriteFault;
     let mut row = check_row(alloc, "int", case.first, status, case.out, case.err)?;
-    push_hex(&mut row.input, case.second)?;
+    push_hex(alloc, &mut row.input, case.second)?;
     row.out_room = case.out_room;
     row.err_room = case.err_room;
     expect_row(rt, alloc, case.shows, &row)
@@ -231,7 +231,7 @@ fn expect_filled(
     status: Status,
     out: &str,
     err: &str,
-) -> Result<(), AllocError> {
+) -> Result<(), Fail> {
     let mut row = check_row(alloc, "int", value, status, out, err)?;
     row.out_room = out.len();
     row.err_room = err.len();
@@ -245,5 +245,27 @@ fn a_sink_may_be_filled_to_its_last_byte(rt: HostRuntime) -> Result<(), Fail> {
     expect_filled(&rt, rt.alloc(), INTEGER, Status::Well, "yes\n", "")?;
     expect_filled(&rt, rt.alloc(), "84", Status::Value, "", cut)?;
     expect_filled(&rt, rt.alloc(), "", Status::Well, "", "")?;
+    Ok(())
+}
+
+// The second call on out or err is at hand to fail, and is not made.
+fn expect_one_put(
+    rt: &impl Abort,
+    alloc: Global,
+    value: &str,
+    status: Status,
+    out: &str,
+    err: &str,
+) -> Result<(), Fail> {
+    let mut row = check_row(alloc, "int", value, status, out, err)?;
+    row.failing_put = Some(1);
+    expect_row(rt, alloc, "one call a line", &row)
+}
+
+#[test]
+fn a_line_is_put_in_one_call(rt: HostRuntime) -> Result<(), Fail> {
+    let cut = "omarshal: value 0: Truncated(1)\n";
+    expect_one_put(&rt, rt.alloc(), INTEGER, Status::Well, "yes\n", "")?;
+    expect_one_put(&rt, rt.alloc(), "84", Status::Value, "", cut)?;
     Ok(())
 }

@@ -2,7 +2,7 @@
 
 use super::{Case, LIST, check_row, expect_cases, expect_row};
 use om_model::status::Status;
-use std::alloc::{AllocError, Global};
+use std::alloc::Global;
 use std::process::Abort;
 use std::test::Fail;
 
@@ -88,7 +88,7 @@ static REFUSALS: [Case; 25] = [
         err: "omarshal: value 0: Compressed\n",
     },
     Case {
-        shows: "a byte behind the value",
+        shows: "a byte after the value",
         type_text: "int",
         input: "8495a6be 00000002 00000000 00000000 00000000 4141",
         status: Status::Value,
@@ -222,7 +222,7 @@ fn expect_cut(
     type_text: &str,
     value: &str,
     n: usize,
-) -> Result<(), AllocError> {
+) -> Result<(), Fail> {
     let err = format!(in alloc; "omarshal: value 0: Truncated({n})\n")?;
     let mut row = check_row(alloc, type_text, value, Status::Value, "", err.as_str())?;
     row.input.truncate(n);

@@ -2,7 +2,7 @@
 
 use super::{INTEGER, check_row, check_words, expect_row, push_word};
 use om_model::status::Status;
-use std::alloc::{AllocError, Global};
+use std::alloc::Global;
 use std::process::Abort;
 use std::test::Fail;
 
@@ -25,7 +25,7 @@ static NOT_PLAIN: [&str; 15] = [
     "--help",
 ];
 
-fn words_of(alloc: Global, text: &str) -> Result<Vec<String>, AllocError> {
+fn words_of(alloc: Global, text: &str) -> Result<Vec<String>, Fail> {
     let mut words = Vec::new(alloc);
     if !text.is_empty() {
         for word in text.split(',') {
@@ -35,7 +35,7 @@ fn words_of(alloc: Global, text: &str) -> Result<Vec<String>, AllocError> {
     Ok(words)
 }
 
-fn expect_usage(rt: &impl Abort, alloc: Global, text: &str) -> Result<(), AllocError> {
+fn expect_usage(rt: &impl Abort, alloc: Global, text: &str) -> Result<(), Fail> {
     let err = "omarshal: usage\n";
     let mut row = check_row(alloc, "int", INTEGER, Status::Usage, "", err)?;
     row.words = words_of(alloc, text)?;
@@ -72,7 +72,7 @@ static OTHER_TYPES: [&str; 15] = [
     "int*string",
 ];
 
-fn expect_other_type(rt: &impl Abort, alloc: Global, type_text: &str) -> Result<(), AllocError> {
+fn expect_other_type(rt: &impl Abort, alloc: Global, type_text: &str) -> Result<(), Fail> {
     let err = "omarshal: type: NotYet\n";
     let mut row = check_row(alloc, type_text, INTEGER, Status::Types, "", err)?;
     row.failing_take = Some(0);
@@ -209,7 +209,7 @@ static FILES: [FileCase; 10] = [
     },
 ];
 
-fn expect_file(rt: &impl Abort, alloc: Global, case: &FileCase) -> Result<(), AllocError> {
+fn expect_file(rt: &impl Abort, alloc: Global, case: &FileCase) -> Result<(), Fail> {
     let mut row = check_row(alloc, case.type_text, INTEGER, case.status, "", case.err)?;
     row.words = check_words(alloc, case.name, case.type_text)?;
     row.file = match case.file {

@@ -1,10 +1,10 @@
 //! Values that have the type or not.
 
 use super::{
-    BYTE_BEHIND, Case, INTEGER, LIST, STRING, check_row, expect_cases, expect_row, push_hex,
+    BYTE_AFTER, Case, INTEGER, LIST, STRING, check_row, expect_cases, expect_row, push_hex,
 };
 use om_model::status::Status;
-use std::alloc::{AllocError, Global};
+use std::alloc::Global;
 use std::process::Abort;
 use std::test::Fail;
 
@@ -58,7 +58,7 @@ static VALUES: [Case; 12] = [
         err: "",
     },
     Case {
-        shows: "an integer behind a big header",
+        shows: "an integer after a big header",
         type_text: "int",
         input: "8495a6bf 0000002a 0000000000000001 0000000000000000 0000000000000000 41",
         status: Status::Well,
@@ -98,7 +98,7 @@ static VALUES: [Case; 12] = [
         err: "",
     },
     Case {
-        shows: "a block behind a wide header word",
+        shows: "a block after a wide header word",
         type_text: "int",
         input: "8495a6be 0000000a 00000001 00000002 00000002 13000000000000070041",
         status: Status::No,
@@ -144,7 +144,7 @@ static STREAMS: [Stream; 5] = [
         err: "",
     },
     Stream {
-        shows: "the last value may be the one that has not the type",
+        shows: "the last value may be the one that does not have the type",
         first: INTEGER,
         second: INTEGER,
         third: LIST,
@@ -155,7 +155,7 @@ static STREAMS: [Stream; 5] = [
     Stream {
         shows: "a refusal weighs more than a no",
         first: STRING,
-        second: BYTE_BEHIND,
+        second: BYTE_AFTER,
         third: INTEGER,
         status: Status::Value,
         out: "no .: expected int, found string\n",
@@ -172,7 +172,7 @@ static STREAMS: [Stream; 5] = [
     },
 ];
 
-fn expect_stream(rt: &impl Abort, alloc: Global, stream: &Stream) -> Result<(), AllocError> {
+fn expect_stream(rt: &impl Abort, alloc: Global, stream: &Stream) -> Result<(), Fail> {
     let mut row = check_row(
         alloc,
         "int",
@@ -181,13 +181,13 @@ fn expect_stream(rt: &impl Abort, alloc: Global, stream: &Stream) -> Result<(), 
         stream.out,
         stream.err,
     )?;
-    push_hex(&mut row.input, stream.second)?;
-    push_hex(&mut row.input, stream.third)?;
+    push_hex(alloc, &mut row.input, stream.second)?;
+    push_hex(alloc, &mut row.input, stream.third)?;
     expect_row(rt, alloc, stream.shows, &row)
 }
 
 #[test]
-fn values_stand_behind_one_another(rt: HostRuntime) -> Result<(), Fail> {
+fn values_come_after_one_another(rt: HostRuntime) -> Result<(), Fail> {
     for stream in &STREAMS {
         expect_stream(&rt, rt.alloc(), stream)?;
     }
@@ -202,7 +202,7 @@ fn expect_lists(
     status: Status,
     out: &str,
     err: &str,
-) -> Result<(), AllocError> {
+) -> Result<(), Fail> {
     let zero = "8495a6be 00000001 00000000 00000000 00000000 40";
     let mut type_text = String::from_str(alloc, "string")?;
     for _ in 0..lists {

@@ -1,6 +1,6 @@
 use Rattle.std.proofs.Common.{◌<◌, ◌≤◌, length, arith}
 use Rattle.om_model.specs.declared.value.Val.TheVariants as vals
-use Rattle.om_model.specs.declared.fault.Fault.TheVariants.{Misfit}
+use Rattle.om_types.specs.declared.fault.Fault.TheVariants.{Misfit}
 use Rattle.om_session.proofs.SearchLemmas.{done_more, explored_has_type, misfit_of_root}
 use Rattle.om_session.proofs.check.check_object.Goals as goal
 

@@ -1,6 +1,6 @@
 use Rattle.std.proofs.Common.{◌≡◌, ◌∙◌, true, sym, subst}
 use Rattle.om_model.specs.declared.value.Val.TheVariants as vals
-use Rattle.om_model.specs.ListShapes.{fits}
+use Rattle.om_types.specs.ListShapes.{fits}
 use Rattle.om_session.proofs.SearchLemmas.{field_is_there, is_read, tests_misfit, tests_plain, tests_reference}
 use Rattle.om_session.proofs.check.test_field.Goals as goal
 

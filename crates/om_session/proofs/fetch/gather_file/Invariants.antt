@@ -1,16 +1,17 @@
 use Rattle.std.proofs.Common.{◌≡◌, ◌-◌, ◌^◌, vec_len}
-use Rattle.om_model.specs.Outcome.{unasked}
-use Rattle.om_session.specs.Call.{seen}
-use Rattle.om_session.specs.Given.{Took}
+use Rattle.om_outcome.specs.Outcome.{unasked}
+use Rattle.om_edge.specs.State.{as_source, change}
+use Rattle.om_session.specs.Given.{Gathers}
 use Rattle.om_session.proofs.TakeLemmas.{taken}
 use Rattle.om_session.proofs.fetch.gather_file.Given as goal
 
 abbrev pub invariant-loop-buffer : goal.invariant-loop-buffer
 invariant-loop-buffer g l = record {
-  took : Took (seen g.O.Opener.left g.O.Opener.read_faults l.initial.files l.files) (taken l.bytes.items unasked);
-  files : g.O.Opener.files l.files ≡ g.O.Opener.files l.initial.files;
-  opens : g.O.Opener.open_faults l.files ≡ g.O.Opener.open_faults l.initial.files;
-  last : g.O.Opener.last_open_fault l.files ≡ g.O.Opener.last_open_fault l.initial.files;
+  took : Gathers (change (as_source (g.O.Opener.state l.initial.files)) (as_source (g.O.Opener.state l.files))) (taken l.bytes.items unasked);
+  frame : g.O.Opener.state l.files ≡ record (g.O.Opener.state l.initial.files) {
+    left = (g.O.Opener.state l.files).left;
+    read_faults = (g.O.Opener.state l.files).read_faults;
+  };
 }
 
 abbrev pub decreases-loop-buffer : goal.decreases-loop-buffer

@@ -1,5 +1,5 @@
 use Rattle.std.proofs.Common.{◌≡◌, ◌++◌}
-use Rattle.om_model.specs.ListShapes.{lists_text}
+use Rattle.om_types.specs.ListShapes.{lists_text}
 use Rattle.om_session.proofs.list_type.count_lists.Given as goal
 
 -- so many lists, and the rest

@@ -1,5 +1,5 @@
 use Rattle.std.proofs.Common.{◌++◌, refl}
-use Rattle.om_model.specs.ListShapes.{base_text}
+use Rattle.om_types.specs.ListShapes.{base_text}
 use Rattle.om_session.proofs.ListTexts.{some_type, no_lists}
 use Rattle.om_session.proofs.list_type.lists_of.Goals as goal
 

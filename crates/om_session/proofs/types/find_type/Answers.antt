@@ -1,4 +1,4 @@
-use Rattle.om_model.specs.Outcome.{opened, missing, failed}
+use Rattle.om_outcome.specs.Outcome.{opened, missing, failed}
 use Rattle.om_session.specs.Gathered.{taken_of}
 use Rattle.om_session.proofs.TypeLemmas.{reads_missing, reads_failed}
 use Rattle.om_session.proofs.types.find_type.Goals as goal

@@ -1,0 +1,40 @@
+-- All that is promised of a call follows from its account.
+use Rattle.std.proofs.Common.{ℕ, List}
+use Rattle.om_format.specs.Laws.{HasOneJudgement}
+use Rattle.om_outcome.specs.Outcome.{Language}
+use Rattle.om_session.specs.Call.{Call}
+use Rattle.om_session.specs.Given.{TellsBytes}
+use Rattle.om_session.specs.Run.{Account, Promises}
+use Rattle.om_session.proofs.CauseLemmas.{only_usage, if_usage, only_types, only_value, only_read_fault, only_write_fault, only_open_fault, if_missing, only_too_long, tells_read_fault, tells_open_fault, tells_write_fault}
+use Rattle.om_session.proofs.CompleteLemmas.{IsLawful, complete}
+use Rattle.om_session.proofs.DecidedLemmas.{decided}
+use Rattle.om_session.proofs.ExactLemmas.{if_types, if_too_long}
+use Rattle.om_session.proofs.FrontLemmas.{if_memory, if_write_fault}
+use Rattle.om_session.proofs.HeadlineLemmas.{headline}
+use Rattle.om_session.proofs.TotalLemmas.{IsTotal}
+
+module _ {D T : Type 0} (language : Language D T) (lawful : IsLawful language) (total : IsTotal language) (law : HasOneJudgement) (words : List (List ℕ)) (call : Call)
+    (tells : TellsBytes call.input) (a : Account language words call) where
+  pub promises : Promises language words call
+  promises = record {
+    account = a;
+    headline = headline language words call a;
+    complete = complete language lawful law words call tells a;
+    decided = decided language lawful law words call tells a;
+    usage_only = only_usage language words call a;
+    usage_if = if_usage language words call a;
+    types_only = only_types language words call a;
+    types_if = if_types language lawful words call a;
+    value_only = only_value language words call a;
+    read_fault_only = only_read_fault language words call a;
+    write_fault_only = only_write_fault language words call a;
+    open_fault_only = only_open_fault language words call a;
+    missing_if = if_missing language words call a;
+    too_long_only = only_too_long language words call a;
+    too_long_if = if_too_long language lawful words call a;
+    memory_if = if_memory language total law words call a tells;
+    write_fault_if = if_write_fault language total law words call a tells;
+    tells_read_fault = tells_read_fault language words call a lawful;
+    tells_open_fault = tells_open_fault language words call a;
+    tells_write_fault = tells_write_fault language words call a;
+  }
