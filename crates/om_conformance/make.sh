@@ -1,0 +1,25 @@
+#!/bin/sh
+# Has OCaml write the streams anew and compares them with those that stand in data/.
+# With the word --keep it puts the new ones in their place.
+set -eu
+cd "$(dirname "$0")"
+for file in data/*.stream; do
+    name=$(basename "$file" .stream)
+    if ! grep -q "^stream $name at " stdin; then
+        echo "there is no question on $name"
+        exit 1
+    fi
+done
+if ! command -v ocaml >/dev/null 2>&1; then
+    echo "skipped: no ocaml"
+    exit 0
+fi
+new=$(mktemp -d)
+trap 'rm -rf "$new"' EXIT
+ocaml streams.ml "$new"
+if [ "${1:-}" = --keep ]; then
+    rm -f data/*.stream
+    cp "$new"/*.stream data/
+fi
+diff -rq --exclude=empty.ml "$new" data
+echo "$(find data -name '*.stream' | wc -l) streams are what OCaml $(ocaml -version | sed 's/.* //') writes"

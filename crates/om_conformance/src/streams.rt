@@ -1,0 +1,46 @@
+//! What `run` says of streams in the folder, which OCaml wrote.
+
+use om_edge::{DiskFiles, StdSink, StdSource};
+use om_model::status::Status;
+use om_session::run;
+use std::fs::File;
+use std::io;
+use std::io::ErrorKind;
+
+/// Checks the values of a stream at a type, by the adapters of the program itself. What belongs on out goes there, and what
+/// belongs on err into `told`.
+fn check(rt: &HostRuntime, stream: &str, ty: &str, told: &mut Vec<u8>) -> io::Result<Status> {
+    let alloc = rt.alloc();
+    let words = [
+        String::from_str(alloc, "check")?,
+        String::from_str(alloc, "empty.ml")?,
+        String::from_str(alloc, ty)?,
+    ];
+    let name = format!(in alloc; "{stream}.stream")?;
+    let mut input = StdSource::new(File::open(rt, name.as_str())?);
+    let mut files = DiskFiles::new(alloc, rt);
+    let mut out = StdSink::new(rt.stdout());
+    let mut err = StdSink::new(told);
+    Ok(run(
+        alloc,
+        words.as_slice(),
+        &mut input,
+        &mut files,
+        &mut out,
+        &mut err,
+    ))
+}
+
+/// Prints what `run` puts on out for `NAME at TYPE`, what on err, and its status.
+pub fn answer(rt: &HostRuntime, question: &str) -> io::Result<()> {
+    let Some((stream, ty)) = question.split_once(" at ") else {
+        return Err(ErrorKind::InvalidInput.into());
+    };
+    let mut told = Vec::new(rt.alloc());
+    let status = check(rt, stream, ty, &mut told)?;
+    if !told.is_empty() {
+        print!(rt; "err: ")?;
+        rt.stdout().write_all(told.as_slice())?;
+    }
+    println!(rt; "status {}", status.code())
+}

@@ -1,4 +1,0 @@
-pub mod Pieces
-pub mod Judging
-pub mod Contents
-pub mod Built

@@ -1,9 +1,0 @@
-use Rattle.std.proofs.Common.{take, map}
-use Rattle.std.specs.List.{AllZip}
-use Rattle.om_model.specs.Token.{Spells}
-use Rattle.om_plain.specs.Token.{token_of}
-use Rattle.om_plain.proofs.token.tokens_spelled.Given as goal
-
--- the tokens so far are spelled
-abbrev pub invariant-loop-piece : goal.invariant-loop-piece
-invariant-loop-piece l = AllZip Spells (map token_of l.tokens.items) (take l.piece-index l.pieces)

@@ -1,0 +1,24 @@
+-- The steps of the definitions, and where a token stands.
+use Rattle.std.specs.Prelude.{ℕ, Bool, nat_lt, List, map}
+use Rattle.om_format.specs.Step.{Step as Defined, step, Context as Standing, nat_ne}
+use Rattle.om_reference.specs.declared.step.Step.{Step}
+use Rattle.om_reference.specs.declared.context.Context.{Context}
+use Rattle.om_reference.specs.declared.step.Comparison.{Comparison}
+use Rattle.om_reference.specs.declared.step.Comparison.TheVariants.{Above, Other}
+use Rattle.om_reference.specs.Refusal.{refusal_in}
+
+-- a step, with its refusal
+abbrev pub step_of : Step → Defined
+step_of s = step s.ends (refusal_in s.refusal)
+
+abbrev pub steps_of : List Step → List Defined
+steps_of steps = map step_of steps
+
+-- where a token stands
+abbrev pub context_of : Context → Standing
+context_of c = record { head = c.head; start = c.start; taken = c.taken; before = c.before.items }
+
+-- how what is found is compared with what is stated
+abbrev pub differ : Comparison → ℕ → ℕ → Bool
+differ Above stated found = nat_lt stated found
+differ Other stated found = nat_ne stated found

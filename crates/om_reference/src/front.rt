@@ -1,0 +1,94 @@
+//! Which bytes may still become a value, and which are refused.
+
+ghost use Rattle.std.specs.Prelude.{◌≡◌, ◌<◌, ◌^◌, length, map, IfOk};
+ghost use Rattle.std.specs.List.{concat};
+ghost use Rattle.om_format.specs.Raw.{raw_measure};
+ghost use Rattle.om_format.specs.Front.{context, header_refusal};
+ghost use Rattle.om_reference.specs.Step.{context_of};
+ghost use Rattle.om_reference.specs.Front.{FirstRefused, refusal_at};
+
+use crate::context::Context;
+use crate::cut::first;
+use crate::header::head_of;
+use crate::raw::raw_measure;
+use crate::refusal::Refusal;
+use crate::step::{first_refusal, header_steps};
+use crate::token_step::token_steps;
+use om_model::code::Measure;
+use om_model::list::List;
+use std::alloc::{AllocError, Global};
+
+/// A refusal, and how many bytes decide it.
+#[derive(Clone, Copy, Debug, PartialEq, Eq)]
+pub struct Decided {
+    pub count: usize,
+    pub refusal: Refusal,
+}
+
+/// How many bytes the tokens have.
+fn taken(tokens: &[List<u8>]) -> u64
+    requires { length (concat tokens.now) < 2 ^ 64 }
+    ensures { result ≡ length (concat tokens.now) }
+{
+    let mut taken = 0;
+    for token in tokens {
+        taken += token.len() as u64;
+    }
+    taken
+}
+
+/// The objects that the tokens make.
+fn measures(alloc: Global, tokens: &[List<u8>]) -> Result<Vec<Option<Measure>>, AllocError>
+    ensures { IfOk result (λ all. all.items ≡ map raw_measure tokens.now) }
+{
+    let mut all = Vec::new(alloc);
+    for token in tokens {
+        all.push(raw_measure(token.as_slice()))?;
+    }
+    Ok(all)
+}
+
+/// Where a token comes after these bytes of a header and these tokens.
+pub fn context(alloc: Global, header: &[u8], before: &[List<u8>]) -> Result<Context, AllocError>
+    requires { length (concat before.now) < 2 ^ 64 }
+    ensures { IfOk result (λ c. context_of c ≡ context header.now before.now) }
+{
+    Ok(Context {
+        head: head_of(header),
+        start: header.len() as u64,
+        taken: taken(before),
+        before: measures(alloc, before)?,
+    })
+}
+
+/// The fewest bytes that refuse a header.
+pub fn header_refused(limit: u64, bytes: &[u8]) -> Option<Decided>
+    ensures { FirstRefused (header_refusal limit) bytes.now result }
+{
+    for i in 0..bytes.len() {
+        let count = i + 1;
+        let front = first(bytes, count);
+        if let Some(refusal) = first_refusal(count as u128, &header_steps(limit, front)) {
+            return Some(Decided { count, refusal });
+        }
+    }
+    None
+}
+
+/// The fewest bytes that refuse a token.
+pub fn token_refused(
+    alloc: Global,
+    c: &Context,
+    bytes: &[u8],
+) -> Result<Option<Decided>, AllocError>
+    ensures { IfOk result (λ decided. FirstRefused (refusal_at (context_of c.now)) bytes.now decided) }
+{
+    for i in 0..bytes.len() {
+        let count = i + 1;
+        let steps = token_steps(alloc, c, first(bytes, count))?;
+        if let Some(refusal) = first_refusal(count as u128, &steps) {
+            return Ok(Some(Decided { count, refusal }));
+        }
+    }
+    Ok(None)
+}

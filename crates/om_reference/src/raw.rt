@@ -1,0 +1,171 @@
+//! A raw token: the fields of one, in their lengths, with any contents (`intern.c`).
+
+ghost use Rattle.std.specs.Prelude.{◌≡◌, ◌<◌, ◌^◌, Option};
+ghost use Rattle.om_format.specs.Code.{IsKind};
+ghost use Rattle.om_format.specs.Raw.{fixed_bytes, field_bytes, custom_bytes, kind_bytes, custom_measure, variable_bytes, block_measure, measure_after, sizing_bytes, raw_length, raw_measure};
+
+use crate::code::{custom_of, kind_of, native_bytes};
+use crate::cut::{byte_at, first, number_of};
+use om_model::bytes::skip;
+use om_model::code::{CodeKind, CustomKind, Measure};
+
+/// The bytes that each token of the kind has after its code.
+pub fn fixed_bytes(kind: CodeKind) -> u128
+    ensures bytes { result ≡ fixed_bytes kind }
+    ensures few { result < 2 ^ 8 }
+{
+    match kind {
+        CodeKind::SmallBlock(_, _) => 0,
+        CodeKind::SmallInt(_) => 0,
+        CodeKind::SmallString(_) => 0,
+        CodeKind::Int(width) => u128::from(width),
+        CodeKind::Shared(width) => u128::from(width),
+        CodeKind::Block(width) => u128::from(width),
+        CodeKind::Str(width) => u128::from(width),
+        CodeKind::Double(_) => 8,
+        CodeKind::Doubles(width, _) => u128::from(width),
+        CodeKind::Custom => 3,
+    }
+}
+
+/// Those of them that say more than a content.
+pub fn field_bytes(kind: CodeKind) -> u128
+    ensures bytes { result ≡ field_bytes kind }
+    ensures few { result < 2 ^ 8 }
+{
+    match kind {
+        CodeKind::SmallBlock(_, _) => 0,
+        CodeKind::SmallInt(_) => 0,
+        CodeKind::SmallString(_) => 0,
+        CodeKind::Int(8) => 8,
+        CodeKind::Int(_) => 0,
+        CodeKind::Shared(width) => u128::from(width),
+        CodeKind::Block(width) => u128::from(width),
+        CodeKind::Str(width) => u128::from(width),
+        CodeKind::Double(_) => 0,
+        CodeKind::Doubles(width, _) => u128::from(width),
+        CodeKind::Custom => 3,
+    }
+}
+
+/// The data of a custom, by the kind byte of a `Nativeint`.
+fn custom_bytes(custom: Option<CustomKind>, kind: u8) -> u128
+    ensures bytes { result ≡ custom_bytes custom kind }
+    ensures few { result < 2 ^ 8 }
+{
+    match custom {
+        None => 0,
+        Some(CustomKind::Int32) => 4,
+        Some(CustomKind::Int64) => 8,
+        Some(CustomKind::Native) => 1 + u128::from(native_bytes(kind)),
+    }
+}
+
+/// The kind byte, where there is one.
+fn kind_bytes(custom: Option<CustomKind>) -> u128
+    ensures bytes { result ≡ kind_bytes custom }
+    ensures few { result < 2 ^ 8 }
+{
+    match custom {
+        Some(CustomKind::Native) => 1,
+        _ => 0,
+    }
+}
+
+/// The object that a custom is.
+fn custom_measure(custom: Option<CustomKind>) -> Option<Measure>
+    ensures { result ≡ custom_measure custom }
+{
+    match custom {
+        None => None,
+        Some(CustomKind::Int32) => Some(Measure::Custom(4, 4)),
+        Some(CustomKind::Int64) => Some(Measure::Custom(8, 8)),
+        Some(CustomKind::Native) => Some(Measure::Custom(4, 8)),
+    }
+}
+
+/// The bytes after the fixed ones, of a string, an array or a custom. After the code stands `rest`.
+pub fn variable_bytes(kind: CodeKind, rest: &[u8]) -> u128
+    requires { IsKind kind }
+    ensures bytes { result ≡ variable_bytes kind rest.now }
+    ensures few { result < 2 ^ 68 }
+{
+    match kind {
+        CodeKind::SmallString(n) => u128::from(n),
+        CodeKind::Str(width) => u128::from(number_of(rest, usize::from(width))),
+        CodeKind::Doubles(width, _) => 8 * u128::from(number_of(rest, usize::from(width))),
+        CodeKind::Custom => custom_bytes(custom_of(first(rest, 3)), byte_at(rest, 3)),
+        _ => 0,
+    }
+}
+
+/// The object that a block of so many fields is.
+fn block_measure(size: u64) -> Option<Measure>
+    ensures { result ≡ block_measure size }
+{
+    if size == 0 {
+        None
+    } else {
+        Some(Measure::Block(size))
+    }
+}
+
+/// The object that a token makes.
+pub fn measure_after(kind: CodeKind, rest: &[u8]) -> Option<Measure>
+    requires { IsKind kind }
+    ensures { result ≡ measure_after kind rest.now }
+{
+    match kind {
+        CodeKind::SmallBlock(_, size) => block_measure(u64::from(size)),
+        CodeKind::SmallInt(_) => None,
+        CodeKind::SmallString(n) => Some(Measure::Bytes(u64::from(n))),
+        CodeKind::Int(_) => None,
+        CodeKind::Shared(_) => None,
+        CodeKind::Block(width) => block_measure(number_of(rest, usize::from(width)) / 1024),
+        CodeKind::Str(width) => Some(Measure::Bytes(number_of(rest, usize::from(width)))),
+        CodeKind::Double(_) => Some(Measure::Double),
+        CodeKind::Doubles(width, _) => Some(Measure::Doubles(number_of(rest, usize::from(width)))),
+        CodeKind::Custom => custom_measure(custom_of(first(rest, 3))),
+    }
+}
+
+/// The bytes after the code after which the token's size is known.
+pub fn sizing_bytes(kind: CodeKind, rest: &[u8]) -> u128
+    ensures bytes { result ≡ sizing_bytes kind rest.now }
+    ensures few { result < 2 ^ 9 }
+{
+    match kind {
+        CodeKind::Custom => 3 + kind_bytes(custom_of(first(rest, 3))),
+        _ => field_bytes(kind),
+    }
+}
+
+/// How many bytes a raw token has that begins so.
+pub fn raw_length(bytes: &[u8]) -> u128
+    ensures bytes { result ≡ raw_length bytes.now }
+    ensures few { result < 2 ^ 69 }
+{
+    let Some(code) = bytes.first() else {
+        return 1;
+    };
+    match kind_of(*code) {
+        Ok(kind) => {
+            let rest = skip(bytes, 1);
+            1 + (fixed_bytes(kind) + variable_bytes(kind, rest))
+        }
+        Err(_) => 1,
+    }
+}
+
+/// The object that a raw token makes.
+pub fn raw_measure(bytes: &[u8]) -> Option<Measure>
+    ensures { result ≡ raw_measure bytes.now }
+{
+    let Some(code) = bytes.first() else {
+        return None;
+    };
+    match kind_of(*code) {
+        Ok(kind) => measure_after(kind, skip(bytes, 1)),
+        Err(_) => None,
+    }
+}

@@ -1,0 +1,143 @@
+//! The tokens that bytes spell: `intern.c` reads each width and byte order.
+
+ghost use Rattle.std.specs.Prelude.{◌≡◌, ◌*◌, ℕ, List as Seq, length, map, IfOk};
+ghost use Rattle.std.specs.List.{AllZip};
+ghost use Rattle.om_model.specs.Bytes.{SpellsDoubles};
+ghost use Rattle.om_format.specs.Code.{IsKind};
+ghost use Rattle.om_format.specs.Token.{Token as Spelled, block_or_atom, word_token, leaf, SpellsCustom, SpellsAfter, Spells};
+ghost use Rattle.om_model.specs.declared.value.Obj.TheVariants as objects;
+ghost use Rattle.om_reference.specs.Token.{token_of};
+
+use crate::code::{custom_of, kind_of};
+use crate::cut::{first, number_of};
+use om_model::bytes::{big_endian, double, signed, skip};
+use om_model::code::{CodeKind, CustomKind};
+use om_model::list::List;
+use om_model::value::Obj;
+use std::alloc::{AllocError, Global};
+
+/// An integer; an atom, by its tag; a reference to the object so many places back from the next one; a block, by
+/// tag and size, whose fields are the values after it; and an object without fields.
+#[derive(Drop)]
+pub enum Token {
+    Integer(i64),
+    Atom(u8),
+    Shared(u64),
+    Block(u8, u64),
+    Leaf(Obj),
+}
+
+/// A block of no fields is an atom.
+fn block_or_atom(tag: u8, size: u64) -> Token
+    ensures { token_of result ≡ block_or_atom tag size }
+{
+    if size == 0 {
+        Token::Atom(tag)
+    } else {
+        Token::Block(tag, size)
+    }
+}
+
+/// What a header word says.
+fn word_token(word: u64) -> Token
+    ensures { token_of result ≡ word_token word }
+{
+    block_or_atom((word % 256) as u8, word / 1024)
+}
+
+/// The doubles that so many times eight bytes spell.
+fn doubles_of(
+    alloc: Global,
+    little: bool,
+    count: usize,
+    bytes: &[u8],
+) -> Result<Vec<u64>, AllocError>
+    requires { length bytes.now ≡ 8 * count }
+    ensures { IfOk result (λ all. SpellsDoubles little all.items bytes.now) }
+{
+    let mut all = Vec::new(alloc);
+    for i in 0..count {
+        all.push(double(&bytes[8 * i..8 * i + 8], little))?;
+    }
+    Ok(all)
+}
+
+/// The custom after whose code stands `rest`.
+fn custom_token(rest: &[u8]) -> Token
+    requires { (t : Spelled) × SpellsCustom rest.now t }
+    ensures { (t : Spelled) → SpellsCustom rest.now t → token_of result ≡ t }
+{
+    match custom_of(first(rest, 3)) {
+        Some(CustomKind::Int32) => Token::Leaf(Obj::I32(signed(skip(rest, 3)) as i32)),
+        Some(CustomKind::Int64) => Token::Leaf(Obj::I64(signed(skip(rest, 3)))),
+        _ => Token::Leaf(Obj::Native(signed(skip(rest, 4)))),
+    }
+}
+
+/// A string of these bytes.
+fn string_token(alloc: Global, bytes: &[u8]) -> Result<Token, AllocError>
+    ensures { IfOk result (λ t. token_of t ≡ leaf (objects.Bytes bytes.now)) }
+{
+    Ok(Token::Leaf(Obj::Bytes(List::of(Vec::from_slice(alloc, bytes)?))))
+}
+
+/// The array of so many doubles.
+fn doubles_token(
+    alloc: Global,
+    little: bool,
+    count: usize,
+    bytes: &[u8],
+) -> Result<Token, AllocError>
+    requires { length bytes.now ≡ 8 * count }
+    ensures { IfOk result (λ t. (all : Seq ℕ) → SpellsDoubles little all bytes.now → token_of t ≡ leaf (objects.Doubles all)) }
+{
+    let all = doubles_of(alloc, little, count, bytes)?;
+    Ok(Token::Leaf(Obj::Doubles(List::of(all))))
+}
+
+/// The token of this kind, after whose code stands `rest`.
+fn token_after(alloc: Global, kind: CodeKind, rest: &[u8]) -> Result<Token, AllocError>
+    requires known { IsKind kind }
+    requires spelled { (t : Spelled) × SpellsAfter kind rest.now t }
+    ensures { IfOk result (λ t. (u : Spelled) → SpellsAfter kind rest.now u → token_of t ≡ u) }
+{
+    match kind {
+        CodeKind::SmallBlock(tag, size) => Ok(block_or_atom(tag, u64::from(size))),
+        CodeKind::SmallInt(n) => Ok(Token::Integer(i64::from(n))),
+        CodeKind::SmallString(_) => string_token(alloc, rest),
+        CodeKind::Int(_) => Ok(Token::Integer(signed(rest))),
+        CodeKind::Shared(_) => Ok(Token::Shared(big_endian(rest))),
+        CodeKind::Block(_) => Ok(word_token(big_endian(rest))),
+        CodeKind::Str(width) => string_token(alloc, skip(rest, usize::from(width))),
+        CodeKind::Double(little) => Ok(Token::Leaf(Obj::Double(double(rest, little)))),
+        CodeKind::Doubles(width, little) => {
+            let width = usize::from(width);
+            let bytes = skip(rest, width);
+            doubles_token(alloc, little, number_of(rest, width) as usize, bytes)
+        }
+        CodeKind::Custom => Ok(custom_token(rest)),
+    }
+}
+
+/// The token that bytes spell.
+fn token_spelled(alloc: Global, bytes: &[u8]) -> Result<Token, AllocError>
+    requires { (t : Spelled) × Spells t bytes.now }
+    ensures { IfOk result (λ t. Spells (token_of t) bytes.now) }
+{
+    match kind_of(bytes[0]) {
+        Ok(kind) => token_after(alloc, kind, skip(bytes, 1)),
+        Err(_) => unreachable!(),
+    }
+}
+
+/// The tokens that the pieces spell, one by one.
+pub fn tokens_spelled(alloc: Global, pieces: &[List<u8>]) -> Result<Vec<Token>, AllocError>
+    requires { (all : Seq Spelled) × AllZip Spells all pieces.now }
+    ensures { IfOk result (λ tokens. AllZip Spells (map token_of tokens.items) pieces.now) }
+{
+    let mut tokens = Vec::new(alloc);
+    for piece in pieces {
+        tokens.push(token_spelled(alloc, piece.as_slice())?)?;
+    }
+    Ok(tokens)
+}

@@ -1,0 +1,325 @@
+//! The steps of a token (`intern.c`).
+
+ghost use Rattle.std.specs.Prelude.{◌≡◌, ◌≤◌, ◌<◌, ◌^◌, ◌++◌, ◌∷◌, [], length, IfOk};
+ghost use Rattle.om_format.specs.Code.{IsKind, custom_of};
+ghost use Rattle.om_format.specs.Raw.{measure_after};
+ghost use Rattle.om_format.specs.Step.{place, left_after, overlong, code_refusal, integer_refusal, shared_refusal, field_refusal, native_steps, variable_steps, words32_refusal, words64_refusal, end_steps, entry_steps, closing_steps, steps_after, token_steps};
+ghost use Rattle.om_reference.specs.Refusal.{refusal_of, refusal_in};
+ghost use Rattle.om_reference.specs.Step.{steps_of, context_of, differ};
+
+use crate::code::{custom_of, kind_of, native_bytes};
+use crate::context::Context;
+use crate::cut::{byte_at, first, integer_of, number_of};
+use crate::raw::{field_bytes, fixed_bytes, measure_after, sizing_bytes, variable_bytes};
+use crate::refusal::Refusal;
+use crate::step::{Comparison, Step, differs, fails_if, or_else};
+use crate::words::{all_words32, all_words64, objects, pending};
+use om_model::bytes::skip;
+use om_model::code::{CodeFault, CodeKind, CustomKind, Measure};
+use om_model::header::Head;
+use om_model::refusal::WordSum;
+use std::alloc::{AllocError, Global};
+
+/// The place of the token, from the header's first byte.
+fn place(c: &Context) -> u128
+    ensures place { result ≡ place (context_of c.now) }
+    ensures few { result < 2 ^ 65 }
+{
+    u128::from(c.start) + u128::from(c.taken)
+}
+
+/// The data bytes after the first `n` of the token.
+fn left_after(c: &Context, n: u128) -> u128
+    requires { n < 2 ^ 70 }
+    ensures { result ≡ left_after (context_of c.now) n }
+{
+    u128::from(c.head.length).saturating_sub(u128::from(c.taken) + n)
+}
+
+/// More is needed than there is after the first `n` bytes of the token.
+fn overlong(c: &Context, need: u128, n: u128) -> Option<Refusal>
+    requires { n < 2 ^ 70 }
+    ensures { refusal_in result ≡ overlong (context_of c.now) need n }
+{
+    let left = left_after(c, n);
+    fails_if(left < need, Refusal::Overlong(place(c), need, left))
+}
+
+/// The refusal of a code that begins no token.
+fn code_refusal(fault: CodeFault, place: u128, code: u8) -> Refusal
+    ensures { refusal_of result ≡ code_refusal fault place code }
+{
+    match fault {
+        CodeFault::BadCode => Refusal::BadCode(place, code),
+        CodeFault::PointerCode => Refusal::PointerCode(place, code),
+        CodeFault::OldCustom => Refusal::OtherCustom(place, code),
+        CodeFault::CustomLen => Refusal::OtherCustom(place, code),
+    }
+}
+
+/// What is wrong with an integer of eight bytes.
+fn integer_refusal(c: &Context, value: i64) -> Option<Refusal>
+    ensures { refusal_in result ≡ integer_refusal (context_of c.now) value }
+{
+    fails_if(
+        value < -(1 << 62) || value >= 1 << 62,
+        Refusal::IntRange(place(c), value),
+    )
+}
+
+/// What is wrong with an offset.
+fn shared_refusal(c: &Context, offset: u64) -> Option<Refusal>
+    ensures { refusal_in result ≡ shared_refusal (context_of c.now) offset }
+{
+    let found = objects(c.before.as_slice());
+    or_else(
+        fails_if(
+            offset == 0 || found < u128::from(offset),
+            Refusal::BadShared(place(c), offset, found),
+        ),
+        fails_if(c.head.objects == 0, Refusal::NoTable(place(c))),
+    )
+}
+
+/// What is wrong with the token's fields.
+fn field_refusal(c: &Context, code: u8, kind: CodeKind, rest: &[u8]) -> Option<Refusal>
+    requires { IsKind kind }
+    ensures { refusal_in result ≡ field_refusal (context_of c.now) code kind rest.now }
+{
+    match kind {
+        CodeKind::Int(8) => integer_refusal(c, integer_of(rest)),
+        CodeKind::Shared(width) => shared_refusal(c, number_of(rest, usize::from(width))),
+        CodeKind::Block(width) => {
+            let tag = (number_of(rest, usize::from(width)) % 256) as u8;
+            fails_if(tag > 243, Refusal::BadTag(place(c), tag))
+        }
+        CodeKind::Doubles(width, _) => fails_if(
+            number_of(rest, usize::from(width)) == 0,
+            Refusal::ZeroArray(place(c)),
+        ),
+        CodeKind::Custom => fails_if(
+            custom_of(first(rest, 3)).is_none(),
+            Refusal::OtherCustom(place(c), code),
+        ),
+        _ => None,
+    }
+}
+
+/// The steps of a `Nativeint` after its identifier.
+fn native_steps(c: &Context, kind: u8) -> [Step; 3]
+    ensures { steps_of result ≡ native_steps (context_of c.now) kind }
+{
+    let number = u128::from(native_bytes(kind));
+    [
+        Step {
+            ends: 4,
+            refusal: overlong(c, 1, 4),
+        },
+        Step {
+            ends: 5,
+            refusal: fails_if(number == 0, Refusal::BadNative(place(c), kind)),
+        },
+        Step {
+            ends: 5,
+            refusal: overlong(c, number, 5),
+        },
+    ]
+}
+
+/// The steps of the bytes after the fixed ones.
+fn variable_steps(
+    alloc: Global,
+    c: &Context,
+    kind: CodeKind,
+    custom: Option<CustomKind>,
+    rest: &[u8],
+) -> Result<Vec<Step>, AllocError>
+    requires { IsKind kind }
+    ensures { IfOk result (λ steps. steps_of steps.items ≡ variable_steps (context_of c.now) kind custom rest.now) }
+{
+    match (kind, custom) {
+        (CodeKind::Custom, Some(CustomKind::Native)) => Vec::from_slice(
+            alloc,
+            &native_steps(c, byte_at(rest, 3)),
+        ),
+        _ => Vec::from_slice(
+            alloc,
+            &[Step {
+                ends: 1 + field_bytes(kind),
+                refusal: overlong(c, variable_bytes(kind, rest), 1 + fixed_bytes(kind)),
+            }],
+        ),
+    }
+}
+
+/// The words on 32 bits against the header's, which in a big one states none.
+fn words32_refusal(
+    how: Comparison,
+    place: u128,
+    head: Head,
+    all: &[Option<Measure>],
+) -> Option<Refusal>
+    requires { length all.now ≤ 2 ^ 62 }
+    ensures { refusal_in result ≡ words32_refusal (differ how) place head all.now }
+{
+    let found = all_words32(all);
+    fails_if(
+        !head.big && differs(how, head.w32, found),
+        Refusal::SizeMismatch(place, WordSum::W32, head.w32, found),
+    )
+}
+
+/// The words on 64 bits against the header's.
+fn words64_refusal(
+    how: Comparison,
+    place: u128,
+    head: Head,
+    all: &[Option<Measure>],
+) -> Option<Refusal>
+    requires { length all.now ≤ 2 ^ 62 }
+    ensures { refusal_in result ≡ words64_refusal (differ how) place head all.now }
+{
+    let found = all_words64(all);
+    fails_if(
+        differs(how, head.w64, found),
+        Refusal::SizeMismatch(place, WordSum::W64, head.w64, found),
+    )
+}
+
+/// The steps after the last token, which has `n` bytes.
+fn end_steps(c: &Context, n: u128, all: &[Option<Measure>]) -> [Step; 4]
+    requires few { length all.now ≤ 2 ^ 62 }
+    requires short { n < 2 ^ 70 }
+    ensures { steps_of result ≡ end_steps (context_of c.now) n all.now }
+{
+    let p = place(c) + n;
+    let left = left_after(c, n);
+    let found = objects(all);
+    [
+        Step {
+            ends: n,
+            refusal: fails_if(0 < left, Refusal::LengthMismatch(p, left)),
+        },
+        Step {
+            ends: n,
+            refusal: words32_refusal(Comparison::Other, p, c.head, all),
+        },
+        Step {
+            ends: n,
+            refusal: words64_refusal(Comparison::Other, p, c.head, all),
+        },
+        Step {
+            ends: n,
+            refusal: fails_if(
+                c.head.objects != 0 && differs(Comparison::Other, c.head.objects, found),
+                Refusal::CountMismatch(p, c.head.objects, found),
+            ),
+        },
+    ]
+}
+
+/// The steps of the fixed bytes, and of the fields.
+fn entry_steps(c: &Context, code: u8, kind: CodeKind, rest: &[u8]) -> [Step; 2]
+    requires { IsKind kind }
+    ensures { steps_of result ≡ entry_steps (context_of c.now) code kind rest.now }
+{
+    [
+        Step {
+            ends: 1,
+            refusal: overlong(c, fixed_bytes(kind), 1),
+        },
+        Step {
+            ends: 1 + field_bytes(kind),
+            refusal: field_refusal(c, code, kind, rest),
+        },
+    ]
+}
+
+/// The tokens before, and one more.
+fn with_measure(
+    alloc: Global,
+    c: &Context,
+    measure: Option<Measure>,
+) -> Result<Vec<Option<Measure>>, AllocError>
+    ensures all { IfOk result (λ all. all.items ≡ c.now.before.items ++ measure ∷ []) }
+    ensures few { IfOk result (λ all. length all.items ≤ 2 ^ 62) }
+{
+    let mut all = Vec::from_slice(alloc, c.before.as_slice())?;
+    all.push(measure)?;
+    Ok(all)
+}
+
+/// The steps of the values that are to come and of the words, and after the last token those of the tree's end.
+fn closing_steps(
+    alloc: Global,
+    c: &Context,
+    kind: CodeKind,
+    rest: &[u8],
+) -> Result<Vec<Step>, AllocError>
+    requires { IsKind kind }
+    ensures { IfOk result (λ steps. steps_of steps.items ≡ closing_steps (context_of c.now) kind rest.now) }
+{
+    let n = 1 + fixed_bytes(kind) + variable_bytes(kind, rest);
+    let sized = 1 + sizing_bytes(kind, rest);
+    let all = with_measure(alloc, c, measure_after(kind, rest))?;
+    let mut steps = Vec::from_slice(
+        alloc,
+        &[
+            Step {
+                ends: sized,
+                refusal: overlong(c, pending(&all), n),
+            },
+            Step {
+                ends: sized,
+                refusal: words32_refusal(Comparison::Above, place(c), c.head, &all),
+            },
+            Step {
+                ends: sized,
+                refusal: words64_refusal(Comparison::Above, place(c), c.head, &all),
+            },
+        ],
+    )?;
+    if pending(&all) == 0 {
+        steps.extend_from_slice(&end_steps(c, n, &all))?;
+    }
+    Ok(steps)
+}
+
+/// The steps of a token of this kind.
+fn steps_after(
+    alloc: Global,
+    c: &Context,
+    code: u8,
+    kind: CodeKind,
+    rest: &[u8],
+) -> Result<Vec<Step>, AllocError>
+    requires { IsKind kind }
+    ensures { IfOk result (λ steps. steps_of steps.items ≡ steps_after (context_of c.now) code kind rest.now) }
+{
+    let mut steps = Vec::from_slice(alloc, &entry_steps(c, code, kind, rest))?;
+    let variable = variable_steps(alloc, c, kind, custom_of(first(rest, 3)), rest)?;
+    steps.extend_from_slice(&variable)?;
+    let closing = closing_steps(alloc, c, kind, rest)?;
+    steps.extend_from_slice(&closing)?;
+    Ok(steps)
+}
+
+/// The steps of a token.
+#[tactic(auto, unfolding(om_format::specs::Step::token_steps))]
+pub fn token_steps(alloc: Global, c: &Context, token: &[u8]) -> Result<Vec<Step>, AllocError>
+    ensures { IfOk result (λ steps. steps_of steps.items ≡ token_steps (context_of c.now) token.now) }
+{
+    let Some(code) = token.first() else {
+        return Ok(Vec::new(alloc));
+    };
+    match kind_of(*code) {
+        Ok(kind) => steps_after(alloc, c, *code, kind, skip(token, 1)),
+        Err(fault) => Vec::from_slice(
+            alloc,
+            &[Step {
+                ends: 1,
+                refusal: Some(code_refusal(fault, place(c), *code)),
+            }],
+        ),
+    }
+}

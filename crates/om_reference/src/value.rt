@@ -1,0 +1,107 @@
+//! What becomes of bytes that should be a value.
+
+ghost use Rattle.std.specs.Prelude.{◌≡◌, ◌≤◌, ◌<◌, ◌^◌, ◌++◌, ◌∷◌, [], ◌↔◌, take, length, IsTrue, IfOk, OnOk};
+ghost use Rattle.std.specs.List.{concat};
+ghost use Rattle.om_format.specs.Front.{header_refusal, IsOpen};
+ghost use Rattle.om_format.specs.Header.{header_length};
+ghost use Rattle.om_reference.specs.Judgement.{JudgesTo};
+
+use crate::cut::first;
+use crate::front::{context, header_refused, token_refused};
+use crate::header::header_length;
+use crate::raw::raw_length;
+use crate::refusal::Refusal;
+use crate::token::{Token, tokens_spelled};
+use crate::words::pending;
+use om_model::Memory;
+use om_model::bytes::skip;
+use om_model::list::List;
+use std::alloc::{AllocError, Global};
+
+/// A front, a value that the first `taken` bytes spell, with its tokens in preorder, or a refusal of the first `taken`
+/// bytes.
+#[derive(Drop)]
+pub enum Judgement {
+    Front,
+    Value { taken: usize, tokens: Vec<Token> },
+    Refused { taken: usize, refusal: Refusal },
+}
+
+/// The tokens, and the first of the bytes left as one more.
+fn push(
+    alloc: Global,
+    tokens: &mut Vec<List<u8>>,
+    rest: &[u8],
+    len: usize,
+) -> Result<(), AllocError>
+    ensures { OnOk result (tokens.new.items ≡ tokens.old.items ++ take len rest.now ∷ []) }
+{
+    let token = Vec::from_slice(alloc, first(rest, len))?;
+    tokens.push(List::of(token))?;
+    Ok(())
+}
+
+/// Whether some value is still to come after these tokens.
+fn is_open(alloc: Global, header: &[u8], tokens: &[List<u8>]) -> Result<bool, AllocError>
+    requires { length (concat tokens.now) < 2 ^ 64 }
+    ensures { IfOk result (λ open_after. IsTrue open_after ↔ IsOpen tokens.now) }
+{
+    let c = context(alloc, header, tokens)?;
+    Ok(0 < pending(&c.before))
+}
+
+/// Judges one token after another, after the header.
+fn judge_tokens(alloc: Global, limit: u64, bytes: &[u8]) -> Result<Judgement, AllocError>
+    requires passes { header_refusal limit bytes.now ≡ None }
+    requires whole { header_length bytes.now ≤ length bytes.now }
+    ensures { IfOk result (JudgesTo limit bytes.now) }
+{
+    let start = header_length(bytes);
+    let header = first(bytes, start);
+    let mut tokens = Vec::new(alloc);
+    let mut rest = skip(bytes, start);
+    'next: loop {
+        let c = context(alloc, header, &tokens)?;
+        if let Some(decided) = token_refused(alloc, &c, rest)? {
+            return Ok(Judgement::Refused {
+                taken: bytes.len() - rest.len() + decided.count,
+                refusal: decided.refusal,
+            });
+        }
+        let len = raw_length(rest);
+        if (rest.len() as u128) < len {
+            return Ok(Judgement::Front);
+        }
+        push(alloc, &mut tokens, rest, len as usize)?;
+        rest = skip(rest, len as usize);
+        if !is_open(alloc, header, &tokens)? {
+            return Ok(Judgement::Value {
+                taken: bytes.len() - rest.len(),
+                tokens: tokens_spelled(alloc, &tokens)?,
+            });
+        }
+    }
+}
+
+/// Judges the header, and then the tokens.
+fn judge_bytes(alloc: Global, limit: u64, bytes: &[u8]) -> Result<Judgement, AllocError>
+    ensures { IfOk result (JudgesTo limit bytes.now) }
+{
+    if let Some(decided) = header_refused(limit, bytes) {
+        return Ok(Judgement::Refused {
+            taken: decided.count,
+            refusal: decided.refusal,
+        });
+    }
+    if bytes.len() < header_length(bytes) {
+        return Ok(Judgement::Front);
+    }
+    judge_tokens(alloc, limit, bytes)
+}
+
+/// What becomes of bytes, computed from the definitions step by step. Slow: it cuts and sums anew at each token.
+pub fn judge(alloc: Global, limit: u64, bytes: &[u8]) -> Result<Judgement, Memory>
+    ensures { IfOk result (JudgesTo limit bytes.now) }
+{
+    Ok(judge_bytes(alloc, limit, bytes)?)
+}
