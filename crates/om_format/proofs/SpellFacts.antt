@@ -1,5 +1,5 @@
 -- The steps of a token pass just where some facts on its numbers hold.
-use Rattle.std.proofs.Common.{ℕ, ℤ, ◌+◌, ◌%◌, ◌<◌, ◌≤◌, ◌≡◌, Bool, true, false, not, ◌&&◌, ◌||◌, ltb, eqb, List, [], ◌∷◌, ◌++◌, take, slice_index, Option, Some, None, is_none, ◌⊎◌, inl, inr, refl, arith, ltb-false, le-ltb, eqb-true, eq-eqb, ne_eqb, pos_of_ne-zero, le_of_eq, le_refl, subst}
+use Rattle.std.proofs.Common.{ℕ, ℤ, ◌+◌, ◌%◌, ◌<◌, ◌≤◌, ◌≡◌, Bool, true, false, not, ◌&&◌, ◌||◌, ltb, eqb, List, take, slice_index, Option, Some, None, is_none, ◌⊎◌, inl, inr, refl, arith, ltb-false, le-ltb, eqb-true, eq-eqb, ne_eqb, pos_of_ne-zero, le_of_eq, le_refl, subst}
 use Rattle.std.proofs.lemmas.Bool.{cond_both, cases_eq, eqb-false, not-false, and_left, and_right, not_from_true, or_parts, or_from}
 use Rattle.om_model.specs.declared.refusal.ReadRefusal.TheVariants.{OtherCustom, BadTag, BadShared, NoTable, BadNative, IntRange, ZeroArray, Overlong, SizeMismatch, CountMismatch, LengthMismatch}
 use Rattle.om_model.specs.declared.refusal.WordSum.TheVariants.{W32, W64}
@@ -8,11 +8,10 @@ use Rattle.om_model.specs.declared.code.CodeKind.{CodeKind}
 use Rattle.om_model.specs.declared.code.CodeKind.TheVariants as kinds
 use Rattle.om_model.specs.declared.code.CustomKind.{CustomKind}
 use Rattle.om_model.specs.declared.code.CustomKind.TheVariants as customs
-use Rattle.om_model.specs.declared.code.Measure.{Measure}
 use Rattle.om_model.specs.Bytes.{number, signed}
 use Rattle.om_format.specs.Code.{custom_of, native_bytes}
 use Rattle.om_format.specs.Raw.{fixed_bytes, sizing_bytes, variable_bytes, measure_after}
-use Rattle.om_format.specs.Words.{objects, all_words32, all_words64, pending}
+use Rattle.om_format.specs.Words.{Sums, one_more}
 use Rattle.om_format.specs.Step.{fails_if, first_refusal, Context, place, left_after, overlong, is_integer, integer_refusal, field_refusal, variable_steps, words32_refusal, words64_refusal, nat_ne, end_steps, closing_steps, steps_after}
 use Rattle.om_format.proofs.RawLemmas.{fields_fit, sizing_fits}
 use Rattle.om_format.proofs.SpellSteps.{AllStepsPass, AllEndWithin, no_refusal, steps_pass, fails_if_none, none_fails_if, or_else_none, or_else_parts, AllStepsPass-append, AllStepsPass-parts, AllEndWithin-append, AllStepsPass-cond, AllStepsPass-when, AllEndWithin-cond}
@@ -24,28 +23,28 @@ VariableFits c kinds.Custom (Some customs.Native) rest =
     (1 ≤ left_after c 4) × (0 < native_bytes (slice_index rest 3)) × (native_bytes (slice_index rest 3) ≤ left_after c 5)
 VariableFits c kind custom rest = variable_bytes kind rest ≤ left_after c (1 + fixed_bytes kind)
 
--- after the last token, of n bytes, with the measures of all
-pub record EndFacts (c : Context) (n : ℕ) (all : List (Option Measure)) : Type 0 where
+-- after the last token, of n bytes, with the sums of all
+pub record EndFacts (c : Context) (n : ℕ) (all : Sums) : Type 0 where
   pub left : left_after c n ≡ 0
-  pub w32 : c.head.big ≡ false → c.head.w32 ≡ all_words32 all
-  pub w64 : c.head.w64 ≡ all_words64 all
-  pub count : (c.head.objects ≡ 0) ⊎ (c.head.objects ≡ objects all)
+  pub w32 : c.head.big ≡ false → c.head.w32 ≡ all.w32
+  pub w64 : c.head.w64 ≡ all.w64
+  pub count : (c.head.objects ≡ 0) ⊎ (c.head.objects ≡ all.objects)
 
--- a token's length, and the measures up to it
+-- a token's length, and the sums up to it
 abbrev pub token_length : CodeKind → List ℕ → ℕ
 token_length kind rest = 1 + fixed_bytes kind + variable_bytes kind rest
 
-abbrev pub up_to : Context → CodeKind → List ℕ → List (Option Measure)
-up_to c kind rest = c.before ++ measure_after kind rest ∷ []
+abbrev pub up_to : Context → CodeKind → List ℕ → Sums
+up_to c kind rest = one_more c.sums (measure_after kind rest)
 
 pub record TokenFacts (c : Context) (kind : CodeKind) (rest : List ℕ) : Type 0 where
   pub fixed : fixed_bytes kind ≤ left_after c 1
-  pub fields : AreSoundFields kind rest (objects c.before) c.head.objects
+  pub fields : AreSoundFields kind rest (c.sums.objects) c.head.objects
   pub variable : VariableFits c kind (custom_of (take 3 rest)) rest
-  pub room : pending (up_to c kind rest) ≤ left_after c (token_length kind rest)
-  pub w32 : c.head.big ≡ false → all_words32 (up_to c kind rest) ≤ c.head.w32
-  pub w64 : all_words64 (up_to c kind rest) ≤ c.head.w64
-  pub end : pending (up_to c kind rest) ≡ 0 → EndFacts c (token_length kind rest) (up_to c kind rest)
+  pub room : (up_to c kind rest).pending ≤ left_after c (token_length kind rest)
+  pub w32 : c.head.big ≡ false → (up_to c kind rest).w32 ≤ c.head.w32
+  pub w64 : (up_to c kind rest).w64 ≤ c.head.w64
+  pub end : (up_to c kind rest).pending ≡ 0 → EndFacts c (token_length kind rest) (up_to c kind rest)
 
 -- ---- each step
 
@@ -101,7 +100,7 @@ small_integer : (c : Context) (z : ℤ) → is_integer z ≡ true → integer_re
 small_integer c z e = fails_if_none (not (is_integer z)) (IntRange (place c) z) (not_from_true (is_integer z) e)
 
 -- fields that are not refused are sound
-fields_from_none : (c : Context) (code : ℕ) (kind : CodeKind) (rest : List ℕ) → field_refusal c code kind rest ≡ None → VariableFits c kind (custom_of (take 3 rest)) rest → AreSoundFields kind rest (objects c.before) c.head.objects
+fields_from_none : (c : Context) (code : ℕ) (kind : CodeKind) (rest : List ℕ) → field_refusal c code kind rest ≡ None → VariableFits c kind (custom_of (take 3 rest)) rest → AreSoundFields kind rest (c.sums.objects) c.head.objects
 fields_from_none c code (kinds.SmallBlock tag size) rest e f = tt
 fields_from_none c code (kinds.SmallInt n) rest e f = tt
 fields_from_none c code (kinds.SmallString n) rest e f = tt
@@ -109,9 +108,9 @@ fields_from_none c code (kinds.Int width) rest e f =
     λ w. integer_small c (signed (take 8 rest)) (rw (eq-eqb width 8 w) at e)
 fields_from_none c code (kinds.Shared width) rest e f =
     let offset = number (take width rest) in
-    let both = or_else_parts (fails_if (eqb offset 0 || ltb (objects c.before) offset) (BadShared (place c) offset (objects c.before))) (fails_if (eqb c.head.objects 0) (NoTable (place c))) e in
-    let tests = or_parts (eqb offset 0) (ltb (objects c.before) offset) (none_fails_if (eqb offset 0 || ltb (objects c.before) offset) (BadShared (place c) offset (objects c.before)) both.0) in
-    (zero_from_test offset tests.0, ltb-false (objects c.before) offset tests.1, zero_from_test c.head.objects (none_fails_if (eqb c.head.objects 0) (NoTable (place c)) both.1))
+    let both = or_else_parts (fails_if (eqb offset 0 || ltb (c.sums.objects) offset) (BadShared (place c) offset (c.sums.objects))) (fails_if (eqb c.head.objects 0) (NoTable (place c))) e in
+    let tests = or_parts (eqb offset 0) (ltb (c.sums.objects) offset) (none_fails_if (eqb offset 0 || ltb (c.sums.objects) offset) (BadShared (place c) offset (c.sums.objects)) both.0) in
+    (zero_from_test offset tests.0, ltb-false (c.sums.objects) offset tests.1, zero_from_test c.head.objects (none_fails_if (eqb c.head.objects 0) (NoTable (place c)) both.1))
 fields_from_none c code (kinds.Block width) rest e f =
     let tag = number (take width rest) % 256 in
     ltb-false 243 tag (none_fails_if (ltb 243 tag) (BadTag (place c) tag) e)
@@ -123,7 +122,7 @@ fields_from_none c code kinds.Custom rest e f =
     known_data c (custom_of (take 3 rest)) rest (none_fails_if (is_none (custom_of (take 3 rest))) (OtherCustom (place c) code) e) f
 
 -- and sound fields are not refused
-none_from_fields : (c : Context) (code : ℕ) (kind : CodeKind) (rest : List ℕ) → AreSoundFields kind rest (objects c.before) c.head.objects → field_refusal c code kind rest ≡ None
+none_from_fields : (c : Context) (code : ℕ) (kind : CodeKind) (rest : List ℕ) → AreSoundFields kind rest (c.sums.objects) c.head.objects → field_refusal c code kind rest ≡ None
 none_from_fields c code (kinds.SmallBlock tag size) rest s = refl
 none_from_fields c code (kinds.SmallInt n) rest s = refl
 none_from_fields c code (kinds.SmallString n) rest s = refl
@@ -131,8 +130,8 @@ none_from_fields c code (kinds.Int width) rest s =
     cond_both (eqb width 8) (integer_refusal c (signed (take 8 rest))) None (λ r. r ≡ None) (λ e. small_integer c (signed (take 8 rest)) (s (eqb-true width 8 e))) (λ _. refl)
 none_from_fields c code (kinds.Shared width) rest s =
     let offset = number (take width rest) in
-    or_else_none (fails_if (eqb offset 0 || ltb (objects c.before) offset) (BadShared (place c) offset (objects c.before))) (fails_if (eqb c.head.objects 0) (NoTable (place c)))
-    (fails_if_none (eqb offset 0 || ltb (objects c.before) offset) (BadShared (place c) offset (objects c.before)) (or_from (eqb offset 0) (ltb (objects c.before) offset) (test_from_positive offset s.0) (le-ltb (objects c.before) offset s.1)))
+    or_else_none (fails_if (eqb offset 0 || ltb (c.sums.objects) offset) (BadShared (place c) offset (c.sums.objects))) (fails_if (eqb c.head.objects 0) (NoTable (place c)))
+    (fails_if_none (eqb offset 0 || ltb (c.sums.objects) offset) (BadShared (place c) offset (c.sums.objects)) (or_from (eqb offset 0) (ltb (c.sums.objects) offset) (test_from_positive offset s.0) (le-ltb (c.sums.objects) offset s.1)))
     (fails_if_none (eqb c.head.objects 0) (NoTable (place c)) (test_from_positive c.head.objects s.2))
 none_from_fields c code (kinds.Block width) rest s =
     let tag = number (take width rest) % 256 in
@@ -176,49 +175,49 @@ ne_from_same : (n m : ℕ) → n ≡ m → nat_ne n m ≡ false
 ne_from_same n m e = not_from_true (eqb n m) (eq-eqb n m e)
 
 -- a sum of words on 32 bits that is not refused
-words32_test : (differ : ℕ → ℕ → Bool) (p : ℕ) (head : Head) (all : List (Option Measure)) → words32_refusal differ p head all ≡ None → head.big ≡ false → differ head.w32 (all_words32 all) ≡ false
-words32_test differ p head all e =
-    spared head.big (differ head.w32 (all_words32 all)) (none_fails_if (not head.big && differ head.w32 (all_words32 all)) (SizeMismatch p W32 head.w32 (all_words32 all)) e)
+words32_test : (differ : ℕ → ℕ → Bool) (p : ℕ) (head : Head) (found : ℕ) → words32_refusal differ p head found ≡ None → head.big ≡ false → differ head.w32 found ≡ false
+words32_test differ p head found e =
+    spared head.big (differ head.w32 found) (none_fails_if (not head.big && differ head.w32 found) (SizeMismatch p W32 head.w32 found) e)
 
 -- and the other way round
-words32_none : (differ : ℕ → ℕ → Bool) (p : ℕ) (head : Head) (all : List (Option Measure)) → (head.big ≡ false → differ head.w32 (all_words32 all) ≡ false) → words32_refusal differ p head all ≡ None
-words32_none differ p head all f =
-    fails_if_none (not head.big && differ head.w32 (all_words32 all)) (SizeMismatch p W32 head.w32 (all_words32 all)) (test_spared head.big (differ head.w32 (all_words32 all)) f)
+words32_none : (differ : ℕ → ℕ → Bool) (p : ℕ) (head : Head) (found : ℕ) → (head.big ≡ false → differ head.w32 found ≡ false) → words32_refusal differ p head found ≡ None
+words32_none differ p head found f =
+    fails_if_none (not head.big && differ head.w32 found) (SizeMismatch p W32 head.w32 found) (test_spared head.big (differ head.w32 found) f)
 
 -- a sum of words on 64 bits that is not refused
-words64_test : (differ : ℕ → ℕ → Bool) (p : ℕ) (head : Head) (all : List (Option Measure)) → words64_refusal differ p head all ≡ None → differ head.w64 (all_words64 all) ≡ false
-words64_test differ p head all e = none_fails_if (differ head.w64 (all_words64 all)) (SizeMismatch p W64 head.w64 (all_words64 all)) e
+words64_test : (differ : ℕ → ℕ → Bool) (p : ℕ) (head : Head) (found : ℕ) → words64_refusal differ p head found ≡ None → differ head.w64 found ≡ false
+words64_test differ p head found e = none_fails_if (differ head.w64 found) (SizeMismatch p W64 head.w64 found) e
 
 -- and the other way round
-words64_none : (differ : ℕ → ℕ → Bool) (p : ℕ) (head : Head) (all : List (Option Measure)) → differ head.w64 (all_words64 all) ≡ false → words64_refusal differ p head all ≡ None
-words64_none differ p head all e = fails_if_none (differ head.w64 (all_words64 all)) (SizeMismatch p W64 head.w64 (all_words64 all)) e
+words64_none : (differ : ℕ → ℕ → Bool) (p : ℕ) (head : Head) (found : ℕ) → differ head.w64 found ≡ false → words64_refusal differ p head found ≡ None
+words64_none differ p head found e = fails_if_none (differ head.w64 found) (SizeMismatch p W64 head.w64 found) e
 
 -- ---- the steps of the end
 
 -- where the steps of the end pass the header states what was read
-end_from_steps : (c : Context) (n : ℕ) (all : List (Option Measure)) → AllStepsPass (end_steps c n all) → EndFacts c n all
+end_from_steps : (c : Context) (n : ℕ) (all : Sums) → AllStepsPass (end_steps c n all) → EndFacts c n all
 end_from_steps c n all p =
     let p' = place c + n in
-    let count = not (eqb c.head.objects 0) && nat_ne c.head.objects (objects all) in
+    let count = not (eqb c.head.objects 0) && nat_ne c.head.objects all.objects in
     let nothing : left_after c n ≤ 0 = ltb-false 0 (left_after c n) (none_fails_if (ltb 0 (left_after c n)) (LengthMismatch p' (left_after c n)) p.0) in
     record {
       left = omega (arith, nothing);
-      w32 = λ b. same_from_ne c.head.w32 (all_words32 all) (words32_test nat_ne p' c.head all p.1.0 b);
-      w64 = same_from_ne c.head.w64 (all_words64 all) (words64_test nat_ne p' c.head all p.1.1.0);
-      count = zero_or_same c.head.objects (objects all) (none_fails_if count (CountMismatch p' c.head.objects (objects all)) p.1.1.1.0);
+      w32 = λ b. same_from_ne c.head.w32 all.w32 (words32_test nat_ne p' c.head all.w32 p.1.0 b);
+      w64 = same_from_ne c.head.w64 all.w64 (words64_test nat_ne p' c.head all.w64 p.1.1.0);
+      count = zero_or_same c.head.objects all.objects (none_fails_if count (CountMismatch p' c.head.objects all.objects) p.1.1.1.0);
     }
 
 -- and the other way round
-steps_from_end : (c : Context) (n : ℕ) (all : List (Option Measure)) → EndFacts c n all → AllStepsPass (end_steps c n all)
+steps_from_end : (c : Context) (n : ℕ) (all : Sums) → EndFacts c n all → AllStepsPass (end_steps c n all)
 steps_from_end c n all f =
     let p' = place c + n in
-    let count = not (eqb c.head.objects 0) && nat_ne c.head.objects (objects all) in (
+    let count = not (eqb c.head.objects 0) && nat_ne c.head.objects all.objects in (
       fails_if_none (ltb 0 (left_after c n)) (LengthMismatch p' (left_after c n)) (le-ltb 0 (left_after c n) (le_of_eq f.left)),
       (
-        words32_none nat_ne p' c.head all (λ b. ne_from_same c.head.w32 (all_words32 all) (f.w32 b)),
+        words32_none nat_ne p' c.head all.w32 (λ b. ne_from_same c.head.w32 all.w32 (f.w32 b)),
         (
-          words64_none nat_ne p' c.head all (ne_from_same c.head.w64 (all_words64 all) f.w64),
-          (fails_if_none count (CountMismatch p' c.head.objects (objects all)) (test_zero_or_same c.head.objects (objects all) f.count), tt),
+          words64_none nat_ne p' c.head all.w64 (ne_from_same c.head.w64 all.w64 f.w64),
+          (fails_if_none count (CountMismatch p' c.head.objects all.objects) (test_zero_or_same c.head.objects all.objects f.count), tt),
         ),
       ),
     )
@@ -236,10 +235,10 @@ facts_from_steps c code kind rest p =
       fixed = room_from_none c (fixed_bytes kind) 1 p.0;
       fields = fields_from_none c code kind rest p.1.0 fits;
       variable = fits;
-      room = room_from_none c (pending all) n parts.1.0;
-      w32 = λ b. ltb-false c.head.w32 (all_words32 all) (words32_test ltb (place c) c.head all parts.1.1.0 b);
-      w64 = ltb-false c.head.w64 (all_words64 all) (words64_test ltb (place c) c.head all parts.1.1.1.0);
-      end = λ e. end_from_steps c n all (AllStepsPass-when (eqb (pending all) 0) (end_steps c n all) parts.1.1.1.1 (eq-eqb (pending all) 0 e));
+      room = room_from_none c all.pending n parts.1.0;
+      w32 = λ b. ltb-false c.head.w32 all.w32 (words32_test ltb (place c) c.head all.w32 parts.1.1.0 b);
+      w64 = ltb-false c.head.w64 all.w64 (words64_test ltb (place c) c.head all.w64 parts.1.1.1.0);
+      end = λ e. end_from_steps c n all (AllStepsPass-when (eqb all.pending 0) (end_steps c n all) parts.1.1.1.1 (eq-eqb all.pending 0 e));
     }
 
 -- and the other way round
@@ -252,12 +251,12 @@ steps_from_facts c code kind rest f =
         none_from_fields c code kind rest f.fields,
         AllStepsPass-append (variable_steps c kind (custom_of (take 3 rest)) rest) (closing_steps c kind rest)
             (steps_from_variable c kind (custom_of (take 3 rest)) rest f.variable) (
-              none_from_room c (pending all) n f.room,
+              none_from_room c all.pending n f.room,
               (
-                words32_none ltb (place c) c.head all (λ b. le-ltb c.head.w32 (all_words32 all) (f.w32 b)),
+                words32_none ltb (place c) c.head all.w32 (λ b. le-ltb c.head.w32 all.w32 (f.w32 b)),
                 (
-                  words64_none ltb (place c) c.head all (le-ltb c.head.w64 (all_words64 all) f.w64),
-                  AllStepsPass-cond (eqb (pending all) 0) (end_steps c n all) (λ e. steps_from_end c n all (f.end (eqb-true (pending all) 0 e))),
+                  words64_none ltb (place c) c.head all.w64 (le-ltb c.head.w64 all.w64 f.w64),
+                  AllStepsPass-cond (eqb all.pending 0) (end_steps c n all) (λ e. steps_from_end c n all (f.end (eqb-true all.pending 0 e))),
                 ),
               ),
             ),
@@ -274,7 +273,7 @@ variable_steps_end n c kinds.Custom (Some customs.Native) rest e h =
 variable_steps_end n c kind custom rest e h = (omega (arith, fields_fit kind), tt)
 
 -- those of the end too
-end_steps_end : (c : Context) (n : ℕ) (all : List (Option Measure)) → AllEndWithin n (end_steps c n all)
+end_steps_end : (c : Context) (n : ℕ) (all : Sums) → AllEndWithin n (end_steps c n all)
 end_steps_end c n all = (le_refl n, (le_refl n, (le_refl n, (le_refl n, tt))))
 
 -- all of them
@@ -288,7 +287,7 @@ steps_end c code kind rest =
         omega (arith, fields_fit kind),
         AllEndWithin-append n (variable_steps c kind (custom_of (take 3 rest)) rest) (closing_steps c kind rest)
             (variable_steps_end n c kind (custom_of (take 3 rest)) rest refl refl)
-            (sized, (sized, (sized, AllEndWithin-cond n (eqb (pending all) 0) (end_steps c n all) (end_steps_end c n all)))),
+            (sized, (sized, (sized, AllEndWithin-cond n (eqb all.pending 0) (end_steps c n all) (end_steps_end c n all)))),
       ),
     )
 

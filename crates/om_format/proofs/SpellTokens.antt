@@ -13,12 +13,14 @@ use Rattle.om_model.specs.Bytes.{AreBytes}
 use Rattle.om_format.specs.Code.{kind_of, custom_of, native_bytes}
 use Rattle.om_format.specs.Header.{head_of}
 use Rattle.om_format.specs.Raw.{fixed_bytes, length_after, measure_from, raw_measure, IsRaw}
-use Rattle.om_format.specs.Words.{objects, all_words32, all_words64, pending}
+use Rattle.om_format.specs.Words.{Sums, sums_of, one_more, of_object, words32, words64, objects, pending}
 use Rattle.om_format.specs.Step.{first_refusal, Context, left_after, steps_from, token_steps}
-use Rattle.om_format.specs.Front.{context, token_refusal}
+use Rattle.om_format.specs.Front.{context, token_refusal, IsOpen}
 use Rattle.om_format.specs.Token.{Token, SpellsFrom, Spells}
 use Rattle.om_format.specs.Tree.{RefersBack}
 use Rattle.om_format.specs.Spelled.{IsNoReference}
+use Rattle.std.proofs.lemmas.List.Sums.{sum_by_push}
+use Rattle.om_format.proofs.Pending.{pending_push}
 use Rattle.om_format.proofs.SpellLemmas.{spelled_length}
 use Rattle.om_format.proofs.SpellSteps.{steps_pass}
 use Rattle.om_format.proofs.KindLemmas.{InRange, kind_of-in_range}
@@ -26,19 +28,26 @@ use Rattle.om_format.proofs.SpellFields.{AreSoundFields, IsTokenThere, spelled_o
 use Rattle.om_format.proofs.SpellFacts.{VariableFits, token_length, up_to, TokenFacts, facts_from_none, none_from_facts}
 
 -- after the last token, which ends after n bytes of the data: the header states what all of them take
-pub record EndsAt (head : Head) (n : ℕ) (all : List (Option Measure)) : Type 0 where
+pub record EndsWith (head : Head) (n : ℕ) (all : Sums) : Type 0 where
   pub length : head.length ≡ n
-  pub w32 : head.big ≡ false → head.w32 ≡ all_words32 all
-  pub w64 : head.w64 ≡ all_words64 all
-  pub count : (head.objects ≡ 0) ⊎ (head.objects ≡ objects all)
+  pub w32 : head.big ≡ false → head.w32 ≡ all.w32
+  pub w64 : head.w64 ≡ all.w64
+  pub count : (head.objects ≡ 0) ⊎ (head.objects ≡ all.objects)
 
--- a token that ends after n bytes of the data fits, with the measures of all up to it
-pub record FitsUpTo (head : Head) (n : ℕ) (all : List (Option Measure)) : Type 0 where
+-- a token that ends after n bytes of the data fits, with the sums of all up to it
+pub record FitsWith (head : Head) (n : ℕ) (all : Sums) : Type 0 where
   pub within : n ≤ head.length
-  pub room : pending all ≤ head.length - n
-  pub w32 : head.big ≡ false → all_words32 all ≤ head.w32
-  pub w64 : all_words64 all ≤ head.w64
-  pub end : pending all ≡ 0 → EndsAt head n all
+  pub room : all.pending ≤ head.length - n
+  pub w32 : head.big ≡ false → all.w32 ≤ head.w32
+  pub w64 : all.w64 ≤ head.w64
+  pub end : all.pending ≡ 0 → EndsWith head n all
+
+-- the same of the tokens themselves
+abbrev pub EndsAt : Head → ℕ → List (Option Measure) → Type 0
+EndsAt head n all = EndsWith head n (sums_of all)
+
+abbrev pub FitsUpTo : Head → ℕ → List (Option Measure) → Type 0
+FitsUpTo head n all = FitsWith head n (sums_of all)
 
 -- after these tokens
 abbrev pub FitsAfter : Head → List (List ℕ) → List ℕ → Type 0
@@ -52,7 +61,7 @@ within_from_facts c kinds.Custom (Some customs.Native) rest e more fixed f = rw 
 within_from_facts c kind custom rest e more fixed f = omega arith
 
 -- and fits
-fits_from_facts : (c : Context) (kind : CodeKind) (rest : List ℕ) (n : ℕ) → n ≡ token_length kind rest → c.taken < c.head.length → TokenFacts c kind rest → FitsUpTo c.head (c.taken + n) (up_to c kind rest)
+fits_from_facts : (c : Context) (kind : CodeKind) (rest : List ℕ) (n : ℕ) → n ≡ token_length kind rest → c.taken < c.head.length → TokenFacts c kind rest → FitsWith c.head (c.taken + n) (up_to c kind rest)
 fits_from_facts c kind rest n e more f =
     let within : c.taken + token_length kind rest ≤ c.head.length = within_from_facts c kind (custom_of (take 3 rest)) rest refl more f.fixed f.variable in
     rw e (record {
@@ -66,18 +75,18 @@ fits_from_facts c kind rest n e more f =
 -- a raw token that passes
 abbrev PassesAs : Context → Result CodeKind CodeFault → List ℕ → Type 0
 PassesAs c r rest =
-    (t : Token) × SpellsFrom r rest t × IsTokenThere t (objects c.before) c.head.objects
+    (t : Token) × SpellsFrom r rest t × IsTokenThere t (c.sums.objects) c.head.objects
 
 -- bytes that pass spell a token, by what the code begins
 token_after : (c : Context) (code : ℕ) (r : Result CodeKind CodeFault) (rest : List ℕ) → InRange r → AreBytes rest → length rest ≡ length_after r rest → first_refusal (length (code ∷ rest)) (steps_from c code r rest) ≡ None → PassesAs c r rest
 token_after c code (Ok kind) rest k a l p =
     let facts = facts_from_none c code kind rest (length (code ∷ rest)) (omega arith) p in
-    spelled_of kind rest (objects c.before) c.head.objects k a l facts.fields
+    spelled_of kind rest (c.sums.objects) c.head.objects k a l facts.fields
 token_after c code (Err fault) rest k a l p =
     absurd (let none = (steps_pass (length (code ∷ rest)) (steps_from c code (Err fault) rest) (omega arith, tt) p).0 in cc (none))
 
 -- and fit, by what the code begins
-fits_after : (c : Context) (code : ℕ) (r : Result CodeKind CodeFault) (rest : List ℕ) → length rest ≡ length_after r rest → first_refusal (length (code ∷ rest)) (steps_from c code r rest) ≡ None → c.taken < c.head.length → FitsUpTo c.head (c.taken + length (code ∷ rest)) (c.before ++ measure_from r rest ∷ [])
+fits_after : (c : Context) (code : ℕ) (r : Result CodeKind CodeFault) (rest : List ℕ) → length rest ≡ length_after r rest → first_refusal (length (code ∷ rest)) (steps_from c code r rest) ≡ None → c.taken < c.head.length → FitsWith c.head (c.taken + length (code ∷ rest)) (one_more c.sums (measure_from r rest))
 fits_after c code (Ok kind) rest l p more =
     fits_from_facts c kind rest (length (code ∷ rest)) (omega arith) more (facts_from_none c code kind rest (length (code ∷ rest)) (omega arith) p)
 fits_after c code (Err fault) rest l p more =
@@ -86,7 +95,7 @@ fits_after c code (Err fault) rest l p more =
 -- ---- to the steps
 
 -- the variable bytes of a token within the data are there
-variable_from_within : (c : Context) (kind : CodeKind) (custom : Option CustomKind) (rest : List ℕ) → custom ≡ custom_of (take 3 rest) → AreSoundFields kind rest (objects c.before) c.head.objects → c.taken + token_length kind rest ≤ c.head.length → VariableFits c kind custom rest
+variable_from_within : (c : Context) (kind : CodeKind) (custom : Option CustomKind) (rest : List ℕ) → custom ≡ custom_of (take 3 rest) → AreSoundFields kind rest (c.sums.objects) c.head.objects → c.taken + token_length kind rest ≤ c.head.length → VariableFits c kind custom rest
 variable_from_within c kinds.Custom (Some customs.Native) rest e s h =
     let some : 0 < native_bytes (slice_index rest 3) = rw (← e) at s in
     let all : c.taken + (1 + 3 + (1 + native_bytes (slice_index rest 3))) ≤ c.head.length = rw (← e) at h in
@@ -94,9 +103,9 @@ variable_from_within c kinds.Custom (Some customs.Native) rest e s h =
 variable_from_within c kind custom rest e s h = omega arith
 
 -- the facts of a token that fits
-facts_from_fits : (c : Context) (kind : CodeKind) (rest : List ℕ) (n : ℕ) → n ≡ token_length kind rest → AreSoundFields kind rest (objects c.before) c.head.objects → FitsUpTo c.head (c.taken + n) (up_to c kind rest) → TokenFacts c kind rest
+facts_from_fits : (c : Context) (kind : CodeKind) (rest : List ℕ) (n : ℕ) → n ≡ token_length kind rest → AreSoundFields kind rest (c.sums.objects) c.head.objects → FitsWith c.head (c.taken + n) (up_to c kind rest) → TokenFacts c kind rest
 facts_from_fits c kind rest n e s fits =
-    let f : FitsUpTo c.head (c.taken + token_length kind rest) (up_to c kind rest) = subst (λ m. FitsUpTo c.head (c.taken + m) (up_to c kind rest)) e fits in
+    let f : FitsWith c.head (c.taken + token_length kind rest) (up_to c kind rest) = subst (λ m. FitsWith c.head (c.taken + m) (up_to c kind rest)) e fits in
     record {
       fixed = omega (arith, f.within);
       fields = s;
@@ -108,11 +117,11 @@ facts_from_fits c kind rest n e s fits =
     }
 
 -- a spelled token that fits is not refused, by what the code begins
-no_refusal_after : (c : Context) (code : ℕ) (r : Result CodeKind CodeFault) (rest : List ℕ) (t : Token) → SpellsFrom r rest t → IsTokenThere t (objects c.before) c.head.objects → FitsUpTo c.head (c.taken + length (code ∷ rest)) (c.before ++ measure_from r rest ∷ []) → first_refusal (length (code ∷ rest)) (steps_from c code r rest) ≡ None
+no_refusal_after : (c : Context) (code : ℕ) (r : Result CodeKind CodeFault) (rest : List ℕ) (t : Token) → SpellsFrom r rest t → IsTokenThere t (c.sums.objects) c.head.objects → FitsWith c.head (c.taken + length (code ∷ rest)) (one_more c.sums (measure_from r rest)) → first_refusal (length (code ∷ rest)) (steps_from c code r rest) ≡ None
 no_refusal_after c code (Ok kind) rest t s there fits =
     let l = spelled_length kind rest t s in
     none_from_facts c code kind rest (length (code ∷ rest))
-    (facts_from_fits c kind rest (length (code ∷ rest)) (omega arith) (sound_of kind rest t (objects c.before) c.head.objects s there) fits)
+    (facts_from_fits c kind rest (length (code ∷ rest)) (omega arith) (sound_of kind rest t (c.sums.objects) c.head.objects s there) fits)
 no_refusal_after c code (Err fault) rest t s there fits = absurd s
 
 -- ---- whole pieces
@@ -141,16 +150,27 @@ SpelledThere-passes header before (code ∷ rest) a raw p =
     let t = token_after c code (kind_of code) rest (kind_of-in_range code) (All-tail (λ b. b < 256) code rest a) (after_code code rest raw) (sym (token_steps-are c code rest (length (code ∷ rest))) ∙ p) in
     record { token = t.0; spells = (t.2.is_token, t.1); refers_back = t.2.refers_back; table = t.2.table }
 
+-- the sums with one token more, while a value is to come
+pub sums_of-push : (ms : List (Option Measure)) (m : Option Measure) → 0 < pending ms → sums_of (ms ++ m ∷ []) ≡ one_more (sums_of ms) m
+sums_of-push ms m open_before =
+    let o = sum_by_push (of_object (λ _. 1)) ms m in
+    let p = pending_push ms m open_before in
+    let a = sum_by_push (of_object words32) ms m in
+    let b = sum_by_push (of_object words64) ms m in
+    λ i. record { objects = o i; pending = p i; w32 = a i; w64 = b i }
+
 -- and fits its place, where data are left for it
-pub FitsAfter-passes : (header : List ℕ) (before : List (List ℕ)) (piece : List ℕ) → IsRaw piece → token_refusal header before piece ≡ None → length (concat before) < (head_of header).length → FitsAfter (head_of header) before piece
-FitsAfter-passes header before [] raw p more = absurd (omega (arith, raw))
-FitsAfter-passes header before (code ∷ rest) raw p more =
+pub FitsAfter-passes : (header : List ℕ) (before : List (List ℕ)) (piece : List ℕ) → IsOpen before → IsRaw piece → token_refusal header before piece ≡ None → length (concat before) < (head_of header).length → FitsAfter (head_of header) before piece
+FitsAfter-passes header before [] is_open raw p more = absurd (omega (arith, raw))
+FitsAfter-passes header before (code ∷ rest) is_open raw p more =
     let c = context header before in
-    fits_after c code (kind_of code) rest (after_code code rest raw) (sym (token_steps-are c code rest (length (code ∷ rest))) ∙ p) more
+    subst (FitsWith (head_of header) (length (concat before) + length (code ∷ rest))) (sym (sums_of-push (map raw_measure before) (raw_measure (code ∷ rest)) is_open))
+    (fits_after c code (kind_of code) rest (after_code code rest raw) (sym (token_steps-are c code rest (length (code ∷ rest))) ∙ p) more)
 
 -- a spelled token that fits its place passes its steps
-pub passes-spelled : (header : List ℕ) (before : List (List ℕ)) (t : Token) (piece : List ℕ) → Spells t piece → RefersBack t (objects (map raw_measure before)) → ((head_of header).objects ≡ 0 → IsNoReference t) → FitsAfter (head_of header) before piece → token_refusal header before piece ≡ None
-passes-spelled header before t [] s back table fits = absurd s
-passes-spelled header before t (code ∷ rest) s back table fits =
+pub passes-spelled : (header : List ℕ) (before : List (List ℕ)) (t : Token) (piece : List ℕ) → IsOpen before → Spells t piece → RefersBack t (objects (map raw_measure before)) → ((head_of header).objects ≡ 0 → IsNoReference t) → FitsAfter (head_of header) before piece → token_refusal header before piece ≡ None
+passes-spelled header before t [] is_open s back table fits = absurd s
+passes-spelled header before t (code ∷ rest) is_open s back table fits =
     let c = context header before in
-    token_steps-are c code rest (length (code ∷ rest)) ∙ no_refusal_after c code (kind_of code) rest t s.1 (record { is_token = s.0; refers_back = back; table = table }) fits
+    token_steps-are c code rest (length (code ∷ rest)) ∙ no_refusal_after c code (kind_of code) rest t s.1 (record { is_token = s.0; refers_back = back; table = table })
+    (subst (FitsWith (head_of header) (length (concat before) + length (code ∷ rest))) (sums_of-push (map raw_measure before) (raw_measure (code ∷ rest)) is_open) fits)

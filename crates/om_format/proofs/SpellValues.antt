@@ -154,7 +154,7 @@ tokens_pass header before ms (t ∷ ts) (piece ∷ pieces) e s o r table p ends 
       record {
         open_before = rw e o.0;
         raw = IsRaw-spelled t piece s.0;
-        passes = passes-spelled header before t piece s.0 (rw e r.0) (λ z. All-head IsNoReference t ts (table z)) (rw same fits);
+        passes = passes-spelled header before t piece (rw e o.0) s.0 (rw e r.0) (λ z. All-head IsNoReference t ts (table z)) (rw same fits);
       },
       tokens_pass header (before ++ piece ∷ []) next ts pieces (measures_push before ms piece (measure_of t) e m) s.1 o.1 (rw more r.1)
           (λ z. All-tail IsNoReference t ts (table z)) p' (rw there ends'),
@@ -221,7 +221,7 @@ spelled_tokens header before ms (piece ∷ pieces) e a f p =
     let k : 0 < pending ms = rw e at p.0.open_before in
     let there : SpelledThere header before piece = SpelledThere-passes header before piece (AreBytes-front piece (concat pieces) a) p.0.raw p.0.passes in
     let m : raw_measure piece ≡ measure_of there.token = raw_measure-spelled there.token piece there.spells in
-    let fits : FitsAfter (head_of header) before piece = FitsAfter-passes header before piece p.0.raw p.0.passes (omega (arith, f.room)) in
+    let fits : FitsAfter (head_of header) before piece = FitsAfter-passes header before piece p.0.open_before p.0.raw p.0.passes (omega (arith, f.room)) in
     spelled_cons header before ms piece pieces e k there
     (spelled_tokens header (before ++ piece ∷ []) (ms ++ measure_of there.token ∷ []) pieces (measures_push before ms piece (measure_of there.token) e m)
     (AreBytes-rest piece (concat pieces) a) (fits_after header before ms piece (measure_of there.token) e m fits) p.1)

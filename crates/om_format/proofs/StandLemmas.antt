@@ -1,5 +1,5 @@
 -- A header and tokens that pass, with a value to come, stand before the rest of the bytes: what the rest says.
-use Rattle.std.proofs.Common.{◌≡◌, ℕ, zero, suc, ◌+◌, ◌<◌, ◌≤◌, List, [], ◌∷◌, ◌++◌, length, take, drop, map, None, inl, inr, sym, ◌∙◌, ap, subst, arith, length-append, append_assoc, take_at}
+use Rattle.std.proofs.Common.{◌≡◌, ℕ, zero, suc, ◌+◌, ◌<◌, ◌≤◌, List, [], ◌++◌, length, take, drop, map, None, inl, inr, sym, ◌∙◌, ap, subst, arith, length-append, append_assoc, take_at}
 use Rattle.std.proofs.lemmas.Bool.{cases_lt}
 use Rattle.std.proofs.lemmas.List.{take-append-drop, length-drop}
 use Rattle.std.specs.List.{AllZip, concat}

@@ -16,7 +16,7 @@ use Rattle.om_model.specs.declared.refusal.Stated.TheVariants.{Words, Length}
 use Rattle.om_model.specs.declared.header.Head.{Head}
 use Rattle.om_model.specs.Bytes.{number, signed}
 use Rattle.om_format.specs.Header.{magic, big_magic, header_length, head_of, small_head, big_head}
-use Rattle.om_format.specs.Words.{pending}
+use Rattle.om_format.specs.Words.{Sums, one_more}
 use Rattle.om_format.specs.Step.{Step, step, Context, place, overlong, fails_if, field_refusal, native_steps, variable_steps, words32_refusal, words64_refusal, end_steps, header_steps, magic_refusal, length_limit, code_refusal, steps_after, steps_from, token_steps, first_refusal, integer_refusal}
 use Rattle.om_format.proofs.RawLemmas.{fields_fit, sizing_fits, fields_first, custom_take, sizing_bytes-take, measure_after-take, variable_bytes-take}
 use Rattle.om_format.proofs.StepLemmas.{EndWithin, EndWithin-high, EndWithin-append, AgreeUpTo, agree_same, agree_refuses}
@@ -70,14 +70,14 @@ variable_steps-take c kinds.Custom m rest l =
 -- after the code, by what the bytes there say
 steps_of : Context → CodeKind → Option ReadRefusal → List Step → ℕ → ℕ → Option Measure → List Step
 steps_of c kind refusal variable n sized measure =
-    let all = c.before ++ measure ∷ [] in
+    let all = one_more c.sums measure in
     step 1 (overlong c (fixed_bytes kind) 1)
     ∷ step (1 + field_bytes kind) refusal
     ∷ variable
-    ++ step sized (overlong c (pending all) n)
-    ∷ step sized (words32_refusal nat_lt (place c) c.head all)
-    ∷ step sized (words64_refusal nat_lt (place c) c.head all)
-    ∷ (if pending all == 0 then end_steps c n all else [])
+    ++ step sized (overlong c all.pending n)
+    ∷ step sized (words32_refusal nat_lt (place c) c.head all.w32)
+    ∷ step sized (words64_refusal nat_lt (place c) c.head all.w64)
+    ∷ (if all.pending == 0 then end_steps c n all else [])
 
 steps_after_is : (c : Context) (code : ℕ) (kind : CodeKind) (rest : List ℕ)
     → steps_after c code kind rest
@@ -174,14 +174,14 @@ variable_steps-within c (kinds.Doubles width little) rest = (omega arith, omega 
 variable_steps-within c kinds.Custom rest =
     custom_steps-within c (custom_of (take 3 rest)) rest (1 + (3 + custom_bytes (custom_of (take 3 rest)) (slice_index rest 3))) (omega arith)
 
-end_steps-within : (c : Context) (n : ℕ) (all : List (Option Measure)) (high : ℕ) → 1 ≤ n → n ≤ high → EndWithin 1 high (end_steps c n all)
+end_steps-within : (c : Context) (n : ℕ) (all : Sums) (high : ℕ) → 1 ≤ n → n ≤ high → EndWithin 1 high (end_steps c n all)
 end_steps-within c n all high l h = (l, h, (l, h, (l, h, (l, h, tt))))
 
 steps_of-within : (c : Context) (kind : CodeKind) (f : Option ReadRefusal) (v : List Step) (n s : ℕ) (e : Option Measure) (high : ℕ)
     → 1 + field_bytes kind ≤ high → EndWithin 1 high v → 1 ≤ n → n ≤ high → 1 ≤ s → s ≤ high → EndWithin 1 high (steps_of c kind f v n s e)
 unfolding steps_of
 steps_of-within c kind f v n s e high p q a b x y =
-    let all = c.before ++ e ∷ [] in (
+    let all = one_more c.sums e in (
       omega arith,
       omega arith,
       (
@@ -196,7 +196,7 @@ steps_of-within c kind f v n s e high p q a b x y =
             (
               x,
               y,
-              cond_both (pending all == 0) (end_steps c n all) [] (λ ss. EndWithin 1 high ss) (λ _. end_steps-within c n all high a b) (λ _. tt),
+              cond_both (all.pending == 0) (end_steps c n all) [] (λ ss. EndWithin 1 high ss) (λ _. end_steps-within c n all high a b) (λ _. tt),
             ),
           ),
         ),

@@ -4,7 +4,7 @@ use Rattle.std.specs.List.{concat}
 use Rattle.om_model.specs.declared.refusal.ReadRefusal.{ReadRefusal}
 use Rattle.om_format.specs.Header.{header_length, head_of}
 use Rattle.om_format.specs.Raw.{raw_length, raw_measure, IsRaw, IsPart}
-use Rattle.om_format.specs.Words.{pending}
+use Rattle.om_format.specs.Words.{pending, sums_of}
 use Rattle.om_format.specs.Step.{Context, first_refusal, header_steps, token_steps}
 
 -- where a token comes after these bytes of a header and these tokens
@@ -13,7 +13,7 @@ context header before = record {
   head = head_of header;
   start = length header;
   taken = length (concat before);
-  before = map raw_measure before;
+  sums = sums_of (map raw_measure before);
 }
 
 -- the tokens with the next one of the bytes that are left

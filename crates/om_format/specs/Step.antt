@@ -12,12 +12,11 @@ use Rattle.om_model.specs.declared.code.CodeFault.{CodeFault}
 use Rattle.om_model.specs.declared.code.CodeFault.TheVariants as faults
 use Rattle.om_model.specs.declared.code.CustomKind.{CustomKind}
 use Rattle.om_model.specs.declared.code.CustomKind.TheVariants as customs
-use Rattle.om_model.specs.declared.code.Measure.{Measure}
 use Rattle.om_model.specs.Bytes.{number, signed}
 use Rattle.om_format.specs.Code.{kind_of, custom_of, native_bytes}
 use Rattle.om_format.specs.Header.{magic, small_magic, big_magic, compressed_magic, header_length, head_of}
 use Rattle.om_format.specs.Raw.{fixed_bytes, field_bytes, sizing_bytes, variable_bytes, measure_after}
-use Rattle.om_format.specs.Words.{objects, all_words32, all_words64, pending}
+use Rattle.om_format.specs.Words.{Sums, one_more}
 
 -- a step: how many bytes of the header or the token hold the fields that it reads, and the refusal where it fails
 pub record Step : Type 0 where
@@ -65,12 +64,13 @@ header_steps limit header =
 
 -- ---- a token
 
--- where a token stands: after which header, after how many of its bytes and of those of the data, and after which tokens
+-- where a token stands: after which header, after how many of its bytes and of those of the data, and the sums over the
+-- tokens before it
 pub record Context : Type 0 where
   pub head : Head
   pub start : ℕ
   pub taken : ℕ
-  pub before : List (Option Measure)
+  pub sums : Sums
 
 abbrev pub place : Context → ℕ
 place c = c.start + c.taken
@@ -102,7 +102,7 @@ integer_refusal c z = fails_if (not (is_integer z)) (IntRange (place c) z)
 abbrev pub shared_refusal : Context → ℕ → Option ReadRefusal
 shared_refusal c offset =
     or_else
-    (fails_if ((offset == 0) || nat_lt (objects c.before) offset) (BadShared (place c) offset (objects c.before)))
+    (fails_if ((offset == 0) || nat_lt (c.sums.objects) offset) (BadShared (place c) offset (c.sums.objects)))
     (fails_if (c.head.objects == 0) (NoTable (place c)))
 
 -- what is wrong with the token's fields: its tag, its offset, its identifier, its integer or its length
@@ -133,25 +133,25 @@ variable_steps c kind custom rest =
     step (1 + field_bytes kind) (overlong c (variable_bytes kind rest) (1 + fixed_bytes kind)) ∷ []
 
 -- a sum of words against the header's, which in a big one states none on 32 bits
-abbrev pub words32_refusal : (ℕ → ℕ → Bool) → ℕ → Head → List (Option Measure) → Option ReadRefusal
-words32_refusal differ p head all =
-    fails_if (not head.big && differ head.w32 (all_words32 all)) (SizeMismatch p W32 head.w32 (all_words32 all))
+abbrev pub words32_refusal : (ℕ → ℕ → Bool) → ℕ → Head → ℕ → Option ReadRefusal
+words32_refusal differ p head found =
+    fails_if (not head.big && differ head.w32 found) (SizeMismatch p W32 head.w32 found)
 
-abbrev pub words64_refusal : (ℕ → ℕ → Bool) → ℕ → Head → List (Option Measure) → Option ReadRefusal
-words64_refusal differ p head all =
-    fails_if (differ head.w64 (all_words64 all)) (SizeMismatch p W64 head.w64 (all_words64 all))
+abbrev pub words64_refusal : (ℕ → ℕ → Bool) → ℕ → Head → ℕ → Option ReadRefusal
+words64_refusal differ p head found =
+    fails_if (differ head.w64 found) (SizeMismatch p W64 head.w64 found)
 
 abbrev pub nat_ne : ℕ → ℕ → Bool
 nat_ne a b = not (a == b)
 
 -- after the last token, which has n bytes: the bytes left, the words and the objects
-abbrev pub end_steps : Context → ℕ → List (Option Measure) → List Step
+abbrev pub end_steps : Context → ℕ → Sums → List Step
 end_steps c n all =
     let p = place c + n in
     step n (fails_if (nat_lt 0 (left_after c n)) (LengthMismatch p (left_after c n)))
-    ∷ step n (words32_refusal nat_ne p c.head all)
-    ∷ step n (words64_refusal nat_ne p c.head all)
-    ∷ step n (fails_if (not (c.head.objects == 0) && nat_ne c.head.objects (objects all)) (CountMismatch p c.head.objects (objects all)))
+    ∷ step n (words32_refusal nat_ne p c.head all.w32)
+    ∷ step n (words64_refusal nat_ne p c.head all.w64)
+    ∷ step n (fails_if (not (c.head.objects == 0) && nat_ne c.head.objects all.objects) (CountMismatch p c.head.objects all.objects))
     ∷ []
 
 -- the bytes of each token of the kind, and its fields
@@ -166,11 +166,11 @@ abbrev pub closing_steps : Context → CodeKind → List ℕ → List Step
 closing_steps c kind rest =
     let n = 1 + fixed_bytes kind + variable_bytes kind rest in
     let sized = 1 + sizing_bytes kind rest in
-    let all = c.before ++ measure_after kind rest ∷ [] in
-    step sized (overlong c (pending all) n)
-    ∷ step sized (words32_refusal nat_lt (place c) c.head all)
-    ∷ step sized (words64_refusal nat_lt (place c) c.head all)
-    ∷ (if pending all == 0 then end_steps c n all else [])
+    let all = one_more c.sums (measure_after kind rest) in
+    step sized (overlong c all.pending n)
+    ∷ step sized (words32_refusal nat_lt (place c) c.head all.w32)
+    ∷ step sized (words64_refusal nat_lt (place c) c.head all.w64)
+    ∷ (if all.pending == 0 then end_steps c n all else [])
 
 -- the steps of a token of this kind
 abbrev pub steps_after : Context → ℕ → CodeKind → List ℕ → List Step

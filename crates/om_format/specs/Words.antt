@@ -45,3 +45,22 @@ all_words64 tokens = sum_by (of_object words64) tokens
 -- how many values are still to come: one at first, each token is one of them, and its fields come on top
 abbrev pub pending : List (Option Measure) → ℕ
 pending tokens = (1 + sum_by (of_object fields) tokens) - length tokens
+
+-- the sums over tokens: the objects, the values still to come, and the words on 32 and on 64 bits
+pub record Sums : Type 0 where
+  pub objects : ℕ
+  pub pending : ℕ
+  pub w32 : ℕ
+  pub w64 : ℕ
+
+abbrev pub sums_of : List (Option Measure) → Sums
+sums_of tokens = record { objects = objects tokens; pending = pending tokens; w32 = all_words32 tokens; w64 = all_words64 tokens }
+
+-- with one token more, which is one of the values to come
+abbrev pub one_more : Sums → Option Measure → Sums
+one_more sums m = record {
+  objects = sums.objects + of_object (λ _. 1) m;
+  pending = sums.pending - 1 + of_object fields m;
+  w32 = sums.w32 + of_object words32 m;
+  w64 = sums.w64 + of_object words64 m;
+}

@@ -1,22 +1,19 @@
 -- The next token of a value.
-use Rattle.std.proofs.Common.{ℕ, ◌≡◌, ◌+◌, ◌^◌, ◌<◌, ◌≤◌, List, [], ◌∷◌, ◌++◌, length, take, map, Option, None, Result, Ok, Err, IsErr, arith, refl, ap, length-append, sym, ◌∙◌, subst}
+use Rattle.std.proofs.Common.{ℕ, ◌≡◌, ◌+◌, ◌^◌, ◌<◌, ◌≤◌, List, [], ◌∷◌, ◌++◌, length, take, map, None, Result, Ok, Err, IsErr, arith, refl, ap, length-append, sym, ◌∙◌, subst}
 use Rattle.std.specs.List.{concat}
 use Rattle.std.proofs.lemmas.List.{map-append, length-take-le}
 use Rattle.std.proofs.lemmas.List.Elements.{All-push}
-use Rattle.std.proofs.lemmas.List.Sums.{sum_by_push}
-use Rattle.om_model.specs.declared.code.Measure.{Measure}
 use Rattle.om_model.specs.Bytes.{AreBytes}
-use Rattle.om_format.specs.Words.{of_object, fields, objects, pending, words64, all_words64}
+use Rattle.om_format.specs.Words.{sums_of, one_more, of_object, fields, objects, all_words64}
 use Rattle.om_format.specs.Raw.{raw_length, raw_measure}
 use Rattle.om_format.specs.Token.{Token, IsToken, Spells}
 use Rattle.om_format.specs.Tree.{RefersBack}
 use Rattle.om_format.specs.Step.{Context, first_refusal, token_steps}
-use Rattle.om_format.specs.Front.{with_next, context}
-use Rattle.om_format.proofs.Pending.{pending_push}
+use Rattle.om_format.specs.Front.{with_next, context, IsOpen}
 use Rattle.om_format.proofs.RawLemmas.{raw_measure-take}
 use Rattle.om_format.proofs.NextLemmas.{next_passes}
 use Rattle.om_format.proofs.ReadingLemmas.{concat-push, AllZip-push}
-use Rattle.om_format.proofs.SpellTokens.{SpelledThere-passes}
+use Rattle.om_format.proofs.SpellTokens.{SpelledThere-passes, sums_of-push}
 use Rattle.om_format.proofs.SpellValues.{raw_measures-spelled, IsToken-spelled}
 use Rattle.om_format.proofs.StandLemmas.{AreBytes-take}
 use Rattle.om_read.specs.declared.totals.Totals.{Totals}
@@ -32,16 +29,17 @@ use Rattle.om_read.proofs.RoomLemmas.{heap_words-from_start}
 -- ---- where the next token leads
 
 -- the context after the next token is that with the token
-pub context_after : (header : List ℕ) (before : List (List ℕ)) (rest : List ℕ) → raw_length rest ≤ length rest
+pub context_after : (header : List ℕ) (before : List (List ℕ)) (rest : List ℕ) → IsOpen before → raw_length rest ≤ length rest
     → after (context header before) rest ≡ context header (with_next before rest)
-context_after header before rest h =
+context_after header before rest is_open h =
     let piece = take (raw_length rest) rest in
     let len : length (concat before) + raw_length rest ≡ length (concat (before ++ piece ∷ [])) =
     sym (ap length (concat-push before piece) ∙ length-append (concat before) piece ∙ ap (λ n. length (concat before) + n) (length-take-le (raw_length rest) rest h)) in
     let measures : map raw_measure before ++ raw_measure rest ∷ [] ≡ map raw_measure (before ++ piece ∷ []) =
     sym (map-append raw_measure before (piece ∷ []) ∙ ap (λ m. map raw_measure before ++ m ∷ []) (raw_measure-take (raw_length rest) rest (omega arith))) in
-    ap (λ (p : ℕ × List (Option Measure)). record (context header before) { taken = p.0; before = p.1 })
-    (let same : (length (concat before) + raw_length rest, map raw_measure before ++ raw_measure rest ∷ []) ≡ (length (concat (before ++ piece ∷ [])), map raw_measure (before ++ piece ∷ [])) = cc in same)
+    let all : one_more (sums_of (map raw_measure before)) (raw_measure rest) ≡ sums_of (map raw_measure (before ++ piece ∷ [])) =
+    sym (sums_of-push (map raw_measure before) (raw_measure rest) is_open) ∙ ap sums_of measures in
+    λ i. record (context header before) { taken = len i; sums = all i }
 
 -- the bytes that the next token takes
 pub next_taken : (c : Context) (rest : List ℕ) (place next : Totals) → AreTotals place c → AreTotals next (after c rest) → next.taken ≡ place.taken + raw_length rest
@@ -53,8 +51,6 @@ pub next_fields : (c : Context) (rest : List ℕ) (place next : Totals) → AreT
 next_fields c rest place next s t some few =
     let e = s.pending in
     let f = t.pending in
-    let pos : 0 < pending c.before = omega arith in
-    let push = pending_push c.before (raw_measure rest) pos in
     omega arith
 
 -- ---- what it spells
@@ -76,7 +72,6 @@ pub next_fits : (header : List ℕ) (before : List (List ℕ)) (place next : Tot
     → AreTotals next (after (context header before) rest) → next.w64 ≤ next.head.w64 → Fits state (raw_measure rest)
 next_fits header before place next state rest h sums within =
     let words = words_built header before place state h in
-    let more = sum_by_push (of_object words64) (map raw_measure before) (raw_measure rest) in
     let same : next.head ≡ place.head = sym sums.head ∙ h.sums.head in
     let room : state.room ≡ next.head.w64 = h.room ∙ ap (λ x. x.w64) (sym same) in
     omega (arith, sums.w64)
@@ -94,16 +89,16 @@ next_spelled header before place state rest bytes h none whole =
     (s.token, s.spells, subst (RefersBack s.token) (sym (objects_built header before place state h)) s.refers_back)
 
 -- and it leads on
-pub next_leads : (header : List ℕ) (before : List (List ℕ)) (place next : Totals) (state state' : Bounded) (rest : List ℕ) → AreBytes rest → Builds header before place state
+pub next_leads : (header : List ℕ) (before : List (List ℕ)) (place next : Totals) (state state' : Bounded) (rest : List ℕ) → AreBytes rest → 0 < place.pending → Builds header before place state
     → first_refusal (length rest) (token_steps (context header before) rest) ≡ None → raw_length rest ≤ length rest → AreTotals next (after (context header before) rest)
     → ((t : Token) → Spells t (take (raw_length rest) rest) → state' ≡ absorb_in state t)
     → Builds header (with_next before rest) next state'
-next_leads header before place next state state' rest bytes h none whole sums adds =
+next_leads header before place next state state' rest bytes some h none whole sums adds =
     let p = next_passes header before rest none whole in
     let s = SpelledThere-passes header before (take (raw_length rest) rest) (AreBytes-take (raw_length rest) rest bytes) p.raw p.passes in
     record {
       tokens = h.tokens ++ s.token ∷ [];
-      sums = subst (AreTotals next) (context_after header before rest whole) sums;
+      sums = subst (AreTotals next) (context_after header before rest (omega (arith, h.sums.pending, some)) whole) sums;
       spells = AllZip-push Spells h.tokens before s.token (take (raw_length rest) rest) h.spells s.spells;
       are_tokens = All-push IsToken h.tokens s.token h.are_tokens (IsToken-spelled s.token (take (raw_length rest) rest) s.spells);
       builds = ap (λ (b : Bounded). b.built) (adds s.token s.spells) ∙ ap (λ b. absorb b s.token) h.builds ∙ sym (absorb_all_push start h.tokens s.token);

@@ -1,17 +1,16 @@
 -- What a header, a token or a part of one adds to the bytes that were taken (`LeadsAs`).
-use Rattle.std.proofs.Common.{ℕ, ◌≡◌, ◌≢◌, ◌⊎◌, inl, inr, ◌+◌, ◌-◌, ◌<◌, ◌≤◌, List, [], ◌++◌, length, take, drop, Option, Some, None, Result, Ok, Err, arith, refl, ap, sym, ◌∙◌, subst, append_assoc, append-nil, length-append, take_at, take_all, take-take, take-add}
+use Rattle.std.proofs.Common.{ℕ, ◌≡◌, inl, inr, ◌+◌, ◌-◌, ◌<◌, ◌≤◌, List, [], ◌++◌, length, take, drop, Option, Some, None, Ok, Err, arith, refl, ap, sym, ◌∙◌, subst, append_assoc, append-nil, length-append, take_at, take_all, take-take, take-add}
 use Rattle.std.proofs.Math.Seq.{take-append-add}
 use Rattle.std.specs.List.{concat}
 use Rattle.std.proofs.lemmas.Bool.{cases_lt}
 use Rattle.std.proofs.lemmas.List.{length-take, length-drop, length-take-le, take-append-le, take-append-drop}
 use Rattle.std.proofs.lemmas.List.Elements.{All-nil}
 use Rattle.om_model.specs.declared.refusal.ReadRefusal.{ReadRefusal}
-use Rattle.om_model.specs.declared.refusal.ReadRefusal.TheVariants.{Memory}
 use Rattle.om_format.specs.Raw.{raw_length, IsPart}
 use Rattle.om_format.specs.Token.{IsToken}
 use Rattle.om_format.specs.Header.{header_length}
 use Rattle.om_format.specs.Step.{Context, token_steps}
-use Rattle.om_format.specs.Front.{context, with_next, token_refusal, header_refusal, InHeader, IsRefused}
+use Rattle.om_format.specs.Front.{with_next, token_refusal, InHeader, IsRefused}
 use Rattle.om_format.proofs.RawLemmas.{raw_length-take}
 use Rattle.om_format.proofs.TokenStepLemmas.{header_length-from, header_length-take}
 use Rattle.om_format.proofs.ReadingLemmas.{concat-push, TokensPass-push}
@@ -166,7 +165,7 @@ module _ (limit : ℕ) (taken part more header : List ℕ) (before : List (List 
 
   pub token_taken : (next : Totals) (new : Bounded) → NextOf header before (part ++ more) new (Ok next) → next.taken ≡ totals.taken + raw_length (part ++ more)
   token_taken next new n =
-      let e = ap (λ (c : Context). c.taken) (context_after header before (part ++ more) n.1) in
+      let e = ap (λ (c : Context). c.taken) (context_after header before (part ++ more) stands.is_open n.1) in
       omega (arith, e, n.2.sums.taken, h.builds.sums.taken)
 
   pub token_is_read : (next : Totals) (new : Bounded) → NextOf header before (part ++ more) new (Ok next)

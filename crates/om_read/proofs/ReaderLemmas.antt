@@ -1,5 +1,5 @@
 -- What leads to a reader (`Leads`): a front, or a whole value with its graph.
-use Rattle.std.proofs.Common.{ℕ, ◌≡◌, ◌↔◌, inl, inr, ◌+◌, ◌-◌, ◌<◌, ◌≤◌, Bool, true, false, List, [], ◌∷◌, ◌++◌, length, take, Option, Some, None, Ok, Err, arith, refl, ap, sym, ◌∙◌, subst, append-nil, take_all}
+use Rattle.std.proofs.Common.{ℕ, ◌≡◌, ◌↔◌, inl, inr, ◌<◌, ◌≤◌, Bool, true, false, List, [], ◌∷◌, ◌++◌, length, take, Option, Some, None, Ok, arith, refl, ap, sym, ◌∙◌, subst, append-nil, take_all}
 use Rattle.std.specs.Prelude.{IsTrue, IsSome}
 use Rattle.std.specs.List.{concat}
 use Rattle.std.proofs.lemmas.List.Elements.{All-append, All-take}
@@ -19,7 +19,7 @@ use Rattle.om_read.specs.declared.reader.Reader.{Reader}
 use Rattle.om_read.specs.declared.value.Value.{Value}
 use Rattle.om_read.specs.Build.{Building, Bounded, building, start, absorb_all}
 use Rattle.om_read.specs.Pieces.{LeadsTokens, LeadsAs, LeadsPieces, IsWhole, TakesPiece}
-use Rattle.om_read.specs.Reader.{Leads, Feeds, IsWithin, Finishes}
+use Rattle.om_read.specs.Reader.{Feeds, IsWithin, Finishes}
 use Rattle.om_read.proofs.TreeLemmas.{absorb_start, root_is_value}
 use Rattle.om_read.proofs.RoomLemmas.{spelled_words}
 use Rattle.om_read.proofs.NextLemmas.{words_built}

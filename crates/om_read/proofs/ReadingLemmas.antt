@@ -126,7 +126,7 @@ module _ (limit : ℕ) (bytes : List ℕ) (place : Totals) (state : Bounded) (he
     pub goes_on : next.taken ≡ place.taken + raw_length (drop (place.start + place.taken) bytes)
     goes_on =
         let rest = drop (place.start + place.taken) bytes in
-        let e = ap (λ (c : Context). c.taken) (context_after here.header here.before rest h.1) in
+        let e = ap (λ (c : Context). c.taken) (context_after here.header here.before rest here.stands.is_open h.1) in
         omega (arith, e, h.2.sums.taken, here.leads.sums.taken)
 
     pub falls : length bytes - (next.start + next.taken) < length bytes - (place.start + place.taken)

@@ -7,6 +7,7 @@ use Rattle.om_model.specs.declared.code.CodeKind.{CodeKind}
 use Rattle.om_model.specs.declared.code.CodeFault.{CodeFault}
 use Rattle.om_model.specs.declared.code.Measure.{Measure}
 use Rattle.om_format.specs.Code.{kind_of, custom_of}
+use Rattle.om_format.specs.Words.{one_more}
 use Rattle.om_format.specs.Raw.{raw_length, raw_measure, fixed_bytes, variable_bytes, measure_after}
 use Rattle.om_format.specs.Step.{Context, Step, place, or_else, first_refusal, token_steps, entry_steps, variable_steps, closing_steps, code_refusal}
 use Rattle.om_format.proofs.StepLemmas.{EndWithin}
@@ -115,5 +116,5 @@ bytes_after c [] kind some e = absurd (omega arith)
 bytes_after c (code ∷ rest) kind some e =
     let n = bytes_length (code ∷ rest) kind some e in
     let m = raw_measure-ok code kind rest e in
-    ap (λ (p : ℕ × Option Measure). record c { taken = c.taken + p.0; before = c.before ++ p.1 ∷ [] })
+    ap (λ (p : ℕ × Option Measure). record c { taken = c.taken + p.0; sums = one_more c.sums p.1 })
     (let same : (1 + fixed_bytes kind + variable_bytes kind rest, measure_after kind rest) ≡ (raw_length (code ∷ rest), raw_measure (code ∷ rest)) = cc in same)

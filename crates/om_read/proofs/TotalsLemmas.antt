@@ -1,8 +1,13 @@
 -- Sums with one token more.
-use Rattle.std.proofs.Common.{ℕ, ◌≡◌, List, [], ◌∷◌, ◌++◌, Bool, true, false, Option, Some, None, ap, ◌∙◌, refl, ltb}
+use Rattle.std.proofs.Common.{ℕ, ◌≡◌, List, [], ◌∷◌, ◌++◌, Bool, true, false, Option, Some, None, Result, Ok, Err, ap, subst, sym, ◌∙◌, refl, ltb}
 use Rattle.om_model.specs.declared.refusal.ReadRefusal.{ReadRefusal}
-use Rattle.om_format.specs.Step.{Step, or_else}
-use Rattle.om_read.specs.Progress.{Progress, passed, waiting, failed, and_then, once, progress}
+use Rattle.om_format.specs.Step.{Context, Step, or_else}
+use Rattle.om_read.specs.declared.totals.Totals.{Totals}
+use Rattle.om_read.specs.Totals.{AreTotals, IsNext, context_of, sums}
+use Rattle.om_read.specs.declared.unread.Unread.{Unread}
+use Rattle.om_read.specs.declared.unread.Unread.TheVariants.{NeedMore, Refused}
+use Rattle.std.specs.Prelude.{IsErr}
+use Rattle.om_read.specs.Progress.{Progress, passed, waiting, failed, and_then, once, of_refusal, answered, progress}
 
 -- three steps that are decided and passed, and then more
 pub go_on : (b : Bool) (o w v : Option ReadRefusal) (p more : Progress) → b ≡ false → o ≡ None → or_else w v ≡ None → p ≡ more
@@ -13,6 +18,15 @@ go_on false None (Some r) v p more d e f g = cc
 go_on false None None (Some r) p more d e f g = cc
 go_on false None None None p more d e f g = g
 
+-- a step that is decided and passed, and then the first of two that are decided and not both passed
+pub stops_at : (b : Bool) (o w v e : Option ReadRefusal) (p more : Progress) → b ≡ false → o ≡ None → e ≡ or_else w v → p ≡ of_refusal e → (p ≡ passed → ⊥)
+    → p ≡ and_then (once b o) (and_then (once b w) (and_then (once b v) more))
+stops_at true o w v e p more d n f g h = cc
+stops_at false (Some r) w v e p more d n f g h = cc
+stops_at false None (Some r) v e p more d n f g h = g ∙ ap of_refusal f
+stops_at false None None (Some r) e p more d n f g h = g ∙ ap of_refusal f
+stops_at false None None None e p more d n f g h = absurd (h (g ∙ ap of_refusal f))
+
 -- steps one list after another
 pub progress-append : (n : ℕ) (xs ys : List Step) → progress n (xs ++ ys) ≡ and_then (progress n xs) (progress n ys)
 progress-append n [] ys = refl
@@ -22,3 +36,22 @@ progress-append n (x ∷ xs) ys = ap (and_then (once (ltb n x.ends) x.refusal)) 
     regroup passed q r = refl
     regroup waiting q r = refl
     regroup (failed s) q r = refl
+
+-- a place with the sums of a context is where the context is
+pub totals_are : (place : Totals) (c : Context) → AreTotals place c → c ≡ context_of place
+totals_are place c h = λ i. record {
+  head = h.head i;
+  start = h.start i;
+  taken = h.taken i;
+  sums = sums (h.objects i) (h.pending i) (h.w32 i) (h.w64 i);
+}
+
+-- what is next there is next in the context
+pub next_there : (place : Totals) (c : Context) (bytes : List ℕ) (x : Result Totals Unread) → AreTotals place c → IsNext (context_of place) bytes x → IsNext c bytes x
+next_there place c bytes x h n = subst (λ (y : Context). IsNext y bytes x) (sym (totals_are place c h)) n
+
+-- an answer that stops has not passed all steps
+pub not_passed : {X : Type 0} (x : Result X Unread) → IsErr x → answered x ≡ passed → ⊥
+not_passed (Ok x) e h = cc
+not_passed (Err NeedMore) e h = cc
+not_passed (Err (Refused r)) e h = cc

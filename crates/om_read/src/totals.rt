@@ -36,11 +36,10 @@ pub struct Totals {
 impl Totals {
     ghost use Rattle.om_format.specs.Code.{IsKind, custom_of, native_bytes};
     ghost use Rattle.om_format.specs.Raw.{field_bytes, fixed_bytes, variable_bytes, sizing_bytes};
-    ghost use Rattle.om_format.specs.Words.{of_object, fields as fields_of, pending as pending_of, words32, words64, all_words32, all_words64, objects as objects_of_all};
-    ghost use Rattle.om_format.specs.Step.{Context, overlong as overlong_refusal, field_refusal as refusal_of_fields, shared_refusal as refusal_of_shared, integer_refusal as refusal_of_integer, code_refusal as refusal_of_code, native_steps, variable_steps, entry_steps, closing_steps, words32_refusal, words64_refusal, end_steps, or_else, place};
-    ghost use Rattle.om_read.specs.Totals.{AreTotals, IsNext, after_kind};
+    ghost use Rattle.om_format.specs.Words.{of_object, fields as fields_of, words32, words64};
+    ghost use Rattle.om_format.specs.Step.{overlong as overlong_refusal, field_refusal as refusal_of_fields, shared_refusal as refusal_of_shared, integer_refusal as refusal_of_integer, code_refusal as refusal_of_code, native_steps, variable_steps, entry_steps, closing_steps, words32_refusal, words64_refusal, end_steps, or_else, place};
+    ghost use Rattle.om_read.specs.Totals.{AreTotals, IsNext, context_of, sums, after_kind};
     ghost use Rattle.om_headers.specs.Counting.{IsCountable};
-    ghost use Rattle.om_model.specs.declared.code.Measure.{Measure};
     ghost use Rattle.om_read.specs.Progress.{answered, and_then, progress, of_refusal};
 
     /// The place of the token's code, from the header's first byte.
@@ -53,7 +52,7 @@ impl Totals {
     /// More is needed than there are data bytes after the first `n` of the token.
     fn overlong(&self, need: u128, n: u64) -> Option<ReadRefusal>
         requires { self.now.taken + n ≤ self.now.head.length }
-        ensures refusal { (c : Context) → AreTotals self.now c → result ≡ overlong_refusal c need n }
+        ensures refusal { result ≡ overlong_refusal (context_of self.now) need n }
         ensures room { result ≡ None → self.now.taken + n + need ≤ self.now.head.length }
     {
         let left = self.head.length - (self.taken + n);
@@ -66,7 +65,7 @@ impl Totals {
 
     /// What is wrong with a reference.
     fn shared_refusal(&self, offset: u64) -> Option<ReadRefusal>
-        ensures { (c : Context) → AreTotals self.now c → result ≡ refusal_of_shared c offset }
+        ensures { result ≡ refusal_of_shared (context_of self.now) offset }
     {
         if offset == 0 || self.objects < offset {
             Some(ReadRefusal::BadShared(self.at(), offset, self.objects))
@@ -79,7 +78,7 @@ impl Totals {
 
     /// What is wrong with an integer of eight bytes.
     fn integer_refusal(&self, value: i64) -> Option<ReadRefusal>
-        ensures { (c : Context) → AreTotals self.now c → result ≡ refusal_of_integer c value }
+        ensures { result ≡ refusal_of_integer (context_of self.now) value }
     {
         if value < -(1 << 62) || value >= 1 << 62 {
             Some(ReadRefusal::IntRange(self.at(), value))
@@ -92,7 +91,7 @@ impl Totals {
     fn field_refusal(&self, code: u8, kind: CodeKind, rest: &[u8]) -> Option<ReadRefusal>
         requires known { IsKind kind }
         requires whole { field_bytes kind ≤ length rest.now }
-        ensures { (c : Context) → AreTotals self.now c → result ≡ refusal_of_fields c code kind rest.now }
+        ensures { result ≡ refusal_of_fields (context_of self.now) code kind rest.now }
     {
         match kind {
             CodeKind::Int(8) => self.integer_refusal(signed(&rest[..8])),
@@ -127,7 +126,7 @@ impl Totals {
     fn native(&self, rest: &[u8]) -> Result<u64, Unread>
         requires room { self.now.taken + 4 ≤ self.now.head.length }
         requires known { 3 ≤ length rest.now }
-        ensures steps { (c : Context) → AreTotals self.now c → answered result ≡ progress (length rest.now + 1) (native_steps c (slice_index rest.now 3)) }
+        ensures steps { answered result ≡ progress (length rest.now + 1) (native_steps (context_of self.now) (slice_index rest.now 3)) }
         ensures len { IfOk result (λ len. (len ≡ 1 + native_bytes (slice_index rest.now 3)) × (self.now.taken + (4 + len) ≤ self.now.head.length)) }
         ensures sized { OnOk result (4 ≤ length rest.now) }
     {
@@ -148,8 +147,8 @@ impl Totals {
     fn fields(&self, code: u8, kind: CodeKind, rest: &[u8]) -> Result<(), Unread>
         requires open { 0 < self.now.pending }
         requires known { IsKind kind }
-        ensures steps { (c : Context) → AreTotals self.now c → answered result ≡ progress (length rest.now + 1)
-            (entry_steps c code kind rest.now) }
+        ensures steps { answered result ≡ progress (length rest.now + 1)
+            (entry_steps (context_of self.now) code kind rest.now) }
         ensures whole { OnOk result (field_bytes kind ≤ length rest.now) }
         ensures room { OnOk result (self.now.taken + (1 + fixed_bytes kind) ≤ self.now.head.length) }
     {
@@ -165,8 +164,8 @@ impl Totals {
         requires known { IsKind kind }
         requires whole { field_bytes kind ≤ length rest.now }
         requires room { self.now.taken + (1 + fixed_bytes kind) ≤ self.now.head.length }
-        ensures steps { (c : Context) → AreTotals self.now c → answered result ≡ progress (length rest.now + 1)
-            (variable_steps c kind (custom_of (take 3 rest.now)) rest.now) }
+        ensures steps { answered result ≡ progress (length rest.now + 1)
+            (variable_steps (context_of self.now) kind (custom_of (take 3 rest.now)) rest.now) }
         ensures len { IfOk result (λ len. len ≡ variable_bytes kind rest.now) }
         ensures room { IfOk result (λ len. self.now.taken + (1 + fixed_bytes kind + len) ≤ self.now.head.length) }
         ensures sized { OnOk result (sizing_bytes kind rest.now ≤ length rest.now) }
@@ -183,8 +182,7 @@ impl Totals {
     fn pending_after(&self, measure: Option<Measure>) -> u64
         requires open { 0 < self.now.pending }
         requires small { of_object fields_of measure < 2 ^ 60 }
-        ensures sum { result ≡ self.now.pending - 1 + of_object fields_of measure }
-        ensures total { (c : Context) → AreTotals self.now c → result ≡ pending_of (c.before ++ measure ∷ []) }
+        ensures { result ≡ self.now.pending - 1 + of_object fields_of measure }
     {
         match measure {
             Some(Measure::Block(size)) => self.pending - 1 + size,
@@ -194,8 +192,7 @@ impl Totals {
 
     /// The objects with one more, if the token makes one.
     fn objects_after(&self, measure: Option<Measure>) -> u64
-        ensures sum { result ≡ self.now.objects + of_object (λ _. 1) measure }
-        ensures total { (c : Context) → AreTotals self.now c → result ≡ objects_of_all (c.before ++ measure ∷ []) }
+        ensures { result ≡ self.now.objects + of_object (λ _. 1) measure }
     {
         match measure {
             None => self.objects,
@@ -208,8 +205,6 @@ impl Totals {
         requires { ForSome measure IsCountable }
         ensures sum32 { result.0 ≡ self.now.w32 + of_object words32 measure }
         ensures sum64 { result.1 ≡ self.now.w64 + of_object words64 measure }
-        ensures total32 { (c : Context) → AreTotals self.now c → result.0 ≡ all_words32 (c.before ++ measure ∷ []) }
-        ensures total64 { (c : Context) → AreTotals self.now c → result.1 ≡ all_words64 (c.before ++ measure ∷ []) }
     {
         match measure {
             None => (self.w32, self.w64),
@@ -223,8 +218,8 @@ impl Totals {
     /// A sum of words exceeds what the header states.
     fn exceeded(&self, w32: u64, w64: u64) -> Option<ReadRefusal>
         ensures within { result ≡ None → w64 ≤ self.now.head.w64 }
-        ensures refusal { (c : Context) → AreTotals self.now c → (all : List (Option Measure)) → all_words32 all ≡ w32 → all_words64 all ≡ w64 →
-            result ≡ or_else (words32_refusal nat_lt (place c) c.head all) (words64_refusal nat_lt (place c) c.head all) }
+        ensures refusal { let c = context_of self.now in
+            result ≡ or_else (words32_refusal nat_lt (place c) c.head w32) (words64_refusal nat_lt (place c) c.head w64) }
     {
         if !self.head.big && self.head.w32 < w32 {
             return Some(ReadRefusal::SizeMismatch(self.at(), WordSum::W32, self.head.w32, w32));
@@ -238,8 +233,7 @@ impl Totals {
     /// The whole value differs from what the header states.
     fn differs(&self, n: u64, objects: u64, w32: u64, w64: u64) -> Option<ReadRefusal>
         requires { self.now.taken + n ≤ self.now.head.length }
-        ensures { (c : Context) → AreTotals self.now c → (all : List (Option Measure)) → all_words32 all ≡ w32 → all_words64 all ≡ w64 →
-            objects_of_all all ≡ objects → (m : ℕ) → n ≤ m → of_refusal result ≡ progress m (end_steps c n all) }
+        ensures { (m : ℕ) → n ≤ m → of_refusal result ≡ progress m (end_steps (context_of self.now) n (sums objects 0 w32 w64)) }
     {
         let at = self.at() + n;
         let left = self.head.length - (self.taken + n);
@@ -269,9 +263,8 @@ impl Totals {
         w64: u64,
     ) -> Result<(), Unread>
         requires { self.now.taken + n ≤ self.now.head.length }
-        ensures { (c : Context) → AreTotals self.now c → (all : List (Option Measure)) → all_words32 all ≡ w32 → all_words64 all ≡ w64 →
-            objects_of_all all ≡ objects → pending_of all ≡ pending →
-            answered result ≡ progress (length rest.now + 1) (if pending_of all == 0 then end_steps c n all else []) }
+        ensures { answered result ≡ progress (length rest.now + 1)
+            (if pending == 0 then end_steps (context_of self.now) n (sums objects pending w32 w64) else []) }
     {
         if pending > 0 {
             return Ok(());
@@ -291,8 +284,8 @@ impl Totals {
         requires sized { sizing_bytes kind rest.now ≤ length rest.now }
         requires len { len ≡ variable_bytes kind rest.now }
         requires room { self.now.taken + (1 + fixed_bytes kind + len) ≤ self.now.head.length }
-        ensures steps { (c : Context) → AreTotals self.now c → answered result ≡ progress (length rest.now + 1) (closing_steps c kind rest.now) }
-        ensures next { IfOk result (λ next. (c : Context) → AreTotals self.now c → AreTotals next (after_kind c kind rest.now)) }
+        ensures steps { answered result ≡ progress (length rest.now + 1) (closing_steps (context_of self.now) kind rest.now) }
+        ensures next { IfOk result (λ next. AreTotals next (after_kind (context_of self.now) kind rest.now)) }
         ensures len { IfOk result (λ next. next.taken ≡ self.now.taken + (1 + fixed_bytes kind + len)) }
     {
         let n = 1 + fixed_len(kind) + len;
@@ -318,11 +311,11 @@ impl Totals {
     fn steps(&self, code: u8, kind: CodeKind, rest: &[u8]) -> Result<Totals, Unread>
         requires open { 0 < self.now.pending }
         requires known { IsKind kind }
-        ensures steps { (c : Context) → AreTotals self.now c → answered result ≡
-            and_then (progress (length rest.now + 1) (entry_steps c code kind rest.now))
-            (and_then (progress (length rest.now + 1) (variable_steps c kind (custom_of (take 3 rest.now)) rest.now))
-            (progress (length rest.now + 1) (closing_steps c kind rest.now))) }
-        ensures next { IfOk result (λ next. (c : Context) → AreTotals self.now c → AreTotals next (after_kind c kind rest.now)) }
+        ensures steps { answered result ≡
+            and_then (progress (length rest.now + 1) (entry_steps (context_of self.now) code kind rest.now))
+            (and_then (progress (length rest.now + 1) (variable_steps (context_of self.now) kind (custom_of (take 3 rest.now)) rest.now))
+            (progress (length rest.now + 1) (closing_steps (context_of self.now) kind rest.now))) }
+        ensures next { IfOk result (λ next. AreTotals next (after_kind (context_of self.now) kind rest.now)) }
         ensures len { IfOk result (λ next. next.taken ≡ self.now.taken + (1 + fixed_bytes kind + variable_bytes kind rest.now)) }
     {
         self.fields(code, kind, rest)?;
@@ -332,7 +325,7 @@ impl Totals {
 
     /// The refusal of a code that begins no token.
     fn code_refusal(&self, fault: CodeFault, code: u8) -> ReadRefusal
-        ensures { (c : Context) → AreTotals self.now c → result ≡ refusal_of_code fault (place c) code }
+        ensures { result ≡ refusal_of_code fault (place (context_of self.now)) code }
     {
         match fault {
             CodeFault::BadCode => ReadRefusal::BadCode(self.at(), code),
@@ -348,7 +341,7 @@ impl Totals {
     pub fn judge(&self, bytes: &[u8]) -> Result<Totals, Unread>
         requires open { 0 < self.now.pending }
         requires some { 0 < length bytes.now }
-        ensures { (c : Context) → AreTotals self.now c → IsNext c bytes.now result }
+        ensures { IsNext (context_of self.now) bytes.now result }
     {
         let code = bytes[0];
         match code_kind(code) {

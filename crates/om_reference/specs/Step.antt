@@ -6,6 +6,7 @@ use Rattle.om_reference.specs.declared.context.Context.{Context}
 use Rattle.om_reference.specs.declared.step.Comparison.{Comparison}
 use Rattle.om_reference.specs.declared.step.Comparison.TheVariants.{Above, Other}
 use Rattle.om_reference.specs.Refusal.{refusal_in}
+use Rattle.om_reference.specs.Sums.{sums_in}
 
 -- a step, with its refusal
 abbrev pub step_of : Step → Defined
@@ -16,7 +17,7 @@ steps_of steps = map step_of steps
 
 -- where a token stands
 abbrev pub context_of : Context → Standing
-context_of c = record { head = c.head; start = c.start; taken = c.taken; before = c.before.items }
+context_of c = record { head = c.head; start = c.start; taken = c.taken; sums = sums_in c.sums }
 
 -- how what is found is compared with what is stated
 abbrev pub differ : Comparison → ℕ → ℕ → Bool

@@ -14,6 +14,7 @@ use crate::raw::raw_measure;
 use crate::refusal::Refusal;
 use crate::step::{first_refusal, header_steps};
 use crate::token_step::token_steps;
+use crate::words::sums_of;
 use om_model::code::Measure;
 use om_model::list::List;
 use std::alloc::{AllocError, Global};
@@ -57,7 +58,7 @@ pub fn context(alloc: Global, header: &[u8], before: &[List<u8>]) -> Result<Cont
         head: head_of(header),
         start: header.len() as u64,
         taken: taken(before),
-        before: measures(alloc, before)?,
+        sums: sums_of(&measures(alloc, before)?),
     })
 }
 

@@ -1,11 +1,12 @@
 //! The steps of a token (`intern.c`).
 
-ghost use Rattle.std.specs.Prelude.{◌≡◌, ◌≤◌, ◌<◌, ◌^◌, ◌++◌, ◌∷◌, [], length, IfOk};
+ghost use Rattle.std.specs.Prelude.{◌≡◌, ◌≤◌, ◌<◌, ◌^◌, length, IfOk};
 ghost use Rattle.om_format.specs.Code.{IsKind, custom_of};
 ghost use Rattle.om_format.specs.Raw.{measure_after};
 ghost use Rattle.om_format.specs.Step.{place, left_after, overlong, code_refusal, integer_refusal, shared_refusal, field_refusal, native_steps, variable_steps, words32_refusal, words64_refusal, end_steps, entry_steps, closing_steps, steps_after, token_steps};
 ghost use Rattle.om_reference.specs.Refusal.{refusal_of, refusal_in};
 ghost use Rattle.om_reference.specs.Step.{steps_of, context_of, differ};
+ghost use Rattle.om_reference.specs.Sums.{sums_in};
 
 use crate::code::{custom_of, kind_of, native_bytes};
 use crate::context::Context;
@@ -13,9 +14,9 @@ use crate::cut::{byte_at, first, integer_of, number_of};
 use crate::raw::{field_bytes, fixed_bytes, measure_after, sizing_bytes, variable_bytes};
 use crate::refusal::Refusal;
 use crate::step::{Comparison, Step, differs, fails_if, or_else};
-use crate::words::{all_words32, all_words64, objects, pending};
+use crate::words::{Sums, one_more};
 use om_model::bytes::skip;
-use om_model::code::{CodeFault, CodeKind, CustomKind, Measure};
+use om_model::code::{CodeFault, CodeKind, CustomKind};
 use om_model::header::Head;
 use om_model::refusal::WordSum;
 use std::alloc::{AllocError, Global};
@@ -71,7 +72,7 @@ fn integer_refusal(c: &Context, value: i64) -> Option<Refusal>
 fn shared_refusal(c: &Context, offset: u64) -> Option<Refusal>
     ensures { refusal_in result ≡ shared_refusal (context_of c.now) offset }
 {
-    let found = objects(c.before.as_slice());
+    let found = c.sums.objects;
     or_else(
         fails_if(
             offset == 0 || found < u128::from(offset),
@@ -153,16 +154,9 @@ fn variable_steps(
 }
 
 /// The words on 32 bits against the header's, which in a big one states none.
-fn words32_refusal(
-    how: Comparison,
-    place: u128,
-    head: Head,
-    all: &[Option<Measure>],
-) -> Option<Refusal>
-    requires { length all.now ≤ 2 ^ 62 }
-    ensures { refusal_in result ≡ words32_refusal (differ how) place head all.now }
+fn words32_refusal(how: Comparison, place: u128, head: Head, found: u128) -> Option<Refusal>
+    ensures { refusal_in result ≡ words32_refusal (differ how) place head found }
 {
-    let found = all_words32(all);
     fails_if(
         !head.big && differs(how, head.w32, found),
         Refusal::SizeMismatch(place, WordSum::W32, head.w32, found),
@@ -170,16 +164,9 @@ fn words32_refusal(
 }
 
 /// The words on 64 bits against the header's.
-fn words64_refusal(
-    how: Comparison,
-    place: u128,
-    head: Head,
-    all: &[Option<Measure>],
-) -> Option<Refusal>
-    requires { length all.now ≤ 2 ^ 62 }
-    ensures { refusal_in result ≡ words64_refusal (differ how) place head all.now }
+fn words64_refusal(how: Comparison, place: u128, head: Head, found: u128) -> Option<Refusal>
+    ensures { refusal_in result ≡ words64_refusal (differ how) place head found }
 {
-    let found = all_words64(all);
     fails_if(
         differs(how, head.w64, found),
         Refusal::SizeMismatch(place, WordSum::W64, head.w64, found),
@@ -187,14 +174,12 @@ fn words64_refusal(
 }
 
 /// The steps after the last token, which has `n` bytes.
-fn end_steps(c: &Context, n: u128, all: &[Option<Measure>]) -> [Step; 4]
-    requires few { length all.now ≤ 2 ^ 62 }
-    requires short { n < 2 ^ 70 }
-    ensures { steps_of result ≡ end_steps (context_of c.now) n all.now }
+fn end_steps(c: &Context, n: u128, all: Sums) -> [Step; 4]
+    requires { n < 2 ^ 70 }
+    ensures { steps_of result ≡ end_steps (context_of c.now) n (sums_in all) }
 {
     let p = place(c) + n;
     let left = left_after(c, n);
-    let found = objects(all);
     [
         Step {
             ends: n,
@@ -202,17 +187,17 @@ fn end_steps(c: &Context, n: u128, all: &[Option<Measure>]) -> [Step; 4]
         },
         Step {
             ends: n,
-            refusal: words32_refusal(Comparison::Other, p, c.head, all),
+            refusal: words32_refusal(Comparison::Other, p, c.head, all.w32),
         },
         Step {
             ends: n,
-            refusal: words64_refusal(Comparison::Other, p, c.head, all),
+            refusal: words64_refusal(Comparison::Other, p, c.head, all.w64),
         },
         Step {
             ends: n,
             refusal: fails_if(
-                c.head.objects != 0 && differs(Comparison::Other, c.head.objects, found),
-                Refusal::CountMismatch(p, c.head.objects, found),
+                c.head.objects != 0 && differs(Comparison::Other, c.head.objects, all.objects),
+                Refusal::CountMismatch(p, c.head.objects, all.objects),
             ),
         },
     ]
@@ -235,20 +220,6 @@ fn entry_steps(c: &Context, code: u8, kind: CodeKind, rest: &[u8]) -> [Step; 2]
     ]
 }
 
-/// The tokens before, and one more.
-fn with_measure(
-    alloc: Global,
-    c: &Context,
-    measure: Option<Measure>,
-) -> Result<Vec<Option<Measure>>, AllocError>
-    ensures all { IfOk result (λ all. all.items ≡ c.now.before.items ++ measure ∷ []) }
-    ensures few { IfOk result (λ all. length all.items ≤ 2 ^ 62) }
-{
-    let mut all = Vec::from_slice(alloc, c.before.as_slice())?;
-    all.push(measure)?;
-    Ok(all)
-}
-
 /// The steps of the values that are to come and of the words, and after the last token those of the tree's end.
 fn closing_steps(
     alloc: Global,
@@ -261,26 +232,26 @@ fn closing_steps(
 {
     let n = 1 + fixed_bytes(kind) + variable_bytes(kind, rest);
     let sized = 1 + sizing_bytes(kind, rest);
-    let all = with_measure(alloc, c, measure_after(kind, rest))?;
+    let all = one_more(c.sums, measure_after(kind, rest));
     let mut steps = Vec::from_slice(
         alloc,
         &[
             Step {
                 ends: sized,
-                refusal: overlong(c, pending(&all), n),
+                refusal: overlong(c, all.pending, n),
             },
             Step {
                 ends: sized,
-                refusal: words32_refusal(Comparison::Above, place(c), c.head, &all),
+                refusal: words32_refusal(Comparison::Above, place(c), c.head, all.w32),
             },
             Step {
                 ends: sized,
-                refusal: words64_refusal(Comparison::Above, place(c), c.head, &all),
+                refusal: words64_refusal(Comparison::Above, place(c), c.head, all.w64),
             },
         ],
     )?;
-    if pending(&all) == 0 {
-        steps.extend_from_slice(&end_steps(c, n, &all))?;
+    if all.pending == 0 {
+        steps.extend_from_slice(&end_steps(c, n, all))?;
     }
     Ok(steps)
 }

@@ -12,7 +12,6 @@ use crate::header::header_length;
 use crate::raw::raw_length;
 use crate::refusal::Refusal;
 use crate::token::{Token, tokens_spelled};
-use crate::words::pending;
 use om_model::Memory;
 use om_model::bytes::skip;
 use om_model::list::List;
@@ -47,7 +46,7 @@ fn is_open(alloc: Global, header: &[u8], tokens: &[List<u8>]) -> Result<bool, Al
     ensures { IfOk result (λ open_after. IsTrue open_after ↔ IsOpen tokens.now) }
 {
     let c = context(alloc, header, tokens)?;
-    Ok(0 < pending(&c.before))
+    Ok(0 < c.sums.pending)
 }
 
 /// Judges one token after another, after the header.

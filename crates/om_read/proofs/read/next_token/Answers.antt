@@ -1,4 +1,4 @@
-use Rattle.std.proofs.Common.{rules, arith, ◌≡◌, ◌+◌, ◌-◌, ◌<◌, ◌≤◌, ◌^◌, length, take, subst, sym}
+use Rattle.std.proofs.Common.{rules, arith, ℕ, List, Ok, ◌≡◌, ◌+◌, ◌-◌, ◌<◌, ◌≤◌, ◌^◌, length, take, subst, sym}
 use Rattle.std.specs.Prelude.{IsErr}
 use Rattle.std.proofs.lemmas.List.{length-take-le}
 use Rattle.om_format.specs.Raw.{raw_length, raw_measure}
@@ -8,7 +8,9 @@ use Rattle.om_format.specs.Words.{of_object, fields}
 use Rattle.om_format.specs.Front.{context}
 use Rattle.om_model.proofs.Numbers.{are_bytes}
 use Rattle.om_format.proofs.RawLemmas.{raw_measure-take}
-use Rattle.om_read.specs.Totals.{IsNext}
+use Rattle.om_read.specs.Totals.{IsNext, context_of}
+use Rattle.om_read.specs.Reading.{Builds}
+use Rattle.om_read.proofs.TotalsLemmas.{next_there}
 use Rattle.om_read.specs.Build.{absorb_in, Fits}
 use Rattle.om_read.proofs.NextLemmas.{next_taken, next_fields, built_well, next_spelled, next_leads, next_fits, nothing_left, judged_next}
 use Rattle.om_read.proofs.read.next_token.Goals as goal
@@ -19,21 +21,25 @@ returns-then-is_empty-clause-next c = λ header before h. nothing_left (context 
 
 pub returns-in_err-next-clause-next : goal.returns-in_err-next-clause-next
 returns-in_err-next-clause-next c = λ header before h.
-    let j = c.judge.ensures (context header before) h.sums in
-    let k : IsNext (context header before) c.args.rest.now c.from_residual.result = search rules in
+    let k : IsNext (context_of c.args.place.now) c.args.rest.now c.from_residual.result = search rules in
     let e : IsErr c.from_residual.result = search rules in
-    judged_next header before c.args.rest.now c.args.builder.now c.from_residual.result e k
+    judged_next header before c.args.rest.now c.args.builder.now c.from_residual.result e
+    (next_there c.args.place.now (context header before) c.args.rest.now c.from_residual.result h.sums k)
+
+-- what the judge says of it
+judged : (c : In_ok-next) (header : List ℕ) (before : List (List ℕ)) → Builds header before c.args.place.now c.args.builder.now → IsNext (context header before) c.args.rest.now (Ok c.in_ok-next.next)
+judged c header before h = next_there c.args.place.now (context header before) c.args.rest.now (Ok c.in_ok-next.next) h.sums c.in_ok-next.ensures
 
 -- the bytes that the token has
 length_is : (c : In_ok-next) → c.in_ok-next.next.taken ≡ c.args.place.now.taken + raw_length c.args.rest.now
 length_is c =
     let h = c.requires.leads.2 in
     let at = context c.requires.leads.0 c.requires.leads.1 in
-    let j = c.in_ok-next.ensures at h.sums in
+    let j = judged c c.requires.leads.0 c.requires.leads.1 h in
     next_taken at c.args.rest.now c.args.place.now c.in_ok-next.next h.sums j.2
 
 whole : (c : In_ok-next) → raw_length c.args.rest.now ≤ length c.args.rest.now
-whole c = (c.in_ok-next.ensures (context c.requires.leads.0 c.requires.leads.1) c.requires.leads.2.sums).1
+whole c = (judged c c.requires.leads.0 c.requires.leads.1 c.requires.leads.2).1
 
 pub overflow_sub-len : goal.overflow_sub-len
 overflow_sub-len c = omega (arith, length_is (goal.at.overflow_sub-len c).In_ok-next)
@@ -54,7 +60,7 @@ add-requires-clause-small c =
     let len : raw_length rest ≡ next.taken - c.args.place.now.taken = omega (arith, length_is d) in
     let few : next.pending < 2 ^ 53 = omega (arith, next.room, next.short) in
     let at = context c.requires.leads.0 c.requires.leads.1 in
-    let j = c.in_ok-next.ensures at c.requires.leads.2.sums in
+    let j = judged d c.requires.leads.0 c.requires.leads.1 c.requires.leads.2 in
     let fits : of_object fields (raw_measure rest) < 2 ^ 53 = next_fields at rest c.args.place.now next c.requires.leads.2.sums j.2 c.requires.«open» few in
     subst (λ n. of_object fields (raw_measure (take n rest)) < 2 ^ 53) len
     (subst (λ m. of_object fields m < 2 ^ 53) (sym (raw_measure-take (raw_length rest) rest (omega arith))) fits)
@@ -66,7 +72,7 @@ add-requires-clause-fits c =
     let next = c.in_ok-next.next in
     let len : raw_length rest ≡ next.taken - c.args.place.now.taken = omega (arith, length_is d) in
     let h = c.requires.leads in
-    let j = c.in_ok-next.ensures (context h.0 h.1) h.2.sums in
+    let j = judged d h.0 h.1 h.2 in
     let fits = next_fits h.0 h.1 c.args.place.now next c.args.builder.now rest h.2 j.2 next.within in
     subst (λ n. Fits c.args.builder.now (raw_measure (take n rest))) len
     (subst (Fits c.args.builder.now) (sym (raw_measure-take (raw_length rest) rest (omega arith))) fits)
@@ -78,7 +84,7 @@ add-requires-clause-spelled c =
     let len : raw_length rest ≡ c.in_ok-next.next.taken - c.args.place.now.taken = omega (arith, length_is d) in
     let bytes = are_bytes rest (λ i. omega (arith, c.type_inv.rest i)) in
     let h = c.requires.leads.2 in
-    let j = c.in_ok-next.ensures (context c.requires.leads.0 c.requires.leads.1) h.sums in
+    let j = judged d c.requires.leads.0 c.requires.leads.1 h in
     subst (λ n. (t : Token) × Spells t (take n rest) × RefersBack t (length c.args.builder.now.built.objects)) len
     (next_spelled c.requires.leads.0 c.requires.leads.1 c.args.place.now c.args.builder.now rest bytes h j.0 j.1)
 
@@ -89,10 +95,10 @@ returns-clause-next c = λ header before h.
     let next = c.in_ok-next.next in
     let len : next.taken - c.args.place.now.taken ≡ raw_length rest = omega (arith, length_is d) in
     let bytes = are_bytes rest (λ i. omega (arith, c.type_inv.rest i)) in
-    let j = c.in_ok-next.ensures (context header before) h.sums in
+    let j = judged d header before h in
     let adds : (t : Token) → Spells t (take (next.taken - c.args.place.now.taken) rest) → c.add.new.builder ≡ absorb_in c.args.builder.now t = search rules in (
       j.0,
       j.1,
-      next_leads header before c.args.place.now next c.args.builder.now c.add.new.builder rest bytes h j.0 j.1 j.2
+      next_leads header before c.args.place.now next c.args.builder.now c.add.new.builder rest bytes c.requires.«open» h j.0 j.1 j.2
           (subst (λ n. (t : Token) → Spells t (take n rest) → c.add.new.builder ≡ absorb_in c.args.builder.now t) len adds),
     )

@@ -1,4 +1,4 @@
-use Rattle.std.proofs.Common.{◌≡◌, inl, inr, true, length, sym, ◌∙◌, arith}
+use Rattle.std.proofs.Common.{◌≡◌, inl, inr, true, sym, ◌∙◌, arith}
 use Rattle.om_read.proofs.ReaderLemmas.{pieces_done, pieces_front, nothing_taken}
 use Rattle.om_read.proofs.reader.Reader.at_end.Goals as goal
 

@@ -1,6 +1,5 @@
-use Rattle.std.proofs.Common.{rules, arith, List, ℕ, Option, Ok, Err, ◌≡◌, ap, subst, sym, refl}
+use Rattle.std.proofs.Common.{arith, List, ℕ, Option, Ok, Err, ◌≡◌, ap, subst}
 use Rattle.om_read.specs.declared.totals.Totals.{Totals}
-use Rattle.om_read.specs.declared.unread.Unread.{Unread}
 use Rattle.om_read.specs.declared.unread.Unread.TheVariants.{NeedMore}
 use Rattle.om_read.specs.Pieces.{LeadsAs}
 use Rattle.om_read.specs.Reading.{NextOf}
