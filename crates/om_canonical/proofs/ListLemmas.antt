@@ -5,15 +5,9 @@ use Rattle.std.proofs.lemmas.Option.{slice_get_within, get_or_from_slice_get, sa
 use Rattle.std.specs.Prelude.{slice_get, map, flat_map, Contains, IsSomeAnd}
 use Rattle.std.specs.List.{AllZip}
 use Rattle.std.proofs.lemmas.List.Elements.{Contains-append_left, Contains-append_right, Contains-append_cases}
+use Rattle.om_model.proofs.Options.{Contains-first, Contains-later, Contains-none, Contains-cases, same_or_not}
 
 -- ---- options
-
-pub IsSomeAnd-some : {A : Type 0} (o : Option A) (P : A → Type 0) → IsSomeAnd o P → (x : A) × (o ≡ Some x) × P x
-IsSomeAnd-some None P holds = absurd holds
-IsSomeAnd-some (Some x) P holds = (x, refl, holds)
-
-pub IsSomeAnd-at : {A : Type 0} (o : Option A) (x : A) (P : A → Type 0) → o ≡ Some x → P x → IsSomeAnd o P
-IsSomeAnd-at o x P is holds = subst (λ p. IsSomeAnd p P) (sym is) holds
 
 pub IsSomeAnd-is : {A : Type 0} (o : Option A) (x : A) (P : A → Type 0) → o ≡ Some x → IsSomeAnd o P → P x
 IsSomeAnd-is o x P is holds = subst (λ p. IsSomeAnd p P) is holds
@@ -23,22 +17,6 @@ IsSomeAnd-weaker None P Q weaker holds = holds
 IsSomeAnd-weaker (Some x) P Q weaker holds = weaker x holds
 
 -- ---- what a list has
-
-pub Contains-first : {X : Type 0} (x : X) (xs : List X) → Contains (x ∷ xs) x
-Contains-first x xs = (0, omega arith, refl)
-
-pub Contains-later : {X : Type 0} (x : X) (xs : List X) (y : X) → Contains xs y → Contains (x ∷ xs) y
-Contains-later x xs y (k, below, is) = (suc k, omega arith, is)
-
-pub Contains-none : {X : Type 0} (x : X) → Contains [] x → ⊥
-Contains-none x (k, below, is) = omega arith
-
-pub Contains-cases : {X : Type 0} (x : X) (xs : List X) (y : X) → Contains (x ∷ xs) y → (x ≡ y) ⊎ Contains xs y
-Contains-cases x xs y (zero, below, is) = inl is
-Contains-cases x xs y (suc k, below, is) = inr (k, omega arith, is)
-
-pub slice_get-Contains : {X : Type 0} (xs : List X) (k : ℕ) (x : X) → slice_get xs k ≡ Some x → Contains xs x
-slice_get-Contains xs k x at_k = (k, slice_get_within xs k x at_k, get_or_from_slice_get xs k x x at_k)
 
 pub slice_get_there : {X : Type 0} (xs : List X) (k : ℕ) → k < length xs → (x : X) × (slice_get xs k ≡ Some x)
 slice_get_there [] k there = absurd (omega arith)
@@ -68,13 +46,6 @@ slice_get_push_cases (n ∷ ks) k zero m is = inl is
 slice_get_push_cases (n ∷ ks) k (suc i) m is = ⊎_elim (λ before. inl before) (λ last. inr (ap suc last.0, last.1)) (slice_get_push_cases ks k i m is)
 
 -- in a list that is made element by element
-pub Contains-map : {X Y : Type 0} (f : X → Y) (xs : List X) (x : X) → Contains xs x → Contains (map f xs) (f x)
-Contains-map f [] x among = absurd (Contains-none x among)
-Contains-map f (z ∷ xs) x among = ⊎_elim
-    (λ here. subst (λ y. Contains (map f (z ∷ xs)) (f y)) here (Contains-first (f z) (map f xs)))
-    (λ later. Contains-later (f z) (map f xs) (f x) (Contains-map f xs x later))
-    (Contains-cases z xs x among)
-
 pub map-Contains : {X Y : Type 0} (f : X → Y) (xs : List X) (y : Y) → Contains (map f xs) y → (x : X) × Contains xs x × (f x ≡ y)
 map-Contains f [] y among = absurd (Contains-none y among)
 map-Contains f (z ∷ xs) y among = ⊎_elim
@@ -83,13 +54,6 @@ map-Contains f (z ∷ xs) y among = ⊎_elim
     (Contains-cases (f z) (map f xs) y among)
 
 -- in a list that is made of lists
-pub Contains-flat_map : {X Y : Type 0} (f : X → List Y) (xs : List X) (x : X) (y : Y) → Contains xs x → Contains (f x) y → Contains (flat_map f xs) y
-Contains-flat_map f [] x y among has = absurd (Contains-none x among)
-Contains-flat_map f (z ∷ xs) x y among has = ⊎_elim
-    (λ here. Contains-append_left (f z) (flat_map f xs) y (subst (λ w. Contains (f w) y) (sym here) has))
-    (λ later. Contains-append_right (f z) (flat_map f xs) y (Contains-flat_map f xs x y later has))
-    (Contains-cases z xs x among)
-
 pub flat_map-Contains : {X Y : Type 0} (f : X → List Y) (xs : List X) (y : Y) → Contains (flat_map f xs) y → (x : X) × Contains xs x × Contains (f x) y
 flat_map-Contains f [] y among = absurd (Contains-none y among)
 flat_map-Contains f (z ∷ xs) y among = ⊎_elim
@@ -106,9 +70,6 @@ pub cond-Contains : {X : Type 0} (b : Bool) (z : X) → b ≡ true → Contains 
 cond-Contains b z is = subst (λ c. Contains (cond c (z ∷ []) []) z) (sym is) (Contains-first z [])
 
 -- ---- numbers
-
-pub same_or_not : (m n : ℕ) → (m ≡ n) ⊎ (m ≢ n)
-same_or_not m n = elim (cases_Bool (eqb m n)) [ inl e ↦ inl (eqb-true m n e) | inr e ↦ inr (eqb-false m n e) ]
 
 greatest_or_less : (n k : ℕ) → k < suc n → (n ≡ k) ⊎ (k < n)
 greatest_or_less n k less = elim (same_or_not n k) [ inl e ↦ inl e | inr e ↦ inr (omega arith) ]

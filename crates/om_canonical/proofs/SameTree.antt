@@ -3,6 +3,7 @@ use Rattle.std.proofs.Common.{ℕ, zero, suc, ◌≡◌, ◌+◌, ◌-◌, ◌<�
 use Rattle.std.specs.Prelude.{slice_get, Contains}
 use Rattle.std.specs.List.{AllZip}
 use Rattle.std.proofs.lemmas.Option.{same_Some, none-some}
+use Rattle.om_model.proofs.Options.{same_or_not}
 use Rattle.om_model.specs.declared.value.Val.{Val}
 use Rattle.om_model.specs.declared.value.Obj.{Obj}
 use Rattle.om_model.specs.declared.value.Obj.TheVariants as objects
@@ -10,7 +11,7 @@ use Rattle.om_format.specs.Token.{Token, integer, atom, shared, block, leaf, IsL
 use Rattle.om_format.specs.Tree.{Tree, Forest, node, none, more, trees_in, IsTree, AreTrees, root, roots, made, made_by, all_made, object_of, objects_of, all_objects, ReferBack, AllReferBack}
 use Rattle.om_format.specs.Iso.{AreAlike, AreAlikeObjects, IsPairing, IsTreeOf}
 use Rattle.om_format.proofs.Counts.{leaf_fields, length-object_of, length-objects_of}
-use Rattle.om_canonical.proofs.ListLemmas.{same_or_not, slice_get_left, slice_get_right}
+use Rattle.om_canonical.proofs.ListLemmas.{slice_get_left, slice_get_right}
 use Rattle.om_canonical.proofs.IsoLemmas.{objects_of_pair, same_symmetric, same_transitive}
 
 -- ---- objects at a place

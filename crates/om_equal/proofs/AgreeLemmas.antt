@@ -6,8 +6,7 @@ use Rattle.om_types.specs.declared.head.HeadOf.{HeadOf}
 use Rattle.om_types.specs.declared.head.TagOf.{TagOf}
 use Rattle.om_types.specs.Equal.{Pairwise, ArgumentsAgree, TagsAgree, SameTags, HeadsAgree}
 use Rattle.om_types.specs.Reached.{parts_of, listed_if}
-use Rattle.om_model.proofs.Options.{Contains-first, Contains-later}
-use Rattle.om_types.proofs.ListLemmas.{Contains-flat_map}
+use Rattle.om_model.proofs.Options.{Contains-first, Contains-later, Contains-flat_map}
 
 module _ {T : Type 0} (P Q : T → T → Type 0) where
   -- Q follows from P for types of these lists

@@ -10,8 +10,7 @@ use Rattle.om_types.specs.declared.head.HeadOf.{HeadOf}
 use Rattle.om_types.specs.Ty.{Ty, variable, named, tuple, bracket, part, tag, tag_of, including}
 use Rattle.om_types.specs.Equal.{HeadsAgree, Holds, EqualBy}
 use Rattle.om_types.specs.Reached.{parts_of}
-use Rattle.om_model.proofs.Options.{Contains-first, Contains-later, Contains-none}
-use Rattle.om_types.proofs.ListLemmas.{Contains-cases, Contains-mapped, Contains-flat_map}
+use Rattle.om_model.proofs.Options.{Contains-first, Contains-later, Contains-none, Contains-cases, Contains-map, Contains-flat_map}
 use Rattle.om_equal.proofs.AgreeLemmas.{HeadsAgree-more}
 use Rattle.om_equal.proofs.AlikeLemmas.{Whole, Alike}
 
@@ -46,7 +45,7 @@ both_has : (f : Ty → Ty → Ty) (ts us : List Ty) (t u : Ty) → Contains ts t
 unfolding both
 both_has f ts us t u among among' =
     Contains-flat_map (λ a. map (λ b. f a b) us) ts t (f t u) among
-    (Contains-mapped (λ b. f t b) us u among')
+    (Contains-map (λ b. f t b) us u among')
 
 both_is : (f : Ty → Ty → Ty) (ts us : List Ty) (v : Ty) → Contains (both f ts us) v → (t u : Ty)
     × Contains ts t × Contains us u × (f t u ≡ v)
@@ -136,7 +135,7 @@ module _ (same_or_not : (t u : Ty) → (t ≡ u) ⊎ (t ≡ u → ⊥)) (pairs :
       (part_has a b (⊎_elim (λ held. inl held) (λ w. inr (wholes_has a b w)) whole.1))
   wholes_has (tag t x) (tag u y) whole =
       subst (λ z. Contains (map (λ w. tag w y) (wholes u)) (tag t z)) (sym whole.1)
-      (Contains-mapped (λ w. tag w y) (wholes u) t (wholes_has t u whole.0))
+      (Contains-map (λ w. tag w y) (wholes u) t (wholes_has t u whole.0))
   wholes_has (tag_of t x a) (tag_of u y b) whole =
       subst (λ z. Contains (both (λ w v. tag_of w y v) (wholes u) (firsts pairs b ++ wholes b))
       (tag_of t z a)) (sym whole.1) (both_has (λ w v. tag_of w y v) (wholes u)
@@ -217,7 +216,7 @@ module _ (same_or_not : (t u : Ty) → (t ≡ u) ⊎ (t ≡ u → ⊥)) (pairs :
     all_has : (t u : Ty) → Contains types u → Alike pairs t u → Contains all (t, u)
     unfolding all pairs_to
     all_has t u among alike =
-        Contains-flat_map pairs_to types u (t, u) among (Contains-mapped (λ w. (w, u)) (sources u) t
+        Contains-flat_map pairs_to types u (t, u) among (Contains-map (λ w. (w, u)) (sources u) t
         (sources_has t u alike))
 
     all_is : (t u : Ty) → Contains all (t, u) → Contains types u × Alike pairs t u

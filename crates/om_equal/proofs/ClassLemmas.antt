@@ -9,8 +9,7 @@ use Rattle.om_types.specs.Equal.{HeadsAgree, Holds}
 use Rattle.om_types.specs.Classes.{AreTogether, PartsBelow, KeepsTogether, IsStableFor, IsSplit}
 use Rattle.om_types.specs.Classes.{DoneNow}
 use Rattle.om_types.specs.Reached.{parts_of}
-use Rattle.om_model.proofs.Options.{Contains-first, Contains-later, Contains-none}
-use Rattle.om_types.proofs.ListLemmas.{same_or_not, Contains-cases}
+use Rattle.om_model.proofs.Options.{Contains-first, Contains-later, Contains-none, same_or_not, Contains-cases}
 use Rattle.om_equal.specs.ClassLaws.{StableClassesAreEqual}
 use Rattle.om_equal.proofs.AgreeLemmas.{HeadsAgree-more}
 

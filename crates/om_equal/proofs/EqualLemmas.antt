@@ -9,8 +9,7 @@ use Rattle.om_types.specs.declared.head.TagOf.{TagOf}
 use Rattle.om_types.specs.Equal.{Pairwise, ArgumentsAgree, TagsAgree, SameTags, HeadsAgree, Holds}
 use Rattle.om_types.specs.Equal.{IsClosed, EqualBy}
 use Rattle.om_types.specs.Reached.{parts_of, listed_if}
-use Rattle.om_model.proofs.Options.{Contains-first, Contains-later, Contains-none}
-use Rattle.om_types.proofs.ListLemmas.{Contains-cases, Contains-mapped, Contains-flat_map}
+use Rattle.om_model.proofs.Options.{Contains-first, Contains-later, Contains-none, Contains-cases, Contains-map, Contains-flat_map}
 use Rattle.om_equal.proofs.AlikeClosure.{mapped_is, flat_mapped_is}
 
 -- ---- heads turned round, and joined
@@ -148,13 +147,13 @@ module _ {T : Type 0} (head : T → HeadOf T) where
   equal_itself types reached t among =
       record {
         pairs = map twice types;
-        holds = Contains-mapped twice types t among;
+        holds = Contains-map twice types t among;
         closed = closed;
       } where
         agree_itself : (u : T) → Contains types u → HeadsAgree (Holds (map twice types)) (head u)
             (head u)
         agree_itself u has =
-            HeadsAgree-own (Holds (map twice types)) (head u) (λ a part. Contains-mapped twice types
+            HeadsAgree-own (Holds (map twice types)) (head u) (λ a part. Contains-map twice types
             a
             (reached u a has part))
 
@@ -171,7 +170,7 @@ module _ {T : Type 0} (head : T → HeadOf T) where
   turned p = (p.1, p.0)
 
   turned_has : (pairs : List (T × T)) (t u : T) → Holds pairs t u → Holds (map turned pairs) u t
-  turned_has pairs t u held = Contains-mapped turned pairs (t, u) held
+  turned_has pairs t u held = Contains-map turned pairs (t, u) held
 
   pub equal_turned : (t u : T) → EqualBy head t u → EqualBy head u t
   equal_turned t u equal =

@@ -22,8 +22,7 @@ use Rattle.om_types.specs.Accepted.{IsVariable, IsWhole, IsType, TakeArguments, 
 use Rattle.om_types.specs.Accepted.{HasSoundBrackets}
 use Rattle.om_types.specs.Accepted.{AreWellFormed, IsSoundType}
 use Rattle.om_types.specs.Table.{tag_with_part, head_with_parts}
-use Rattle.om_model.proofs.Options.{Contains-first, Contains-later, Contains-none}
-use Rattle.om_types.proofs.ListLemmas.{Contains-cases}
+use Rattle.om_model.proofs.Options.{Contains-first, Contains-later, Contains-none, Contains-cases}
 use Rattle.std.proofs.lemmas.List.Elements.{Contains-append_cases}
 use Rattle.om_equal.proofs.HeadMapLemmas.{append-map}
 use Rattle.om_equal.proofs.InstanceLemmas.{type-instance, type-takes}

@@ -12,8 +12,7 @@ use Rattle.om_types.specs.Head.{plain_head, name_head, with_part, with_tags, tag
 use Rattle.om_types.specs.Head.{head_meant}
 use Rattle.om_types.specs.Equal.{Pairwise, ArgumentsAgree, TagsAgree, SameTags, HeadsAgree, Holds}
 use Rattle.om_types.specs.Equal.{IsClosed}
-use Rattle.om_model.proofs.Options.{Contains-first, Contains-none}
-use Rattle.om_types.proofs.ListLemmas.{Contains-cases}
+use Rattle.om_model.proofs.Options.{Contains-first, Contains-none, Contains-cases}
 use Rattle.om_equal.proofs.AgreeLemmas.{HeadsAgree-more}
 use Rattle.om_equal.proofs.TagLemmas.{there_joined}
 use Rattle.om_equal.proofs.AlikeLemmas.{Whole, Alike, HasTypes, unfolded_alike, BothUnfold}

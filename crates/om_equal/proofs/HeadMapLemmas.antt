@@ -2,13 +2,13 @@
 use Rattle.std.proofs.Common.{◌≡◌, ◌∙◌, List, [], ◌∷◌, ◌++◌, Option, Some, None, refl, ap, subst}
 use Rattle.std.proofs.Common.{sym}
 use Rattle.std.specs.Prelude.{map, option_map}
+use Rattle.om_model.proofs.Options.{Contains-map}
 use Rattle.om_types.specs.declared.head.TagOf.{TagOf}
 use Rattle.om_types.specs.declared.head.HeadOf.{HeadOf}
 use Rattle.om_types.specs.declared.head.HeadOf.TheVariants as heads
 use Rattle.om_types.specs.Equal.{Pairwise, ArgumentsAgree, TagsAgree, SameTags, HeadsAgree}
 use Rattle.om_types.specs.Reached.{listed_if, parts_of}
 use Rattle.om_types.specs.Table.{tag_with_part, head_with_parts}
-use Rattle.om_types.proofs.ListLemmas.{Contains-mapped}
 use Rattle.om_equal.proofs.AlikeClosure.{mapped_is}
 
 module _ {T U : Type 0} (f : T → U) (P : U → U → Type 0) where
@@ -60,7 +60,7 @@ module _ {T U : Type 0} (f : T → U) (P : U → U → Type 0) where
         let source = mapped_is with_f tags tag among in
         let found = same.there source.0 source.1 in (
           with_f found.0,
-          Contains-mapped with_f others found.0 found.1,
+          Contains-map with_f others found.0 found.1,
           subst
               (λ x. TagsAgree P x (with_f found.0)) source.2 (tag-map source.0 found.0 found.2),
         );
@@ -68,7 +68,7 @@ module _ {T U : Type 0} (f : T → U) (P : U → U → Type 0) where
         let source = mapped_is with_f others other among in
         let found = same.back source.0 source.1 in (
           with_f found.0,
-          Contains-mapped with_f tags found.0 found.1,
+          Contains-map with_f tags found.0 found.1,
           subst
               (λ x. TagsAgree P (with_f found.0) x) source.2 (tag-map found.0 source.0 found.2),
         );
@@ -78,7 +78,7 @@ module _ {T U : Type 0} (f : T → U) (P : U → U → Type 0) where
       → SameTags Through tags others
   tags-unmap tags others same = record {
     there = λ tag among.
-        let found = same.there (with_f tag) (Contains-mapped with_f tags tag among) in
+        let found = same.there (with_f tag) (Contains-map with_f tags tag among) in
         let source = mapped_is with_f others found.0 found.1 in (
           source.0,
           source.1,
@@ -86,7 +86,7 @@ module _ {T U : Type 0} (f : T → U) (P : U → U → Type 0) where
               (sym source.2) found.2),
         );
     back = λ other among.
-        let found = same.back (with_f other) (Contains-mapped with_f others other among) in
+        let found = same.back (with_f other) (Contains-map with_f others other among) in
         let source = mapped_is with_f tags found.0 found.1 in (
           source.0,
           source.1,

@@ -34,8 +34,7 @@ use Rattle.om_types.specs.Shape.{record_shape, body_shape, datatype_shape, tag_s
 use Rattle.om_types.specs.Shape.{shape}
 use Rattle.om_types.specs.Fitting.{is_number, tag_with}
 use Rattle.om_types.specs.Equal.{Pairwise, ArgumentsAgree, SameTags, HeadsAgree, Holds, IsClosed}
-use Rattle.om_model.proofs.Options.{Contains-first, Contains-later, Contains-none}
-use Rattle.om_types.proofs.ListLemmas.{Contains-cases, Contains-mapped}
+use Rattle.om_model.proofs.Options.{Contains-first, Contains-later, Contains-none, Contains-cases, Contains-map}
 use Rattle.om_equal.proofs.AlikeClosure.{mapped_is}
 use Rattle.om_equal.proofs.AlikeLemmas.{Alike, instances_alike, arguments_alike}
 use Rattle.om_equal.proofs.NeedLemmas.{alike_heads, held_alike}
@@ -117,7 +116,7 @@ module _ (Likes : Ty → Ty → Type 0) (tags others : List (TagOf Ty))
       let source = mapped_is tag_shape tags a among in
       let found = same.there source.0 source.1 in (
         tag_shape found.0,
-        Contains-mapped tag_shape others found.0 found.1,
+        Contains-map tag_shape others found.0 found.1,
         ap tag_hash (sym found.2.0) ∙ ap (λ (t : PolyTag Ty). t.hash) source.2,
         subst (λ (t : PolyTag Ty). ArgumentsAgree Likes t.arg found.0.argument) source.2 found.2.1,
       )
@@ -128,7 +127,7 @@ module _ (Likes : Ty → Ty → Type 0) (tags others : List (TagOf Ty))
       let source = mapped_is tag_shape others b among in
       let found = same.back source.0 source.1 in (
         tag_shape found.0,
-        Contains-mapped tag_shape tags found.0 found.1,
+        Contains-map tag_shape tags found.0 found.1,
         ap tag_hash found.2.0
             ∙ ap (λ (t : PolyTag Ty). t.hash) source.2,
       )

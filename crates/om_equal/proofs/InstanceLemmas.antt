@@ -19,8 +19,7 @@ use Rattle.om_types.specs.Declarations.{instance_of}
 use Rattle.om_types.specs.Declarations.{abbreviated, abbreviated_at, abbreviated_by, unfolded}
 use Rattle.om_types.specs.Accepted.{IsVariable, IsWhole, IsType, TakeArguments, VariablesAmong}
 use Rattle.om_types.specs.Accepted.{AreWellFormed, types_of_body}
-use Rattle.om_model.proofs.Options.{Contains-first, Contains-none}
-use Rattle.om_types.proofs.ListLemmas.{Contains-cases}
+use Rattle.om_model.proofs.Options.{Contains-first, Contains-none, Contains-cases}
 use Rattle.om_equal.proofs.HeadMapLemmas.{append-map}
 
 -- ---- what instances keep

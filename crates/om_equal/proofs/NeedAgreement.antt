@@ -3,8 +3,7 @@ use Rattle.std.proofs.Common.{ℕ, ◌≡◌, ◌∙◌, ⊎_elim, List, [], ◌
 use Rattle.std.proofs.Common.{subst, sym}
 use Rattle.std.specs.Prelude.{Contains, IsSome}
 use Rattle.om_types.specs.Fitting.{or_none}
-use Rattle.om_model.proofs.Options.{Contains-first, Contains-later, Contains-none}
-use Rattle.om_types.proofs.ListLemmas.{Contains-cases}
+use Rattle.om_model.proofs.Options.{Contains-first, Contains-later, Contains-none, Contains-cases}
 
 module _ {T U : Type 0} (Likes : T → U → Type 0) where
   abbrev pub NeedsAgree : List (ℕ × T) → List (ℕ × U) → Type 0

@@ -12,8 +12,7 @@ use Rattle.om_types.specs.Head.{head}
 use Rattle.om_types.specs.Equal.{HeadsAgree, Holds, Equal, EqualBy}
 use Rattle.om_types.specs.Reached.{parts_of}
 use Rattle.om_types.specs.Table.{head_with_parts, head_or_absent, head_at, AreHeadsOf}
-use Rattle.om_model.proofs.Options.{Contains-first, Contains-later, Contains-none}
-use Rattle.om_types.proofs.ListLemmas.{Contains-cases, Contains-mapped, Contains-flat_map}
+use Rattle.om_model.proofs.Options.{Contains-first, Contains-later, Contains-none, Contains-cases, Contains-map, Contains-flat_map}
 use Rattle.om_types.proofs.ListLemmas.{Contains-filter_mapped, filter_mapped_is}
 use Rattle.om_equal.proofs.AgreeLemmas.{HeadsAgree-more}
 use Rattle.om_equal.proofs.AlikeClosure.{mapped_is, flat_mapped_is}
@@ -42,7 +41,7 @@ module _ (decls : List Decl) (types : List Ty) (all : List (HeadOf ℕ))
   part_known : (i : ℕ) (u : Ty) → Is i u → (a : ℕ) → Contains (parts_of (head_at all i)) a
       → (s : Ty) × Contains (parts_of (head decls u)) s × Is a s
   part_known i u is a among =
-      let numbers = Contains-mapped (slice_get types) (parts_of (head_at all i)) a among in
+      let numbers = Contains-map (slice_get types) (parts_of (head_at all i)) a among in
       let same = sym (parts_of-map (slice_get types) (head_at all i))
       ∙ ap (λ (h : HeadOf (Option Ty)). parts_of h) (head_is i u is)
       ∙ parts_of-map Some (head decls u) in
@@ -219,7 +218,7 @@ module _ (decls : List Decl) (types : List Ty) (all : List (HeadOf ℕ))
   numbered_has pairs i j t u is is' held =
       Contains-flat_map numbered_pair pairs (t, u) (i, j) held
       (Contains-flat_map (λ k. map (λ l. (k, l)) (numbers_of u)) (numbers_of t) i (i, j)
-      (of_has i t is) (Contains-mapped (λ l. (i, l)) (numbers_of u) j (of_has j u is')))
+      (of_has i t is) (Contains-map (λ l. (i, l)) (numbers_of u) j (of_has j u is')))
 
   numbered_is : (pairs : List (Ty × Ty)) (i j : ℕ) → Holds (numbered pairs) i j → (t u : Ty)
       × Holds pairs t u × Is i t × Is j u

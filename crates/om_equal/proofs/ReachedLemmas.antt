@@ -27,8 +27,7 @@ use Rattle.om_types.specs.Fitting.{fits_int, fits_atom, is_double, is_bytes, has
 use Rattle.om_types.specs.Fitting.{is_int64, is_native}
 use Rattle.om_types.specs.Reached.{listed_if, named_in, parts_of, reached_from, IsWithoutRepeats}
 use Rattle.om_types.specs.Reached.{IsReached}
-use Rattle.om_model.proofs.Options.{Contains-first, Contains-later, Contains-none}
-use Rattle.om_types.proofs.ListLemmas.{Contains-cases, Contains-flat_map, slice_get-Contains}
+use Rattle.om_model.proofs.Options.{Contains-first, Contains-later, Contains-none, Contains-cases, Contains-flat_map, slice_get-Contains}
 use Rattle.om_equal.proofs.HeadShapes.{found_is}
 
 -- ---- the list

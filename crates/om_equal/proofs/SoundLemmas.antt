@@ -42,8 +42,7 @@ use Rattle.om_types.specs.Shape.{tag_shape}
 use Rattle.om_types.specs.Shape.{head_shape, shape, is_flat}
 use Rattle.om_types.specs.Reached.{listed_if, named_in, parts_of, reached_from, IsReached}
 use Rattle.om_types.specs.Table.{tag_with_part, head_with_parts}
-use Rattle.om_model.proofs.Options.{Contains-first, Contains-none}
-use Rattle.om_types.proofs.ListLemmas.{Contains-cases, Contains-flat_map}
+use Rattle.om_model.proofs.Options.{Contains-first, Contains-none, Contains-cases, Contains-flat_map}
 use Rattle.om_types.proofs.ListLemmas.{filter_mapped_is}
 use Rattle.om_equal.proofs.AlikeClosure.{mapped_is, flat_mapped_is}
 use Rattle.om_equal.proofs.HeadInstance.{includes_of, head-instance, tags_in-map, variants-map}

@@ -25,8 +25,7 @@ use Rattle.om_types.specs.LeastFault.{IsLeastFault}
 use Rattle.om_types.specs.Reached.{IsReached}
 use Rattle.om_types.specs.Table.{with_parts, Table, node_or_none, table_shapes, IsTableOf}
 use Rattle.om_types.specs.Lawful.{AreLawful, Everything}
-use Rattle.om_model.proofs.Options.{Contains-none}
-use Rattle.om_types.proofs.ListLemmas.{slice_get-Contains}
+use Rattle.om_model.proofs.Options.{Contains-none, slice_get-Contains}
 use Rattle.om_equal.proofs.LawfulLemmas.{reached_lawful}
 use Rattle.om_equal.proofs.NeedAgreement.{NeedsAgree, FieldsAgree, both_some, both_some_back}
 use Rattle.om_equal.proofs.NeedAgreement.{need_matched}

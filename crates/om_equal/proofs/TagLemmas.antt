@@ -11,8 +11,7 @@ use Rattle.om_types.specs.declared.head.TagOf.{TagOf}
 use Rattle.om_types.specs.Ty.{Ty}
 use Rattle.om_types.specs.Head.{has_tag, joined}
 use Rattle.om_types.specs.Equal.{TagsAgree}
-use Rattle.om_model.proofs.Options.{Contains-first, Contains-later, Contains-none}
-use Rattle.om_types.proofs.ListLemmas.{Contains-cases}
+use Rattle.om_model.proofs.Options.{Contains-first, Contains-later, Contains-none, Contains-cases}
 
 -- ---- a filtered list
 

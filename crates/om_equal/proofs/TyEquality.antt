@@ -2,9 +2,9 @@
 use Rattle.std.proofs.Common.{ℕ, ◌≡◌, ◌∙◌, ◌⊎◌, ⊎_elim, inl, inr, List, [], ◌∷◌, refl, sym, ap}
 use Rattle.std.specs.Str.{bytes_eq}
 use Rattle.std.proofs.lemmas.Slice.Eq.{bytes_eq-Decides}
+use Rattle.om_model.proofs.Options.{true_or_not, same_or_not}
 use Rattle.om_types.specs.Ty.{Ty}
 use Rattle.om_types.specs.TyCode.{Word, words, run, top, read-words}
-use Rattle.om_types.proofs.ListLemmas.{true_or_not, same_or_not}
 
 bytes_same_or_not : (a b : List ℕ) → (a ≡ b) ⊎ (a ≡ b → ⊥)
 bytes_same_or_not a b = ⊎_elim

@@ -16,8 +16,7 @@ use Rattle.om_types.specs.Accepted.{IsVariable, IsWhole, IsType}
 use Rattle.om_types.specs.Declarations.{unfolded, abbreviated_at, abbreviated_by, abbreviated}
 use Rattle.om_types.specs.Declarations.{declaration_of}
 use Rattle.om_types.specs.Head.{enough}
-use Rattle.om_model.proofs.Options.{Contains-first, Contains-later, Contains-none}
-use Rattle.om_types.proofs.ListLemmas.{Contains-cases}
+use Rattle.om_model.proofs.Options.{Contains-first, Contains-later, Contains-none, Contains-cases}
 
 module _ (cost : List ℕ → ℕ) (positive : (name : List ℕ) → 0 < cost name) where
   -- the cost of the name that a whole begins with

@@ -43,10 +43,6 @@ pub OpenBefore-rest : (ms : List (Option Measure)) (xs ys : List Token) → Open
 OpenBefore-rest ms [] ys h = rw append-nil h
 OpenBefore-rest ms (x ∷ xs) ys h = rw (← before_push ms x xs) (OpenBefore-rest (ms ++ measure_of x ∷ []) xs ys h.1)
 
--- a value is to come before each of them
-pub open_at : (ms : List (Option Measure)) (xs : List Token) (t : Token) (ys : List Token) → OpenBefore ms (xs ++ t ∷ ys) → 0 < pending (ms ++ map measure_of xs)
-open_at ms xs t ys h = (OpenBefore-rest ms xs (t ∷ ys) h).0
-
 -- the tokens of a tree take one place together
 
 -- the fields among the tokens of trees are the other trees in them

@@ -5,7 +5,7 @@ ghost use Rattle.std.specs.Int.{bytes_high_first};
 ghost use Rattle.om_headers.specs.Spelling.{FitsSmall};
 ghost use Rattle.om_format.specs.Canonical.{header_spelling};
 
-use crate::{BIG_MAGIC, SMALL_MAGIC};
+use crate::magic::{BIG_MAGIC, SMALL_MAGIC};
 use om_model::header::Head;
 
 /// The bytes of a header, and how many they are. The numbers of one that is not big are below 2^32.

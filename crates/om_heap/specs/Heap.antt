@@ -11,8 +11,8 @@ use Rattle.om_model.specs.declared.code.Measure.{Measure}
 use Rattle.om_model.specs.declared.code.Measure.TheVariants as measures
 use Rattle.om_format.specs.Words.{words64}
 use Rattle.om_model.specs.Graph.{IsValue, IsGraph}
-use Rattle.om_heap.specs.declared.Kind.{Kind}
-use Rattle.om_heap.specs.declared.Kind.TheVariants as kinds
+use Rattle.om_heap.specs.declared.kind.Kind.{Kind}
+use Rattle.om_heap.specs.declared.kind.Kind.TheVariants as kinds
 
 -- object number o; past the last one it is one without any parts
 abbrev pub object_at : List Obj → ℕ → Obj

@@ -7,8 +7,8 @@ use Rattle.om_model.specs.declared.value.Obj.{Obj}
 use Rattle.om_model.specs.declared.value.Obj.TheVariants as objects
 use Rattle.om_model.specs.declared.code.Custom.{Custom}
 use Rattle.om_model.specs.declared.code.Custom.TheVariants as customs
-use Rattle.om_heap.specs.declared.Kind.{Kind}
-use Rattle.om_heap.specs.declared.Kind.TheVariants as kinds
+use Rattle.om_heap.specs.declared.kind.Kind.{Kind}
+use Rattle.om_heap.specs.declared.kind.Kind.TheVariants as kinds
 use Rattle.om_heap.specs.Heap.{place, custom_object, IsHeap}
 use Rattle.om_heap.specs.Words.{code_with, byte_in}
 

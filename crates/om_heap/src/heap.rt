@@ -10,7 +10,7 @@ ghost use Rattle.om_model.specs.declared.code.Measure.TheVariants as measures;
 ghost use Rattle.om_heap.specs.Heap.{object_at, fields_of, bytes_of, doubles_of, field_at, byte_at, double_at, set_field, set_byte, set_double, custom_object, kind_of, IsOfKind, IsHeap, Appends, object_words, heap_words, IsBlock, place, word_of, key_of, IsFieldWord, IsReferenceWord, ForNamed};
 ghost use Rattle.om_heap.specs.Words.{header_of, body_of};
 
-use crate::Kind;
+use crate::kind::Kind;
 use crate::objects::{append_copy, append_custom, begin, body_in};
 use crate::strings::{append_string, append_zeros, with_byte};
 use crate::words::{

@@ -6,7 +6,7 @@ ghost use Rattle.om_heap.specs.Heap.{integer_word};
 ghost use Rattle.om_heap.specs.Stored.{integer_from, signed_from, custom_from, kind_from};
 ghost use Rattle.om_heap.specs.Words.{header, signed_word};
 
-use crate::Kind;
+use crate::kind::Kind;
 use crate::strings::string_len;
 use om_model::code::Custom;
 

@@ -12,8 +12,8 @@ use Rattle.om_format.specs.Iso.{AreAlike, AreAlikeObjects}
 use Rattle.om_heap.specs.Heap.{fields_of, bytes_of, doubles_of, kind_of, custom_object, IsOfKind}
 use Rattle.om_model.specs.declared.code.Custom.{Custom}
 use Rattle.om_model.specs.declared.code.Custom.TheVariants as customs
-use Rattle.om_heap.specs.declared.Kind.{Kind}
-use Rattle.om_heap.specs.declared.Kind.TheVariants as kinds
+use Rattle.om_heap.specs.declared.kind.Kind.{Kind}
+use Rattle.om_heap.specs.declared.kind.Kind.TheVariants as kinds
 use Rattle.om_iso.specs.Paired.{IsNew, IsIndex}
 use Rattle.om_iso.specs.Meeting.{AreOneToOne, AreAmong, AreMet, CannotMeet, Meets}
 use Rattle.om_iso.proofs.IndexLemmas.{IsIndex-push}

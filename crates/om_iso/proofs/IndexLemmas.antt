@@ -6,9 +6,10 @@ use Rattle.std.proofs.lemmas.List.{get_or_past, length-set, length_push, map_pus
 use Rattle.std.proofs.lemmas.List.Sums.{sum_by-set}
 use Rattle.std.proofs.lemmas.List.Elements.{Contains-push, Contains-push_cases}
 use Rattle.std.proofs.lemmas.Option.{same_Some, none-some, slice_get-get_or, slice_get-map, option_and_then_some}
+use Rattle.om_model.proofs.Options.{slice_get-Contains, same_or_not}
 use Rattle.om_iso.specs.Paired.{left_of, right_of, IsNew, IsIndex}
 use Rattle.om_iso.specs.Meeting.{AreOneToOne, AreAmong, AreMet, CannotMeet}
-use Rattle.om_canonical.proofs.ListLemmas.{slice_get-Contains, slice_get_left, slice_get_push, slice_get_push_cases, same_or_not}
+use Rattle.om_canonical.proofs.ListLemmas.{slice_get_left, slice_get_push, slice_get_push_cases}
 
 -- ---- what an index says
 

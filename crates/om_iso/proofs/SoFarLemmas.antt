@@ -3,6 +3,7 @@ use Rattle.std.proofs.Common.{ℕ, ◌≡◌, ◌+◌, ◌<◌, ◌≤◌, ◌�
 use Rattle.std.specs.Prelude.{slice_get, Contains}
 use Rattle.std.proofs.lemmas.Bool.{cases_lt}
 use Rattle.std.proofs.lemmas.Option.{same_Some, slice_get-get_or, slice_get_within}
+use Rattle.om_model.proofs.Options.{slice_get-Contains, Contains-none}
 use Rattle.om_model.specs.declared.value.Val.{Val}
 use Rattle.om_model.specs.declared.value.Obj.{Obj}
 use Rattle.om_model.specs.declared.value.Obj.TheVariants as objects
@@ -12,7 +13,7 @@ use Rattle.om_iso.specs.Meeting.{AreOneToOne, AreAmong, StandInFront, AreMet, Ca
 use Rattle.om_iso.specs.SoFar.{IsSoFar}
 use Rattle.om_iso.proofs.IndexLemmas.{pair_contained}
 use Rattle.om_iso.proofs.MeetingLemmas.{among_front}
-use Rattle.om_canonical.proofs.ListLemmas.{slice_get-Contains, slice_get_left, Contains-none}
+use Rattle.om_canonical.proofs.ListLemmas.{slice_get_left}
 use Rattle.om_canonical.proofs.IsoLemmas.{AreAlike-more, AreAlikeObjects-more, objects_of_pair, alike_at}
 
 -- the objects of a pair of a pairing are alike

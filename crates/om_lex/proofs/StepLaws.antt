@@ -20,43 +20,24 @@ part_step (Word form) = steps.Word (found form)
 
 -- ---- separators and comments begin no form
 
-at_space : (bs : List ℕ) → form_at (32 ∷ bs) ≡ None
-unfolding form_at symbol_form pair_at pair_symbol single_symbol
-at_space [] = refl
-at_space (b ∷ bs) = refl
-
-at_tab : (bs : List ℕ) → form_at (9 ∷ bs) ≡ None
-unfolding form_at symbol_form pair_at pair_symbol single_symbol
-at_tab [] = refl
-at_tab (b ∷ bs) = refl
-
-at_line : (bs : List ℕ) → form_at (10 ∷ bs) ≡ None
-unfolding form_at symbol_form pair_at pair_symbol single_symbol
-at_line [] = refl
-at_line (b ∷ bs) = refl
-
-at_feed : (bs : List ℕ) → form_at (12 ∷ bs) ≡ None
-unfolding form_at symbol_form pair_at pair_symbol single_symbol
-at_feed [] = refl
-at_feed (b ∷ bs) = refl
-
-at_return : (bs : List ℕ) → form_at (13 ∷ bs) ≡ None
-unfolding form_at symbol_form pair_at pair_symbol single_symbol
-at_return [] = refl
-at_return (b ∷ bs) = refl
+-- no form begins with a byte that begins none alone and none before another byte
+begins_none : (b : ℕ) → form_at (b ∷ []) ≡ None → ((next : ℕ) (bs : List ℕ) → form_at (b ∷ next ∷ bs) ≡ None) → (bs : List ℕ) → form_at (b ∷ bs) ≡ None
+begins_none b alone before [] = alone
+begins_none b alone before (next ∷ bs) = before next bs
 
 separator_no_form : (b : ℕ) (bs : List ℕ) → is_separator b ≡ true → form_at (b ∷ bs) ≡ None
+unfolding form_at symbol_form pair_at pair_symbol single_symbol
 separator_no_form b bs e =
     elim (or_cases _ (eqb b 13) e) [
-      | inr h ↦ rw (eqb-true b 13 h) (at_return bs)
+      | inr h ↦ rw (eqb-true b 13 h) (begins_none 13 refl (λ next more. refl) bs)
       | inl e ↦
           elim (or_cases _ (eqb b 12) e) [
-            | inr h ↦ rw (eqb-true b 12 h) (at_feed bs)
+            | inr h ↦ rw (eqb-true b 12 h) (begins_none 12 refl (λ next more. refl) bs)
             | inl e ↦
                 elim (or_cases _ (eqb b 10) e) [
-                  | inr h ↦ rw (eqb-true b 10 h) (at_line bs)
+                  | inr h ↦ rw (eqb-true b 10 h) (begins_none 10 refl (λ next more. refl) bs)
                   | inl e ↦
-                      elim (or_cases (eqb b 32) (eqb b 9) e) [ inr h ↦ rw (eqb-true b 9 h) (at_tab bs) | inl h ↦ rw (eqb-true b 32 h) (at_space bs) ]
+                      elim (or_cases (eqb b 32) (eqb b 9) e) [ inr h ↦ rw (eqb-true b 9 h) (begins_none 9 refl (λ next more. refl) bs) | inl h ↦ rw (eqb-true b 32 h) (begins_none 32 refl (λ next more. refl) bs) ]
                 ]
           ]
     ]

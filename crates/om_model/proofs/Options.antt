@@ -1,6 +1,10 @@
--- Options, and what a list contains.
-use Rattle.std.proofs.Common.{◌≡◌, ◌⊎◌, inl, inr, suc, List, [], ◌∷◌, Option, Some, None, refl, arith}
-use Rattle.std.specs.Prelude.{Contains, IsSomeAnd}
+-- Options, what a list contains, and tests.
+use Rattle.std.proofs.Common.{ℕ, zero, suc, ◌≡◌, ◌⊎◌, ⊎_elim, inl, inr, List, [], ◌∷◌, Bool, true, false, Option, Some, None, refl, sym, subst, arith}
+use Rattle.std.specs.Prelude.{slice_get, map, flat_map, Contains, IsSomeAnd, IsTrue, ◌==◌}
+use Rattle.std.proofs.lemmas.Bool.{false≢true}
+use Rattle.std.proofs.lemmas.Bool.Decides.{Decides-eqb}
+use Rattle.std.proofs.lemmas.List.Elements.{Contains-append_left, Contains-append_right}
+use Rattle.std.proofs.lemmas.Option.{slice_get_within, get_or_from_slice_get}
 
 pub none_or_some : {X : Type 0} (o : Option X) → (o ≡ None) ⊎ ((x : X) × (o ≡ Some x))
 none_or_some None = inl refl
@@ -10,6 +14,10 @@ pub IsSomeAnd-some : {A : Type 0} (o : Option A) (P : A → Type 0) → IsSomeAn
 IsSomeAnd-some None P holds = absurd holds
 IsSomeAnd-some (Some x) P holds = (x, refl, holds)
 
+pub IsSomeAnd-at :
+    {A : Type 0} (o : Option A) (x : A) (P : A → Type 0) → o ≡ Some x → P x → IsSomeAnd o P
+IsSomeAnd-at o x P is holds = subst (λ p. IsSomeAnd p P) (sym is) holds
+
 pub Contains-first : {X : Type 0} (x : X) (xs : List X) → Contains (x ∷ xs) x
 Contains-first x xs = (0, omega arith, refl)
 
@@ -18,3 +26,43 @@ Contains-later x xs y (k, below, is) = (suc k, omega arith, is)
 
 pub Contains-none : {X : Type 0} (x : X) → Contains [] x → ⊥
 Contains-none x (k, below, is) = omega arith
+
+pub Contains-cases :
+    {X : Type 0} (x : X) (xs : List X) (y : X) → Contains (x ∷ xs) y → (x ≡ y) ⊎ Contains xs y
+Contains-cases x xs y (zero, below, is) = inl is
+Contains-cases x xs y (suc k, below, is) = inr (k, omega arith, is)
+
+pub slice_get-Contains :
+    {X : Type 0} (xs : List X) (k : ℕ) (x : X) → slice_get xs k ≡ Some x → Contains xs x
+slice_get-Contains xs k x at_k =
+    (k, slice_get_within xs k x at_k, get_or_from_slice_get xs k x x at_k)
+
+pub Contains-map :
+    {X Y : Type 0} (f : X → Y) (xs : List X) (x : X) → Contains xs x → Contains (map f xs) (f x)
+Contains-map f [] x among = absurd (Contains-none x among)
+Contains-map f (z ∷ xs) x among = ⊎_elim
+    (λ here. subst (λ y. Contains (map f (z ∷ xs)) (f y)) here (Contains-first (f z) (map f xs)))
+    (λ later. Contains-later (f z) (map f xs) (f x) (Contains-map f xs x later))
+    (Contains-cases z xs x among)
+
+pub Contains-flat_map :
+    {X Y : Type 0} (f : X → List Y) (xs : List X) (x : X) (y : Y) → Contains xs x → Contains (f x) y
+    → Contains (flat_map f xs) y
+Contains-flat_map f [] x y among has = absurd (Contains-none x among)
+Contains-flat_map f (z ∷ xs) x y among has = ⊎_elim
+    (λ here. Contains-append_left (f z) (flat_map f xs) y (subst (λ w. Contains (f w) y) (sym here)
+    has))
+    (λ later. Contains-append_right (f z) (flat_map f xs) y (Contains-flat_map f xs x y later has))
+    (Contains-cases z xs x among)
+
+-- ---- tests
+
+pub true_or_not : (test : Bool) → IsTrue test ⊎ (¬ IsTrue test)
+true_or_not true = inl refl
+true_or_not false = inr false≢true
+
+pub same_or_not : (m n : ℕ) → (m ≡ n) ⊎ (¬ (m ≡ n))
+same_or_not m n = by_test (true_or_not (m == n)) where
+  by_test : IsTrue (m == n) ⊎ (¬ IsTrue (m == n)) → (m ≡ n) ⊎ (¬ (m ≡ n))
+  by_test (inl yes') = inl ((Decides-eqb m n).0 yes')
+  by_test (inr no') = inr (λ same. no' ((Decides-eqb m n).1 same))

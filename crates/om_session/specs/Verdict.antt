@@ -9,8 +9,8 @@ use Rattle.om_types.specs.Fault.{IsFault}
 use Rattle.om_types.specs.ListShapes.{list_shapes, list_type_text}
 use Rattle.om_types.specs.VerdictText.{IsFaultText}
 use Rattle.om_model.specs.declared.code.Custom.TheVariants as customs
-use Rattle.om_heap.specs.declared.Kind.{Kind}
-use Rattle.om_heap.specs.declared.Kind.TheVariants as kinds
+use Rattle.om_heap.specs.declared.kind.Kind.{Kind}
+use Rattle.om_heap.specs.declared.kind.Kind.TheVariants as kinds
 use Rattle.om_session.specs.declared.check.Verdict.{Verdict}
 use Rattle.om_session.specs.declared.check.Verdict.TheVariants.{Yes, No}
 

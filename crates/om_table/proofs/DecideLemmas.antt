@@ -19,9 +19,8 @@ use Rattle.om_types.specs.Fitting.{or_none, fields_of, is_mutable}
 use Rattle.om_types.specs.Shape.{shape}
 use Rattle.om_types.specs.Table.{Table, table_shapes, node_or_none, IsTableOf}
 use Rattle.om_types.specs.Typing.{field_at, IsListed, IsHeld, IsTyping, IsTyped, HasType}
-use Rattle.om_model.proofs.Options.{Contains-first, Contains-later, Contains-none}
+use Rattle.om_model.proofs.Options.{Contains-first, Contains-later, Contains-none, same_or_not, true_or_not, slice_get-Contains}
 use Rattle.om_types.proofs.FaultLemmas.{fault_excludes_type}
-use Rattle.om_types.proofs.ListLemmas.{same_or_not, true_or_not, slice_get-Contains}
 use Rattle.om_typing.specs.Decidable.{AreDecidable, ReachesFew}
 use Rattle.om_typing.specs.Complete.{HasTypeOrFault}
 use Rattle.om_typing.proofs.Decision.{faults_are_complete}

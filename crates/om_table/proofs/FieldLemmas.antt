@@ -22,8 +22,7 @@ use Rattle.om_types.specs.Fitting.{fits_int, fits_atom, is_double, is_bytes, has
 use Rattle.om_types.specs.Fitting.{is_int64, is_native}
 use Rattle.om_types.specs.Typing.{values_of}
 use Rattle.om_types.specs.Fault.{field_of}
-use Rattle.om_model.proofs.Options.{Contains-none}
-use Rattle.om_types.proofs.ListLemmas.{Contains-cases}
+use Rattle.om_model.proofs.Options.{Contains-none, Contains-cases}
 
 -- ---- what is there
 

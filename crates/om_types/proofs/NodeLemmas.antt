@@ -5,11 +5,11 @@ use Rattle.std.proofs.Common.{refl, sym, ap, subst, arith}
 use Rattle.std.specs.Prelude.{fold, slice_get}
 use Rattle.std.proofs.lemmas.List.{append_assoc}
 use Rattle.std.proofs.lemmas.Option.{none-some, same_Some, slice_get_within}
+use Rattle.om_model.proofs.Options.{same_or_not}
 use Rattle.om_types.specs.Ty.{Ty, part, tag, tag_of, including}
 use Rattle.om_types.specs.declared.ty.Node.{Node}
 use Rattle.om_types.specs.declared.ty.Node.TheVariants as nodes
 use Rattle.om_types.specs.Nodes.{type_at, type_of_node, types_of, type_of, IsBelow, AreOrdered}
-use Rattle.om_types.proofs.ListLemmas.{same_or_not}
 
 abbrev grown : List Ty → List Node → List Ty
 grown types all = fold (λ ts node. ts ++ type_of_node ts node ∷ []) types all

@@ -22,8 +22,7 @@ use Rattle.om_types.specs.Scope.{Rule, unknown_name, cyclic, irregular, not_vari
 use Rattle.om_types.specs.Scope.{hash_clash}
 use Rattle.om_types.specs.Scope.{float_in_group, IsStep, IsThrough, HasTags, BreaksInFile}
 use Rattle.om_types.specs.Scope.{BreaksInType}
-use Rattle.om_model.proofs.Options.{Contains-first, Contains-later, Contains-none}
-use Rattle.om_types.proofs.ListLemmas.{Contains-cases}
+use Rattle.om_model.proofs.Options.{Contains-first, Contains-later, Contains-none, Contains-cases}
 
 abbrev declares : List ℕ → List (List ℕ) → Body → ℕ → Decl
 declares name parameters body group =

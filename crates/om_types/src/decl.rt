@@ -54,7 +54,7 @@ pub enum Body {
     Variant(List<Constructor>),
 }
 
-/// A declaration. Groups are numbered from 0, in the order of the file.
+/// A declaration. The group is how many declarations come before those that are declared together with it.
 #[derive(Drop)]
 pub struct Decl {
     pub name: List<u8>,

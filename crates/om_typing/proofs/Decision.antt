@@ -3,7 +3,7 @@
 use Rattle.std.proofs.Common.{ℕ, zero, suc, ◌≡◌, ◌∙◌, ◌⊎◌, inl, inr, ◌++◌, List, [], ◌∷◌, length, Some, refl, sym, ap, subst, arith}
 use Rattle.std.specs.Prelude.{option_map, option_and_then, Contains, IsSomeAnd}
 use Rattle.std.proofs.lemmas.Option.{same_Some}
-use Rattle.om_model.proofs.Options.{Contains-first, Contains-later, Contains-none}
+use Rattle.om_model.proofs.Options.{Contains-first, Contains-later, Contains-none, same_or_not, IsSomeAnd-at, Contains-cases}
 use Rattle.om_model.specs.declared.value.Val.{Val}
 use Rattle.om_model.specs.declared.value.Val.TheVariants as vals
 use Rattle.om_model.specs.declared.value.Obj.{Obj}
@@ -15,7 +15,6 @@ use Rattle.om_types.specs.Fault.{type_of_field, step, value_at, IsBefore}
 use Rattle.om_types.proofs.FaultLemmas.{named_is_needed}
 use Rattle.om_typing.specs.Decidable.{AreDecidable, IsAmong, ReachesFew}
 use Rattle.om_typing.specs.Complete.{HasFault, HasTypeOrFault, FaultsAreComplete}
-use Rattle.om_types.proofs.ListLemmas.{same_or_not, IsSomeAnd-at, Contains-cases}
 use Rattle.om_typing.proofs.Choices.{search_all, IsWithout, without}
 use Rattle.om_typing.proofs.NeedLemmas.{needed_is_named}
 use Rattle.om_typing.proofs.PathLemmas.{OneOfThree, value_at-push, paths_compare}

@@ -4,7 +4,7 @@ use Rattle.std.specs.Prelude.{slice_get, option_and_then, Contains, ◌==◌, �
 use Rattle.std.proofs.lemmas.Bool.{false≢true}
 use Rattle.std.proofs.lemmas.Bool.Decides.{Decides-and, Decides-eqb}
 use Rattle.std.proofs.lemmas.Option.{slice_get-get_or}
-use Rattle.om_model.proofs.Options.{Contains-first, Contains-later, Contains-none}
+use Rattle.om_model.proofs.Options.{Contains-first, Contains-later, Contains-none, true_or_not, same_or_not, Contains-cases}
 use Rattle.om_model.specs.declared.value.Val.{Val}
 use Rattle.om_model.specs.declared.value.Val.TheVariants as vals
 use Rattle.om_model.specs.declared.value.Obj.{Obj}
@@ -18,7 +18,6 @@ use Rattle.om_types.specs.ListShapes.{is_pair, is_cons, is_list, element, fits, 
 use Rattle.om_types.proofs.ListShapeLemmas.{list_shapes_are_lawful}
 use Rattle.om_typing.specs.Decidable.{AreDecidable, IsAmong}
 use Rattle.om_typing.specs.ListLaws.{ListTypesReachFew, ListTypeOrFault, ListLines}
-use Rattle.om_types.proofs.ListLemmas.{true_or_not, same_or_not, Contains-cases}
 use Rattle.om_typing.proofs.Decision.{faults_are_complete}
 use Rattle.om_typing.proofs.VerdictLines.{line_of}
 

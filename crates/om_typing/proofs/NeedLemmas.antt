@@ -3,9 +3,8 @@ use Rattle.std.proofs.Common.{ℕ, ◌≡◌, ◌∙◌, ◌⊎◌, inl, inr, Li
 use Rattle.std.specs.Prelude.{option_map, find, Contains, ◌==◌}
 use Rattle.std.proofs.lemmas.Bool.{false≢true}
 use Rattle.std.proofs.lemmas.Bool.Decides.{Decides-eqb}
-use Rattle.om_model.proofs.Options.{Contains-none}
+use Rattle.om_model.proofs.Options.{Contains-none, Contains-cases}
 use Rattle.om_types.specs.Fault.{type_of_field}
-use Rattle.om_types.proofs.ListLemmas.{Contains-cases}
 
 named_by_test : {T : Type 0} (test : Bool) (first : ℕ × T) (needs : List (ℕ × T)) (i : ℕ) → (test ≡ false → (u : T) × (type_of_field needs i ≡ Some u)) → (u : T) × (option_map (λ (need : ℕ × T). need.1) (cond test (Some first) (find (λ need. need.0 == i) needs)) ≡ Some u)
 named_by_test true first needs i later = (first.1, refl)

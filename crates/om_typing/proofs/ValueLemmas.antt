@@ -2,11 +2,10 @@
 use Rattle.std.proofs.Common.{ℕ, ◌≡◌, List, ◌∷◌, Some}
 use Rattle.std.specs.Prelude.{slice_get, map, flat_map, Contains}
 use Rattle.std.proofs.lemmas.Option.{option_and_then_some}
-use Rattle.om_model.proofs.Options.{Contains-later}
+use Rattle.om_model.proofs.Options.{Contains-later, slice_get-Contains, Contains-map, Contains-flat_map}
 use Rattle.om_model.specs.declared.value.Val.{Val}
 use Rattle.om_model.specs.declared.value.Obj.{Obj}
 use Rattle.om_types.specs.Typing.{values_of, field_at}
-use Rattle.om_types.proofs.ListLemmas.{slice_get-Contains, Contains-mapped, Contains-flat_map}
 
 -- a root and all fields of blocks
 abbrev pub all_values : List Obj → Val → List Val
@@ -25,4 +24,4 @@ slots_of values types = flat_map (λ v. map (λ t. (v, t)) types) values
 pub slot_is_there : {T : Type 0} (values : List Val) (types : List T) (v : Val) (t : T) → Contains values v → Contains types t → Contains (slots_of values types) (v, t)
 slot_is_there {T} values types v t value type =
     let pair = λ (w : Val) (u : T). let p : Val × T = (w, u) in p in
-    Contains-flat_map (λ w. map (pair w) types) values v (v, t) value (Contains-mapped (pair v) types t type)
+    Contains-flat_map (λ w. map (pair w) types) values v (v, t) value (Contains-map (pair v) types t type)

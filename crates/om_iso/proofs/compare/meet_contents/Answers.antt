@@ -1,7 +1,7 @@
 use Rattle.std.proofs.Common.{◌≡◌, ◌≢◌, refl, subst}
 use Rattle.std.specs.Prelude.{MatchBool}
 use Rattle.om_heap.specs.Heap.{object_at}
-use Rattle.om_heap.specs.declared.Kind.TheVariants as kinds
+use Rattle.om_heap.specs.declared.kind.Kind.TheVariants as kinds
 use Rattle.om_iso.proofs.FieldLemmas.{other_kinds, blocks_meet, strings_meet, doubles_meet, arrays_meet, customs_meet, both_of_kind}
 use Rattle.om_iso.proofs.compare.meet_contents.Goals as goal
 

@@ -1,5 +1,5 @@
 use Rattle.om_table.proofs.DecideLemmas.{root_is_first, has_forth, has_back}
-use Rattle.om_table.proofs.tables_decide.Goals as goal
+use Rattle.om_table.proofs.laws.tables_decide.Goals as goal
 
 pub returns-clause-root : goal.returns-clause-root
 returns-clause-root c = root_is_first

@@ -3,7 +3,7 @@ use Rattle.om_types.specs.ListShapes.{list_shapes}
 use Rattle.om_types.proofs.FaultLemmas.{fault_excludes_type}
 use Rattle.om_types.proofs.ListShapeLemmas.{list_shapes_are_lawful}
 use Rattle.om_typing.proofs.ListDecision.{list_type_or_fault}
-use Rattle.om_typing.proofs.type_or_fault.Goals as goal
+use Rattle.om_typing.proofs.laws.type_or_fault.Goals as goal
 
 pub returns-clause-one : goal.returns-clause-one
 returns-clause-one c = list_type_or_fault

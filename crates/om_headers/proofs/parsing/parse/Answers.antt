@@ -2,7 +2,7 @@ use Rattle.std.proofs.Common.{take, ◌<◌, arith}
 use Rattle.std.proofs.lemmas.List.{length-take}
 use Rattle.std.proofs.lemmas.List.Elements.{All-take}
 use Rattle.om_model.proofs.Numbers.{are_bytes, number_fits}
-use Rattle.om_headers.proofs.parse.Goals as goal
+use Rattle.om_headers.proofs.parsing.parse.Goals as goal
 
 -- four bytes spell a number of 32 bits
 pub overflow_cast-big_endian : goal.overflow_cast-big_endian

@@ -5,7 +5,7 @@ use Rattle.om_equal.proofs.LawfulLemmas.{reached_lawful}
 use Rattle.om_equal.proofs.ReachedLemmas.{root_listed}
 use Rattle.om_equal.proofs.SoundLemmas.{known_by_hash}
 use Rattle.om_table.proofs.DecideLemmas.{type_or_fault_lem}
-use Rattle.om_table.proofs.type_or_fault.Goals as goal
+use Rattle.om_table.proofs.laws.type_or_fault.Goals as goal
 
 pub returns-clause-one : goal.returns-clause-one
 returns-clause-one c decls t types table all graph v i u is =

@@ -1,0 +1,112 @@
+//! The kind of the token that a code begins.
+
+ghost use Rattle.std.specs.Prelude.{◌≡◌, ◌<◌, IfOk};
+ghost use Rattle.om_format.specs.Code.{kind_of, IsKind};
+
+use om_model::code::{CodeFault, CodeKind};
+
+/// The kind of the token that the code begins, or why it begins none (`intext.h`).
+#[tactic(auto, unfolding(om_format::specs::Code::kind_of))]
+pub fn code_kind(code: u8) -> Result<CodeKind, CodeFault>
+    ensures kind { result ≡ kind_of code }
+    // The numbers that it carries have the bits that the code leaves them, and a width is from one byte to eight.
+    ensures known { IfOk result IsKind }
+{
+    match code {
+        0x80.. => Ok(CodeKind::SmallBlock(code % 16, code / 16 % 8)),
+        0x40.. => Ok(CodeKind::SmallInt(code % 64)),
+        0x20.. => Ok(CodeKind::SmallString(code % 32)),
+        _ => large_kind(code),
+    }
+}
+
+// A code that carries no number.
+#[tactic(auto, unfolding(om_format::specs::Code::kind_of))]
+fn large_kind(code: u8) -> Result<CodeKind, CodeFault>
+    requires { code < 32 }
+    ensures { result ≡ kind_of code }
+{
+    match code {
+        0x00 => Ok(CodeKind::Int(1)),
+        0x01 => Ok(CodeKind::Int(2)),
+        0x02 => Ok(CodeKind::Int(4)),
+        0x03 => Ok(CodeKind::Int(8)),
+        0x04 => Ok(CodeKind::Shared(1)),
+        0x05 => Ok(CodeKind::Shared(2)),
+        0x06 => Ok(CodeKind::Shared(4)),
+        0x07 => Ok(CodeKind::Doubles(4, true)),
+        0x08 => Ok(CodeKind::Block(4)),
+        0x09 => Ok(CodeKind::Str(1)),
+        0x0a => Ok(CodeKind::Str(4)),
+        0x0b => Ok(CodeKind::Double(false)),
+        0x0c => Ok(CodeKind::Double(true)),
+        0x0d => Ok(CodeKind::Doubles(1, false)),
+        0x0e => Ok(CodeKind::Doubles(1, true)),
+        0x0f => Ok(CodeKind::Doubles(4, false)),
+        0x10 | 0x11 => Err(CodeFault::PointerCode),
+        0x12 => Err(CodeFault::OldCustom),
+        0x13 => Ok(CodeKind::Block(8)),
+        0x14 => Ok(CodeKind::Shared(8)),
+        0x15 => Ok(CodeKind::Str(8)),
+        0x16 => Ok(CodeKind::Doubles(8, false)),
+        0x17 => Ok(CodeKind::Doubles(8, true)),
+        0x18 => Err(CodeFault::CustomLen),
+        0x19 => Ok(CodeKind::Custom),
+        0x1a.. => Err(CodeFault::BadCode),
+    }
+}
+
+#[cfg(test)]
+mod tests {
+    use super::*;
+
+    // The codes as the runtime's header names them.
+    #[test]
+    fn knows_each_code(rt: HostRuntime) {
+        let kinds = [
+            (0x80, CodeKind::SmallBlock(0, 0)),
+            (0xa1, CodeKind::SmallBlock(1, 2)),
+            (0xff, CodeKind::SmallBlock(15, 7)),
+            (0x40, CodeKind::SmallInt(0)),
+            (0x7f, CodeKind::SmallInt(63)),
+            (0x20, CodeKind::SmallString(0)),
+            (0x3f, CodeKind::SmallString(31)),
+            (0x00, CodeKind::Int(1)),
+            (0x01, CodeKind::Int(2)),
+            (0x02, CodeKind::Int(4)),
+            (0x03, CodeKind::Int(8)),
+            (0x04, CodeKind::Shared(1)),
+            (0x05, CodeKind::Shared(2)),
+            (0x06, CodeKind::Shared(4)),
+            (0x14, CodeKind::Shared(8)),
+            (0x08, CodeKind::Block(4)),
+            (0x13, CodeKind::Block(8)),
+            (0x09, CodeKind::Str(1)),
+            (0x0a, CodeKind::Str(4)),
+            (0x15, CodeKind::Str(8)),
+            (0x0b, CodeKind::Double(false)),
+            (0x0c, CodeKind::Double(true)),
+            (0x0d, CodeKind::Doubles(1, false)),
+            (0x0f, CodeKind::Doubles(4, false)),
+            (0x16, CodeKind::Doubles(8, false)),
+            (0x0e, CodeKind::Doubles(1, true)),
+            (0x07, CodeKind::Doubles(4, true)),
+            (0x17, CodeKind::Doubles(8, true)),
+            (0x19, CodeKind::Custom),
+        ];
+        for (code, kind) in kinds {
+            assert_eq!(rt; code_kind(code), Ok(kind), "at {code}");
+        }
+        let faults = [
+            (0x10, CodeFault::PointerCode),
+            (0x11, CodeFault::PointerCode),
+            (0x12, CodeFault::OldCustom),
+            (0x18, CodeFault::CustomLen),
+            (0x1a, CodeFault::BadCode),
+            (0x1f, CodeFault::BadCode),
+        ];
+        for (code, fault) in faults {
+            assert_eq!(rt; code_kind(code), Err(fault), "at {code}");
+        }
+    }
+}

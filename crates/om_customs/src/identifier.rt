@@ -1,0 +1,34 @@
+//! The identifiers of customs.
+
+ghost use Rattle.std.specs.Prelude.{◌≡◌};
+ghost use Rattle.om_format.specs.Code.{custom_of};
+
+use om_model::code::CustomKind;
+
+/// The custom of this identifier, where it is one that is read (`ints.c`).
+#[tactic(auto, unfolding(om_format::specs::Code::custom_of))]
+pub fn ident(bytes: [u8; 3]) -> Option<CustomKind>
+    ensures { result ≡ custom_of bytes }
+{
+    match bytes {
+        [b'_', b'i', 0] => Some(CustomKind::Int32),
+        [b'_', b'j', 0] => Some(CustomKind::Int64),
+        [b'_', b'n', 0] => Some(CustomKind::Native),
+        _ => None,
+    }
+}
+
+#[cfg(test)]
+mod tests {
+    use super::*;
+
+    #[test]
+    fn knows_three_identifiers(rt: HostRuntime) {
+        assert_eq!(rt; ident([0x5f, 0x69, 0]), Some(CustomKind::Int32));
+        assert_eq!(rt; ident([0x5f, 0x6a, 0]), Some(CustomKind::Int64));
+        assert_eq!(rt; ident([0x5f, 0x6e, 0]), Some(CustomKind::Native));
+        for other in [[0x5f, 0x78, 0], [0x5f, 0x6a, 1], [0x5e, 0x6a, 0]] {
+            assert_eq!(rt; ident(other), None, "of {other:?}");
+        }
+    }
+}
