@@ -1,44 +1,111 @@
-(* `write FOLDER` writes the values that are read; `read FILE` reads all of a file, for the comparison with omarshal. *)
+(* The values that are read, and OCaml's own reader beside omarshal.
+
+   `write FILE SHAPE COUNT` writes a value of a shape, or many small ones; `read FILE` reads all values of a file. *)
+
+module Strings = Map.Make (String)
+
+type mixed = Leaf | Node of mixed * string * float * mixed
+
+type json =
+  | Null
+  | Bool of bool
+  | Number of float
+  | Text of string
+  | Items of json list
+  | Fields of (string * json) list
 
 type nested = Nothing | Again of nested
+type node = { number : int; left : node option; right : node option }
 
-let write name value =
-  let out = open_out_bin name in
-  Marshal.to_channel out value [];
+(* The state of a small generator, so that each run of this program writes the same bytes. *)
+let state = ref 1
+
+let draw bound =
+  state := ((!state * 1103515245) + 12345) land 0x7FFFFFFF;
+  !state / 256 mod bound
+
+let word () = String.init (1 + draw 12) (fun _ -> Char.chr (97 + draw 26))
+let list count = List.init count Fun.id
+
+let string_map count =
+  let rec fill map k =
+    if k = count then map
+    else fill (Strings.add (Printf.sprintf "key %d" (k * 7919)) k map) (k + 1)
+  in
+  fill Strings.empty 0
+
+let rec mixed count =
+  if count = 0 then Leaf
+  else
+    let left = (count - 1) / 2 in
+    let before = mixed left in
+    let name = word () in
+    let weight = float_of_int (draw 1000) in
+    Node (before, name, weight, mixed (count - 1 - left))
+
+let floats count = List.init count float_of_int
+
+(* Records with a name, a list of numbers, a flag and nothing. *)
+let json count =
+  let record k =
+    let numbers = List.init (k mod 5) (fun i -> Number (float_of_int i)) in
+    Fields
+      [
+        ("name", Text (word ()));
+        ("numbers", Items numbers);
+        ("flag", Bool (k land 1 = 0));
+        ("next", Null);
+      ]
+  in
+  Items (List.init count record)
+
+let nested depth =
+  let rec around inner depth =
+    if depth = 0 then inner else around (Again inner) (depth - 1)
+  in
+  around Nothing depth
+
+(* Each node names two of those before it. *)
+let graph count =
+  let nodes = Array.make count { number = 0; left = None; right = None } in
+  for k = 1 to count - 1 do
+    let before () = Some nodes.(draw k) in
+    nodes.(k) <- { number = k; left = before (); right = before () }
+  done;
+  nodes
+
+let write file shape count =
+  let out = open_out_bin file in
+  let put value = Marshal.to_channel out value [] in
+  (match shape with
+  | "list" -> put (list count)
+  | "string_map" -> put (string_map count)
+  | "mixed" -> put (mixed count)
+  | "floats" -> put (floats count)
+  | "json" -> put (json count)
+  | "nested" -> put (nested count)
+  | "graph" -> put (graph count)
+  | "values" ->
+      for k = 1 to count do
+        put (k, string_of_int k)
+      done
+  | _ -> exit 2);
   close_out out
 
-let rec nested depth inner =
-  if depth = 0 then inner else nested (depth - 1) (Again inner)
+let read file =
+  let input = open_in_bin file in
+  let rec next () =
+    match (input_value input : Obj.t) with
+    | value ->
+        print_endline (if Obj.is_int value then "an integer" else "a block");
+        next ()
+    | exception End_of_file -> ()
+  in
+  next ()
 
 let () =
   match Sys.argv with
-  | [| _; "write"; folder |] ->
-      List.iter
-        (fun count ->
-          write
-            (Printf.sprintf "%s/list_%d" folder count)
-            (List.init count (fun k -> k)))
-        [ 5_000; 10_000; 20_000; 40_000; 100_000; 1_000_000; 5_000_000 ];
-      List.iter
-        (fun depth ->
-          write
-            (Printf.sprintf "%s/nested_%d" folder depth)
-            (nested depth Nothing))
-        [ 1_000_000; 5_000_000 ];
-      List.iter
-        (fun count ->
-          let out = open_out_bin (Printf.sprintf "%s/values_%d" folder count) in
-          for k = 1 to count do
-            Marshal.to_channel out k []
-          done;
-          close_out out)
-        [ 100_000; 1_000_000 ]
-  | [| _; "read"; name |] -> (
-      let input = open_in_bin name in
-      try
-        while true do
-          let value : Obj.t = input_value input in
-          print_endline (if Obj.is_int value then "an integer" else "a block")
-        done
-      with End_of_file -> ())
+  | [| _; "write"; file; shape; count |] ->
+      write file shape (int_of_string count)
+  | [| _; "read"; file |] -> read file
   | _ -> exit 2

@@ -29,6 +29,5 @@ else
     ocamlc -o reader benchmark.ml
     kind="bytecode (ocamlc)"
 fi
-./reader write "$work"
 echo "OCaml $(ocaml -version | sed 's/.* //'), $kind;$(uptime | sed 's/.*load/ load/')"
 python3 "$here/benchmark.py" "$work"
