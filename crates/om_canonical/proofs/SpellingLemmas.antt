@@ -1,5 +1,5 @@
 -- The spelling of a token that the runtime writes spells it.
-use Rattle.std.proofs.Common.{ℕ, zero, suc, ◌≡◌, ◌+◌, ◌-◌, ◌*◌, ◌/◌, ◌%◌, ◌^◌, ◌<◌, ◌≤◌, ◌∙◌, ◌&&◌, true, cond, ltb, ltb-true, List, [], ◌∷◌, ◌++◌, length, take, drop, Ok, inl, inr, refl, sym, ap, subst, arith, pos, negsuc, ℤ, length-append}
+use Rattle.std.proofs.Common.{false, ℕ, zero, suc, ◌≡◌, ◌+◌, ◌-◌, ◌*◌, ◌/◌, ◌%◌, ◌^◌, ◌<◌, ◌≤◌, ◌∙◌, ◌&&◌, true, cond, ltb, ltb-true, List, [], ◌∷◌, ◌++◌, length, take, drop, Ok, inl, inr, refl, sym, ap, subst, arith, pos, negsuc, ℤ, length-append}
 use Rattle.std.specs.Prelude.{flat_map}
 use Rattle.std.specs.Int.{bytes_high_first}
 use Rattle.std.proofs.lemmas.Bool.{cond_both, and_parts}
@@ -193,13 +193,13 @@ doubles_spells all h few =
 int32_spells : (z : ℤ) → IsSigned 31 z → Spells (leaf (objects.I32 z)) (custom_spelling (customs.I32 z))
 unfolding custom_spelling kind_of
 int32_spells z h =
-    by_kind (leaf (objects.I32 z)) 0x19 kinds.Custom (95 ∷ 105 ∷ 0 ∷ signed_bytes 4 z) refl h
+    by_kind (leaf (objects.I32 z)) 0x19 (kinds.Custom false) (95 ∷ 105 ∷ 0 ∷ signed_bytes 4 z) refl h
     (inl (signed_bytes 4 z, refl, length-signed_bytes 4 z, ap (λ n. leaf (objects.I32 n)) (sym (signed-signed_bytes 3 z h))))
 
 int64_spells : (z : ℤ) → IsSigned 63 z → Spells (leaf (objects.I64 z)) (custom_spelling (customs.I64 z))
 unfolding custom_spelling kind_of
 int64_spells z h =
-    by_kind (leaf (objects.I64 z)) 0x19 kinds.Custom (95 ∷ 106 ∷ 0 ∷ signed_bytes 8 z) refl h
+    by_kind (leaf (objects.I64 z)) 0x19 (kinds.Custom false) (95 ∷ 106 ∷ 0 ∷ signed_bytes 8 z) refl h
     (inr (inl (signed_bytes 8 z, refl, length-signed_bytes 8 z, ap (λ n. leaf (objects.I64 n)) (sym (signed-signed_bytes 7 z h)))))
 
 native_spells : (z : ℤ) → IsSigned 63 z → Spells (leaf (objects.Native z)) (custom_spelling (customs.Native z))
@@ -207,9 +207,9 @@ unfolding custom_spelling kind_of
 native_spells z h =
     let P : List ℕ → Type 0 = λ number. Spells (leaf (objects.Native z)) (0x19 ∷ 95 ∷ 110 ∷ 0 ∷ number) in
     cond_both (is_signed 31 z) (1 ∷ signed_bytes 4 z) (2 ∷ signed_bytes 8 z) P
-    (λ e. by_kind (leaf (objects.Native z)) 0x19 kinds.Custom (95 ∷ 110 ∷ 0 ∷ 1 ∷ signed_bytes 4 z) refl h
+    (λ e. by_kind (leaf (objects.Native z)) 0x19 (kinds.Custom false) (95 ∷ 110 ∷ 0 ∷ 1 ∷ signed_bytes 4 z) refl h
     (inr (inr (inl (signed_bytes 4 z, refl, length-signed_bytes 4 z, ap (λ n. leaf (objects.Native n)) (sym (signed-signed_bytes 3 z (is_signed-true 31 z e))))))))
-    (λ _. by_kind (leaf (objects.Native z)) 0x19 kinds.Custom (95 ∷ 110 ∷ 0 ∷ 2 ∷ signed_bytes 8 z) refl h
+    (λ _. by_kind (leaf (objects.Native z)) 0x19 (kinds.Custom false) (95 ∷ 110 ∷ 0 ∷ 2 ∷ signed_bytes 8 z) refl h
     (inr (inr (inr (signed_bytes 8 z, refl, length-signed_bytes 8 z, ap (λ n. leaf (objects.Native n)) (sym (signed-signed_bytes 7 z h)))))))
 
 -- ---- each token

@@ -44,14 +44,14 @@ fn large_kind(code: u8) -> Result<CodeKind, CodeFault>
         0x0e => Ok(CodeKind::Doubles(1, true)),
         0x0f => Ok(CodeKind::Doubles(4, false)),
         0x10 | 0x11 => Err(CodeFault::PointerCode),
-        0x12 => Err(CodeFault::OldCustom),
+        0x12 => Ok(CodeKind::Custom(true)),
         0x13 => Ok(CodeKind::Block(8)),
         0x14 => Ok(CodeKind::Shared(8)),
         0x15 => Ok(CodeKind::Str(8)),
         0x16 => Ok(CodeKind::Doubles(8, false)),
         0x17 => Ok(CodeKind::Doubles(8, true)),
         0x18 => Err(CodeFault::CustomLen),
-        0x19 => Ok(CodeKind::Custom),
+        0x19 => Ok(CodeKind::Custom(false)),
         0x1a.. => Err(CodeFault::BadCode),
     }
 }
@@ -92,7 +92,8 @@ mod tests {
             (0x0e, CodeKind::Doubles(1, true)),
             (0x07, CodeKind::Doubles(4, true)),
             (0x17, CodeKind::Doubles(8, true)),
-            (0x19, CodeKind::Custom),
+            (0x12, CodeKind::Custom(true)),
+            (0x19, CodeKind::Custom(false)),
         ];
         for (code, kind) in kinds {
             assert_eq!(rt; code_kind(code), Ok(kind), "at {code}");
@@ -100,7 +101,6 @@ mod tests {
         let faults = [
             (0x10, CodeFault::PointerCode),
             (0x11, CodeFault::PointerCode),
-            (0x12, CodeFault::OldCustom),
             (0x18, CodeFault::CustomLen),
             (0x1a, CodeFault::BadCode),
             (0x1f, CodeFault::BadCode),

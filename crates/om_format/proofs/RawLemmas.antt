@@ -26,7 +26,7 @@ fields_fit (kinds.Block width) = omega arith
 fields_fit (kinds.Str width) = omega arith
 fields_fit (kinds.Double little) = omega arith
 fields_fit (kinds.Doubles width little) = omega arith
-fields_fit kinds.Custom = omega arith
+fields_fit (kinds.Custom old) = omega arith
 
 pub kind_fits : (o : Option CustomKind) (b : ℕ) → kind_bytes o ≤ custom_bytes o b
 kind_fits None b = omega arith
@@ -45,7 +45,7 @@ sizing_fits (kinds.Block width) rest = omega arith
 sizing_fits (kinds.Str width) rest = omega arith
 sizing_fits (kinds.Double little) rest = omega arith
 sizing_fits (kinds.Doubles width little) rest = omega arith
-sizing_fits kinds.Custom rest = omega (arith, kind_fits (custom_of (take 3 rest)) (slice_index rest 3))
+sizing_fits (kinds.Custom old) rest = omega (arith, kind_fits (custom_of (take 3 rest)) (slice_index rest 3))
 
 -- the fields come first among them
 pub fields_first : (kind : CodeKind) (rest : List ℕ) → field_bytes kind ≤ sizing_bytes kind rest
@@ -58,7 +58,7 @@ fields_first (kinds.Block width) rest = omega arith
 fields_first (kinds.Str width) rest = omega arith
 fields_first (kinds.Double little) rest = omega arith
 fields_first (kinds.Doubles width little) rest = omega arith
-fields_first kinds.Custom rest = omega arith
+fields_first (kinds.Custom old) rest = omega arith
 
 -- ---- the first m bytes after the code
 
@@ -76,7 +76,7 @@ sizing_bytes-take (kinds.Block width) m rest l = refl
 sizing_bytes-take (kinds.Str width) m rest l = refl
 sizing_bytes-take (kinds.Double little) m rest l = refl
 sizing_bytes-take (kinds.Doubles width little) m rest l = refl
-sizing_bytes-take kinds.Custom m rest l = ap (λ o. 3 + kind_bytes o) (custom_take m rest l)
+sizing_bytes-take (kinds.Custom old) m rest l = ap (λ o. 3 + kind_bytes o) (custom_take m rest l)
 
 -- and which object there is
 pub measure_after-take : (kind : CodeKind) (m : ℕ) (rest : List ℕ) → field_bytes kind ≤ m → measure_after kind (take m rest) ≡ measure_after kind rest
@@ -89,7 +89,7 @@ measure_after-take (kinds.Block width) m rest l = rw take-take
 measure_after-take (kinds.Str width) m rest l = rw take-take
 measure_after-take (kinds.Double little) m rest l = refl
 measure_after-take (kinds.Doubles width little) m rest l = rw take-take
-measure_after-take kinds.Custom m rest l = ap custom_measure (custom_take m rest l)
+measure_after-take (kinds.Custom old) m rest l = ap custom_measure (custom_take m rest l)
 
 -- what a custom's data takes turns on the kind byte where that belongs to the sizing bytes
 custom_same : (o : Option CustomKind) (a b m : ℕ) → 3 + kind_bytes o ≤ m → (3 < m → a ≡ b) → custom_bytes o a ≡ custom_bytes o b
@@ -109,7 +109,7 @@ variable_bytes-take (kinds.Block width) m rest l = refl
 variable_bytes-take (kinds.Str width) m rest l = rw take-take
 variable_bytes-take (kinds.Double little) m rest l = refl
 variable_bytes-take (kinds.Doubles width little) m rest l = rw take-take
-variable_bytes-take kinds.Custom m rest l =
+variable_bytes-take (kinds.Custom old) m rest l =
     ap (λ o. custom_bytes o (slice_index (take m rest) 3)) (custom_take m rest (omega arith))
     ∙ custom_same (custom_of (take 3 rest)) (slice_index (take m rest) 3) (slice_index rest 3) m l (λ h. get_or-take m rest 3 0 h)
 

@@ -19,7 +19,7 @@ use Rattle.om_format.proofs.SpellFields.{IsKnownData, AreSoundFields}
 
 -- the bytes after the fixed ones are there
 abbrev pub VariableFits : Context → CodeKind → Option CustomKind → List ℕ → Type 0
-VariableFits c kinds.Custom (Some customs.Native) rest =
+VariableFits c (kinds.Custom old) (Some customs.Native) rest =
     (1 ≤ left_after c 4) × (0 < native_bytes (slice_index rest 3)) × (native_bytes (slice_index rest 3) ≤ left_after c 5)
 VariableFits c kind custom rest = variable_bytes kind rest ≤ left_after c (1 + fixed_bytes kind)
 
@@ -58,7 +58,7 @@ none_from_room c need n h = fails_if_none (ltb (left_after c n) need) (Overlong 
 
 -- where the steps on the variable bytes pass these are there
 variable_from_steps : (c : Context) (kind : CodeKind) (custom : Option CustomKind) (rest : List ℕ) → AllStepsPass (variable_steps c kind custom rest) → VariableFits c kind custom rest
-variable_from_steps c kinds.Custom (Some customs.Native) rest p =
+variable_from_steps c (kinds.Custom old) (Some customs.Native) rest p =
     let kind = slice_index rest 3 in
     let some : (native_bytes kind ≡ 0) → ⊥ = eqb-false (native_bytes kind) 0 (none_fails_if (eqb (native_bytes kind) 0) (BadNative (place c) kind) p.1.0) in
     (room_from_none c 1 4 p.0, pos_of_ne-zero some, room_from_none c (native_bytes kind) 5 p.1.1.0)
@@ -66,7 +66,7 @@ variable_from_steps c kind custom rest p = room_from_none c (variable_bytes kind
 
 -- and the other way round
 steps_from_variable : (c : Context) (kind : CodeKind) (custom : Option CustomKind) (rest : List ℕ) → VariableFits c kind custom rest → AllStepsPass (variable_steps c kind custom rest)
-steps_from_variable c kinds.Custom (Some customs.Native) rest f =
+steps_from_variable c (kinds.Custom old) (Some customs.Native) rest f =
     let kind = slice_index rest 3 in
     (none_from_room c 1 4 f.0, (fails_if_none (eqb (native_bytes kind) 0) (BadNative (place c) kind) (ne_eqb (native_bytes kind) 0 (λ e. omega (arith, f.1))), (none_from_room c (native_bytes kind) 5 f.2, tt)))
 steps_from_variable c kind custom rest f = (none_from_room c (variable_bytes kind rest) (1 + fixed_bytes kind) f, tt)
@@ -80,11 +80,11 @@ test_from_positive : (n : ℕ) → 0 < n → eqb n 0 ≡ false
 test_from_positive n h = ne_eqb n 0 (λ e. omega arith)
 
 -- a custom that is known, with its data
-known_data : (c : Context) (known : Option CustomKind) (rest : List ℕ) → is_none known ≡ false → VariableFits c kinds.Custom known rest → IsKnownData known (slice_index rest 3)
-known_data c None rest e f = absurd (cc)
-known_data c (Some customs.Int32) rest e f = tt
-known_data c (Some customs.Int64) rest e f = tt
-known_data c (Some customs.Native) rest e f = f.1
+known_data : (old : Bool) (c : Context) (known : Option CustomKind) (rest : List ℕ) → is_none known ≡ false → VariableFits c (kinds.Custom old) known rest → IsKnownData known (slice_index rest 3)
+known_data old c None rest e f = absurd (cc)
+known_data old c (Some customs.Int32) rest e f = tt
+known_data old c (Some customs.Int64) rest e f = tt
+known_data old c (Some customs.Native) rest e f = f.1
 
 -- data of a known identifier
 data_known : (known : Option CustomKind) (kind : ℕ) → IsKnownData known kind → is_none known ≡ false
@@ -118,8 +118,8 @@ fields_from_none c code (kinds.Str width) rest e f = tt
 fields_from_none c code (kinds.Double little) rest e f = tt
 fields_from_none c code (kinds.Doubles width little) rest e f =
     zero_from_test (number (take width rest)) (none_fails_if (eqb (number (take width rest)) 0) (ZeroArray (place c)) e)
-fields_from_none c code kinds.Custom rest e f =
-    known_data c (custom_of (take 3 rest)) rest (none_fails_if (is_none (custom_of (take 3 rest))) (OtherCustom (place c) code) e) f
+fields_from_none c code (kinds.Custom old) rest e f =
+    known_data old c (custom_of (take 3 rest)) rest (none_fails_if (is_none (custom_of (take 3 rest))) (OtherCustom (place c) code) e) f
 
 -- and sound fields are not refused
 none_from_fields : (c : Context) (code : ℕ) (kind : CodeKind) (rest : List ℕ) → AreSoundFields kind rest (c.sums.objects) c.head.objects → field_refusal c code kind rest ≡ None
@@ -140,7 +140,7 @@ none_from_fields c code (kinds.Str width) rest s = refl
 none_from_fields c code (kinds.Double little) rest s = refl
 none_from_fields c code (kinds.Doubles width little) rest s =
     fails_if_none (eqb (number (take width rest)) 0) (ZeroArray (place c)) (test_from_positive (number (take width rest)) s)
-none_from_fields c code kinds.Custom rest s =
+none_from_fields c code (kinds.Custom old) rest s =
     fails_if_none (is_none (custom_of (take 3 rest))) (OtherCustom (place c) code) (data_known (custom_of (take 3 rest)) (slice_index rest 3) s)
 
 -- a test that a big header is spared
@@ -267,7 +267,7 @@ steps_from_facts c code kind rest f =
 
 -- the steps on the variable bytes are decided within the token
 variable_steps_end : (n : ℕ) (c : Context) (kind : CodeKind) (custom : Option CustomKind) (rest : List ℕ) → custom ≡ custom_of (take 3 rest) → n ≡ token_length kind rest → AllEndWithin n (variable_steps c kind custom rest)
-variable_steps_end n c kinds.Custom (Some customs.Native) rest e h =
+variable_steps_end n c (kinds.Custom old) (Some customs.Native) rest e h =
     let long : 5 ≤ n = omega (arith, rw (← e) at h) in
     (omega arith, (long, (long, tt)))
 variable_steps_end n c kind custom rest e h = (omega (arith, fields_fit kind), tt)

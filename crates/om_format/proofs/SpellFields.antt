@@ -38,7 +38,7 @@ AreSoundFields (kinds.Block width) rest n stated = number (take width rest) % 25
 AreSoundFields (kinds.Str width) rest n stated = Unit {0}
 AreSoundFields (kinds.Double little) rest n stated = Unit {0}
 AreSoundFields (kinds.Doubles width little) rest n stated = 0 < number (take width rest)
-AreSoundFields kinds.Custom rest n stated = IsKnownData (custom_of (take 3 rest)) (slice_index rest 3)
+AreSoundFields (kinds.Custom old) rest n stated = IsKnownData (custom_of (take 3 rest)) (slice_index rest 3)
 
 -- a token that may stand there
 pub record IsTokenThere (t : Token) (n stated : ℕ) : Type 0 where
@@ -103,8 +103,8 @@ native_cases kind h =
     ]
 
 -- a `Nativeint`
-native_there : (kind : ℕ) (content rest : List ℕ) (n stated : ℕ) → rest ≡ 95 ∷ 110 ∷ 0 ∷ kind ∷ content → AreBytes content → length content ≡ native_bytes kind → 0 < native_bytes kind → SpellsSome kinds.Custom rest n stated
-native_there kind content rest n stated e a l s =
+native_there : (old : Bool) (kind : ℕ) (content rest : List ℕ) (n stated : ℕ) → rest ≡ 95 ∷ 110 ∷ 0 ∷ kind ∷ content → AreBytes content → length content ≡ native_bytes kind → 0 < native_bytes kind → SpellsSome (kinds.Custom old) rest n stated
+native_there old kind content rest n stated e a l s =
     elim (native_cases kind s) [
       | inl w ↦
           let at : rest ≡ 95 ∷ 110 ∷ 0 ∷ 1 ∷ content = cc (e, w.0) in (
@@ -121,22 +121,22 @@ native_there kind content rest n stated e a l s =
     ]
 
 -- a custom, by what its identifier names
-custom_there : (known : Option CustomKind) (rest : List ℕ) (n stated : ℕ) → custom_of (take 3 rest) ≡ known → AreBytes rest → length rest ≡ 3 + custom_bytes known (slice_index rest 3) → IsKnownData known (slice_index rest 3) → SpellsSome kinds.Custom rest n stated
-custom_there None rest n stated e a l s = absurd s
-custom_there (Some customs.Int32) rest n stated e a l s =
+custom_there : (old : Bool) (known : Option CustomKind) (rest : List ℕ) (n stated : ℕ) → custom_of (take 3 rest) ≡ known → AreBytes rest → length rest ≡ 3 + custom_bytes known (slice_index rest 3) → IsKnownData known (slice_index rest 3) → SpellsSome (kinds.Custom old) rest n stated
+custom_there old None rest n stated e a l s = absurd s
+custom_there old (Some customs.Int32) rest n stated e a l s =
     let front = front_of_three rest customs.Int32 (omega arith) e in
     let left : length (drop 3 rest) ≡ 4 = omega (arith, length-drop 3 rest) in
     let content : AreBytes (drop 3 rest) = All-drop (λ b. b < 256) 3 rest a in
     (leaf (objects.I32 (signed (drop 3 rest))), inl (drop 3 rest, front, left, refl), record { is_token = IsSigned-signed_at 31 (drop 3 rest) (omega arith) content; refers_back = tt; table = λ _. tt })
-custom_there (Some customs.Int64) rest n stated e a l s =
+custom_there old (Some customs.Int64) rest n stated e a l s =
     let front = front_of_three rest customs.Int64 (omega arith) e in
     let left : length (drop 3 rest) ≡ 8 = omega (arith, length-drop 3 rest) in
     let content : AreBytes (drop 3 rest) = All-drop (λ b. b < 256) 3 rest a in
     (leaf (objects.I64 (signed (drop 3 rest))), inr (inl (drop 3 rest, front, left, refl)), record { is_token = IsSigned-signed_at 63 (drop 3 rest) (omega arith) content; refers_back = tt; table = λ _. tt })
-custom_there (Some customs.Native) rest n stated e a l s =
+custom_there old (Some customs.Native) rest n stated e a l s =
     let front : rest ≡ 95 ∷ 110 ∷ 0 ∷ slice_index rest 3 ∷ drop 4 rest = front_of_three rest customs.Native (omega arith) e ∙ ap (λ c. 95 ∷ 110 ∷ 0 ∷ c) (drop-cons rest 3 0 (omega arith)) in
     let left : length (drop 4 rest) ≡ native_bytes (slice_index rest 3) = omega (arith, length-drop 4 rest) in
-    native_there (slice_index rest 3) (drop 4 rest) rest n stated front (All-drop (λ b. b < 256) 4 rest a) left s
+    native_there old (slice_index rest 3) (drop 4 rest) rest n stated front (All-drop (λ b. b < 256) 4 rest a) left s
 
 -- sound fields spell a token
 pub spelled_of : (kind : CodeKind) (rest : List ℕ) (n stated : ℕ) → IsKind kind → AreBytes rest → length rest ≡ fixed_bytes kind + variable_bytes kind rest → AreSoundFields kind rest n stated → SpellsSome kind rest n stated
@@ -166,7 +166,7 @@ spelled_of (kinds.Doubles width little) rest n stated k a l s =
     let all = doubles_of little (number (take width rest)) (drop width rest) (All-drop (λ b. b < 256) width rest a) left in
     let some : 0 < length all.0 = omega (arith, all.1) in
     (leaf (objects.Doubles all.0), (all.0, omega arith, all.1, all.2, refl), record { is_token = (some, all.3); refers_back = tt; table = λ _. tt })
-spelled_of kinds.Custom rest n stated k a l s = custom_there (custom_of (take 3 rest)) rest n stated refl a l s
+spelled_of (kinds.Custom old) rest n stated k a l s = custom_there old (custom_of (take 3 rest)) rest n stated refl a l s
 
 -- ---- from tokens to fields
 
@@ -207,4 +207,4 @@ sound_of (kinds.Double little) rest t n stated s there = tt
 sound_of (kinds.Doubles width little) rest t n stated s there =
     let at : IsToken (leaf (objects.Doubles s.0)) = subst IsToken s.4 there.is_token in
     omega (arith, s.2, at.0)
-sound_of kinds.Custom rest t n stated s there = custom_sound rest t s
+sound_of (kinds.Custom old) rest t n stated s there = custom_sound rest t s

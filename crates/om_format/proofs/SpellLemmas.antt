@@ -47,7 +47,7 @@ spelled_length (kinds.Block width) rest t s = omega (arith, s.0)
 spelled_length (kinds.Str width) rest t s = omega (arith, s.0, s.1, length-drop width rest)
 spelled_length (kinds.Double little) rest t s = omega (arith, s.0)
 spelled_length (kinds.Doubles width little) rest t s = omega (arith, s.1, s.2, SpellsDoubles-length little s.0 (drop width rest) s.3, length-drop width rest)
-spelled_length kinds.Custom rest t s = custom_length rest t s
+spelled_length (kinds.Custom old) rest t s = custom_length rest t s
 
 -- a block, or an atom of no fields
 block_or_atom_measure : (tag size : ℕ) → block_measure size ≡ measure_of (block_or_atom tag size)
@@ -72,7 +72,7 @@ spelled_measure (kinds.Block width) rest t s = rw (← s.0, take_all (length res
 spelled_measure (kinds.Str width) rest t s = rw (← s.1) (sym (ap measure_of s.2))
 spelled_measure (kinds.Double little) rest t s = sym (ap measure_of s.1)
 spelled_measure (kinds.Doubles width little) rest t s = rw (← s.2) (sym (ap measure_of s.4))
-spelled_measure kinds.Custom rest t s = custom_measure_is rest t s
+spelled_measure (kinds.Custom old) rest t s = custom_measure_is rest t s
 
 -- the same, by what the code begins
 spelled_length_from : (r : Result CodeKind CodeFault) (rest : List ℕ) (t : Token) → SpellsFrom r rest t → length rest ≡ length_after r rest
@@ -129,7 +129,7 @@ spelled_same (kinds.Block width) rest t u s v = s.1 ∙ sym v.1
 spelled_same (kinds.Str width) rest t u s v = s.2 ∙ sym v.2
 spelled_same (kinds.Double little) rest t u s v = s.1 ∙ sym v.1
 spelled_same (kinds.Doubles width little) rest t u s v = s.4 ∙ ap (λ ds. leaf (objects.Doubles ds)) (SpellsDoubles-same little s.0 v.0 (drop width rest) s.3 v.3) ∙ sym v.4
-spelled_same kinds.Custom rest t u s v = custom_token_is rest t s ∙ sym (custom_token_is rest u v)
+spelled_same (kinds.Custom old) rest t u s v = custom_token_is rest t s ∙ sym (custom_token_is rest u v)
 
 -- the same, by what the code begins
 spelled_same_from : (r : Result CodeKind CodeFault) (rest : List ℕ) (t u : Token) → SpellsFrom r rest t → SpellsFrom r rest u → t ≡ u

@@ -57,7 +57,7 @@ FitsAfter head before piece = FitsUpTo head (length (concat before) + length pie
 
 -- a token that passes ends within the data
 within_from_facts : (c : Context) (kind : CodeKind) (custom : Option CustomKind) (rest : List ℕ) → custom ≡ custom_of (take 3 rest) → c.taken < c.head.length → fixed_bytes kind ≤ left_after c 1 → VariableFits c kind custom rest → c.taken + token_length kind rest ≤ c.head.length
-within_from_facts c kinds.Custom (Some customs.Native) rest e more fixed f = rw (← e) (omega (arith, f.0, f.1, f.2))
+within_from_facts c (kinds.Custom old) (Some customs.Native) rest e more fixed f = rw (← e) (omega (arith, f.0, f.1, f.2))
 within_from_facts c kind custom rest e more fixed f = omega arith
 
 -- and fits
@@ -96,7 +96,7 @@ fits_after c code (Err fault) rest l p more =
 
 -- the variable bytes of a token within the data are there
 variable_from_within : (c : Context) (kind : CodeKind) (custom : Option CustomKind) (rest : List ℕ) → custom ≡ custom_of (take 3 rest) → AreSoundFields kind rest (c.sums.objects) c.head.objects → c.taken + token_length kind rest ≤ c.head.length → VariableFits c kind custom rest
-variable_from_within c kinds.Custom (Some customs.Native) rest e s h =
+variable_from_within c (kinds.Custom old) (Some customs.Native) rest e s h =
     let some : 0 < native_bytes (slice_index rest 3) = rw (← e) at s in
     let all : c.taken + (1 + 3 + (1 + native_bytes (slice_index rest 3))) ≤ c.head.length = rw (← e) at h in
     (omega arith, some, omega arith)

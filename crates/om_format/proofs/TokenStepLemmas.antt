@@ -41,16 +41,16 @@ field_refusal-take c code (kinds.Block width) m rest l = rw take-take
 field_refusal-take c code (kinds.Str width) m rest l = refl
 field_refusal-take c code (kinds.Double little) m rest l = refl
 field_refusal-take c code (kinds.Doubles width little) m rest l = rw take-take
-field_refusal-take c code kinds.Custom m rest l = rw custom_take
+field_refusal-take c code (kinds.Custom old) m rest l = rw custom_take
 
 -- so are the bytes after the fields
-custom_steps-take : (c : Context) (o : Option CustomKind) (m : ℕ) (rest : List ℕ) → 3 + kind_bytes o ≤ m
-    → variable_bytes kinds.Custom (take m rest) ≡ variable_bytes kinds.Custom rest
-    → variable_steps c kinds.Custom o (take m rest) ≡ variable_steps c kinds.Custom o rest
-custom_steps-take c None m rest l e = ap (λ n. step 4 (overlong c n 4) ∷ []) e
-custom_steps-take c (Some customs.Int32) m rest l e = ap (λ n. step 4 (overlong c n 4) ∷ []) e
-custom_steps-take c (Some customs.Int64) m rest l e = ap (λ n. step 4 (overlong c n 4) ∷ []) e
-custom_steps-take c (Some customs.Native) m rest l e = ap (λ k. native_steps c k) (get_or-take m rest 3 0 (omega arith))
+custom_steps-take : (old : Bool) (c : Context) (o : Option CustomKind) (m : ℕ) (rest : List ℕ) → 3 + kind_bytes o ≤ m
+    → variable_bytes (kinds.Custom old) (take m rest) ≡ variable_bytes (kinds.Custom old) rest
+    → variable_steps c (kinds.Custom old) o (take m rest) ≡ variable_steps c (kinds.Custom old) o rest
+custom_steps-take old c None m rest l e = ap (λ n. step 4 (overlong c n 4) ∷ []) e
+custom_steps-take old c (Some customs.Int32) m rest l e = ap (λ n. step 4 (overlong c n 4) ∷ []) e
+custom_steps-take old c (Some customs.Int64) m rest l e = ap (λ n. step 4 (overlong c n 4) ∷ []) e
+custom_steps-take old c (Some customs.Native) m rest l e = ap (λ k. native_steps c k) (get_or-take m rest 3 0 (omega arith))
 
 pub variable_steps-take : (c : Context) (kind : CodeKind) (m : ℕ) (rest : List ℕ) → sizing_bytes kind rest ≤ m
     → variable_steps c kind (custom_of (take 3 (take m rest))) (take m rest) ≡ variable_steps c kind (custom_of (take 3 rest)) rest
@@ -63,9 +63,9 @@ variable_steps-take c (kinds.Block width) m rest l = refl
 variable_steps-take c (kinds.Str width) m rest l = rw take-take
 variable_steps-take c (kinds.Double little) m rest l = refl
 variable_steps-take c (kinds.Doubles width little) m rest l = rw take-take
-variable_steps-take c kinds.Custom m rest l =
-    ap (λ o. variable_steps c kinds.Custom o (take m rest)) (custom_take m rest (omega arith))
-    ∙ custom_steps-take c (custom_of (take 3 rest)) m rest l (variable_bytes-take kinds.Custom m rest l)
+variable_steps-take c (kinds.Custom old) m rest l =
+    ap (λ o. variable_steps c (kinds.Custom old) o (take m rest)) (custom_take m rest (omega arith))
+    ∙ custom_steps-take old c (custom_of (take 3 rest)) m rest l (variable_bytes-take (kinds.Custom old) m rest l)
 
 -- after the code, by what the bytes there say
 steps_of : Context → CodeKind → Option ReadRefusal → List Step → ℕ → ℕ → Option Measure → List Step
@@ -101,12 +101,12 @@ steps_after-take c code kind m rest l =
     ∙ sym (steps_after_is c code kind rest))
 
 -- between the fields and the bytes that say the size stands the kind byte of a `Nativeint`
-custom_agree : (c : Context) (o : Option CustomKind) (m : ℕ) (r s : List ℕ) (more rest : List Step) → 3 ≤ m → m < 3 + kind_bytes o
-    → AgreeUpTo (suc m) (variable_steps c kinds.Custom o r ++ more) (variable_steps c kinds.Custom o s ++ rest)
-custom_agree c None m r s more rest l h = absurd (omega arith)
-custom_agree c (Some customs.Int32) m r s more rest l h = absurd (omega arith)
-custom_agree c (Some customs.Int64) m r s more rest l h = absurd (omega arith)
-custom_agree c (Some customs.Native) m r s more rest l h = inl (refl, inr (omega arith, omega arith))
+custom_agree : (old : Bool) (c : Context) (o : Option CustomKind) (m : ℕ) (r s : List ℕ) (more rest : List Step) → 3 ≤ m → m < 3 + kind_bytes o
+    → AgreeUpTo (suc m) (variable_steps c (kinds.Custom old) o r ++ more) (variable_steps c (kinds.Custom old) o s ++ rest)
+custom_agree old c None m r s more rest l h = absurd (omega arith)
+custom_agree old c (Some customs.Int32) m r s more rest l h = absurd (omega arith)
+custom_agree old c (Some customs.Int64) m r s more rest l h = absurd (omega arith)
+custom_agree old c (Some customs.Native) m r s more rest l h = inl (refl, inr (omega arith, omega arith))
 
 variable_agree : (c : Context) (kind : CodeKind) (m : ℕ) (rest : List ℕ) (more others : List Step) → field_bytes kind ≤ m → m < sizing_bytes kind rest
     → AgreeUpTo (suc m) (variable_steps c kind (custom_of (take 3 (take m rest))) (take m rest) ++ more) (variable_steps c kind (custom_of (take 3 rest)) rest ++ others)
@@ -119,9 +119,9 @@ variable_agree c (kinds.Block width) m rest more others l h = absurd (omega arit
 variable_agree c (kinds.Str width) m rest more others l h = absurd (omega arith)
 variable_agree c (kinds.Double little) m rest more others l h = absurd (omega arith)
 variable_agree c (kinds.Doubles width little) m rest more others l h = absurd (omega arith)
-variable_agree c kinds.Custom m rest more others l h =
-    subst (λ o. AgreeUpTo (suc m) (variable_steps c kinds.Custom o (take m rest) ++ more) (variable_steps c kinds.Custom (custom_of (take 3 rest)) rest ++ others))
-    (sym (custom_take m rest l)) (custom_agree c (custom_of (take 3 rest)) m (take m rest) rest more others l h)
+variable_agree c (kinds.Custom old) m rest more others l h =
+    subst (λ o. AgreeUpTo (suc m) (variable_steps c (kinds.Custom old) o (take m rest) ++ more) (variable_steps c (kinds.Custom old) (custom_of (take 3 rest)) rest ++ others))
+    (sym (custom_take m rest l)) (custom_agree old c (custom_of (take 3 rest)) m (take m rest) rest more others l h)
 
 -- without the fields only the first step is decided
 steps_of_apart : (c : Context) (kind : CodeKind) (f g : Option ReadRefusal) (v w : List Step) (n n' s s' : ℕ) (e e' : Option Measure) (m : ℕ) → m < field_bytes kind
@@ -154,12 +154,12 @@ steps_from-agree_take c code (Err fault) m rest = inl (refl, tt)
 
 -- ---- how many bytes the steps take
 
-custom_steps-within : (c : Context) (o : Option CustomKind) (rest : List ℕ) (high : ℕ) → 4 + custom_bytes o (slice_index rest 3) ≤ high
-    → EndWithin 1 high (variable_steps c kinds.Custom o rest)
-custom_steps-within c None rest high l = (omega arith, omega arith, tt)
-custom_steps-within c (Some customs.Int32) rest high l = (omega arith, omega arith, tt)
-custom_steps-within c (Some customs.Int64) rest high l = (omega arith, omega arith, tt)
-custom_steps-within c (Some customs.Native) rest high l = (omega arith, omega arith, (omega arith, omega arith, (omega arith, omega arith, tt)))
+custom_steps-within : (old : Bool) (c : Context) (o : Option CustomKind) (rest : List ℕ) (high : ℕ) → 4 + custom_bytes o (slice_index rest 3) ≤ high
+    → EndWithin 1 high (variable_steps c (kinds.Custom old) o rest)
+custom_steps-within old c None rest high l = (omega arith, omega arith, tt)
+custom_steps-within old c (Some customs.Int32) rest high l = (omega arith, omega arith, tt)
+custom_steps-within old c (Some customs.Int64) rest high l = (omega arith, omega arith, tt)
+custom_steps-within old c (Some customs.Native) rest high l = (omega arith, omega arith, (omega arith, omega arith, (omega arith, omega arith, tt)))
 
 variable_steps-within : (c : Context) (kind : CodeKind) (rest : List ℕ) → EndWithin 1 (1 + (fixed_bytes kind + variable_bytes kind rest)) (variable_steps c kind (custom_of (take 3 rest)) rest)
 variable_steps-within c (kinds.SmallBlock tag size) rest = (omega arith, omega arith, tt)
@@ -171,8 +171,8 @@ variable_steps-within c (kinds.Block width) rest = (omega arith, omega arith, tt
 variable_steps-within c (kinds.Str width) rest = (omega arith, omega arith, tt)
 variable_steps-within c (kinds.Double little) rest = (omega arith, omega arith, tt)
 variable_steps-within c (kinds.Doubles width little) rest = (omega arith, omega arith, tt)
-variable_steps-within c kinds.Custom rest =
-    custom_steps-within c (custom_of (take 3 rest)) rest (1 + (3 + custom_bytes (custom_of (take 3 rest)) (slice_index rest 3))) (omega arith)
+variable_steps-within c (kinds.Custom old) rest =
+    custom_steps-within old c (custom_of (take 3 rest)) rest (1 + (3 + custom_bytes (custom_of (take 3 rest)) (slice_index rest 3))) (omega arith)
 
 end_steps-within : (c : Context) (n : ℕ) (all : Sums) (high : ℕ) → 1 ≤ n → n ≤ high → EndWithin 1 high (end_steps c n all)
 end_steps-within c n all high l h = (l, h, (l, h, (l, h, (l, h, tt))))

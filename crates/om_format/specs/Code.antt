@@ -3,7 +3,7 @@ use Rattle.std.specs.Prelude.{ℕ, ◌/◌, ◌%◌, ◌<◌, ◌≤◌, true, f
 use Rattle.om_model.specs.declared.code.CodeKind.{CodeKind}
 use Rattle.om_model.specs.declared.code.CodeKind.TheVariants.{SmallBlock, SmallInt, SmallString, Int, Shared, Block, Str, Double, Doubles, Custom}
 use Rattle.om_model.specs.declared.code.CodeFault.{CodeFault}
-use Rattle.om_model.specs.declared.code.CodeFault.TheVariants.{BadCode, PointerCode, OldCustom, CustomLen}
+use Rattle.om_model.specs.declared.code.CodeFault.TheVariants.{BadCode, PointerCode, CustomLen}
 use Rattle.om_model.specs.declared.code.CustomKind.{CustomKind}
 use Rattle.om_model.specs.declared.code.CustomKind.TheVariants.{Int32, Int64, Native}
 
@@ -14,9 +14,9 @@ large_kinds =
     ∷ Ok (Shared 1) ∷ Ok (Shared 2) ∷ Ok (Shared 4) ∷ Ok (Doubles 4 true)
     ∷ Ok (Block 4) ∷ Ok (Str 1) ∷ Ok (Str 4) ∷ Ok (Double false)
     ∷ Ok (Double true) ∷ Ok (Doubles 1 false) ∷ Ok (Doubles 1 true) ∷ Ok (Doubles 4 false)
-    ∷ Err PointerCode ∷ Err PointerCode ∷ Err OldCustom ∷ Ok (Block 8)
+    ∷ Err PointerCode ∷ Err PointerCode ∷ Ok (Custom true) ∷ Ok (Block 8)
     ∷ Ok (Shared 8) ∷ Ok (Str 8) ∷ Ok (Doubles 8 false) ∷ Ok (Doubles 8 true)
-    ∷ Err CustomLen ∷ Ok Custom ∷ []
+    ∷ Err CustomLen ∷ Ok (Custom false) ∷ []
 
 -- what a code begins
 unfoldable pub kind_of : ℕ → Result CodeKind CodeFault
@@ -51,4 +51,4 @@ IsKind (Block width) = (1 ≤ width) × (width ≤ 8)
 IsKind (Str width) = (1 ≤ width) × (width ≤ 8)
 IsKind (Double little) = Unit {0}
 IsKind (Doubles width little) = (1 ≤ width) × (width ≤ 8)
-IsKind Custom = Unit {0}
+IsKind (Custom old) = Unit {0}

@@ -21,7 +21,7 @@ fixed_bytes (kinds.Block width) = width
 fixed_bytes (kinds.Str width) = width
 fixed_bytes (kinds.Double little) = 8
 fixed_bytes (kinds.Doubles width little) = width
-fixed_bytes kinds.Custom = 3
+fixed_bytes (kinds.Custom old) = 3
 
 -- those of them that say more than a content: a header word, an offset, a length, an identifier, an integer of eight bytes
 abbrev pub field_bytes : CodeKind → ℕ
@@ -34,7 +34,7 @@ field_bytes (kinds.Block width) = width
 field_bytes (kinds.Str width) = width
 field_bytes (kinds.Double little) = 0
 field_bytes (kinds.Doubles width little) = width
-field_bytes kinds.Custom = 3
+field_bytes (kinds.Custom old) = 3
 
 -- the data of a custom, by the kind byte of a `Nativeint`, which is a field too
 abbrev pub custom_bytes : Option CustomKind → ℕ → ℕ
@@ -66,7 +66,7 @@ variable_bytes (kinds.Block width) rest = 0
 variable_bytes (kinds.Str width) rest = number (take width rest)
 variable_bytes (kinds.Double little) rest = 0
 variable_bytes (kinds.Doubles width little) rest = 8 * number (take width rest)
-variable_bytes kinds.Custom rest = custom_bytes (custom_of (take 3 rest)) (slice_index rest 3)
+variable_bytes (kinds.Custom old) rest = custom_bytes (custom_of (take 3 rest)) (slice_index rest 3)
 
 -- the object that such a token makes
 abbrev pub block_measure : ℕ → Option Measure
@@ -83,11 +83,11 @@ measure_after (kinds.Block width) rest = block_measure (number (take width rest)
 measure_after (kinds.Str width) rest = Some (measures.Bytes (number (take width rest)))
 measure_after (kinds.Double little) rest = Some measures.Double
 measure_after (kinds.Doubles width little) rest = Some (measures.Doubles (number (take width rest)))
-measure_after kinds.Custom rest = custom_measure (custom_of (take 3 rest))
+measure_after (kinds.Custom old) rest = custom_measure (custom_of (take 3 rest))
 
 -- the bytes after the code after which the token's size is known
 abbrev pub sizing_bytes : CodeKind → List ℕ → ℕ
-sizing_bytes kinds.Custom rest = 3 + kind_bytes (custom_of (take 3 rest))
+sizing_bytes (kinds.Custom old) rest = 3 + kind_bytes (custom_of (take 3 rest))
 sizing_bytes kind rest = field_bytes kind
 
 abbrev pub length_after : Result CodeKind CodeFault → List ℕ → ℕ

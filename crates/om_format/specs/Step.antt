@@ -86,7 +86,6 @@ overlong c need n = fails_if (nat_lt (left_after c n) need) (Overlong (place c) 
 abbrev pub code_refusal : CodeFault → ℕ → ℕ → ReadRefusal
 code_refusal faults.BadCode p code = BadCode p code
 code_refusal faults.PointerCode p code = PointerCode p code
-code_refusal faults.OldCustom p code = OtherCustom p code
 code_refusal faults.CustomLen p code = OtherCustom p code
 
 -- outside 63 bits
@@ -117,7 +116,7 @@ field_refusal c code (kinds.Block width) rest =
 field_refusal c code (kinds.Str width) rest = None
 field_refusal c code (kinds.Double little) rest = None
 field_refusal c code (kinds.Doubles width little) rest = fails_if (number (take width rest) == 0) (ZeroArray (place c))
-field_refusal c code kinds.Custom rest = fails_if (is_none (custom_of (take 3 rest))) (OtherCustom (place c) code)
+field_refusal c code (kinds.Custom old) rest = fails_if (is_none (custom_of (take 3 rest))) (OtherCustom (place c) code)
 
 -- the kind byte of a `Nativeint` is taken first, and then its number
 abbrev pub native_steps : Context → ℕ → List Step
@@ -128,7 +127,7 @@ native_steps c kind =
     ∷ []
 
 abbrev pub variable_steps : Context → CodeKind → Option CustomKind → List ℕ → List Step
-variable_steps c kinds.Custom (Some customs.Native) rest = native_steps c (slice_index rest 3)
+variable_steps c (kinds.Custom old) (Some customs.Native) rest = native_steps c (slice_index rest 3)
 variable_steps c kind custom rest =
     step (1 + field_bytes kind) (overlong c (variable_bytes kind rest) (1 + fixed_bytes kind)) ∷ []
 

@@ -85,7 +85,7 @@ SpellsAfter (kinds.Double little) rest token = (length rest ≡ 8) × (token ≡
 SpellsAfter (kinds.Doubles width little) rest token =
     (all : List ℕ) × (width ≤ length rest) × (length all ≡ number (take width rest)) × SpellsDoubles little all (drop width rest)
     × (token ≡ leaf (objects.Doubles all))
-SpellsAfter kinds.Custom rest token = SpellsCustom rest token
+SpellsAfter (kinds.Custom old) rest token = SpellsCustom rest token
 
 abbrev pub SpellsFrom : Result CodeKind CodeFault → List ℕ → Token → Type 0
 SpellsFrom (Ok kind) rest token = SpellsAfter kind rest token

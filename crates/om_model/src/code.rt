@@ -22,8 +22,8 @@ pub enum CodeKind {
     Double(bool),
     /// An array of doubles: its length.
     Doubles(u8, bool),
-    /// A custom of fixed length: its identifier.
-    Custom,
+    /// A custom of fixed length: its identifier. The bool says that the code is that of an old runtime.
+    Custom(bool),
 }
 
 /// Why a code begins no token.
@@ -31,7 +31,6 @@ pub enum CodeKind {
 pub enum CodeFault {
     BadCode,
     PointerCode,
-    OldCustom,
     CustomLen,
 }
 

@@ -47,7 +47,7 @@ are_small (kinds.Block width) rest v f = small_block (number (take width rest) /
 are_small (kinds.Str width) rest v f = v
 are_small (kinds.Double little) rest v f = tt
 are_small (kinds.Doubles width little) rest v f = omega arith
-are_small kinds.Custom rest v f = small_custom (custom_of (take 3 rest))
+are_small (kinds.Custom old) rest v f = small_custom (custom_of (take 3 rest))
 
 -- the object of a token of few bytes and few fields is small
 pub measure_small : (kind : CodeKind) (rest : List ℕ) → variable_bytes kind rest < 2 ^ 60 → of_object fields (measure_after kind rest) < 2 ^ 60 → ForSome (measure_after kind rest) IsCountable
@@ -115,7 +115,7 @@ few_most (kinds.Block width) rest = let h = few_block (number (take width rest) 
 few_most (kinds.Str width) rest = omega arith
 few_most (kinds.Double little) rest = omega arith
 few_most (kinds.Doubles width little) rest = omega arith
-few_most kinds.Custom rest = few_custom (custom_of (take 3 rest)) (get_or rest 3 0)
+few_most (kinds.Custom old) rest = few_custom (custom_of (take 3 rest)) (get_or rest 3 0)
 
 few_by : (words : Measure → ℕ) (measure : Option Measure) (n : ℕ) → AreWords words → AreFew most_words measure n → AreFew words measure n
 few_by words None n w f = f

@@ -110,6 +110,6 @@ pub fn decode(
                 little,
             )
         }
-        CodeKind::Custom => builder.custom(custom_value(rest)),
+        CodeKind::Custom(_) => builder.custom(custom_value(rest)),
     }
 }

@@ -22,7 +22,7 @@ pub fn fixed_len(kind: CodeKind) -> u64
         | CodeKind::Str(width)
         | CodeKind::Doubles(width, _) => u64::from(width),
         CodeKind::Double(_) => 8,
-        CodeKind::Custom => 3,
+        CodeKind::Custom(_) => 3,
     }
 }
 
@@ -40,7 +40,7 @@ pub fn field_len(kind: CodeKind) -> usize
         | CodeKind::Block(width)
         | CodeKind::Str(width)
         | CodeKind::Doubles(width, _) => usize::from(width),
-        CodeKind::Custom => 3,
+        CodeKind::Custom(_) => 3,
     }
 }
 
@@ -94,7 +94,7 @@ pub fn variable_len(kind: CodeKind, rest: &[u8]) -> u128
         CodeKind::SmallString(len) => u128::from(len),
         CodeKind::Str(width) => u128::from(number_at(rest, width)),
         CodeKind::Doubles(width, _) => 8 * u128::from(number_at(rest, width)),
-        CodeKind::Custom => {
+        CodeKind::Custom(_) => {
             let kind = if rest.len() > 3 { rest[3] } else { 0 };
             u128::from(custom_len(custom_at(rest), kind))
         }
@@ -140,6 +140,6 @@ pub fn measure_at(kind: CodeKind, rest: &[u8]) -> Option<Measure>
         CodeKind::Str(width) => Some(Measure::Bytes(number_at(rest, width))),
         CodeKind::Double(_) => Some(Measure::Double),
         CodeKind::Doubles(width, _) => Some(Measure::Doubles(number_at(rest, width))),
-        CodeKind::Custom => custom_measure_of(custom_at(rest)),
+        CodeKind::Custom(_) => custom_measure_of(custom_at(rest)),
     }
 }

@@ -111,7 +111,7 @@ impl Totals {
                     None
                 }
             }
-            CodeKind::Custom => {
+            CodeKind::Custom(_) => {
                 if custom_at(rest).is_none() {
                     Some(ReadRefusal::OtherCustom(self.at(), code))
                 } else {
@@ -170,7 +170,7 @@ impl Totals {
         ensures room { IfOk result (λ len. self.now.taken + (1 + fixed_bytes kind + len) ≤ self.now.head.length) }
         ensures sized { OnOk result (sizing_bytes kind rest.now ≤ length rest.now) }
     {
-        if kind == CodeKind::Custom && custom_at(rest) == Some(CustomKind::Native) {
+        if matches!(kind, CodeKind::Custom(_)) && custom_at(rest) == Some(CustomKind::Native) {
             return self.native(rest);
         }
         let len = variable_len(kind, rest);
@@ -330,10 +330,7 @@ impl Totals {
         match fault {
             CodeFault::BadCode => ReadRefusal::BadCode(self.at(), code),
             CodeFault::PointerCode => ReadRefusal::PointerCode(self.at(), code),
-            CodeFault::OldCustom | CodeFault::CustomLen => ReadRefusal::OtherCustom(
-                self.at(),
-                code,
-            ),
+            CodeFault::CustomLen => ReadRefusal::OtherCustom(self.at(), code),
         }
     }
 

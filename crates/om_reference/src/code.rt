@@ -48,14 +48,14 @@ fn large_kind(code: u8) -> Result<CodeKind, CodeFault>
         14 => Ok(CodeKind::Doubles(1, true)),
         15 => Ok(CodeKind::Doubles(4, false)),
         16 | 17 => Err(CodeFault::PointerCode),
-        18 => Err(CodeFault::OldCustom),
+        18 => Ok(CodeKind::Custom(true)),
         19 => Ok(CodeKind::Block(8)),
         20 => Ok(CodeKind::Shared(8)),
         21 => Ok(CodeKind::Str(8)),
         22 => Ok(CodeKind::Doubles(8, false)),
         23 => Ok(CodeKind::Doubles(8, true)),
         24 => Err(CodeFault::CustomLen),
-        25 => Ok(CodeKind::Custom),
+        25 => Ok(CodeKind::Custom(false)),
         _ => Err(CodeFault::BadCode),
     }
 }

@@ -24,7 +24,7 @@ pub fn fixed_bytes(kind: CodeKind) -> u128
         CodeKind::Str(width) => u128::from(width),
         CodeKind::Double(_) => 8,
         CodeKind::Doubles(width, _) => u128::from(width),
-        CodeKind::Custom => 3,
+        CodeKind::Custom(_) => 3,
     }
 }
 
@@ -44,7 +44,7 @@ pub fn field_bytes(kind: CodeKind) -> u128
         CodeKind::Str(width) => u128::from(width),
         CodeKind::Double(_) => 0,
         CodeKind::Doubles(width, _) => u128::from(width),
-        CodeKind::Custom => 3,
+        CodeKind::Custom(_) => 3,
     }
 }
 
@@ -94,7 +94,7 @@ pub fn variable_bytes(kind: CodeKind, rest: &[u8]) -> u128
         CodeKind::SmallString(n) => u128::from(n),
         CodeKind::Str(width) => u128::from(number_of(rest, usize::from(width))),
         CodeKind::Doubles(width, _) => 8 * u128::from(number_of(rest, usize::from(width))),
-        CodeKind::Custom => custom_bytes(custom_of(first(rest, 3)), byte_at(rest, 3)),
+        CodeKind::Custom(_) => custom_bytes(custom_of(first(rest, 3)), byte_at(rest, 3)),
         _ => 0,
     }
 }
@@ -125,7 +125,7 @@ pub fn measure_after(kind: CodeKind, rest: &[u8]) -> Option<Measure>
         CodeKind::Str(width) => Some(Measure::Bytes(number_of(rest, usize::from(width)))),
         CodeKind::Double(_) => Some(Measure::Double),
         CodeKind::Doubles(width, _) => Some(Measure::Doubles(number_of(rest, usize::from(width)))),
-        CodeKind::Custom => custom_measure(custom_of(first(rest, 3))),
+        CodeKind::Custom(_) => custom_measure(custom_of(first(rest, 3))),
     }
 }
 
@@ -135,7 +135,7 @@ pub fn sizing_bytes(kind: CodeKind, rest: &[u8]) -> u128
     ensures few { result < 2 ^ 9 }
 {
     match kind {
-        CodeKind::Custom => 3 + kind_bytes(custom_of(first(rest, 3))),
+        CodeKind::Custom(_) => 3 + kind_bytes(custom_of(first(rest, 3))),
         _ => field_bytes(kind),
     }
 }

@@ -115,7 +115,7 @@ fn token_after(alloc: Global, kind: CodeKind, rest: &[u8]) -> Result<Token, Allo
             let bytes = skip(rest, width);
             doubles_token(alloc, little, number_of(rest, width) as usize, bytes)
         }
-        CodeKind::Custom => Ok(custom_token(rest)),
+        CodeKind::Custom(_) => Ok(custom_token(rest)),
     }
 }
 

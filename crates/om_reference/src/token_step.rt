@@ -53,7 +53,6 @@ fn code_refusal(fault: CodeFault, place: u128, code: u8) -> Refusal
     match fault {
         CodeFault::BadCode => Refusal::BadCode(place, code),
         CodeFault::PointerCode => Refusal::PointerCode(place, code),
-        CodeFault::OldCustom => Refusal::OtherCustom(place, code),
         CodeFault::CustomLen => Refusal::OtherCustom(place, code),
     }
 }
@@ -98,7 +97,7 @@ fn field_refusal(c: &Context, code: u8, kind: CodeKind, rest: &[u8]) -> Option<R
             number_of(rest, usize::from(width)) == 0,
             Refusal::ZeroArray(place(c)),
         ),
-        CodeKind::Custom => fails_if(
+        CodeKind::Custom(_) => fails_if(
             custom_of(first(rest, 3)).is_none(),
             Refusal::OtherCustom(place(c), code),
         ),
@@ -139,7 +138,7 @@ fn variable_steps(
     ensures { IfOk result (λ steps. steps_of steps.items ≡ variable_steps (context_of c.now) kind custom rest.now) }
 {
     match (kind, custom) {
-        (CodeKind::Custom, Some(CustomKind::Native)) => Vec::from_slice(
+        (CodeKind::Custom(_), Some(CustomKind::Native)) => Vec::from_slice(
             alloc,
             &native_steps(c, byte_at(rest, 3)),
         ),

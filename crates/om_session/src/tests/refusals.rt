@@ -160,9 +160,9 @@ static REFUSALS: [Case; 25] = [
         err: "omarshal: value 0: OtherCustom(19) at 20\n",
     },
     Case {
-        shows: "a custom of the old form",
+        shows: "an unknown custom by the code of older runtimes",
         type_text: "int",
-        input: "8495a6be 00000001 00000000 00000000 00000000 12",
+        input: "8495a6be 00000004 00000000 00000000 00000000 125f7800",
         status: Status::Value,
         out: "",
         err: "omarshal: value 0: OtherCustom(12) at 20\n",
