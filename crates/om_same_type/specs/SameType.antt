@@ -1,0 +1,35 @@
+-- What is the same up to the numbers of objects has the same types and the same faults.
+use Rattle.std.specs.Prelude.{ℕ, List}
+use Rattle.om_model.specs.declared.value.Val.{Val}
+use Rattle.om_model.specs.declared.value.Obj.{Obj}
+use Rattle.om_format.specs.Iso.{Iso}
+use Rattle.om_types.specs.declared.decl.Decl.{Decl}
+use Rattle.om_types.specs.Ty.{Ty}
+use Rattle.om_types.specs.Equal.{declared_shapes}
+use Rattle.om_types.specs.Table.{Table, table_shapes}
+use Rattle.om_types.specs.Typing.{HasType}
+use Rattle.om_types.specs.declared.fault.Fault.{Fault}
+use Rattle.om_types.specs.LeastFault.{IsLeastFault}
+
+-- at types over declarations
+abbrev pub DeclaredTypesAreKept : Type 0
+DeclaredTypesAreKept =
+    (decls : List Decl) (g h : List Obj) (v w : Val) (t : Ty) → Iso g v h w
+    → HasType (declared_shapes decls) g v t → HasType (declared_shapes decls) h w t
+
+-- at the types of a table, by their numbers
+abbrev pub TableTypesAreKept : Type 0
+TableTypesAreKept =
+    (table : Table) (g h : List Obj) (v w : Val) (i : ℕ) → Iso g v h w
+    → HasType (table_shapes table) g v i → HasType (table_shapes table) h w i
+
+-- the least fault, which a verdict tells, is the same one
+abbrev pub DeclaredFaultsAreKept : Type 0
+DeclaredFaultsAreKept =
+    (decls : List Decl) (g h : List Obj) (v w : Val) (t : Ty) (fault : Fault) → Iso g v h w
+    → IsLeastFault (declared_shapes decls) g v t fault → IsLeastFault (declared_shapes decls) h w t fault
+
+abbrev pub TableFaultsAreKept : Type 0
+TableFaultsAreKept =
+    (table : Table) (g h : List Obj) (v w : Val) (i : ℕ) (fault : Fault) → Iso g v h w
+    → IsLeastFault (table_shapes table) g v i fault → IsLeastFault (table_shapes table) h w i fault

@@ -1,0 +1,15 @@
+//! The laws, as contracts.
+
+ghost use Rattle.om_same_type.specs.SameType.{DeclaredTypesAreKept, TableTypesAreKept, DeclaredFaultsAreKept, TableFaultsAreKept};
+
+/// A value that is the same as one that has a type has it too.
+pub fn the_same_has_the_same_types()
+    ensures declared { DeclaredTypesAreKept }
+    ensures table { TableTypesAreKept }
+{}
+
+/// The least fault of a value is that of each value that is the same.
+pub fn the_same_has_the_same_fault()
+    ensures declared { DeclaredFaultsAreKept }
+    ensures table { TableFaultsAreKept }
+{}

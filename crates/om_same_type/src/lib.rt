@@ -1,0 +1,9 @@
+//! What is the same up to the numbers of objects has the same types and the same least faults: so what is said of a value
+//! holds of what is written of it. The functions do nothing: what each ensures is the law.
+#![tactic(auto)]
+
+mod laws;
+#[cfg(test)]
+mod tests;
+
+pub use laws::{the_same_has_the_same_fault, the_same_has_the_same_types};
