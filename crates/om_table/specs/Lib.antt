@@ -1,1 +1,2 @@
 pub mod TableDecides
+pub mod LeastWays

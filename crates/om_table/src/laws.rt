@@ -1,5 +1,6 @@
 //! The laws, as contracts.
 
+ghost use Rattle.om_table.specs.LeastWays.{LeastFaultsHaveLeastWays};
 ghost use Rattle.om_table.specs.TableDecides.{TheRootIsFirst, TablesDecide, TypeOrFault, NeverBoth};
 
 /// A value has a declared type exactly where it has the type's number in a table.
@@ -12,4 +13,9 @@ pub fn tables_decide()
 pub fn type_or_fault()
     ensures one { TypeOrFault }
     ensures never_both { NeverBoth }
+{}
+
+/// The steps before the last one of a least fault's paths are least paths.
+pub fn least_faults_have_least_ways()
+    ensures { LeastFaultsHaveLeastWays }
 {}

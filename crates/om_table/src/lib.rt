@@ -5,4 +5,4 @@ mod laws;
 #[cfg(test)]
 mod tests;
 
-pub use laws::{tables_decide, type_or_fault};
+pub use laws::{least_faults_have_least_ways, tables_decide, type_or_fault};

@@ -5,4 +5,5 @@ use super::*;
 fn laws_are_called() {
     tables_decide();
     type_or_fault();
+    least_faults_have_least_ways();
 }

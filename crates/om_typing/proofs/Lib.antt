@@ -7,3 +7,4 @@ pub mod VerdictLines
 pub mod ListDecision
 pub mod SearchedLemmas
 pub mod LeastLemmas
+pub mod WayLemmas

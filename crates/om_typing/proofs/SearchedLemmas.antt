@@ -29,7 +29,7 @@ lexically_pushed (j ∷ p) (k ∷ q) i same (inl less) = inl less
 lexically_pushed (j ∷ p) (k ∷ q) i same (inr later) =
     inr (later.0, lexically_pushed p q i (omega arith) later.1)
 
-length_pushed : (p : List ℕ) (i : ℕ) → length (p ++ i ∷ []) ≡ suc (length p)
+pub length_pushed : (p : List ℕ) (i : ℕ) → length (p ++ i ∷ []) ≡ suc (length p)
 length_pushed [] i = omega arith
 length_pushed (j ∷ p) i = ap suc (length_pushed p i)
 

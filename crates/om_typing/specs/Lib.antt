@@ -2,3 +2,4 @@ pub mod Decidable
 pub mod Complete
 pub mod ListLaws
 pub mod SearchLaws
+pub mod LeastWay

@@ -5,4 +5,7 @@ mod laws;
 #[cfg(test)]
 mod tests;
 
-pub use laws::{each_has_a_line, list_types_are_decidable, list_types_reach_few, searches_find_the_least, type_or_fault};
+pub use laws::{
+    each_has_a_line, list_types_are_decidable, list_types_reach_few, searches_find_the_least,
+    type_or_fault,
+};
