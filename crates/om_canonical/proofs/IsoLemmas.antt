@@ -3,14 +3,14 @@ use Rattle.std.proofs.Common.{ℕ, ◌≡◌, ◌<◌, ◌==◌, ◌∙◌, List
 use Rattle.std.specs.Prelude.{slice_get, map, flat_map, Contains, IsSomeAnd}
 use Rattle.std.proofs.lemmas.List.Elements.{All-contains}
 use Rattle.std.proofs.lemmas.Option.{same_Some}
-use Rattle.om_model.proofs.Options.{IsSomeAnd-some, IsSomeAnd-at, slice_get-Contains, Contains-map, Contains-flat_map}
+use Rattle.om_model.proofs.Options.{IsSomeAnd-some, IsSomeAnd-at, slice_get-Contains, Contains-map, Contains-flat_map, slice_get_there, map-Contains, flat_map-Contains}
 use Rattle.om_model.specs.declared.value.Val.{Val}
 use Rattle.om_model.specs.declared.value.Val.TheVariants as vals
 use Rattle.om_model.specs.declared.value.Obj.{Obj}
 use Rattle.om_model.specs.declared.value.Obj.TheVariants as objects
 use Rattle.om_model.specs.Graph.{IsValue, IsObject, IsGraph}
 use Rattle.om_format.specs.Iso.{AreAlike, AreAlikeObjects, IsPairing, Iso}
-use Rattle.om_canonical.proofs.ListLemmas.{slice_get_there, Contains-cond, cond-Contains, below, Contains-below, below-Contains, map-Contains, flat_map-Contains, AllZip-weaker, AllZip-swapped, AllZip-composed, AllZip-same}
+use Rattle.om_canonical.proofs.ListLemmas.{Contains-cond, cond-Contains, below, Contains-below, below-Contains, AllZip-weaker, AllZip-swapped, AllZip-composed, AllZip-same}
 
 -- ---- more pairs
 

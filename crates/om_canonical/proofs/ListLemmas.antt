@@ -18,11 +18,6 @@ IsSomeAnd-weaker (Some x) P Q weaker holds = weaker x holds
 
 -- ---- what a list has
 
-pub slice_get_there : {X : Type 0} (xs : List X) (k : ℕ) → k < length xs → (x : X) × (slice_get xs k ≡ Some x)
-slice_get_there [] k there = absurd (omega arith)
-slice_get_there (x ∷ xs) zero there = (x, refl)
-slice_get_there (x ∷ xs) (suc k) there = slice_get_there xs k (omega arith)
-
 pub slice_get_left : {X : Type 0} (xs ys : List X) (i : ℕ) (x : X) → slice_get xs i ≡ Some x → slice_get (xs ++ ys) i ≡ Some x
 slice_get_left [] ys i x is = absurd (none-some x is)
 slice_get_left (z ∷ xs) ys zero x is = is
@@ -44,22 +39,6 @@ slice_get_push_cases [] k zero m is = inr (refl, sym (same_Some k m is))
 slice_get_push_cases [] k (suc i) m is = absurd (none-some m is)
 slice_get_push_cases (n ∷ ks) k zero m is = inl is
 slice_get_push_cases (n ∷ ks) k (suc i) m is = ⊎_elim (λ before. inl before) (λ last. inr (ap suc last.0, last.1)) (slice_get_push_cases ks k i m is)
-
--- in a list that is made element by element
-pub map-Contains : {X Y : Type 0} (f : X → Y) (xs : List X) (y : Y) → Contains (map f xs) y → (x : X) × Contains xs x × (f x ≡ y)
-map-Contains f [] y among = absurd (Contains-none y among)
-map-Contains f (z ∷ xs) y among = ⊎_elim
-    (λ here. (z, Contains-first z xs, here))
-    (λ later. let r = map-Contains f xs y later in (r.0, Contains-later z xs r.0 r.1, r.2))
-    (Contains-cases (f z) (map f xs) y among)
-
--- in a list that is made of lists
-pub flat_map-Contains : {X Y : Type 0} (f : X → List Y) (xs : List X) (y : Y) → Contains (flat_map f xs) y → (x : X) × Contains xs x × Contains (f x) y
-flat_map-Contains f [] y among = absurd (Contains-none y among)
-flat_map-Contains f (z ∷ xs) y among = ⊎_elim
-    (λ here. (z, Contains-first z xs, here))
-    (λ later. let r = flat_map-Contains f xs y later in (r.0, Contains-later z xs r.0 r.1, r.2))
-    (Contains-append_cases (f z) (flat_map f xs) y among)
 
 -- in a list of one element or none
 pub Contains-cond : {X : Type 0} (b : Bool) (z x : X) → Contains (cond b (z ∷ []) []) x → (b ≡ true) × (z ≡ x)

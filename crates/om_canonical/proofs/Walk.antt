@@ -5,7 +5,7 @@ use Rattle.std.specs.List.{AllZip}
 use Rattle.std.proofs.lemmas.List.{length_push}
 use Rattle.std.proofs.lemmas.List.Elements.{All-head, All-tail, All-contains}
 use Rattle.std.proofs.lemmas.Option.{same_Some, none-some, slice_get_within}
-use Rattle.om_model.proofs.Options.{IsSomeAnd-some, IsSomeAnd-at, Contains-first, Contains-later, Contains-none, Contains-cases, slice_get-Contains, same_or_not}
+use Rattle.om_model.proofs.Options.{IsSomeAnd-some, IsSomeAnd-at, Contains-first, Contains-later, Contains-none, Contains-cases, slice_get-Contains, same_or_not, slice_get_there}
 use Rattle.om_model.specs.declared.value.Val.{Val}
 use Rattle.om_model.specs.declared.value.Val.TheVariants as vals
 use Rattle.om_model.specs.declared.value.Obj.{Obj}
@@ -16,7 +16,7 @@ use Rattle.om_format.specs.Tree.{Tree, Forest, node, none, more, trees_in, IsTre
 use Rattle.om_format.specs.Iso.{AreAlike, AreAlikeObjects, IsPairing, IsTreeOf}
 use Rattle.om_format.proofs.Counts.{leaf_fields}
 use Rattle.om_canonical.specs.Laws.{HasOneTree}
-use Rattle.om_canonical.proofs.ListLemmas.{IsSomeAnd-weaker, slice_get_there, slice_get_left, slice_get_push, slice_get_push_cases, below, Contains-below, AllZip-weaker, AllZip-append, AllZip-at}
+use Rattle.om_canonical.proofs.ListLemmas.{IsSomeAnd-weaker, slice_get_left, slice_get_push, slice_get_push_cases, below, Contains-below, AllZip-weaker, AllZip-append, AllZip-at}
 use Rattle.om_canonical.proofs.IsoLemmas.{AreAmong, AreAlike-more, AreAlikeObjects-more, alike_at}
 use Rattle.om_canonical.proofs.SameTree.{made_by_leaf, one_tree_only}
 

@@ -1,9 +1,9 @@
 -- Options, what a list contains, and tests.
-use Rattle.std.proofs.Common.{ℕ, zero, suc, ◌≡◌, ◌⊎◌, ⊎_elim, inl, inr, List, [], ◌∷◌, Bool, true, false, Option, Some, None, refl, sym, subst, arith}
+use Rattle.std.proofs.Common.{ℕ, zero, suc, ◌≡◌, ◌<◌, ◌⊎◌, ⊎_elim, inl, inr, List, [], ◌∷◌, length, Bool, true, false, Option, Some, None, refl, sym, subst, arith}
 use Rattle.std.specs.Prelude.{slice_get, map, flat_map, Contains, IsSomeAnd, IsTrue, ◌==◌}
 use Rattle.std.proofs.lemmas.Bool.{false≢true}
 use Rattle.std.proofs.lemmas.Bool.Decides.{Decides-eqb}
-use Rattle.std.proofs.lemmas.List.Elements.{Contains-append_left, Contains-append_right}
+use Rattle.std.proofs.lemmas.List.Elements.{Contains-append_left, Contains-append_right, Contains-append_cases}
 use Rattle.std.proofs.lemmas.Option.{slice_get_within, get_or_from_slice_get}
 
 pub none_or_some : {X : Type 0} (o : Option X) → (o ≡ None) ⊎ ((x : X) × (o ≡ Some x))
@@ -54,6 +54,25 @@ Contains-flat_map f (z ∷ xs) x y among has = ⊎_elim
     has))
     (λ later. Contains-append_right (f z) (flat_map f xs) y (Contains-flat_map f xs x y later has))
     (Contains-cases z xs x among)
+
+pub slice_get_there : {X : Type 0} (xs : List X) (k : ℕ) → k < length xs → (x : X) × (slice_get xs k ≡ Some x)
+slice_get_there [] k there = absurd (omega arith)
+slice_get_there (x ∷ xs) zero there = (x, refl)
+slice_get_there (x ∷ xs) (suc k) there = slice_get_there xs k (omega arith)
+
+pub map-Contains : {X Y : Type 0} (f : X → Y) (xs : List X) (y : Y) → Contains (map f xs) y → (x : X) × Contains xs x × (f x ≡ y)
+map-Contains f [] y among = absurd (Contains-none y among)
+map-Contains f (z ∷ xs) y among = ⊎_elim
+    (λ here. (z, Contains-first z xs, here))
+    (λ later. let r = map-Contains f xs y later in (r.0, Contains-later z xs r.0 r.1, r.2))
+    (Contains-cases (f z) (map f xs) y among)
+
+pub flat_map-Contains : {X Y : Type 0} (f : X → List Y) (xs : List X) (y : Y) → Contains (flat_map f xs) y → (x : X) × Contains xs x × Contains (f x) y
+flat_map-Contains f [] y among = absurd (Contains-none y among)
+flat_map-Contains f (z ∷ xs) y among = ⊎_elim
+    (λ here. (z, Contains-first z xs, here))
+    (λ later. let r = flat_map-Contains f xs y later in (r.0, Contains-later z xs r.0 r.1, r.2))
+    (Contains-append_cases (f z) (flat_map f xs) y among)
 
 -- ---- tests
 

@@ -3,13 +3,13 @@ use Rattle.std.proofs.Common.{ℕ, suc, ◌≡◌, ◌==◌, ◌∙◌, ⊎_elim
 use Rattle.std.specs.Prelude.{slice_get, flat_map, Contains, IsSomeAnd, IsSome, option_and_then, option_map, ◌&&◌, if◌then◌else◌, replicate}
 use Rattle.std.specs.List.{AllZip}
 use Rattle.std.proofs.lemmas.Option.{same_Some, none-some, option_and_then_some}
-use Rattle.om_model.proofs.Options.{IsSomeAnd-some, IsSomeAnd-at, Contains-flat_map}
+use Rattle.om_model.proofs.Options.{IsSomeAnd-some, IsSomeAnd-at, Contains-flat_map, flat_map-Contains}
 use Rattle.om_model.specs.declared.value.Val.{Val}
 use Rattle.om_model.specs.declared.value.Val.TheVariants as vals
 use Rattle.om_model.specs.declared.value.Obj.{Obj}
 use Rattle.om_model.specs.declared.value.Obj.TheVariants as objects
 use Rattle.om_format.specs.Iso.{AreAlike, AreAlikeObjects, IsPairing, Iso}
-use Rattle.om_canonical.proofs.ListLemmas.{Contains-cond, cond-Contains, flat_map-Contains, AllZip-at}
+use Rattle.om_canonical.proofs.ListLemmas.{Contains-cond, cond-Contains, AllZip-at}
 use Rattle.om_canonical.proofs.IsoLemmas.{objects_of_pair, same_symmetric}
 use Rattle.om_types.specs.declared.shape.PolyTag.{PolyTag}
 use Rattle.om_types.specs.declared.shape.ShapeOf.{ShapeOf}

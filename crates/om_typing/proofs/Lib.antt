@@ -8,3 +8,4 @@ pub mod ListDecision
 pub mod SearchedLemmas
 pub mod LeastLemmas
 pub mod WayLemmas
+pub mod StepLemmas

@@ -3,3 +3,4 @@ pub mod Complete
 pub mod ListLaws
 pub mod SearchLaws
 pub mod LeastWay
+pub mod StepLaws

@@ -5,6 +5,7 @@ ghost use Rattle.om_types.specs.VerdictLaws.{FaultsExcludeTypes};
 ghost use Rattle.om_typing.specs.Decidable.{AreDecidable};
 ghost use Rattle.om_typing.specs.ListLaws.{ListTypesReachFew, ListTypeOrFault, ListLines};
 ghost use Rattle.om_typing.specs.SearchLaws.{FirstMisfitIsLeast, LeastClashIsLeast};
+ghost use Rattle.om_typing.specs.StepLaws.{StepsAreFew};
 
 /// What list types say of a value can be decided, and the fields that they need are there.
 pub fn list_types_are_decidable()
@@ -31,4 +32,10 @@ pub fn each_has_a_line()
 pub fn searches_find_the_least()
     ensures misfit { FirstMisfitIsLeast }
     ensures clash { LeastClashIsLeast }
+{}
+
+/// A check that takes each object at each class once, and tests each of its needs once, takes at most one step and, for each
+/// class, one for each object and each field.
+pub fn checks_take_few_steps()
+    ensures { StepsAreFew }
 {}

@@ -6,6 +6,6 @@ mod laws;
 mod tests;
 
 pub use laws::{
-    each_has_a_line, list_types_are_decidable, list_types_reach_few, searches_find_the_least,
-    type_or_fault,
+    checks_take_few_steps, each_has_a_line, list_types_are_decidable, list_types_reach_few,
+    searches_find_the_least, type_or_fault,
 };

@@ -8,4 +8,5 @@ fn laws_are_called(rt: HostRuntime) {
     type_or_fault();
     each_has_a_line();
     searches_find_the_least();
+    checks_take_few_steps();
 }
