@@ -6,11 +6,10 @@ use Rattle.std.proofs.lemmas.List.{length_push, get_or-map}
 use Rattle.std.proofs.lemmas.List.Elements.{All-push, All-weaker, All-from_get_or}
 use Rattle.std.proofs.lemmas.List.FromFn.{length-range_with_len, get_or-range_with_len, take-map-range_with_len, map-range_with_len_more}
 use Rattle.std.proofs.lemmas.List.Sums.{sum_by_push}
-use Rattle.om_model.specs.declared.value.Val.{Val}
 use Rattle.om_model.specs.declared.value.Val.TheVariants as vals
 use Rattle.om_model.specs.declared.value.Obj.{Obj}
 use Rattle.om_model.specs.declared.value.Obj.TheVariants as objects
-use Rattle.om_model.specs.Graph.{IsValue, IsObject, IsGraph}
+use Rattle.om_model.specs.Graph.{IsObject, IsGraph}
 use Rattle.om_heap.specs.Heap.{object_at, object_words, heap_words, place, IsSmall, IsHeap, word_with, fields_of}
 use Rattle.om_heap.specs.Stored.{encode, places_of, decode, IsStored}
 use Rattle.om_heap.specs.Words.{tag_of, header, header_of, body_with, code_with}

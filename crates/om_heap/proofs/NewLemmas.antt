@@ -13,7 +13,7 @@ use Rattle.om_model.specs.declared.code.Custom.{Custom}
 use Rattle.om_model.specs.declared.code.Custom.TheVariants as customs
 use Rattle.om_model.specs.Graph.{IsSigned, IsValue, IsObject}
 use Rattle.om_heap.specs.declared.kind.Kind.TheVariants as kinds
-use Rattle.om_heap.specs.Heap.{object_at, object_words, word_with, custom_object, fields_of, bytes_of, doubles_of, with_field, with_byte, with_double, kind_of, IsOfKind}
+use Rattle.om_heap.specs.Heap.{object_at, object_words, word_with, custom_object, fields_of, bytes_of, doubles_of, with_field, with_byte, with_double, kind_of}
 use Rattle.om_heap.specs.Stored.{kind_from, signed_from}
 use Rattle.om_heap.specs.Words.{tag_of, header, body_with, code_with, custom_words, string_words, word_of_bytes, bytes_of_word}
 use Rattle.om_heap.proofs.WordLemmas.{signed_back}

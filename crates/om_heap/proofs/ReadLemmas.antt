@@ -1,12 +1,12 @@
 -- Lemmas for callers: words tell values, and stay while objects are appended and filled.
-use Rattle.std.proofs.Common.{◌≡◌, ℕ, ◌*◌, ◌<◌, List, [], ◌∷◌, ◌++◌, length, get_or, map, refl, sym, ap, ◌∙◌, arith, length-set, eqb}
+use Rattle.std.proofs.Common.{◌≡◌, ℕ, ◌*◌, ◌<◌, List, [], ◌∷◌, ◌++◌, length, get_or, map, refl, sym, ap, ◌∙◌, arith, length-set}
 use Rattle.std.proofs.lemmas.List.{get_or-map}
 use Rattle.om_model.specs.declared.value.Val.{Val}
 use Rattle.om_model.specs.declared.value.Val.TheVariants as vals
 use Rattle.om_model.specs.declared.value.Obj.{Obj}
 use Rattle.om_model.specs.declared.value.Obj.TheVariants as objects
 use Rattle.om_model.specs.Graph.{IsValue, IsGraph}
-use Rattle.om_heap.specs.Heap.{object_at, with_field, set_field, object_words, heap_words, place, word_with, word_of}
+use Rattle.om_heap.specs.Heap.{object_at, with_field, set_field, object_words, heap_words, place, word_of}
 use Rattle.om_heap.specs.Stored.{places_of, value_from}
 use Rattle.om_heap.proofs.PlaceLemmas.{place-append, place-all, place-set}
 use Rattle.om_heap.proofs.WordLemmas.{value_back}

@@ -1,11 +1,10 @@
 -- Fields that are met one after another, and contents that are compared.
 use Rattle.std.proofs.Common.{ℕ, zero, suc, ◌≡◌, ◌≢◌, ◌+◌, ◌<◌, ◌≤◌, ◌∙◌, Bool, true, false, List, [], ◌∷◌, ◌++◌, length, map, take, get_or, set, refl, sym, ap, subst, arith, add-one, append-nil}
-use Rattle.std.specs.Prelude.{Contains, MatchBool, Result, Ok, Err}
+use Rattle.std.specs.Prelude.{MatchBool, Result, Ok, Err}
 use Rattle.std.specs.List.{AllZip}
 use Rattle.std.proofs.lemmas.List.{ext_get_or, take_all, map_push, length-map}
 use Rattle.om_model.specs.declared.out_of_memory.Memory.{Memory}
 use Rattle.om_model.specs.declared.value.Val.{Val}
-use Rattle.om_model.specs.declared.value.Val.TheVariants as vals
 use Rattle.om_model.specs.declared.value.Obj.{Obj}
 use Rattle.om_model.specs.declared.value.Obj.TheVariants as objects
 use Rattle.om_format.specs.Iso.{AreAlike, AreAlikeObjects}
@@ -15,7 +14,7 @@ use Rattle.om_model.specs.declared.code.Custom.TheVariants as customs
 use Rattle.om_heap.specs.declared.kind.Kind.{Kind}
 use Rattle.om_heap.specs.declared.kind.Kind.TheVariants as kinds
 use Rattle.om_iso.specs.Paired.{IsNew, IsIndex}
-use Rattle.om_iso.specs.Meeting.{AreOneToOne, AreAmong, AreMet, CannotMeet, Meets}
+use Rattle.om_iso.specs.Meeting.{AreMet, CannotMeet, Meets}
 use Rattle.om_iso.proofs.IndexLemmas.{IsIndex-push}
 use Rattle.om_iso.proofs.MeetingLemmas.{met_then, cannot_then}
 use Rattle.om_canonical.proofs.ListLemmas.{AllZip-weaker}

@@ -1,14 +1,14 @@
 -- Tables from a number to its pair.
-use Rattle.std.proofs.Common.{ℕ, zero, suc, ◌≡◌, ◌≢◌, ◌+◌, ◌<◌, ◌≤◌, ◌∙◌, ◌⊎◌, inl, inr, ⊎_elim, cond, eqb, List, [], ◌∷◌, ◌++◌, length, map, get_or, set, Option, Some, None, refl, sym, ap, subst, arith, get_or-set_other, get_or-set_same, append-nil, ne_eqb, false}
-use Rattle.std.specs.Prelude.{slice_get, Contains, count_by, option_map}
+use Rattle.std.proofs.Common.{ℕ, zero, suc, ◌≡◌, ◌≢◌, ◌+◌, ◌<◌, ◌≤◌, ◌∙◌, ◌⊎◌, inl, inr, ⊎_elim, cond, eqb, List, [], ◌∷◌, ◌++◌, length, map, get_or, set, Some, refl, sym, ap, subst, arith, get_or-set_other, get_or-set_same, append-nil, ne_eqb, false}
+use Rattle.std.specs.Prelude.{slice_get, Contains, option_map}
 use Rattle.std.proofs.lemmas.Bool.{cases_lt}
-use Rattle.std.proofs.lemmas.List.{get_or_past, length-set, length_push, map_push}
+use Rattle.std.proofs.lemmas.List.{get_or_past, length-set, length_push}
 use Rattle.std.proofs.lemmas.List.Sums.{sum_by-set}
 use Rattle.std.proofs.lemmas.List.Elements.{Contains-push, Contains-push_cases}
-use Rattle.std.proofs.lemmas.Option.{same_Some, none-some, slice_get-get_or, slice_get-map, option_and_then_some}
+use Rattle.std.proofs.lemmas.Option.{same_Some, none-some, slice_get-get_or, slice_get-map}
 use Rattle.om_model.proofs.Options.{slice_get-Contains, same_or_not}
 use Rattle.om_iso.specs.Paired.{left_of, right_of, IsNew, IsIndex}
-use Rattle.om_iso.specs.Meeting.{AreOneToOne, AreAmong, AreMet, CannotMeet}
+use Rattle.om_iso.specs.Meeting.{AreOneToOne, AreMet, CannotMeet}
 use Rattle.om_canonical.proofs.ListLemmas.{slice_get_left, slice_get_push, slice_get_push_cases}
 
 -- ---- what an index says

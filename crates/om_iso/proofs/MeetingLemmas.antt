@@ -1,6 +1,6 @@
 -- One meeting after another.
-use Rattle.std.proofs.Common.{ℕ, ◌≡◌, ◌∙◌, List, ◌++◌, ap, append_assoc}
-use Rattle.om_iso.specs.Meeting.{AreOneToOne, AreAmong, StandInFront, AreMet, CannotMeet}
+use Rattle.std.proofs.Common.{ℕ, ◌∙◌, List, ◌++◌, ap, append_assoc}
+use Rattle.om_iso.specs.Meeting.{AreAmong, StandInFront, AreMet, CannotMeet}
 use Rattle.std.specs.Prelude.{Contains}
 use Rattle.std.proofs.lemmas.List.Elements.{Contains-append_left}
 use Rattle.std.proofs.Common.{sym, subst}

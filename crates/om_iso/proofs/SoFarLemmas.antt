@@ -1,5 +1,5 @@
 -- The comparison of two values, object by object.
-use Rattle.std.proofs.Common.{ℕ, ◌≡◌, ◌+◌, ◌<◌, ◌≤◌, ◌∙◌, ◌⊎◌, inl, inr, List, [], ◌++◌, length, get_or, Some, refl, sym, ap, subst, arith, pos}
+use Rattle.std.proofs.Common.{ℕ, ◌≡◌, ◌+◌, ◌<◌, ◌≤◌, ◌∙◌, ◌⊎◌, inl, inr, List, [], length, get_or, Some, sym, ap, subst, arith, pos}
 use Rattle.std.specs.Prelude.{slice_get, Contains}
 use Rattle.std.proofs.lemmas.Bool.{cases_lt}
 use Rattle.std.proofs.lemmas.Option.{same_Some, slice_get-get_or, slice_get_within}
@@ -9,7 +9,7 @@ use Rattle.om_model.specs.declared.value.Obj.{Obj}
 use Rattle.om_model.specs.declared.value.Obj.TheVariants as objects
 use Rattle.om_format.specs.Iso.{AreAlike, AreAlikeObjects, IsPairing, Iso}
 use Rattle.om_heap.specs.Heap.{object_at}
-use Rattle.om_iso.specs.Meeting.{AreOneToOne, AreAmong, StandInFront, AreMet, CannotMeet}
+use Rattle.om_iso.specs.Meeting.{AreOneToOne, StandInFront, AreMet, CannotMeet}
 use Rattle.om_iso.specs.SoFar.{IsSoFar}
 use Rattle.om_iso.proofs.IndexLemmas.{pair_contained}
 use Rattle.om_iso.proofs.MeetingLemmas.{among_front}

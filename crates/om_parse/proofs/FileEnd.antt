@@ -1,16 +1,15 @@
 -- A file that ends: by the table and by the code.
-use Rattle.std.proofs.Common.{ℕ, ◌≡◌, ◌<◌, ◌∙◌, Bool, true, false, List, [], ◌∷◌, ◌++◌, length, map, Option, Some, None, refl, sym, ap, subst}
+use Rattle.std.proofs.Common.{◌≡◌, ◌∙◌, Bool, false, List, [], ◌∷◌, ◌++◌, map, Option, Some, None, refl, sym, ap, subst}
 use Rattle.om_grammar.specs.Grammar.{Name, Texpr, App, single, starred, no_arguments, inline, listed, RecordTree, ConstrTree, FieldTree, FileTree, type_body, record_body}
-use Rattle.om_grammar.specs.Holes.{State, due, read, name_due, tag_read, outside, first_part, next_part, whole, group, argument, of_tag, inclusion, alone}
-use Rattle.om_grammar.specs.File.{Before, head_of, rest_of, GroupHole, BodyHole, ConstrHole, RecordHole, body_record, inline_record, TypeOutside, body_type, field_type, PartOutside, listed_part, Outside, file_due, decl_due, param_due, param_read, params_read, name_read, body_due, constr_due, upper_read, of_read, field_due, mutable_read, field_named, record_read, FileState, decl_with, variant_with, constr_with, closed_decl, closed_constr, closed_record, closed_outer_part, accepted_outside, file_accepted}
+use Rattle.om_grammar.specs.Holes.{due, read, name_due, tag_read, outside, first_part, next_part, whole, alone}
+use Rattle.om_grammar.specs.File.{Before, head_of, rest_of, BodyHole, ConstrHole, RecordHole, body_record, inline_record, TypeOutside, body_type, field_type, PartOutside, listed_part, Outside, file_due, decl_due, param_due, param_read, params_read, name_read, body_due, constr_due, upper_read, of_read, field_due, mutable_read, field_named, record_read, FileState, decl_with, variant_with, constr_with, closed_decl, closed_constr, closed_record, closed_outer_part, accepted_outside, file_accepted}
 use Rattle.om_grammar.proofs.HolesLead.{type_read}
-use Rattle.om_types.specs.Ty.{Ty}
 use Rattle.om_types.specs.Nodes.{type_of, AreOrdered}
 use Rattle.om_types.specs.declared.ty.Node.{Node}
 use Rattle.om_types.specs.declared.decl.Arguments.TheVariants as arguments
 use Rattle.om_types.specs.declared.decl.Body.TheVariants as bodies
 use Rattle.om_types.specs.declared.decl.Decl.{Decl}
-use Rattle.om_parse.specs.Written.{type_of_texpr, type_of_app, fields_of_tree, constructor_of_tree, declarations_of}
+use Rattle.om_parse.specs.Written.{type_of_app, fields_of_tree, constructor_of_tree, declarations_of}
 use Rattle.om_parse.specs.declared.open.Frame.{Frame}
 use Rattle.om_parse.specs.declared.open.Phase.{Phase}
 use Rattle.om_parse.specs.declared.so_far.FilePhase.{FilePhase}

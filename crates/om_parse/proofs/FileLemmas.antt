@@ -1,35 +1,29 @@
 -- The code's step on declarations so far is the table's step on their trees.
-use Rattle.std.proofs.Common.{ℕ, zero, suc, ◌≡◌, ◌<◌, ◌∙◌, min, Bool, true, false, List, [], ◌∷◌, ◌++◌, length, map, Option, Some, None, refl, sym, ap, subst, arith, append-nil, append_assoc}
+use Rattle.std.proofs.Common.{◌≡◌, ◌∙◌, min, Bool, true, false, List, [], ◌∷◌, ◌++◌, length, map, Option, Some, None, refl, sym, ap, subst, append-nil, append_assoc}
 use Rattle.om_lex.specs.declared.lexeme.LexemeKind.{LexemeKind}
 use Rattle.om_lex.specs.declared.lexeme.LexemeKind.TheVariants as kinds
 use Rattle.om_lex.specs.declared.lexeme.Keyword.TheVariants as keywords
 use Rattle.om_lex.specs.declared.lexeme.Symbol.TheVariants as symbols
-use Rattle.om_grammar.specs.Grammar.{Name, Texpr, App, single, starred, Params, no_params, param, params, FieldTree, RecordTree, no_arguments, inline, listed, ConstrTree, record_body, variant_body, type_body, DeclTree, GroupTree, FileTree}
-use Rattle.om_grammar.specs.Holes.{State, due, read, name_due, tag_read, outside, first_part, whole, alone, begin, step, ended as table_ended}
-use Rattle.om_grammar.specs.File.{Before, nothing, so_far, head_of, rest_of, with_one, GroupHole, BodyHole, ConstrHole, RecordHole, body_record, inline_record, TypeOutside, body_type, field_type, PartOutside, listed_part, Outside, file_due, decl_due, param_due, param_read, params_read, name_read, body_due, constr_due, upper_read, of_read, field_due, mutable_read, field_named, record_read, FileState, group_with, decl_with, variant_with, constr_with, field_with, record_with, after_decl, after_constr, after_record, after_field, outer_type_step, outer_part_step, begin_decl, begin_file, take_param, after_param, take_decl_name, take_equals, begin_body, take_upper, after_upper, begin_arguments, close_record, begin_field, take_field_name, take_colon, outer_step, declarations}
-use Rattle.om_types.specs.Ty.{Ty}
-use Rattle.om_types.specs.Nodes.{type_of, AreOrdered}
+use Rattle.om_grammar.specs.Grammar.{Name, Texpr, App, Params, FieldTree, RecordTree, no_arguments, inline, listed, ConstrTree, record_body, type_body, DeclTree, GroupTree, FileTree}
+use Rattle.om_grammar.specs.Holes.{due, read, name_due, tag_read, outside, first_part, whole, alone, begin, step, ended as table_ended}
+use Rattle.om_grammar.specs.File.{Before, nothing, so_far, head_of, rest_of, with_one, GroupHole, BodyHole, ConstrHole, RecordHole, body_record, inline_record, TypeOutside, body_type, field_type, PartOutside, listed_part, Outside, file_due, decl_due, param_due, param_read, params_read, name_read, body_due, constr_due, upper_read, of_read, field_due, mutable_read, field_named, record_read, FileState, group_with, decl_with, variant_with, constr_with, field_with, after_decl, after_constr, after_record, after_field, outer_type_step, outer_part_step, outer_step, declarations}
+use Rattle.om_types.specs.Nodes.{type_of}
 use Rattle.om_parse.proofs.TypesOfNodes.{ordered_none}
 use Rattle.om_types.specs.declared.ty.Node.{Node}
 use Rattle.om_types.specs.declared.decl.Arguments.TheVariants as arguments
 use Rattle.om_types.specs.declared.decl.Body.TheVariants as bodies
 use Rattle.om_types.specs.declared.decl.Decl.{Decl}
-use Rattle.om_parse.specs.Written.{type_of_texpr, type_of_app, parameters_of, field_of_tree, fields_of_tree, constructor_of_tree, declaration_of_tree, declarations_of}
+use Rattle.om_parse.specs.Written.{type_of_texpr, type_of_app, field_of_tree, fields_of_tree, constructor_of_tree, declaration_of_tree, declarations_of}
 use Rattle.om_parse.specs.declared.open.Frame.{Frame}
-use Rattle.om_parse.specs.declared.open.Phase.{Phase}
 use Rattle.om_parse.specs.declared.open.Phase.TheVariants as phases
-use Rattle.om_parse.specs.declared.open.Step.{Step}
-use Rattle.om_parse.specs.declared.open.Step.TheVariants as steps
-use Rattle.om_parse.specs.declared.so_far.Around.{Around}
-use Rattle.om_parse.specs.declared.so_far.Around.TheVariants as arounds
 use Rattle.om_parse.specs.declared.so_far.FilePhase.{FilePhase}
 use Rattle.om_parse.specs.declared.so_far.FilePhase.TheVariants as files
-use Rattle.om_parse.specs.TypeCode.{StepCode, goes, ended, stops, begin_code, step_code, StepIs}
-use Rattle.om_parse.specs.TypeShown.{Bottom, at_type, at_part, is_alone, type_shown}
-use Rattle.om_parse.specs.FileCode.{FileStep, file_goes, file_stops, outside_of, group_code, more_decls, decl_code, constructors_code, constr_code, fields_code, field_code, after_decl_code, after_constr_code, after_record_code, after_field_code, listed_code, after_type_code, is_argument, in_type_code, begin_body_code, begin_arguments_code, begin_field_code, close_record_code, file_step_code, file_depth_code, after_step}
-use Rattle.om_parse.specs.FileShown.{row_list, group_of, declared_of, constructors_of, record_of, fields_of, around_of, phase_of, IsInType, file_shown, IsReadable, IfEnded}
+use Rattle.om_parse.specs.TypeCode.{StepCode, goes, ended, stops, begin_code, step_code}
+use Rattle.om_parse.specs.TypeShown.{Bottom, at_type, at_part, is_alone}
+use Rattle.om_parse.specs.FileCode.{FileStep, file_goes, file_stops, outside_of, group_code, more_decls, decl_code, constructors_code, constr_code, fields_code, after_decl_code, after_constr_code, after_record_code, after_field_code, listed_code, after_type_code, is_argument, in_type_code, file_step_code, file_depth_code}
+use Rattle.om_parse.specs.FileShown.{row_list, group_of, declared_of, constructors_of, record_of, fields_of, around_of, phase_of, IsInType, file_shown}
 use Rattle.om_parse.proofs.TypeLemmas.{none_outside, EndsAt, Follows, begin_follows, step_follows, depth_follows}
-use Rattle.om_parse.proofs.WrittenLemmas.{row_more, map_more, row_map, group_ends}
+use Rattle.om_parse.proofs.WrittenLemmas.{row_more, row_map, group_ends}
 
 -- both go on, or neither
 abbrev pub FollowsOut : Option FileState → Option FilePhase → Type 0

@@ -1,11 +1,11 @@
 -- The loop over the lexemes of a file.
-use Rattle.std.proofs.Common.{ℕ, suc, ◌≡◌, ◌≤◌, ◌<◌, ◌⊎◌, ◌∙◌, List, [], ◌∷◌, ◌++◌, length, take, Option, Some, None, refl, sym, ap, subst}
+use Rattle.std.proofs.Common.{ℕ, suc, ◌≡◌, ◌≤◌, ◌<◌, ◌⊎◌, List, [], ◌∷◌, ◌++◌, length, take, Option, Some, None, refl, subst}
 use Rattle.om_lex.specs.declared.lexeme.LexemeKind.{LexemeKind}
-use Rattle.om_grammar.specs.Grammar.{Kinds, FileTree, file_kinds}
+use Rattle.om_grammar.specs.Grammar.{Kinds, file_kinds}
 use Rattle.om_grammar.specs.Depths.{file_ends}
 use Rattle.om_grammar.specs.Refusals.{opened, IsTooDeep, IsRefusedAsSyntax}
 use Rattle.om_grammar.specs.Holes.{step}
-use Rattle.om_grammar.specs.File.{FileState, declarations, file_start, file_accepted}
+use Rattle.om_grammar.specs.File.{FileState, declarations, file_accepted}
 use Rattle.om_grammar.proofs.FileTable.{file_table}
 use Rattle.om_grammar.proofs.ReachedLemmas.{Reached, Moved, reached_first, refused_syntax, refused_end, read_whole, refused_deep, reached_next}
 use Rattle.om_types.specs.declared.ty.Node.{Node}
@@ -15,7 +15,7 @@ use Rattle.om_parse.specs.Parsed.{AreDeclarationsOf}
 use Rattle.om_parse.specs.declared.open.Frame.{Frame}
 use Rattle.om_parse.specs.declared.so_far.FilePhase.{FilePhase}
 use Rattle.om_parse.specs.declared.so_far.FilePhase.TheVariants as files
-use Rattle.om_parse.specs.FileCode.{FileStep, file_goes, file_stops, file_step_code, file_depth_code, file_whole_code, FileStepIs}
+use Rattle.om_parse.specs.FileCode.{FileStep, file_step_code, file_depth_code, file_whole_code, FileStepIs}
 use Rattle.om_parse.specs.FileShown.{file_shown, IsReadable}
 use Rattle.om_parse.proofs.FileLemmas.{FollowsFile, file_follows, file_depth_follows}
 use Rattle.om_parse.proofs.FileEnd.{EndsFile, file_ends_follow}

@@ -1,9 +1,9 @@
 -- Nodes that types are added to.
-use Rattle.std.proofs.Common.{ℕ, zero, suc, ◌≡◌, ◌<◌, ◌∙◌, List, [], ◌∷◌, ◌++◌, length, refl, sym, ap, subst, arith, length-append, append-nil, append_assoc, ◌-◌}
+use Rattle.std.proofs.Common.{ℕ, suc, ◌≡◌, ◌∙◌, List, [], ◌∷◌, ◌++◌, length, refl, sym, ap, subst, arith, length-append, append-nil, append_assoc, ◌-◌}
 use Rattle.om_grammar.specs.Grammar.{Name, Texprs}
 use Rattle.om_grammar.specs.Grammar as trees
 use Rattle.om_types.specs.Ty.{Ty, named, part}
-use Rattle.om_types.specs.Nodes.{type_at, types_of, type_of, type_of_node, IsBelow, AreOrdered}
+use Rattle.om_types.specs.Nodes.{type_at, types_of, type_of, type_of_node, AreOrdered}
 use Rattle.om_parse.proofs.TypesOfNodes.{type_at-more, type_at-last, ordered_more}
 use Rattle.om_types.specs.declared.ty.Node.{Node}
 use Rattle.om_types.specs.declared.ty.Node.TheVariants as nodes

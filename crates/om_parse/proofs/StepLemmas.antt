@@ -1,8 +1,8 @@
 -- A step of a type, in what stands round it.
-use Rattle.std.proofs.Common.{ℕ, ◌≡◌, List, [], ◌∷◌, Option, Some, None, Result, Ok, Err, refl, sym, ap, subst}
+use Rattle.std.proofs.Common.{◌≡◌, List, Option, Result, sym, ap, subst}
 use Rattle.om_lex.specs.declared.lexeme.LexemeKind.{LexemeKind}
 use Rattle.om_grammar.specs.File.{TypeOutside, PartOutside, Outside, file_due, decl_due, param_due, param_read, params_read, name_read, body_due, constr_due, upper_read, of_read, field_due, mutable_read, field_named, record_read, FileState, declarations}
-use Rattle.om_grammar.specs.Holes.{State, due, read, name_due, tag_read, outside, step as table_step}
+use Rattle.om_grammar.specs.Holes.{due, read, name_due, tag_read, outside, step as table_step}
 use Rattle.om_types.specs.Nodes.{AreOrdered}
 use Rattle.om_types.specs.declared.ty.Node.{Node}
 use Rattle.om_parse.specs.declared.open.Frame.{Frame}
@@ -12,9 +12,9 @@ use Rattle.om_parse.specs.declared.open.Step.TheVariants as steps
 use Rattle.om_parse.specs.declared.so_far.Around.{Around}
 use Rattle.om_parse.specs.declared.so_far.FilePhase.{FilePhase}
 use Rattle.om_parse.specs.declared.so_far.FilePhase.TheVariants as files
-use Rattle.om_parse.specs.TypeCode.{StepCode, goes, ended, stops, step_code, StepIs}
+use Rattle.om_parse.specs.TypeCode.{StepCode, step_code, StepIs}
 use Rattle.om_parse.specs.TypeShown.{Bottom, at_type, at_part}
-use Rattle.om_parse.specs.FileCode.{FileStep, is_argument, in_type_code, after_step, FileSteps}
+use Rattle.om_parse.specs.FileCode.{is_argument, in_type_code, after_step, FileSteps}
 use Rattle.om_parse.specs.FileShown.{phase_of, IsInType, file_shown, IsReadable, IfEnded}
 use Rattle.om_parse.proofs.TypeLemmas.{EndsAt, Follows}
 use Rattle.om_parse.proofs.FileLemmas.{inner_follows}

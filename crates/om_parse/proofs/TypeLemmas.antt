@@ -1,11 +1,10 @@
 -- The code's step on numbers of nodes is the table's step on trees.
-use Rattle.std.proofs.Common.{ℕ, zero, suc, ◌≡◌, ◌<◌, ◌∙◌, min, max, Bool, true, false, List, [], ◌∷◌, ◌++◌, length, Option, Some, None, refl, sym, ap, subst, arith}
-use Rattle.std.specs.Bool.{⊤}
+use Rattle.std.proofs.Common.{ℕ, suc, ◌≡◌, ◌∙◌, min, max, Bool, true, false, List, [], ◌∷◌, ◌++◌, length, Option, Some, None, refl, sym, ap, subst, arith}
 use Rattle.om_lex.specs.declared.lexeme.LexemeKind.{LexemeKind}
 use Rattle.om_lex.specs.declared.lexeme.LexemeKind.TheVariants as kinds
 use Rattle.om_lex.specs.declared.lexeme.Keyword.TheVariants as keywords
 use Rattle.om_lex.specs.declared.lexeme.Symbol.TheVariants as symbols
-use Rattle.om_grammar.specs.Grammar.{Name, Texpr, App, Simple, Texprs, Items, Item, single, starred, simple, applied, variable, named, grouped, arguments, bracket, first, further, one, more, tag, tag_of, included}
+use Rattle.om_grammar.specs.Grammar.{Name, Texpr, App, Texprs, Items, Item, single, starred, simple, applied, variable, named, grouped, arguments, bracket, first, further, one, more, tag, tag_of, included}
 use Rattle.om_grammar.specs.Depths.{texpr_depth, part_depth, app_depth, texprs_depth, items_depth, item_depth}
 use Rattle.om_grammar.specs.Holes.{Outer, TypeHole, PartHole, ItemHole, State, whole, group, argument, of_tag, first_part, next_part, inclusion, alone, first_item, next_item, due, read, name_due, tag_read, outside, begin_item, begin, after_items, after_item, close_type, after_type, close_part, after_part, take_name, after_tag, step, part_ended, ended as table_ended}
 use Rattle.om_types.specs.Ty.{Ty}
@@ -14,7 +13,7 @@ use Rattle.om_types.specs.Nodes.{type_at, types_of, type_of, AreOrdered}
 use Rattle.om_parse.proofs.TypesOfNodes.{ordered_more}
 use Rattle.om_types.specs.declared.ty.Node.{Node}
 use Rattle.om_types.specs.declared.ty.Node.TheVariants as nodes
-use Rattle.om_parse.specs.Written.{type_of_texpr, tuple_of, type_of_app, type_of_items, with_item, applied_to}
+use Rattle.om_parse.specs.Written.{type_of_texpr, tuple_of, type_of_app, type_of_items, with_item}
 use Rattle.om_parse.specs.declared.open.Part.{Part}
 use Rattle.om_parse.specs.declared.open.Frame.{Frame}
 use Rattle.om_parse.specs.declared.open.Frame.TheVariants as frames
@@ -22,8 +21,8 @@ use Rattle.om_parse.specs.declared.open.Phase.{Phase}
 use Rattle.om_parse.specs.declared.open.Phase.TheVariants as phases
 use Rattle.om_parse.specs.declared.open.Item.{Item as ItemRead}
 use Rattle.om_parse.specs.declared.open.Item.TheVariants as read_items
-use Rattle.om_parse.specs.TypeCode.{StepCode, goes, ended, stops, deeper, part, reads, begin_item_code, begin_code, item_node, item_depth_code, after_items_code, after_item_code, after_group_code, after_argument_code, close_type_code, after_single_code, after_tuple_code, outermost_code, close_part_code, after_part_code, parts_nodes, parts_node, take_name_code, after_tag_code, step_code, part_depth_code, depth_code, whole_part_code, whole_code}
-use Rattle.om_parse.specs.TypeShown.{IsAt, AreAt, Has, HasAll, HasLast, types_of_texprs, Bottom, at_type, at_part, is_alone, type_frames, part_frames, item_frames, type_shown}
+use Rattle.om_parse.specs.TypeCode.{StepCode, goes, ended, stops, deeper, part, begin_item_code, begin_code, item_node, item_depth_code, after_items_code, after_item_code, after_group_code, after_argument_code, close_type_code, after_single_code, after_tuple_code, outermost_code, close_part_code, after_part_code, parts_nodes, parts_node, take_name_code, after_tag_code, step_code, part_depth_code, depth_code}
+use Rattle.om_parse.specs.TypeShown.{IsAt, Has, HasAll, HasLast, types_of_texprs, Bottom, at_type, at_part, is_alone, type_frames, part_frames, item_frames, type_shown}
 use Rattle.om_parse.proofs.NodeLemmas.{at_more, all_at_more, all_at_end, at_last, at_last_as, is_last, part_last, part_ordered, parts_with, arguments_as, Added, adds_parts, last_type}
 
 -- ---- more nodes change nothing

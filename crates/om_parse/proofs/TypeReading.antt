@@ -1,11 +1,11 @@
 -- The loop over the lexemes of a type.
-use Rattle.std.proofs.Common.{ℕ, zero, suc, ◌≡◌, ◌≤◌, ◌<◌, ◌⊎◌, ◌∙◌, min, Bool, true, false, List, [], ◌∷◌, ◌++◌, length, take, Option, Some, None, refl, sym, ap, subst, arith}
+use Rattle.std.proofs.Common.{ℕ, suc, ◌≡◌, ◌≤◌, ◌<◌, ◌⊎◌, ◌∙◌, false, List, [], ◌∷◌, ◌++◌, length, take, Some, None, refl, ap, subst}
 use Rattle.om_lex.specs.declared.lexeme.LexemeKind.{LexemeKind}
 use Rattle.om_grammar.specs.Grammar.{Kinds, Texpr, single, starred, texpr}
 use Rattle.om_grammar.specs.Depths.{texpr_ends}
 use Rattle.om_grammar.specs.Refusals.{opened, IsTooDeep, IsRefusedAsSyntax}
-use Rattle.om_grammar.specs.Holes.{whole, group, argument, of_tag, first_part, next_part, inclusion, alone, read, step, ended as table_ended, outside}
-use Rattle.om_grammar.specs.Alone.{End, end, Nowhere, TypeState, types, type_start, type_accepted}
+use Rattle.om_grammar.specs.Holes.{whole, first_part, next_part, alone, read, step, outside}
+use Rattle.om_grammar.specs.Alone.{End, end, Nowhere, TypeState, types, type_accepted}
 use Rattle.om_grammar.proofs.HolesLead.{type_read}
 use Rattle.om_grammar.proofs.AloneTable.{type_table}
 use Rattle.om_grammar.proofs.ReachedLemmas.{Reached, Moved, reached_first, refused_syntax, refused_end, read_whole, refused_deep, reached_next}
@@ -19,7 +19,7 @@ use Rattle.om_parse.specs.declared.open.Phase.{Phase}
 use Rattle.om_parse.specs.declared.open.Phase.TheVariants as phases
 use Rattle.om_parse.specs.declared.open.Step.{Step}
 use Rattle.om_parse.specs.declared.open.Step.TheVariants as steps
-use Rattle.om_parse.specs.TypeCode.{StepCode, goes, ended, stops, step_code, depth_code, whole_code, StepIs, WholeIs}
+use Rattle.om_parse.specs.TypeCode.{StepCode, step_code, depth_code, whole_code, StepIs}
 use Rattle.om_parse.specs.TypeShown.{Bottom, at_type, type_shown}
 use Rattle.om_parse.proofs.TypeLemmas.{Follows, step_follows, depth_follows}
 use Rattle.om_parse.proofs.WholeLemmas.{may_end, Ends, whole_ends}

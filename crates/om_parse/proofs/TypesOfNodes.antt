@@ -1,9 +1,9 @@
 -- The types of nodes, one after the other.
-use Rattle.std.proofs.Common.{ℕ, zero, suc, ◌+◌, ◌-◌, ◌<◌, ◌≡◌, ◌∙◌, List, [], ◌∷◌, ◌++◌, length, Option, Some, None, refl, sym, ap, subst, arith, append_assoc, append-nil}
-use Rattle.std.specs.Prelude.{fold, slice_get, slice_index_or}
-use Rattle.om_types.specs.Ty.{Ty, tuple}
+use Rattle.std.proofs.Common.{ℕ, zero, suc, ◌+◌, ◌<◌, ◌≡◌, ◌∙◌, List, [], ◌∷◌, ◌++◌, length, Some, refl, sym, ap, subst, arith, append_assoc, append-nil}
+use Rattle.std.specs.Prelude.{fold, slice_get}
+use Rattle.om_types.specs.Ty.{Ty}
 use Rattle.om_types.specs.declared.ty.Node.{Node}
-use Rattle.om_types.specs.Nodes.{type_at, type_of_node, types_of, type_of, IsBelow, AreOrdered}
+use Rattle.om_types.specs.Nodes.{type_at, type_of_node, types_of, IsBelow, AreOrdered}
 
 abbrev onto : List Ty → List Node → List Ty
 onto types all = fold (λ ts node. ts ++ type_of_node ts node ∷ []) types all

@@ -1,8 +1,8 @@
 -- Where all of a type is closed, by the table and by the code.
-use Rattle.std.proofs.Common.{ℕ, zero, suc, ◌≡◌, ◌<◌, Bool, true, false, List, [], ◌∷◌, ◌++◌, length, Option, Some, None, refl, subst, sym, arith}
+use Rattle.std.proofs.Common.{◌≡◌, Bool, true, false, List, [], ◌∷◌, ◌++◌, length, Option, Some, None, refl, subst, sym}
 use Rattle.om_grammar.specs.Grammar.{Texpr, App, single, starred}
 use Rattle.om_grammar.specs.Depths.{app_depth}
-use Rattle.om_grammar.specs.Holes.{TypeHole, PartHole, ItemHole, State, whole, group, argument, of_tag, first_part, next_part, inclusion, alone, first_item, next_item, due, read, name_due, tag_read, outside}
+use Rattle.om_grammar.specs.Holes.{PartHole, State, whole, group, argument, of_tag, first_part, next_part, inclusion, alone, first_item, next_item, due, read, name_due, tag_read, outside}
 use Rattle.om_grammar.proofs.HolesLead.{type_read}
 use Rattle.om_types.specs.Nodes.{type_of, AreOrdered}
 use Rattle.om_types.specs.declared.ty.Node.{Node}
@@ -14,7 +14,7 @@ use Rattle.om_parse.specs.declared.open.Frame.TheVariants as frames
 use Rattle.om_parse.specs.declared.open.Phase.{Phase}
 use Rattle.om_parse.specs.declared.open.Phase.TheVariants as phases
 use Rattle.om_parse.specs.TypeCode.{whole_part_code, whole_code, WholeIs}
-use Rattle.om_parse.specs.TypeShown.{Has, HasLast, Bottom, at_type, at_part, type_frames, part_frames, item_frames, type_shown}
+use Rattle.om_parse.specs.TypeShown.{HasLast, Bottom, at_type, at_part, part_frames, type_shown}
 use Rattle.om_parse.proofs.NodeLemmas.{is_last, part_last, part_ordered, last_type}
 use Rattle.om_parse.proofs.TypeLemmas.{none_outside}
 

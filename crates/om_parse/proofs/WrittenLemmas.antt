@@ -1,7 +1,7 @@
 -- Declarations so far, with one more.
-use Rattle.std.proofs.Common.{ℕ, suc, ◌≡◌, ◌∙◌, Bool, true, false, List, [], ◌∷◌, ◌++◌, length, map, refl, sym, ap, append_assoc}
-use Rattle.om_grammar.specs.Grammar.{DeclTree, GroupTree, FileTree}
-use Rattle.om_grammar.specs.File.{Before, nothing, so_far, head_of, rest_of, with_one, GroupHole, group_with}
+use Rattle.std.proofs.Common.{◌≡◌, ◌∙◌, Bool, List, [], ◌∷◌, ◌++◌, length, map, refl, sym, ap, append_assoc}
+use Rattle.om_grammar.specs.Grammar.{DeclTree, GroupTree}
+use Rattle.om_grammar.specs.File.{Before, nothing, so_far, head_of, rest_of, GroupHole, group_with}
 use Rattle.om_types.specs.declared.decl.Decl.{Decl}
 use Rattle.om_parse.specs.Written.{declaration_of_tree, with_group, declarations_after, declarations_of}
 use Rattle.om_parse.specs.FileShown.{row_list, group_of}

@@ -1,7 +1,7 @@
 -- What a state of the table of declarations stands for.
-use Rattle.std.specs.Prelude.{ℕ, ◌≡◌, ◌<◌, Bool, List, [], ◌∷◌, ◌++◌, length, map, ⊤}
-use Rattle.om_grammar.specs.Grammar.{App, DeclTree, ConstrTree, FieldTree}
-use Rattle.om_grammar.specs.Holes.{State, outside}
+use Rattle.std.specs.Prelude.{◌≡◌, List, [], ◌∷◌, ◌++◌, length, map, ⊤}
+use Rattle.om_grammar.specs.Grammar.{FieldTree}
+use Rattle.om_grammar.specs.Holes.{outside}
 use Rattle.om_grammar.specs.File.{
   Before,
   nothing,
@@ -36,7 +36,6 @@ use Rattle.om_grammar.specs.File.{
 }
 use Rattle.om_types.specs.Nodes.{AreOrdered}
 use Rattle.om_types.specs.declared.ty.Node.{Node}
-use Rattle.om_types.specs.declared.decl.Decl.{Decl}
 use Rattle.om_parse.specs.Written.{type_of_app, parameters_of, field_of_tree, fields_of_tree, constructor_of_tree, declaration_of_tree, declarations_of}
 use Rattle.om_parse.specs.declared.open.Frame.{Frame}
 use Rattle.om_parse.specs.declared.open.Phase.{Phase}

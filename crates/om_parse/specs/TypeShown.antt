@@ -3,29 +3,9 @@ use Rattle.std.specs.Prelude.{ℕ, suc, ◌≡◌, ◌<◌, min, max, Bool, true
 use Rattle.om_grammar.specs.Grammar.{Texpr, App, Texprs, Items, Item}
 use Rattle.om_grammar.specs.Grammar as trees
 use Rattle.om_grammar.specs.Depths.{texpr_depth, part_depth, app_depth, texprs_depth, items_depth}
-use Rattle.om_grammar.specs.Holes.{
-  TypeHole,
-  PartHole,
-  ItemHole,
-  State,
-  whole,
-  group,
-  argument,
-  of_tag,
-  first_part,
-  next_part,
-  inclusion,
-  alone,
-  first_item,
-  next_item,
-  due,
-  read,
-  name_due,
-  tag_read,
-  outside,
-}
+use Rattle.om_grammar.specs.Holes.{TypeHole, PartHole, ItemHole, State, whole, group, argument, of_tag, first_part, next_part, inclusion, alone, first_item, next_item, due, read, name_due, tag_read}
 use Rattle.om_types.specs.Ty.{Ty, bracket}
-use Rattle.om_types.specs.Nodes.{type_at, types_of, AreOrdered}
+use Rattle.om_types.specs.Nodes.{type_at, types_of}
 use Rattle.om_types.specs.declared.ty.Node.{Node}
 use Rattle.om_parse.specs.Written.{type_of_texpr, tuple_of, type_of_app, type_of_items}
 use Rattle.om_parse.specs.declared.open.Part.{Part}

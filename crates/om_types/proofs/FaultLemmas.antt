@@ -1,8 +1,8 @@
 -- A value with a fault does not have the type, where the shapes are lawful at types that hold the
 -- requested one.
-use Rattle.std.proofs.Common.{ℕ, suc, ◌≡◌, ◌==◌, ⊎_elim, inl, inr, List, [], ◌∷◌, Bool, true, false}
-use Rattle.std.proofs.Common.{cond, Option, Some, None, refl, ap, subst, arith}
-use Rattle.std.specs.Prelude.{option_map, find, Contains, IsSomeAnd}
+use Rattle.std.proofs.Common.{ℕ, ◌≡◌, ◌==◌, ⊎_elim, inl, inr, List, [], ◌∷◌, Bool, true, false}
+use Rattle.std.proofs.Common.{cond, Option, Some, None, refl, ap, subst}
+use Rattle.std.specs.Prelude.{option_map, find, Contains}
 use Rattle.std.proofs.lemmas.Option.{option_and_then_some, same_Some, none-some}
 use Rattle.std.proofs.lemmas.Bool.Decides.{Decides-eqb}
 use Rattle.om_model.proofs.Options.{IsSomeAnd-some, Contains-first, Contains-later, Contains-none}

@@ -1,5 +1,5 @@
 -- Rules of scope that are broken, in small files. Lexemes are numbered from 0.
-use Rattle.std.proofs.Common.{ℕ, ◌≡◌, ⊎_elim, inl, inr, List, [], ◌∷◌, length, true, false, Option}
+use Rattle.std.proofs.Common.{ℕ, ◌≡◌, ⊎_elim, inr, List, [], ◌∷◌, length, true, false, Option}
 use Rattle.std.proofs.Common.{Some, None}
 use Rattle.std.proofs.Common.{refl, ap, subst, arith}
 use Rattle.std.specs.Prelude.{codes, Contains, slice_index}
@@ -10,19 +10,18 @@ use Rattle.om_types.specs.declared.decl.Body.{Body}
 use Rattle.om_types.specs.declared.decl.Body.TheVariants as bodies
 use Rattle.om_types.specs.declared.decl.Decl.{Decl}
 use Rattle.om_types.specs.declared.head.TagOf.{TagOf}
-use Rattle.om_types.specs.Ty.{Ty, variable, named, tuple, bracket, part, tag, tag_of, including}
-use Rattle.om_types.specs.Ty.{name_of}
+use Rattle.om_types.specs.Ty.{Ty, variable, named, bracket, part, tag, tag_of, including}
 use Rattle.om_types.specs.Declarations.{predeclared}
 use Rattle.om_types.specs.Head.{head}
 use Rattle.om_types.specs.Shape.{is_float}
 use Rattle.om_types.specs.Occurrence.{Placed, PlacedItem, Occurrence, use_of, variable_at}
 use Rattle.om_types.specs.Occurrence.{bracket_of}
 use Rattle.om_types.specs.Occurrence.{DeclPlaces}
-use Rattle.om_types.specs.Scope.{Rule, unknown_name, cyclic, irregular, not_variant, tag_clash}
+use Rattle.om_types.specs.Scope.{unknown_name, cyclic, irregular, not_variant, tag_clash}
 use Rattle.om_types.specs.Scope.{hash_clash}
 use Rattle.om_types.specs.Scope.{float_in_group, IsStep, IsThrough, HasTags, BreaksInFile}
 use Rattle.om_types.specs.Scope.{BreaksInType}
-use Rattle.om_model.proofs.Options.{Contains-first, Contains-later, Contains-none, Contains-cases}
+use Rattle.om_model.proofs.Options.{Contains-first, Contains-none, Contains-cases}
 
 abbrev declares : List ℕ → List (List ℕ) → Body → ℕ → Decl
 declares name parameters body group =

@@ -1,4 +1,4 @@
-use Rattle.std.proofs.Common.{ℕ, ◌≡◌, ◌∙◌, List, refl, sym, subst, arith, pos}
+use Rattle.std.proofs.Common.{ℕ, ◌∙◌, List, refl, sym, subst, arith, pos}
 use Rattle.std.specs.Prelude.{Ok}
 use Rattle.om_format.specs.Iso.{AreAlike}
 use Rattle.om_iso.specs.Meeting.{AreMet, CannotMeet, Meets}

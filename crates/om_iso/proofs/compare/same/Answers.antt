@@ -1,4 +1,4 @@
-use Rattle.std.proofs.Common.{ℕ, ◌≡◌, ◌∙◌, List, [], length, refl, subst, arith}
+use Rattle.std.proofs.Common.{ℕ, ◌∙◌, List, [], length, refl, subst, arith}
 use Rattle.std.specs.Prelude.{Ok}
 use Rattle.std.proofs.lemmas.Bool.{false≢true}
 use Rattle.om_format.specs.Iso.{AreAlike, AreAlikeObjects}

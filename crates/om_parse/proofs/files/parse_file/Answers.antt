@@ -1,4 +1,4 @@
-use Rattle.std.proofs.Common.{inl, inr, arith, add-one, ◌∙◌, sym, ap}
+use Rattle.std.proofs.Common.{inl, inr, arith, add-one, ◌∙◌, sym}
 use Rattle.om_parse.specs.Parsed.{kinds_of}
 use Rattle.om_parse.proofs.LexemeLemmas.{kinds_length}
 use Rattle.om_parse.proofs.FileReading.{

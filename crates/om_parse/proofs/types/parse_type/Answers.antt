@@ -1,4 +1,4 @@
-use Rattle.std.proofs.Common.{◌≤◌, ◌<◌, length, inl, inr, arith, add-one, ◌≡◌, refl, false, true, Some, None}
+use Rattle.std.proofs.Common.{inl, inr, arith, add-one}
 use Rattle.om_parse.specs.Parsed.{kinds_of}
 use Rattle.om_parse.proofs.WholeLemmas.{whole_found, not_found}
 use Rattle.om_parse.proofs.LexemeLemmas.{kinds_length}
