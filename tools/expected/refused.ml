@@ -1,0 +1,31 @@
+(* Types without a form in omarshal. What is to be told of each is in refused.txt. *)
+
+type job = { name : string; run : int -> int }
+type queue = Empty | Jobs of { first : job list; rest : queue }
+
+class counter = object method get = 0 end
+
+type counted = { label : string; by : counter }
+type structural = < x : int > option
+
+module type S = sig type t end
+
+type packed = (module S) list
+type any = Any : 'a -> any
+type _ expr = Int : int -> int expr | Not : bool expr -> bool expr
+type existential = { one : any }
+type delayed = Now of int | Later of int Lazy.t
+type failure = Failed of exn
+type extensible = ..
+type hidden
+type sum = [ `A | `B of hidden list ]
+type 'a opened = [> `A ] as 'a
+type private_open = private [> `A ]
+type private_bounded = private [< `A | `B ]
+type 'a nested = Flat of 'a | Nested of ('a * 'a) nested
+type polymorphic = { id : 'a. 'a list }
+type none = |
+type nothing = Left of none
+type loop = Loop of loop list [@@unboxed]
+type 'a constrained = 'a list constraint 'a = int * 'b
+type two = { f : hidden; g : int -> int; h : hidden }

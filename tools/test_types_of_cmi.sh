@@ -1,0 +1,220 @@
+#!/bin/sh
+# Tries types_of_cmi.ml: what it prints and tells, beside texts that were written by hand, and whether values that OCaml
+# writes have the types that it prints, by the judgement of value_has_type.py.
+set -eu
+export LC_ALL=C
+for program in ocaml ocamlc python3; do
+    if ! command -v "$program" > /dev/null 2>&1; then
+        echo "skipped: no $program"
+        exit 0
+    fi
+done
+library=$(ocamlc -where)
+if [ ! -f "$library/compiler-libs/ocamlcommon.cma" ]; then
+    echo "skipped: no compiler-libs"
+    exit 0
+fi
+case $(ocamlc -version) in
+    4.13.*) ;;
+    *) echo "skipped: OCaml is $(ocamlc -version), not 4.13"; exit 0 ;;
+esac
+
+here=$(cd "$(dirname "$0")" && pwd)
+expected=$here/expected
+examples=$here/../examples
+work=$(mktemp -d)
+trap 'rm -rf "$work"' EXIT
+cd "$work"
+failures=0
+
+# same WHAT WANTED FOUND: two files are the same.
+same() {
+    if ! diff "$2" "$3" > difference.txt; then
+        echo "FAILED: $1"
+        head -20 difference.txt
+        failures=$((failures + 1))
+    fi
+}
+
+# The declarations of a type file, without the comment at its head.
+declarations() { sed '1,/^$/d' "$1"; }
+
+# judged DECLARATIONS VALUES WANTED: each value has its type, or has not, as WANTED says in lines of a verdict and a type.
+judged() {
+    cut -f 1 "$3" > wanted.txt
+    cut -f 2 "$3" > words.txt
+    set -- "$1" "$2"
+    while IFS= read -r word; do set -- "$@" "$word"; done < words.txt
+    declared=$1 values=$2
+    shift 2
+    python3 "$here/value_has_type.py" "$declared" "$@" < "$values" > judged.txt || true
+    sed 's/ .*//' judged.txt > found.txt
+    same "values of $declared" wanted.txt found.txt
+    echo "$declared: $(grep -c yes wanted.txt || true) values have their types, $(grep -c no wanted.txt || true) have not"
+}
+
+# Twelve bytes of magic stand before the first value of a .cmi, .cmx or .cmxa; a .cmo or .cma has its value at the place
+# that the four bytes after the magic tell.
+after_magic() { tail -c +13 "$1"; }
+descriptor() {
+    place=$(($(head -c 16 "$1" | tail -c 4 | od -An -tu1 | awk '{ print (($1 * 256 + $2) * 256 + $3) * 256 + $4 }')))
+    tail -c "+$((place + 1))" "$1"
+}
+
+cp "$here/types_of_cmi.ml" "$expected"/*.ml .
+ocamlc -w +a-4-40-41-42-44-45-70 -warn-error +a -strict-sequence -I +compiler-libs ocamlcommon.cma \
+    types_of_cmi.ml -o types_of_cmi
+{
+    printf 'type wide ='
+    for number in $(seq 245); do printf ' | C%d of int' "$number"; done
+    echo
+} >> refused.ml
+ocamlc -w -a -c kinds.ml refused.ml by_hand.ml
+head -c 60 kinds.cmi > broken.cmi
+
+# What is printed
+./types_of_cmi -I . Kinds.all > kinds.types 2> word.txt
+declarations kinds.types > found.types
+same "declarations of kinds.ml" "$expected/kinds.types" found.types
+echo kinds_all > wanted.txt
+same "the type of kinds.ml" wanted.txt word.txt
+cp found.types kinds_again.ml
+ocamlc -w -a -c kinds_again.ml
+
+./types_of_cmi kinds.cmi 'Kinds.secret list * (int * int) list' > found.types 2> word.txt
+echo 'kinds_secret list * (int * int) list' > wanted.txt
+same "a type that is no name" wanted.txt word.txt
+
+ocaml -I +compiler-libs ocamlcommon.cma "$here/types_of_cmi.ml" Kinds.all > found.types 2> word.txt
+declarations found.types > script.types
+same "the script" "$expected/kinds.types" script.types
+
+./types_of_cmi \
+    --declare "'a Map.Make(String).t = Empty
+       | Node of { l : 'a Map.Make(String).t; v : string; d : 'a; r : 'a Map.Make(String).t; h : int }" \
+    --declare "'a lazy_t = 'a" \
+    --declare 'By_hand.Hidden.t = float' \
+    --declare "('key, 'data) Hashtbl.t = { mutable size : int; mutable data : ('key, 'data) bucketlist array;
+       seed : int; mutable initial_size : int }
+       and ('key, 'data) bucketlist = Empty
+       | Cons of { mutable key : 'key; mutable data : 'data; mutable next : ('key, 'data) bucketlist }" \
+    By_hand.all > by_hand.types 2> word.txt
+declarations by_hand.types > found.types
+same "declarations of by_hand.ml" "$expected/by_hand.types" found.types
+
+# What has no form, each with status 1
+while IFS= read -r line; do
+    case $line in
+        "  "*) ;;
+        *)
+            echo "$line"
+            status=0
+            ./types_of_cmi "$line" > printed.txt 2> told.txt || status=$?
+            [ "$status" -eq 1 ] || echo "  status $status"
+            [ ! -s printed.txt ] || echo "  something is printed"
+            sed 's/^types_of_cmi: /  /' told.txt
+            ;;
+    esac
+done < "$expected/refused.txt" > found.txt
+same "types without a form" "$expected/refused.txt" found.txt
+
+# Wrong words, each with status 2: a line of wrong.txt tells what is said of the words below it.
+wrong() {
+    status=0
+    ./types_of_cmi "$@" > printed.txt 2> told.txt || status=$?
+    [ "$status" -eq 2 ] || echo "status $status"
+    sed 's/^types_of_cmi: //' told.txt
+    for word in "$@"; do echo "  $word"; done
+}
+set --
+while IFS= read -r line; do
+    case $line in
+        "  "*) set -- "$@" "${line#  }" ;;
+        *)
+            [ -z "${told:-}" ] || wrong "$@"
+            told=$line
+            set --
+            ;;
+    esac
+done < "$expected/wrong.txt" > found.txt
+wrong "$@" >> found.txt
+same "wrong words" "$expected/wrong.txt" found.txt
+
+./types_of_cmi --help > help.txt
+grep -q 'Status 0: done' help.txt || { echo "FAILED: help"; failures=$((failures + 1)); }
+
+# Values
+ocamlc -w -a kinds.ml values.ml -o values
+./values values.bin > wanted.tsv
+judged kinds.types values.bin wanted.tsv
+ocamlc -w -a by_hand.ml by_hand_values.ml -o by_hand_values
+./by_hand_values values.bin > wanted.tsv
+judged by_hand.types values.bin wanted.tsv
+
+# The examples are what make.sh makes, and what OCaml writes has their types.
+mkdir made
+TYPES_OF_CMI=$work/types_of_cmi sh "$examples/make.sh" made > /dev/null 2>&1
+for file in "$examples"/*.types; do
+    same "$file" "$file" "made/$(basename "$file")"
+done
+
+ocaml "$examples/containers.ml" .
+cat map.bin map.bin > values.bin
+printf 'yes\tint map_make_string_t\nno\tbool map_make_string_t\n' > wanted.tsv
+judged made/map.types values.bin wanted.tsv
+cat set.bin map.bin > values.bin
+printf 'yes\tset_make_string_t\nno\tset_make_string_t\n' > wanted.tsv
+judged made/set.types values.bin wanted.tsv
+cat hashtbl.bin hashtbl.bin > values.bin
+printf 'yes\t(string, int) hashtbl_t\nno\t(int, int) hashtbl_t\n' > wanted.tsv
+judged made/hashtbl.types values.bin wanted.tsv
+cat queue.bin queue.bin > values.bin
+printf 'yes\tint queue_t\nno\tstring queue_t\n' > wanted.tsv
+judged made/queue.types values.bin wanted.tsv
+
+# What the compiler writes: each .cmi has three values, the others one; sixteen bytes follow that of a .cmx.
+begin() { : > values.bin; : > wanted.tsv; }
+wanted() { printf '%s\t%s\n' "$1" "$2" >> wanted.tsv; }
+
+begin
+for file in "$library"/*.cmi kinds.cmi refused.cmi; do
+    after_magic "$file" >> values.bin
+    wanted yes 'string * types_signature'
+    wanted yes misc_crcs
+    wanted yes 'cmi_format_pers_flags list'
+done
+after_magic kinds.cmi >> values.bin
+wanted no misc_crcs
+judged made/cmi.types values.bin wanted.tsv
+
+begin
+for file in "$library"/*.cmo kinds.cmo by_hand.cmo; do
+    descriptor "$file" >> values.bin
+    wanted yes cmo_format_compilation_unit
+done
+for file in "$library"/*.cma; do
+    descriptor "$file" >> values.bin
+    wanted yes cmo_format_library
+done
+descriptor kinds.cmo >> values.bin
+wanted no cmo_format_library
+judged made/cmo.types values.bin wanted.tsv
+
+begin
+for file in "$library"/*.cmx; do
+    after_magic "$file" | head -c -16 >> values.bin
+    wanted yes cmx_format_unit_infos
+done
+for file in "$library"/*.cmxa; do
+    after_magic "$file" >> values.bin
+    wanted yes cmx_format_library_infos
+done
+descriptor kinds.cmo >> values.bin
+wanted no cmx_format_unit_infos
+judged made/cmx.types values.bin wanted.tsv
+
+if [ "$failures" -gt 0 ]; then
+    echo "$failures failed"
+    exit 1
+fi
+echo "all is as expected"
