@@ -325,7 +325,7 @@ let hidden_kind path declaration =
 (* A type that is written again, as `type t = Other.t = A | B`, is the other one, where that one is found. *)
 let repeats_a_known_type reader declaration =
   match Option.map Library.shape declaration.type_manifest with
-  | Some (Tconstr (path, _, _)) -> find_declaration reader (canonical reader path) <> None
+  | Some (Tconstr (path, _, _)) -> Option.is_some (find_declaration reader (canonical reader path))
   | Some _ | None -> false
 
 let read_body reader scope path declaration =
