@@ -14,6 +14,10 @@ if [ ! -f "$library/compiler-libs/ocamlcommon.cma" ]; then
     echo "skipped: no compiler-libs"
     exit 0
 fi
+if [ ! -f "$library/stdlib__Map.cmt" ]; then
+    echo "skipped: no .cmt files of the standard library"
+    exit 0
+fi
 case $(ocamlc -version) in
     4.13.*) ;;
     *) echo "skipped: OCaml is $(ocamlc -version), not 4.13"; exit 0 ;;
@@ -61,7 +65,7 @@ descriptor() {
     tail -c "+$((place + 1))" "$1"
 }
 
-cp "$here/types_of_cmi.ml" "$expected"/*.ml .
+cp "$here/types_of_cmi.ml" "$expected"/*.ml "$expected"/*.mli .
 ocamlc -w +a-4-40-41-42-44-45-70 -warn-error +a -strict-sequence -I +compiler-libs ocamlcommon.cma \
     types_of_cmi.ml -o types_of_cmi
 {
@@ -69,7 +73,7 @@ ocamlc -w +a-4-40-41-42-44-45-70 -warn-error +a -strict-sequence -I +compiler-li
     for number in $(seq 245); do printf ' | C%d of int' "$number"; done
     echo
 } >> refused.ml
-ocamlc -w -a -c kinds.ml refused.ml by_hand.ml
+ocamlc -w -a -bin-annot -c kinds.ml refused.ml by_hand.ml hidden.mli hidden.ml uses_hidden.ml
 head -c 60 kinds.cmi > broken.cmi
 
 # What is printed
@@ -101,6 +105,21 @@ same "the script" "$expected/kinds.types" script.types
     By_hand.all > by_hand.types 2> word.txt
 declarations by_hand.types > found.types
 same "declarations of by_hand.ml" "$expected/by_hand.types" found.types
+
+./types_of_cmi --cmt Uses_hidden.all > uses_hidden.types 2> word.txt
+declarations uses_hidden.types > found.types
+same "declarations of uses_hidden.ml" "$expected/uses_hidden.types" found.types
+
+# A .cmt that was not made with the .cmi beside it
+mkdir stale
+cp hidden.cmt stale
+echo 'type t' > stale/hidden.mli
+ocamlc -c stale/hidden.mli
+status=0
+(cd stale && ../types_of_cmi --cmt Hidden.t) 2> found.txt || status=$?
+echo "types_of_cmi: the .cmt of Hidden is of another interface than its .cmi: 2" > wanted.txt
+echo "$(cat found.txt): $status" > told.txt
+same "a .cmt of another interface" wanted.txt told.txt
 
 # What has no form, each with status 1
 while IFS= read -r line; do
@@ -150,6 +169,10 @@ judged kinds.types values.bin wanted.tsv
 ocamlc -w -a by_hand.ml by_hand_values.ml -o by_hand_values
 ./by_hand_values values.bin > wanted.tsv
 judged by_hand.types values.bin wanted.tsv
+
+ocamlc -w -a hidden.ml uses_hidden.ml uses_hidden_values.ml -o uses_hidden_values
+./uses_hidden_values values.bin > wanted.tsv
+judged uses_hidden.types values.bin wanted.tsv
 
 # The examples are what make.sh makes, and what OCaml writes has their types.
 mkdir made

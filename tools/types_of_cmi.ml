@@ -15,12 +15,16 @@ open Types
 
 let program = "types_of_cmi"
 
+exception Wrong_words of string
+
+let wrong_words format = Printf.ksprintf (fun text -> raise (Wrong_words text)) format
+
 (* {1 The compiler's library} *)
 
-(* From 4.14 on `type_expr` and `row_desc` are abstract, and these are `Types.get_id`, `get_desc`, `row_fields`,
+(* From 4.14 on `type_expr` and `row_desc` are abstract, and these are `Types.eq_type`, `get_desc`, `row_fields`,
    `row_closed` and `row_field_repr`. *)
 module Library = struct
-  let identity ty = (Btype.repr ty).id
+  let same ty other = Btype.repr ty == Btype.repr other
   let shape ty = (Btype.repr ty).desc
   let tags row = (Btype.row_repr row).row_fields
   let is_closed row = (Btype.row_repr row).row_closed
@@ -48,11 +52,14 @@ type body =
 (* The steps from the requested type to a part of it, the last one first. *)
 type way = string list
 
+(* Where a declaration was found: in an interface, in an implementation, or among the words. *)
+type origin = Shown | Hidden | By_hand
+
 type declaration = {
   path : Path.t;
   parameters : string list;
   body : body;
-  by_hand : bool;
+  origin : origin;
   reached : way;  (** the way to the type, with its own name *)
 }
 
@@ -122,10 +129,13 @@ let parameter_name index =
   let letter = String.make 1 (Char.chr (Char.code 'a' + (index mod 26))) in
   if index < 26 then letter else letter ^ string_of_int (index / 26)
 
-(* {1 Reading types} *)
+(* {1 The reader} *)
 
 type reader = {
-  environment : Env.t;
+  mutable environment : Env.t;
+  looks_inside : bool;  (** whether it looks for hidden types in `.cmt` files *)
+  mutable implementations : (string * Ident.t option) list;
+      (** the modules of which it looked for one, with the name of what was found *)
   by_hand : type_declaration Path.Map.t;  (** the declarations given by `--declare` *)
   synonyms : Path.t Path.Map.t;  (** the types that these are for, by the names they have while they are read *)
   mutable texts : string Path.Map.t;  (** texts of types that have no path in OCaml *)
@@ -135,12 +145,12 @@ type reader = {
   waiting : (Path.t * way) Queue.t;  (** types reached and not read yet *)
 }
 
-(* A type inside which the reader is, by its identity. It gets a name where it holds itself, as in [ `A of 'r ] as 'r. *)
-type enclosing = { identity : int; mutable own_name : Path.t option }
+(* A type inside which the reader is. It gets a name where it holds itself, as in [ `A of 'r ] as 'r. *)
+type enclosing = { around : type_expr; mutable own_name : Path.t option }
 
 type scope = {
   owner : string;  (** the text of the declared type that is read *)
-  variables : (int * string) list;  (** the names of type variables, by their identity *)
+  variables : (type_expr * string) list;  (** the names of type variables *)
   parameters : string list;  (** those of the declaration that is read *)
   enclosing : enclosing list;
   way : way;
@@ -156,15 +166,89 @@ let refuse reader where what =
   reader.faults <- { where; what } :: reader.faults;
   placeholder
 
-(* The one path of a type, whatever aliases of modules were used to write it. *)
+(* {1 Implementations} *)
+
+(* The checksum of the interface: the one that was made with the implementation, or the one that it was compiled for. *)
+let interface_digest { Cmt_format.cmt_modname; cmt_interface_digest; cmt_imports; _ } =
+  match cmt_interface_digest with
+  | Some digest -> Some digest
+  | None -> Option.join (List.assoc_opt cmt_modname cmt_imports)
+
+(* The types of the implementation of a module, as a module of the environment, if its `.cmt` is found. *)
+let read_implementation reader name =
+  match Cmt_format.read_cmt (Load_path.find_uncap (name ^ ".cmt")) with
+  | { cmt_annots = Implementation { str_type; _ }; _ } as cmt ->
+      if interface_digest cmt <> Some (Env.crc_of_unit name) then
+        wrong_words "the .cmt of %s is of another interface than its .cmi" name;
+      let id = Ident.create_local name in
+      reader.environment <- Env.add_module id Mp_present (Mty_signature str_type) reader.environment;
+      Some id
+  | _ -> None
+  | exception Not_found -> None
+
+let implementation reader name =
+  match List.assoc_opt name reader.implementations with
+  | Some found -> found
+  | None ->
+      let found = read_implementation reader name in
+      reader.implementations <- (name, found) :: reader.implementations;
+      found
+
+(* A path into the implementation of its module. *)
+let rec path_inside reader = function
+  | Path.Pident id when Ident.persistent id ->
+      Option.map (fun inside -> Path.Pident inside) (implementation reader (Ident.name id))
+  | Path.Pident _ -> None
+  | Path.Pdot (path, name) -> Option.map (fun inside -> Path.Pdot (inside, name)) (path_inside reader path)
+  | Path.Papply (path, argument) ->
+      Option.map (fun inside -> Path.Papply (inside, argument)) (path_inside reader path)
+
+let is_implementation reader id =
+  List.exists (fun (_, found) -> Option.fold ~none:false ~some:(Ident.same id) found) reader.implementations
+
+let rec is_inside reader = function
+  | Path.Pident id -> is_implementation reader id
+  | Path.Pdot (path, _) | Path.Papply (path, _) -> is_inside reader path
+
+(* A path out of the implementations in it. *)
+let rec path_outside reader = function
+  | Path.Pident id when is_implementation reader id -> Path.Pident (Ident.create_persistent (Ident.name id))
+  | Path.Pident _ as path -> path
+  | Path.Pdot (path, name) -> Path.Pdot (path_outside reader path, name)
+  | Path.Papply (path, argument) -> Path.Papply (path_outside reader path, path_outside reader argument)
+
+let normalize reader path = Env.normalize_type_path None reader.environment path
+let find_shown reader path = try Some (Env.find_type path reader.environment) with Not_found -> None
+
+(* The one path of a type, whatever aliases of modules were used to write it; that of its interface, if this has it. *)
 let canonical reader path =
-  let path = Env.normalize_type_path None reader.environment path in
+  let path = normalize reader path in
+  let outside = normalize reader (path_outside reader path) in
+  let path = if Option.is_some (find_shown reader outside) then outside else path in
   try Path.Map.find path reader.synonyms with Not_found -> path
 
+(* What the implementation has where the interface hides a type. *)
+let reveal reader path hidden =
+  match path_inside reader path with
+  | None -> None
+  | Some inside ->
+      let target = normalize reader inside in
+      if Path.same target inside then find_shown reader inside
+      else if Path.same (canonical reader target) path then None
+      else Some { hidden with type_manifest = Some (Btype.newgenty (Tconstr (target, hidden.type_params, ref Mnil))) }
+
 let find_declaration reader path =
-  match Path.Map.find_opt path reader.by_hand with
-  | Some declaration -> Some declaration
-  | None -> ( try Some (Env.find_type path reader.environment) with Not_found -> None)
+  match (Path.Map.find_opt path reader.by_hand, find_shown reader path) with
+  | Some declaration, _ -> Some (By_hand, declaration)
+  | None, Some ({ type_kind = Type_abstract; type_manifest = None; _ } as hidden) when reader.looks_inside -> (
+      match reveal reader path hidden with
+      | Some declaration -> Some (Hidden, declaration)
+      | None -> Some (Shown, hidden))
+  | None, shown ->
+      let origin = if is_inside reader path then Hidden else Shown in
+      Option.map (fun declaration -> (origin, declaration)) shown
+
+(* {1 Reading type expressions} *)
 
 let reach reader way path =
   if not (Path.Set.mem path reader.known) then begin
@@ -187,16 +271,15 @@ let name_of_enclosing reader enclosing =
 let declare_enclosing reader scope path expression =
   reader.texts <- Path.Map.add path (scope.owner ^ "_row") reader.texts;
   let declaration =
-    { path; parameters = scope.parameters; body = Abbreviation expression; by_hand = false; reached = scope.way }
+    { path; parameters = scope.parameters; body = Abbreviation expression; origin = Shown; reached = scope.way }
   in
   reader.declarations <- declaration :: reader.declarations
 
 let rec read_type reader scope ty =
-  let identity = Library.identity ty in
-  match List.find_opt (fun enclosing -> enclosing.identity = identity) scope.enclosing with
+  match List.find_opt (fun { around; _ } -> Library.same around ty) scope.enclosing with
   | Some enclosing -> Applied (Declared (name_of_enclosing reader enclosing), variables_of scope.parameters)
   | None -> (
-      let enclosing = { identity; own_name = None } in
+      let enclosing = { around = ty; own_name = None } in
       let expression = read_parts reader { scope with enclosing = enclosing :: scope.enclosing } ty in
       match enclosing.own_name with
       | None -> expression
@@ -218,8 +301,8 @@ and read_parts reader scope ty =
   | Tvariant row -> read_row reader scope row
   | Tpoly (ty, []) -> read_type reader scope ty
   | Tvar _ | Tunivar _ -> (
-      match List.assoc_opt (Library.identity ty) scope.variables with
-      | Some name -> Variable name
+      match List.find_opt (fun (variable, _) -> Library.same variable ty) scope.variables with
+      | Some (_, name) -> Variable name
       | None -> refuse reader scope.way "an existential type")
   | Tarrow _ -> refuse reader scope.way "a function"
   | Tobject _ | Tfield _ | Tnil -> refuse reader scope.way "an object"
@@ -251,13 +334,12 @@ let is_variable ty = match Library.shape ty with Tvar _ -> true | _ -> false
 
 let rec are_distinct = function
   | [] -> true
-  | identity :: others -> (not (List.mem identity others)) && are_distinct others
+  | ty :: others -> (not (List.exists (Library.same ty) others)) && are_distinct others
 
 (* The names of parameters, where these are distinct variables. *)
 let name_variables types parameters =
-  let identities = List.map Library.identity types in
-  if List.for_all is_variable types && are_distinct identities && List.compare_lengths types parameters = 0 then
-    Some (List.combine identities parameters)
+  if List.for_all is_variable types && are_distinct types && List.compare_lengths types parameters = 0 then
+    Some (List.combine types parameters)
   else None
 
 (* OCaml has names that omarshal cannot write: with letters outside ASCII, and from 5.2 on keywords. *)
@@ -341,15 +423,14 @@ let read_body reader scope path declaration =
   | (Type_abstract | Type_open), Some manifest -> Abbreviation (read_type reader scope manifest)
   | (Type_abstract | Type_open), None -> Abbreviation (refuse reader scope.way (hidden_kind path declaration))
 
-let read_declaration reader path way declaration =
+let read_declaration reader path way (origin, declaration) =
   let parameters = List.mapi (fun index _ -> parameter_name index) declaration.type_params in
   match name_variables declaration.type_params parameters with
   | None -> ignore (refuse reader way "a parameter with a constraint")
   | Some variables ->
       let scope = { variables; parameters; enclosing = []; way; owner = text_of_path reader path } in
       let body = read_body reader scope path declaration in
-      let by_hand = Path.Map.mem path reader.by_hand in
-      reader.declarations <- { path; parameters; body; by_hand; reached = way } :: reader.declarations
+      reader.declarations <- { path; parameters; body; origin; reached = way } :: reader.declarations
 
 (* Reads what waits, nearest types first, until nothing does. *)
 let rec read_waiting reader =
@@ -357,7 +438,7 @@ let rec read_waiting reader =
   | None -> ()
   | Some (path, way) ->
       (match find_declaration reader path with
-      | Some declaration -> read_declaration reader path way declaration
+      | Some found -> read_declaration reader path way found
       | None -> ignore (refuse reader way "a type of which no .cmi was found"));
       read_waiting reader
 
@@ -416,7 +497,7 @@ let rec is_float table expression =
    constructor with an inline record, which is never flat. *)
 let keep_boxed table declaration =
   match declaration.body with
-  | Record fields when not declaration.by_hand ->
+  | Record fields when declaration.origin <> By_hand ->
       let all_floats = List.for_all (fun { holds; _ } -> is_float table holds) fields in
       if all_floats && List.exists (fun { holds; _ } -> holds <> float_type) fields then
         { declaration with body = Variant [ ("Boxed", Inline fields) ] }
@@ -569,9 +650,10 @@ let print_comment text =
   in
   "(* " ^ String.of_seq (List.to_seq (spaced (List.of_seq (String.to_seq text)))) ^ " *)"
 
-let print_declaration reader names keyword ({ path; parameters; body; by_hand; _ } : declaration) =
-  let origin = text_of_path reader path ^ if by_hand then ", by hand" else "" in
-  Printf.sprintf "%s\n%s %s%s =%s\n" (print_comment origin) keyword (print_parameters parameters)
+let print_declaration reader names keyword { path; parameters; body; origin; _ } =
+  let origin_text = match origin with Shown -> "" | Hidden -> ", from its .cmt" | By_hand -> ", by hand" in
+  let comment = print_comment (text_of_path reader path ^ origin_text) in
+  Printf.sprintf "%s\n%s %s%s =%s\n" comment keyword (print_parameters parameters)
     (Path.Map.find path names) (print_body names body)
 
 let print_group reader names group =
@@ -580,12 +662,8 @@ let print_group reader names group =
 
 (* {1 Words} *)
 
-exception Wrong_words of string
-
-let wrong_words format = Printf.ksprintf (fun text -> raise (Wrong_words text)) format
-
 let usage =
-  "types_of_cmi [-I FOLDER].. [FILE.cmi].. [--declare DECLARATION].. TYPE\n\n\
+  "types_of_cmi [-I FOLDER].. [FILE.cmi].. [--cmt] [--declare DECLARATION].. TYPE\n\n\
    Prints the declarations that omarshal needs to check values of TYPE, and on standard error\n\
    the type to give to omarshal. TYPE is an OCaml type without variables, as `int list Foo.t` or\n\
    `string Map.Make(String).t`. Its modules are looked for as .cmi files in the folders, in those\n\
@@ -596,10 +674,10 @@ let usage =
    Status 0: done. 1: a type has no form in omarshal; each such type is told with the way to it.\n\
    2: wrong words.\n"
 
-type words = { folders : string list; by_hand : string list; requested : string }
+type words = { folders : string list; looks_inside : bool; by_hand : string list; requested : string }
 
 let read_words arguments =
-  let folders = ref [] and by_hand = ref [] and types = ref [] in
+  let folders = ref [] and looks_inside = ref false and by_hand = ref [] and types = ref [] in
   let add list word = list := word :: !list in
   let add_file file =
     if Sys.file_exists file then add folders (Filename.dirname file) else wrong_words "no file %s" file
@@ -608,12 +686,14 @@ let read_words arguments =
   let specification =
     [
       ("-I", Arg.String (add folders), "FOLDER  look for modules there; +x is folder x of the standard library");
+      ("--cmt", Arg.Set looks_inside, " look for types that interfaces hide in the .cmt files of their modules");
       ("--declare", Arg.String (add by_hand), "DECLARATION  take this for the type; may be repeated");
     ]
   in
   Arg.parse_argv arguments specification other usage;
   match !types with
-  | [ requested ] -> { folders = List.rev !folders; by_hand = List.rev !by_hand; requested }
+  | [ requested ] ->
+      { folders = List.rev !folders; looks_inside = !looks_inside; by_hand = List.rev !by_hand; requested }
   | [] -> wrong_words "TYPE is missing"
   | _ -> wrong_words "more than one TYPE"
 
@@ -712,9 +792,11 @@ let add_by_hand reader word =
           List.fold_left add { reader with by_hand; synonyms } others
       | _ -> wrong_words "%s: this is not one declaration" word)
 
-let new_reader environment =
+let new_reader environment ~looks_inside =
   {
     environment;
+    looks_inside;
+    implementations = [];
     by_hand = Path.Map.empty;
     synonyms = Path.Map.empty;
     texts = Path.Map.empty;
@@ -742,7 +824,7 @@ let print_file reader arguments groups root =
 let run arguments =
   let words = read_words arguments in
   let environment = environment words.folders in
-  let reader = List.fold_left add_by_hand (new_reader environment) words.by_hand in
+  let reader = List.fold_left add_by_hand (new_reader environment ~looks_inside:words.looks_inside) words.by_hand in
   let requested = requested_type environment words.requested in
   let scope = { variables = []; parameters = []; enclosing = []; way = []; owner = "requested" } in
   let root = read_type reader scope requested in

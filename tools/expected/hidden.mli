@@ -1,0 +1,27 @@
+(* Types that an interface hides. *)
+
+type t
+
+val whole : t
+
+type 'a stack
+
+val stack : 'a list -> 'a stack
+
+module Inner : sig
+  type t
+
+  val seven : t
+end
+
+module Make (Key : sig
+  type t
+end) : sig
+  type t
+
+  val one : Key.t -> t
+end
+
+type meters
+
+val one : meters
