@@ -174,14 +174,42 @@ let interface_digest { Cmt_format.cmt_modname; cmt_interface_digest; cmt_imports
   | Some digest -> Some digest
   | None -> Option.join (List.assoc_opt cmt_modname cmt_imports)
 
+(* The type of a structure in which no module hides a type behind a signature, as in `module M : S = struct .. end`. *)
+let rec unsealed_structure { Typedtree.str_items; str_type; _ } =
+  let bindings_of item =
+    match item.Typedtree.str_desc with
+    | Tstr_module binding -> [ binding ]
+    | Tstr_recmodule bindings -> bindings
+    | _ -> []
+  in
+  let bindings = List.concat_map bindings_of str_items in
+  let unseal = function
+    | Sig_module (id, presence, declaration, recursive, visibility) ->
+        let is_it { Typedtree.mb_id; _ } = Option.fold ~none:false ~some:(Ident.same id) mb_id in
+        let unsealed { Typedtree.mb_expr; _ } = unsealed_module mb_expr ~otherwise:declaration.md_type in
+        let md_type = Option.fold ~none:declaration.md_type ~some:unsealed (List.find_opt is_it bindings) in
+        Sig_module (id, presence, { declaration with md_type }, recursive, visibility)
+    | item -> item
+  in
+  Mty_signature (List.map unseal str_type)
+
+and unsealed_module { Typedtree.mod_desc; _ } ~otherwise =
+  match mod_desc with
+  | Tmod_constraint (inner, _, _, _) -> unsealed_module inner ~otherwise:inner.mod_type
+  | Tmod_structure structure -> unsealed_structure structure
+  | Tmod_functor (Unit, body) -> Mty_functor (Unit, unsealed_module body ~otherwise:body.mod_type)
+  | Tmod_functor (Named (id, _, parameter), body) ->
+      Mty_functor (Named (id, parameter.mty_type), unsealed_module body ~otherwise:body.mod_type)
+  | _ -> otherwise
+
 (* The types of the implementation of a module, as a module of the environment, if its `.cmt` is found. *)
 let read_implementation reader name =
   match Cmt_format.read_cmt (Load_path.find_uncap (name ^ ".cmt")) with
-  | { cmt_annots = Implementation { str_type; _ }; _ } as cmt ->
+  | { cmt_annots = Implementation structure; _ } as cmt ->
       if interface_digest cmt <> Some (Env.crc_of_unit name) then
         wrong_words "the .cmt of %s is of another interface than its .cmi" name;
       let id = Ident.create_local name in
-      reader.environment <- Env.add_module id Mp_present (Mty_signature str_type) reader.environment;
+      reader.environment <- Env.add_module id Mp_present (unsealed_structure structure) reader.environment;
       Some id
   | _ -> None
   | exception Not_found -> None
@@ -210,21 +238,39 @@ let rec is_inside reader = function
   | Path.Pident id -> is_implementation reader id
   | Path.Pdot (path, _) | Path.Papply (path, _) -> is_inside reader path
 
-(* A path out of the implementations in it. *)
+let normalize reader path = Env.normalize_type_path None reader.environment path
+let find_shown reader path = try Some (Env.find_type path reader.environment) with Not_found -> None
+
+let is_predefined = function Path.Pident id -> Ident.is_predef id | Path.Pdot _ | Path.Papply _ -> false
+
+let is_module reader path =
+  match Env.find_module path reader.environment with _ -> true | exception Not_found -> false
+
+(* A path out of the implementations in it, where the interfaces have it. *)
 let rec path_outside reader = function
   | Path.Pident id when is_implementation reader id -> Path.Pident (Ident.create_persistent (Ident.name id))
   | Path.Pident _ as path -> path
   | Path.Pdot (path, name) -> Path.Pdot (path_outside reader path, name)
-  | Path.Papply (path, argument) -> Path.Papply (path_outside reader path, path_outside reader argument)
+  | Path.Papply (path, argument) ->
+      let outside = path_outside reader argument in
+      Path.Papply (path_outside reader path, if is_module reader outside then outside else argument)
 
-let normalize reader path = Env.normalize_type_path None reader.environment path
-let find_shown reader path = try Some (Env.find_type path reader.environment) with Not_found -> None
+(* Whether an interface has a type only as another name of one that it hides. *)
+let rec renames_hidden ?(is_renamed = false) reader path =
+  match find_shown reader path with
+  | Some { type_kind = Type_abstract; type_manifest = None; _ } -> is_renamed && not (is_predefined path)
+  | Some { type_kind = Type_abstract; type_manifest = Some manifest; _ } -> (
+      match Library.shape manifest with
+      | Tconstr (target, _, _) -> renames_hidden ~is_renamed:true reader (normalize reader target)
+      | _ -> false)
+  | Some _ | None -> false
 
 (* The one path of a type, whatever aliases of modules were used to write it; that of its interface, if this has it. *)
 let canonical reader path =
   let path = normalize reader path in
   let outside = normalize reader (path_outside reader path) in
-  let path = if Option.is_some (find_shown reader outside) then outside else path in
+  let is_another_name = is_inside reader path && renames_hidden reader outside in
+  let path = if Option.is_some (find_shown reader outside) && not is_another_name then outside else path in
   try Path.Map.find path reader.synonyms with Not_found -> path
 
 (* What the implementation has where the interface hides a type. *)
@@ -398,9 +444,9 @@ let read_unboxed reader scope constructor =
 
 (* What is told of a type that shows no representation. *)
 let hidden_kind path declaration =
-  match (path, declaration.type_kind) with
-  | Path.Pident id, _ when Ident.is_predef id && Ident.name id = "lazy_t" -> "a lazy value"
-  | Path.Pident id, _ when Ident.is_predef id && Ident.name id = "exn" -> "an exception"
+  match (Path.last path, declaration.type_kind) with
+  | "lazy_t", _ when is_predefined path -> "a lazy value"
+  | "exn", _ when is_predefined path -> "an exception"
   | _, Type_open -> "an extensible variant"
   | _ -> "an abstract type"
 

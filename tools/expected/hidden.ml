@@ -26,3 +26,30 @@ end
 type meters = float
 
 let one = 1.
+
+module Sealed : sig
+  type t
+
+  val value : t
+end = struct
+  type t = A | B of t
+
+  let value = B (B A)
+end
+
+type public_name = { only : int }
+type renamed = public_name
+
+let renamed = { only = 1 }
+
+module Local_key = struct
+  type t = int
+
+  let compare = compare
+end
+
+module Local_map = Map.Make (Local_key)
+
+type counts = string Local_map.t
+
+let counts = Local_map.singleton 1 "one"

@@ -25,3 +25,18 @@ end
 type meters
 
 val one : meters
+
+module Sealed : sig
+  type t
+
+  val value : t
+end
+
+type renamed
+type public_name = renamed
+
+val renamed : renamed
+
+type counts
+
+val counts : counts

@@ -17,4 +17,7 @@ type all = {
   texts : Texts.t;
   pair : pair;
   names : int Names.t;
+  sealed : Hidden.Sealed.t;
+  renamed : Hidden.renamed * Hidden.public_name;
+  counts : Hidden.counts;
 }

@@ -18,12 +18,17 @@ let all =
     texts = Texts.one "key";
     pair;
     names = Names.add "two" 2 (Names.singleton "one" 1);
+    sealed = Hidden.Sealed.value;
+    renamed = (Hidden.renamed, Hidden.renamed);
+    counts = Hidden.counts;
   }
 
 let () =
   write "yes" "uses_hidden_all" all;
   write "no" "uses_hidden_all" { all with whole = Obj.magic all.names };
   write "no" "uses_hidden_all" { all with texts = Obj.magic (Some 1) };
+  write "no" "uses_hidden_all" { all with sealed = Obj.magic 1 };
+  write "no" "uses_hidden_all" { all with counts = Obj.magic all.names };
   write "yes" "uses_hidden_pair" pair;
   write "no" "uses_hidden_pair" [| 1.; 2. |];
   close_out file
