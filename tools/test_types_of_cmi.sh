@@ -43,7 +43,8 @@ same() {
 # The declarations of a type file, without the comment at its head.
 declarations() { sed '1,/^$/d' "$1"; }
 
-# judged DECLARATIONS VALUES WANTED: each value has its type, or has not, as WANTED says in lines of a verdict and a type.
+# judged DECLARATIONS VALUES WANTED: each value has its type, or has not, as WANTED says in lines of a verdict and a
+# type.
 judged() {
     cut -f 1 "$3" > wanted.txt
     cut -f 2 "$3" > words.txt
@@ -54,7 +55,7 @@ judged() {
     python3 "$here/value_has_type.py" "$declared" "$@" < "$values" > judged.txt || true
     sed 's/ .*//' judged.txt > found.txt
     same "values of $declared" wanted.txt found.txt
-    echo "$declared: $(grep -c yes wanted.txt || true) values have their types, $(grep -c no wanted.txt || true) have not"
+    echo "$declared: yes $(grep -c yes wanted.txt || true), no $(grep -c no wanted.txt || true)"
 }
 
 # Twelve bytes of magic stand before the first value of a .cmi, .cmx or .cmxa; a .cmo or .cma has its value at the place
@@ -75,6 +76,26 @@ ocamlc -w +a-4-40-41-42-44-45-70 -warn-error +a -strict-sequence -I +compiler-li
 } >> refused.ml
 ocamlc -w -a -bin-annot -c kinds.ml refused.ml by_hand.ml hidden.mli hidden.ml uses_hidden.ml
 head -c 60 kinds.cmi > broken.cmi
+
+# The reader that judges is itself tried, on values and declarations that were written by hand: a line of vectors.tsv is
+# a verdict or the refusal of a declaration, a type, declarations, and a value in hexadecimal.
+python3 -B - "$here" "$expected/vectors.tsv" << 'END' > found.txt
+import sys
+
+sys.path.insert(0, sys.argv[1])
+from value_has_type import Declarations, Input, Refused, check, read_type, read_value
+
+for line in open(sys.argv[2]):
+    wanted, word, declared, value = line.rstrip("\n").split("\t")
+    try:
+        form, types = read_type(Declarations(declared), word)
+        fault = check(types, form, *read_value(Input(bytes.fromhex(value))))
+        found = "no" if fault else "yes"
+    except Refused as refusal:
+        found = "no value" if refusal.status == 4 else str(refusal).split(":")[0]
+    print(found, word, declared, value, sep="\t")
+END
+same "the judging reader" "$expected/vectors.tsv" found.txt
 
 # What is printed
 ./types_of_cmi -I . Kinds.all > kinds.types 2> word.txt

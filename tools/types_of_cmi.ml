@@ -356,7 +356,8 @@ and read_parts reader scope ty =
   | Tpoly _ -> refuse reader scope.way "a polymorphic field"
   | Tlink _ | Tsubst _ -> refuse reader scope.way "a type that the compiler has not finished"
 
-(* The tags by name, since the compiler keeps no written order. `[> ..]` is open, `[< ..]` has tags that may be absent. *)
+(* The tags are sorted, since the compiler keeps no written order. `[> ..]` is open, and `[< ..]` has tags that may be
+   absent. *)
 and read_row reader scope row =
   let read_tag (tag, field) =
     match Library.presence field with
@@ -506,7 +507,10 @@ let iter_body ~inside_tags visit body =
   | Abbreviation expression -> iter expression
   | Record fields -> List.iter iter_field fields
   | Variant constructors ->
-      let iter_arguments = function Separate types -> List.iter iter types | Inline fields -> List.iter iter_field fields in
+      let iter_arguments = function
+        | Separate types -> List.iter iter types
+        | Inline fields -> List.iter iter_field fields
+      in
       List.iter (fun (_, arguments) -> iter_arguments arguments) constructors
 
 (* The declared types that a body names, in the order of their first mention. *)

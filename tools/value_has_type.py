@@ -577,7 +577,8 @@ def check(types, root_type, root, objects):
             others = uses.setdefault(value[1], {})
             others[number] = (mutable, form, path)
             if len(others) > 1 and any(use[0] for use in others.values()):
-                return "a mutable object is shared: " + " and ".join(f"{use[2]} {text_of(use[1])}" for use in others.values())
+                shared = " and ".join(f"{use[2]} at {text_of(use[1])}" for use in others.values())
+                return "a mutable object is shared: " + shared
             for field, inner in needs.items():
                 step = f".{field}"
                 waiting.append((objects[value[1]][2][field], inner, step if path == "." else path + step))

@@ -17,8 +17,21 @@ type base = {
 }
 
 type containers = int list * string option * (int * int) array * float array * bool ref
-type variant = Constant | One of int | Other | Two of int * string | Pair of (int * string) | Inline of { x : int; mutable next : variant }
-type again = variant = Constant | One of int | Other | Two of int * string | Pair of (int * string) | Inline of { x : int; mutable next : variant }
+type variant =
+  | Constant
+  | One of int
+  | Other
+  | Two of int * string
+  | Pair of (int * string)
+  | Inline of { x : int; mutable next : variant }
+
+type again = variant =
+  | Constant
+  | One of int
+  | Other
+  | Two of int * string
+  | Pair of (int * string)
+  | Inline of { x : int; mutable next : variant }
 
 (* Floats: a flat record, one that is not flat, a parameter, and types that hold a float unboxed. *)
 type flat = { re : float; mutable im : float }

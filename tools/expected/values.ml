@@ -37,11 +37,15 @@ let () =
   all "kinds_number" [ 0; -1; max_int ];
   others "kinds_number" [ any "text"; any 1.5 ];
   all "kinds_base" [ base; { base with a = Float.Array.create 0 } ];
-  others "kinds_base" [ any (base, base); any 0; any { base with c = Obj.magic 256 }; any { base with s = Obj.magic 1l } ];
+  others "kinds_base" [ any (base, base); any 0 ];
+  others "kinds_base" [ any { base with c = Obj.magic 256 }; any { base with s = Obj.magic 1l } ];
   (* The same bytes as a string and as what may be changed. *)
-  others "kinds_base" [ any (let text = Bytes.of_string "one" in { base with y = text; s = Bytes.unsafe_to_string text }) ];
-  all "kinds_containers" [ ([ 1; 2 ], Some "x", [| (1, 2); (3, 4) |], [| 0.5 |], ref true); ([], None, [||], [||], ref false) ];
-  others "kinds_containers" [ any ([ 1 ], None, [| (1, 2, 3) |], [| 0.5 |], ref true); any ([], None, [||], [| 1 |], ref true) ]
+  let text = Bytes.of_string "one" in
+  others "kinds_base" [ any { base with y = text; s = Bytes.unsafe_to_string text } ];
+  all "kinds_containers" [ ([ 1; 2 ], Some "x", [| (1, 2); (3, 4) |], [| 0.5 |], ref true) ];
+  all "kinds_containers" [ ([], None, [||], [||], ref false) ];
+  others "kinds_containers" [ any ([ 1 ], None, [| (1, 2, 3) |], [| 0.5 |], ref true) ];
+  others "kinds_containers" [ any ([], None, [||], [| 1 |], ref true) ]
 
 (* Constructors *)
 let () =
