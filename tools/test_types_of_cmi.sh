@@ -40,6 +40,17 @@ same() {
     fi
 }
 
+# made FILE WORD..: the tool prints declarations to the file.
+made() {
+    printed=$1
+    shift
+    if ! ./types_of_cmi "$@" > "$printed" 2> word.txt; then
+        echo "FAILED: types_of_cmi $*"
+        cat word.txt
+        failures=$((failures + 1))
+    fi
+}
+
 # The declarations of a type file, without the comment at its head.
 declarations() { sed '1,/^$/d' "$1"; }
 
@@ -98,7 +109,7 @@ END
 same "the judging reader" "$expected/vectors.tsv" found.txt
 
 # What is printed
-./types_of_cmi -I . Kinds.all > kinds.types 2> word.txt
+made kinds.types -I . Kinds.all
 declarations kinds.types > found.types
 same "declarations of kinds.ml" "$expected/kinds.types" found.types
 echo kinds_all > wanted.txt
@@ -106,7 +117,7 @@ same "the type of kinds.ml" wanted.txt word.txt
 cp found.types kinds_again.ml
 ocamlc -w -a -c kinds_again.ml
 
-./types_of_cmi kinds.cmi 'Kinds.secret list * (int * int) list' > found.types 2> word.txt
+made found.types kinds.cmi 'Kinds.secret list * (int * int) list'
 echo 'kinds_secret list * (int * int) list' > wanted.txt
 same "a type that is no name" wanted.txt word.txt
 
@@ -114,7 +125,7 @@ ocaml -I +compiler-libs ocamlcommon.cma "$here/types_of_cmi.ml" Kinds.all > foun
 declarations found.types > script.types
 same "the script" "$expected/kinds.types" script.types
 
-./types_of_cmi \
+made by_hand.types \
     --declare "'a Map.Make(String).t = Empty
        | Node of { l : 'a Map.Make(String).t; v : string; d : 'a; r : 'a Map.Make(String).t; h : int }" \
     --declare "'a lazy_t = 'a" \
@@ -123,11 +134,11 @@ same "the script" "$expected/kinds.types" script.types
        seed : int; mutable initial_size : int }
        and ('key, 'data) bucketlist = Empty
        | Cons of { mutable key : 'key; mutable data : 'data; mutable next : ('key, 'data) bucketlist }" \
-    By_hand.all > by_hand.types 2> word.txt
+    By_hand.all
 declarations by_hand.types > found.types
 same "declarations of by_hand.ml" "$expected/by_hand.types" found.types
 
-./types_of_cmi --cmt Uses_hidden.all > uses_hidden.types 2> word.txt
+made uses_hidden.types --cmt Uses_hidden.all
 declarations uses_hidden.types > found.types
 same "declarations of uses_hidden.ml" "$expected/uses_hidden.types" found.types
 
@@ -197,7 +208,7 @@ judged uses_hidden.types values.bin wanted.tsv
 
 # The examples are what make.sh makes, and what OCaml writes has their types.
 mkdir made
-TYPES_OF_CMI=$work/types_of_cmi sh "$examples/make.sh" made > /dev/null 2>&1
+TYPES_OF_CMI=$work/types_of_cmi sh "$examples/make.sh" made 2> told.txt || cat told.txt
 for file in "$examples"/*.types; do
     same "$file" "$file" "made/$(basename "$file")"
 done

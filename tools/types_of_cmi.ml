@@ -273,21 +273,12 @@ let canonical reader path =
   let path = if Option.is_some (find_shown reader outside) && not is_another_name then outside else path in
   try Path.Map.find path reader.synonyms with Not_found -> path
 
-(* What the implementation has where the interface hides a type. *)
-let reveal reader path hidden =
-  match path_inside reader path with
-  | None -> None
-  | Some inside ->
-      let target = normalize reader inside in
-      if Path.same target inside then find_shown reader inside
-      else if Path.same (canonical reader target) path then None
-      else Some { hidden with type_manifest = Some (Btype.newgenty (Tconstr (target, hidden.type_params, ref Mnil))) }
-
+(* Where an interface hides a type, what the implementation has. *)
 let find_declaration reader path =
   match (Path.Map.find_opt path reader.by_hand, find_shown reader path) with
   | Some declaration, _ -> Some (By_hand, declaration)
   | None, Some ({ type_kind = Type_abstract; type_manifest = None; _ } as hidden) when reader.looks_inside -> (
-      match reveal reader path hidden with
+      match Option.bind (path_inside reader path) (find_shown reader) with
       | Some declaration -> Some (Hidden, declaration)
       | None -> Some (Shown, hidden))
   | None, shown ->
