@@ -443,14 +443,16 @@ let hidden_kind path declaration =
   | _ -> "an abstract type"
 
 (* A type that is written again, as `type t = Other.t = A | B`, is the other one, where that one is found. *)
-let repeats_a_known_type reader declaration =
+let repeats_a_known_type reader path declaration =
   match Option.map Library.shape declaration.type_manifest with
-  | Some (Tconstr (path, _, _)) -> Option.is_some (find_declaration reader (canonical reader path))
+  | Some (Tconstr (other, _, _)) ->
+      let other = canonical reader other in
+      (not (Path.same other path)) && Option.is_some (find_declaration reader other)
   | Some _ | None -> false
 
 let read_body reader scope path declaration =
   match (declaration.type_kind, declaration.type_manifest) with
-  | (Type_record _ | Type_variant _), Some manifest when repeats_a_known_type reader declaration ->
+  | (Type_record _ | Type_variant _), Some manifest when repeats_a_known_type reader path declaration ->
       Abbreviation (read_type reader scope manifest)
   | Type_record ([ label ], Record_unboxed _), _ ->
       Abbreviation (read_type reader (step scope ("field " ^ Ident.name label.ld_id)) label.ld_type)
