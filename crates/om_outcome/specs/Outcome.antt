@@ -1,11 +1,12 @@
--- What a run says: the stages in their order, and then value by value. A command adds its plain words, the files that it
--- opens, and what it says of a value; the stages, the stops, their lines and their statuses stand here once.
-use Rattle.std.specs.Prelude.{ℕ, suc, ◌^◌, ◌≡◌, ◌≢◌, ◌⊎◌, Bool, if◌then◌else◌, List, [], ◌∷◌, ◌++◌, length, Option, Some, None, Result, Ok, Err, MatchResult, codes, decimal}
+-- What a run says: the stages in their order, then a text of each value, and a last reply. A command adds its plain words,
+-- the files that it opens, what it says of a value, what stops it there, and its last reply; the stages, the stops, their
+-- lines and their statuses stand here once.
+use Rattle.std.specs.Prelude.{ℕ, suc, ◌^◌, ◌≡◌, ◌≢◌, ◌⊎◌, Bool, true, ◌&&◌, if◌then◌else◌, List, [], ◌∷◌, ◌++◌, length, Option, Some, None, Result, Ok, Err, MatchResult, codes, decimal}
 use Rattle.om_model.specs.declared.status.Status.{Status}
 use Rattle.om_model.specs.declared.status.Status.TheVariants as statuses
 use Rattle.om_outcome.specs.RefusalText.{refusal_text, truncated_text}
 use Rattle.om_format.specs.Tree.{Tree}
-use Rattle.om_format.specs.Stream.{SpellAll, End, clean, refused, cut, Stream}
+use Rattle.om_format.specs.Stream.{SpellAll, End, clean, refused, cut, IsTail}
 
 -- ---- what the outside gives
 
@@ -20,6 +21,10 @@ pub data InputEnd : Type 0 where
 pub record Taken : Type 0 where
   pub bytes : List ℕ
   pub until : InputEnd
+
+-- nothing was taken
+abbrev pub nothing : Taken
+nothing = record { bytes = []; until = unasked }
 
 -- all the bytes there are
 abbrev pub whole : List ℕ → Taken
@@ -85,21 +90,56 @@ pub record Ending : Type 0 where
   pub err : List ℕ
   pub status : Status
 
-abbrev pub stopped : Stop → Ending
-stopped stop = record { out = []; err = err_line (stop_text stop); status = status_of stop }
+-- what is put of a value, and whether nothing is wrong with it
+pub record Said : Type 0 where
+  pub text : List ℕ
+  pub well : Bool
 
-abbrev pub ended : Ending
-ended = record { out = []; err = []; status = statuses.Well }
+-- nothing is put, and nothing is wrong
+abbrev pub nothing_said : Said
+nothing_said = record { text = []; well = true }
 
--- where something is wrong with a value, a run that ends well otherwise answers no
-abbrev pub or_no : Status → Status
-or_no statuses.Well = statuses.No
-or_no status = status
+-- the last reply: something is said after all values, and the run goes to its end; or it stops
+pub data Reply : Type 0 where
+  says : Said → Reply
+  stops : Stop → Reply
 
--- the ending with a text on out before it; the text tells whether something is wrong with a value
-abbrev pub with_output : List ℕ → Bool → Ending → Ending
-with_output text has_type ending =
-    record { out = text ++ ending.out; err = ending.err; status = if has_type then ending.status else or_no ending.status }
+-- what is said of the values, in their order, and the last reply
+pub record Replies : Type 0 where
+  pub said : List Said
+  pub last : Reply
+
+-- both together
+abbrev pub replies : List Said → Reply → Replies
+replies said last = record { said = said; last = last }
+
+-- a run that stops before the values
+abbrev pub stopped : Stop → Replies
+stopped stop = replies [] (stops stop)
+
+-- all that is put on out, one after another
+abbrev pub all_said : Replies → List Said
+all_said all = all.said ++ said_last all.last where
+  said_last : Reply → List Said
+  said_last (says said) = said ∷ []
+  said_last (stops stop) = []
+
+-- the texts, one after another
+abbrev pub texts_of : List Said → List ℕ
+texts_of [] = []
+texts_of (said ∷ rest) = said.text ++ texts_of rest
+
+-- nothing is wrong with any of them
+abbrev pub all_well : List Said → Bool
+all_well [] = true
+all_well (said ∷ rest) = said.well && all_well rest
+
+-- The texts are on out. A stop has its line and its status; without one the run ends well, or with a no.
+abbrev pub ending_of : Replies → Ending
+ending_of all = ends all.last where
+  ends : Reply → Ending
+  ends (says said) = record { out = texts_of (all_said all); err = []; status = if all_well (all_said all) then statuses.Well else statuses.No }
+  ends (stops stop) = record { out = texts_of (all_said all); err = err_line (stop_text stop); status = status_of stop }
 
 -- ---- stages
 
@@ -172,86 +212,96 @@ ReadsTypeOf language file typed =
     Then (OrRefusal (language.ReadsDeclarations text) declarations) (λ decls.
     OrRefusal (language.ReadsType decls typed.1) requested_type))
 
--- the type, where the command has one
-abbrev pub FindsType : {D T : Type 0} → Language D T → (List ℕ → Found) → Option (List ℕ × List ℕ) → Result (Option T) Stop → Type 0
-FindsType language file None result = result ≡ Ok None
-FindsType language file (Some typed) result =
-    Then (ReadsTypeOf language file typed) (λ type found. found ≡ Ok (Some type)) result
+-- what is done with each value, where the words, the files and the type are read
+pub data Work (T : Type 0) : Type 0 where
+  checks : T → Work T
+
+-- FILE and TYPE of `check`
+abbrev pub FindsWork : {D T : Type 0} → Language D T → (List ℕ → Found) → Request → Result (Work T) Stop → Type 0
+FindsWork language file (check name type_text) result =
+    Then (ReadsTypeOf language file (name, type_text)) (λ type found. found ≡ Ok (checks type)) result
 
 -- ---- all stages before the values
 
--- what is to be done with the values
+-- what is to be done with the values, and how many words on 64 bits each may have
 pub record Task (T : Type 0) : Type 0 where
-  pub request : Request
-  pub type : Option T
+  pub work : Work T
+  pub limit : ℕ
+
+abbrev pub task : {T : Type 0} → Work T → ℕ → Task T
+task work limit = record { work = work; limit = limit }
 
 abbrev pub Prepares : {D T : Type 0} → Language D T → List (List ℕ) → (List ℕ → Found) → Result (Task T) Stop → Type 0
 Prepares language words file =
     Then (ReadsWords words) (λ request.
-    Then (FindsType language file (typed_by request)) (λ type result.
-    result ≡ Ok (record { request = request; type = type })))
+    Then (FindsWork language file request) (λ work result.
+    result ≡ Ok (task work (limit_of request))))
 
 -- ---- the values
 
--- What a command does with a value: a text for out, which tells whether nothing is wrong with the value, or a stop.
-pub data Reply : Type 0 where
-  says : List ℕ → Bool → Reply
-  stops : Stop → Reply
+-- what is said of value k
+abbrev pub Says : {D T : Type 0} → Language D T → Work T → ℕ → Tree → Said → Type 0
+Says language (checks type) k tree said =
+    (verdict : List ℕ) × language.LineOf type tree verdict said.well × (said.text ≡ line verdict)
 
--- what the command asked for does with value k
-abbrev pub IsReply : {D T : Type 0} → Language D T → Request → Option T → ℕ → Tree → Reply → Type 0
-IsReply language (check file type_text) (Some type) k tree (says text has_type) =
-    (verdict : List ℕ) × language.LineOf type tree verdict has_type × (text ≡ line verdict)
-IsReply language (check file type_text) None k tree (says text has_type) = ⊥
-IsReply language (check file type_text) type k tree (stops stop) = ⊥
+-- what is said of the values, the first of which has number k
+abbrev pub AllSay : {D T : Type 0} → Language D T → Work T → ℕ → List Tree → List Said → Type 0
+AllSay language work k [] [] = Unit {0}
+AllSay language work k [] (said ∷ more) = ⊥
+AllSay language work k (tree ∷ trees) [] = ⊥
+AllSay language work k (tree ∷ trees) (said ∷ more) =
+    Says language work k tree said × AllSay language work (suc k) trees more
 
-abbrev pub ReplyEnds : Reply → (Ending → Type 0) → Ending → Type 0
-ReplyEnds (says text has_type) Goes ending = (rest : Ending) × Goes rest × (ending ≡ with_output text has_type rest)
-ReplyEnds (stops stop) Goes ending = ending ≡ stopped stop
+-- After these values the command stops at the bytes that come there, whatever they become.
+abbrev pub StopsAt : {D T : Type 0} → Language D T → Work T → ℕ → List Tree → List ℕ → Stop → Type 0
+StopsAt language (checks type) limit trees rest stop = ⊥
 
--- the values from number k on, and then what the run does after them
-abbrev pub RepliesEnd : {D T : Type 0} → Language D T → Task T → (Ending → Type 0) → ℕ → List Tree → Ending → Type 0
-RepliesEnd language task Closes k [] ending = Closes ending
-RepliesEnd language task Closes k (tree ∷ trees) ending =
-    (reply : Reply) × IsReply language task.request task.type k tree reply
-    × ReplyEnds reply (RepliesEnd language task Closes (suc k) trees) ending
+-- the command's last reply, once the input's end is found after all values
+abbrev pub Finishes : {D T : Type 0} → Language D T → Work T → List Tree → Reply → Type 0
+Finishes language (checks type) trees last = last ≡ says nothing_said
 
--- what the command says once the input's end is found after all values
-abbrev pub Finishes : Request → List Tree → Ending → Type 0
-Finishes (check file type) trees ending = ending ≡ ended
+-- The last reply after these values. Bytes that are refused stop the run where no call on the input failed, and no more
+-- than allowed were taken: it asks for no more then. Otherwise it asks on, so what happened to the input comes next.
+abbrev pub Closes : {D T : Type 0} → Language D T → Work T → List Tree → InputEnd → End → Reply → Type 0
+Closes language work trees at_end clean last = Finishes language work trees last
+Closes language work trees at_end (cut n) last = last ≡ stops (value (length trees) (truncated_text n))
+Closes language work trees at_end (refused refusal) last = last ≡ stops (value (length trees) (refusal_text refusal))
+Closes language work trees unasked (refused refusal) last = last ≡ stops (value (length trees) (refusal_text refusal))
+Closes language work trees unasked clean last = ⊥
+Closes language work trees unasked (cut n) last = ⊥
+Closes language work trees at_fault (refused refusal) last = ⊥
+Closes language work trees at_fault clean last = last ≡ stops read_fault
+Closes language work trees at_fault (cut n) last = last ≡ stops read_fault
+Closes language work trees at_length (refused refusal) last = ⊥
+Closes language work trees at_length clean last = last ≡ stops too_long
+Closes language work trees at_length (cut n) last = last ≡ stops too_long
 
--- after the last value of the bytes taken: first what happened to the input, then what comes there
-abbrev pub Closes : Request → List Tree → InputEnd → End → Ending → Type 0
-Closes request trees at_end clean ending = Finishes request trees ending
-Closes request trees at_end (refused refusal) ending = ending ≡ stopped (value (length trees) (refusal_text refusal))
-Closes request trees at_end (cut n) ending = ending ≡ stopped (value (length trees) (truncated_text n))
-Closes request trees at_fault end ending = ending ≡ stopped read_fault
-Closes request trees at_length end ending = ending ≡ stopped too_long
-Closes request trees unasked end ending = ⊥
+-- these are the first values of the bytes, each with what is said of it; and the rest comes after them
+pub record SayFirst {D T : Type 0} (language : Language D T) (task : Task T) (bytes : List ℕ) (trees : List Tree) (said : List Said) (rest : List ℕ) : Type 0 where
+  pub spelled : SpellAll task.limit bytes trees rest
+  pub all_say : AllSay language task.work 0 trees said
 
-abbrev pub ValuesEnd : {D T : Type 0} → Language D T → Task T → Taken → Ending → Type 0
-ValuesEnd language task input ending =
-    (trees : List Tree) × (end : End) × Stream input.bytes (limit_of task.request) trees end
-    × RepliesEnd language task (Closes task.request trees input.until end) 0 trees ending
+-- the values before the last reply, and what leads to it
+pub record ValuesReply {D T : Type 0} (language : Language D T) (task : Task T) (input : Taken) (all : Replies) : Type 0 where
+  pub trees : List Tree
+  pub rest : List ℕ
+  pub first : SayFirst language task input.bytes trees all.said rest
+  pub last : ((stop : Stop) × StopsAt language task.work task.limit trees rest stop × (fault_of input.until ≡ None) × (all.last ≡ stops stop))
+      ⊎ ((end : End) × IsTail task.limit rest end × ((stop : Stop) → StopsAt language task.work task.limit trees rest stop → ⊥) × Closes language task.work trees input.until end all.last)
 
 -- ---- the whole run
 
--- how a run ends with what is given to it, where memory suffices and all is put
-abbrev pub RunEnds : {D T : Type 0} → Language D T → List (List ℕ) → Given → Ending → Type 0
-RunEnds {D} {T} language words given ending =
+-- what is said of what is given, where memory suffices and all is put
+abbrev pub RunReplies : {D T : Type 0} → Language D T → List (List ℕ) → Given → Replies → Type 0
+RunReplies {D} {T} language words given all =
     (prepared : Result (Task T) Stop) × Prepares language words given.file prepared
-    × MatchResult prepared (λ task. ValuesEnd language task given.input ending) (λ stop. ending ≡ stopped stop)
+    × MatchResult prepared (λ task. ValuesReply language task given.input all) (λ stop. all ≡ stopped stop)
 
--- the texts of the first values of the bytes
-abbrev pub IsOutputOfFirstValues : {D T : Type 0} → Language D T → Task T → List ℕ → List ℕ → Type 0
-IsOutputOfFirstValues language task bytes text =
-    (trees : List Tree) × (rest : List ℕ) × SpellAll (limit_of task.request) bytes trees rest
-    × (ending : Ending) × RepliesEnd language task (λ closing. closing ≡ ended) 0 trees ending × (text ≡ ending.out)
-
--- as far as a run came: nothing, or the texts of the first values
-abbrev pub IsOutputOfFirst : {D T : Type 0} → Language D T → List (List ℕ) → Given → List ℕ → Type 0
-IsOutputOfFirst {D} {T} language words given text =
-    (text ≡ []) ⊎ ((task : Task T) × Prepares language words given.file (Ok task) × IsOutputOfFirstValues language task given.input.bytes text)
+-- what is said of the first values of what is given
+abbrev pub SaysOfFirst : {D T : Type 0} → Language D T → List (List ℕ) → Given → List Said → Type 0
+SaysOfFirst {D} {T} language words given said =
+    (task : Task T) × Prepares language words given.file (Ok task)
+    × (trees : List Tree) × (rest : List ℕ) × SayFirst language task given.input.bytes trees said rest
 
 -- ---- the outcome of words, files and an input that are told
 
@@ -260,6 +310,6 @@ found_of None = missing
 found_of (Some bytes) = opened (whole bytes)
 
 -- The files are a look-up from names to bytes. Where FILE is not there, it cannot be opened.
-abbrev pub Outcome : {D T : Type 0} → Language D T → List (List ℕ) → (List ℕ → Option (List ℕ)) → List ℕ → Ending → Type 0
+abbrev pub Outcome : {D T : Type 0} → Language D T → List (List ℕ) → (List ℕ → Option (List ℕ)) → List ℕ → Replies → Type 0
 Outcome language words files bytes =
-    RunEnds language words (record { file = λ name. found_of (files name); input = whole bytes })
+    RunReplies language words (record { file = λ name. found_of (files name); input = whole bytes })

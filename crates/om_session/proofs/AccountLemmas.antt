@@ -1,34 +1,21 @@
 -- The account of a call, from what each stage gave.
-use Rattle.std.proofs.Common.{◌≡◌, ◌⊎◌, ℕ, List, [], Option, Some, None, IfSome, Ok, Err, inl, inr, refl, ◌∙◌, subst, arith}
+use Rattle.std.proofs.Common.{◌≡◌, ◌⊎◌, ℕ, List, [], IfSome, Ok, Err, inl, inr, refl, ◌∙◌, subst}
 use Rattle.om_model.specs.declared.status.Status.{Status}
 use Rattle.om_types.specs.declared.list_type.ListType.{ListType}
-use Rattle.om_outcome.specs.Outcome.{Found, unfetched, Given, Stop, usage, out_of_memory, stopped, Request, check, Asks, typed_by, Task, ReadsTypeOf, Prepares}
+use Rattle.om_outcome.specs.Outcome.{Found, unfetched, nothing, Given, Stop, usage, out_of_memory, stops as stops_reply, stopped, ending_of, Request, check, Asks, typed_by, ReadsTypeOf, Prepares, RunReplies, checks as works}
 use Rattle.om_edge.specs.State.{ByteState, FilesState, Change, change}
 use Rattle.om_session.specs.declared.stop.Stop.TheVariants as stops
 use Rattle.om_session.specs.declared.stop.Stop as codes
 use Rattle.om_session.specs.Call.{call}
-use Rattle.om_session.specs.Check.{EndsValues, ChecksValues}
-use Rattle.om_session.specs.Given.{TakesFrom, Gathers, Fetched}
+use Rattle.om_session.specs.Check.{ClosesValues, ChecksValues}
+use Rattle.om_session.specs.Given.{Fetched}
 use Rattle.om_session.specs.Lists.{lists}
-use Rattle.om_session.specs.Run.{nothing, FetchesFor, MayEnd, PutsLine, Completes, Breaks, Account, IsUsage}
+use Rattle.om_session.specs.Run.{FetchesFor, PutsLine, Completes, Breaks, Account, IsUsage}
 use Rattle.om_session.specs.Stops.{stop_of, Reports}
 use Rattle.om_session.specs.Types.{GivesType}
-use Rattle.om_session.specs.Values.{checks}
-use Rattle.om_session.proofs.CheckLemmas.{puts_nothing}
-
--- ---- nothing taken
-
-nothing_told : (o : Option (List ℕ)) → IfSome o (λ bytes. (rest : List ℕ) × TakesFrom bytes nothing rest × (o ≡ Some rest))
-nothing_told None = tt
-nothing_told (Some bytes) = (bytes, record { front = refl; ends = λ e. cc e }, refl)
-
-took_nothing : (a : ByteState) → Gathers (change a a) nothing
-took_nothing a = record {
-  told = nothing_told a.bytes;
-  measured = tt;
-  are_bytes = λ k d less. absurd (omega arith);
-  cause = record { never_falls = omega arith; rose = tt; kept = refl; at_last = λ e. e };
-}
+use Rattle.om_session.specs.Values.{checks_of}
+use Rattle.om_session.proofs.PutLemmas.{puts_nothing}
+use Rattle.om_session.proofs.TakeLemmas.{took_nothing}
 
 -- ---- a stop before the values
 
@@ -39,28 +26,29 @@ module _ (words : List (List ℕ)) (file : List ℕ → Found) (input out : Byte
   abbrev Ended : Type 0
   Ended = Account lists words (call (change input input) files (change out out) err status)
 
-  account_of : (s : Stop) → MayEnd lists words given (stopped s) → PutsLine err status (stopped s) → Ended
+  account_of : (s : Stop) → (RunReplies lists words given (stopped s) ⊎ (stops_reply s ≡ stops_reply out_of_memory)) → PutsLine err status (ending_of (stopped s)) → Ended
   account_of s may line = record {
     given = given;
     input = took_nothing input;
     files = fetches;
-    asked = inl refl;
-    ends = inl (record { ending = stopped s; may_end = may; out = puts_nothing out; line = line });
+    said = [];
+    first = inl (refl, refl);
+    ends = inl (record { last = stops_reply s; may_end = may; out = puts_nothing out; line = line });
   }
 
-  memory_account : PutsLine err status (stopped out_of_memory) → Ended
-  memory_account line = account_of out_of_memory (inr ([], inl refl, refl)) line
+  memory_account : PutsLine err status (ending_of (stopped out_of_memory)) → Ended
+  memory_account line = account_of out_of_memory (inr refl) line
 
   -- the stop is reported, or that memory ran out for its line
   pub stop_account : (s : Stop) → (Prepares lists words file (Err s) ⊎ (s ≡ out_of_memory)) → Reports s err status → Ended
   stop_account s (inl prepared) r = which r.which where
     which : (r.said ≡ s) ⊎ (r.said ≡ out_of_memory) → Ended
-    which (inl same) = account_of s (inl (Err s, prepared, refl)) (subst (λ s. PutsLine err status (stopped s)) same r.line)
-    which (inr same) = memory_account (subst (λ s. PutsLine err status (stopped s)) same r.line)
+    which (inl same) = account_of s (inl (Err s, prepared, refl)) (subst (λ s. PutsLine err status (ending_of (stopped s))) same r.line)
+    which (inr same) = memory_account (subst (λ s. PutsLine err status (ending_of (stopped s))) same r.line)
   stop_account s (inr memory) r = which r.which where
     which : (r.said ≡ s) ⊎ (r.said ≡ out_of_memory) → Ended
-    which (inl same) = memory_account (subst (λ s. PutsLine err status (stopped s)) (same ∙ memory) r.line)
-    which (inr same) = memory_account (subst (λ s. PutsLine err status (stopped s)) same r.line)
+    which (inl same) = memory_account (subst (λ s. PutsLine err status (ending_of (stopped s))) (same ∙ memory) r.line)
+    which (inr same) = memory_account (subst (λ s. PutsLine err status (ending_of (stopped s))) same r.line)
 
 -- ---- the words
 
@@ -80,8 +68,8 @@ module _ (words : List (List ℕ)) (file type_text : List ℕ) (asks : Asks word
   fetches : FetchesFor words files (λ name. found)
   fetches = record { asked = asked; unasked = λ none. absurd (none (check file type_text) asks) }
 
-  prepared_ok : (t : ListType) → ReadsTypeOf lists (λ name. found) (file, type_text) (Ok t) → Prepares lists words (λ name. found) (Ok (checks file type_text t))
-  prepared_ok t reads = (Ok (check file type_text), asks, (Ok (Some t), (Ok t, reads, refl), refl))
+  prepared_ok : (t : ListType) → ReadsTypeOf lists (λ name. found) (file, type_text) (Ok t) → Prepares lists words (λ name. found) (Ok (checks_of t))
+  prepared_ok t reads = (Ok (check file type_text), asks, (Ok (works t), (Ok t, reads, refl), refl))
 
   prepared_err : (s : Stop) → ReadsTypeOf lists (λ name. found) (file, type_text) (Err s) → Prepares lists words (λ name. found) (Err s)
   prepared_err s reads = (Ok (check file type_text), asks, (Err s, (Err s, reads, refl), refl))
@@ -106,18 +94,22 @@ module _ (words : List (List ℕ)) (file type_text : List ℕ) (asks : Asks word
   -- the values are checked at the type
   pub values_account : (t : ListType) → GivesType file type_text found (Ok t) → (input out err : Change ByteState) (status : Status)
       → ChecksValues t input out err status → Account lists words (call input files out err status)
-  values_account t gives input out err status v = record { given = given; input = v.1; files = fetches; asked = inr (checks file type_text t, prepared_ok t gives); ends = ends (v.2 file type_text) } where
-    task : Task ListType
-    task = checks file type_text t
-
+  values_account t gives input out err status (taken, gathers, said, paced, closes) = record {
+    given = given;
+    input = gathers;
+    files = fetches;
+    said = said;
+    first = inr (checks_of t, prepared_ok t gives, paced);
+    ends = ends closes;
+  } where
     given : Given
-    given = record { file = λ name. found; input = v.0 }
+    given = record { file = λ name. found; input = taken }
 
-    ends : EndsValues (checks file type_text t) v.0 out err status
-        → Completes lists words (record { file = λ name. found; input = v.0 }) (call input files out err status) ⊎ Breaks lists words (record { file = λ name. found; input = v.0 }) (call input files out err status)
-    ends (inl (ending, inl says, puts, line)) =
-        inl (record { ending = ending; may_end = inl (Ok (checks file type_text t), prepared_ok t gives, says); out = puts; line = line })
-    ends (inl (ending, inr (text, some, same), puts, line)) =
-        inl (record { ending = ending; may_end = inr (text, inr (checks file type_text t, prepared_ok t gives, some), same); out = puts; line = line })
-    ends (inr (text, some, part, none, same)) =
-        inr (record { text = text; first = inr (checks file type_text t, prepared_ok t gives, some); out = part; err = none; status = same })
+    ends : ClosesValues t taken said out err status
+        → Completes lists words (record { file = λ name. found; input = taken }) said (call input files out err status) ⊎ Breaks lists words (record { file = λ name. found; input = taken }) said (call input files out err status)
+    ends (inl (last, inl reply, puts, line)) =
+        inl (record { last = last; may_end = inl (Ok (checks_of t), prepared_ok t gives, reply); out = puts; line = line })
+    ends (inl (last, inr memory, puts, line)) =
+        inl (record { last = last; may_end = inr memory; out = puts; line = line })
+    ends (inr (next, (trees, rest, first), part, none, same)) =
+        inr (record { next = next; is_next = inl (checks_of t, prepared_ok t gives, trees, rest, first); out = part; err = none; status = same })

@@ -1,19 +1,22 @@
 -- The causes of the statuses, from the account of a call.
-use Rattle.std.proofs.Common.{◌≡◌, ◌⊎◌, ℕ, suc, ◌+◌, ◌^◌, ◌<◌, ◌≤◌, Bool, true, false, List, [], ◌∷◌, length, Option, Some, None, IfSome, Result, Ok, Err, inl, inr, refl, sym, ap, ◌∙◌, subst, length-append, arith, ◌≢◌, append-nil, ◌++◌}
+use Rattle.std.proofs.Common.{◌≡◌, ◌⊎◌, ℕ, ◌+◌, ◌^◌, ◌<◌, ◌≤◌, Bool, true, false, List, [], ◌∷◌, length, Option, Some, None, IfSome, Result, Ok, Err, inl, inr, refl, sym, ap, ◌∙◌, subst, length-append, arith, ◌≢◌, append-nil, ◌++◌}
 use Rattle.std.specs.Prelude.{IsSome, IsSomeAnd, MatchResult, if◌then◌else◌}
 use Rattle.om_model.specs.declared.status.Status.{Status}
 use Rattle.om_model.specs.declared.status.Status.TheVariants as statuses
-use Rattle.om_format.specs.Stream.{End, clean, refused, cut, Stream}
+use Rattle.om_model.specs.declared.refusal.ReadRefusal.{ReadRefusal}
+use Rattle.om_format.specs.Stream.{End, clean, refused, cut, IsTail, Stream}
 use Rattle.om_format.specs.Tree.{Tree}
-use Rattle.om_outcome.specs.Outcome.{Taken, InputEnd, at_end, at_fault, at_length, unasked, whole, Found, opened, missing, failed, unfetched, Given, Stop, usage, declarations, read_fault, too_long, status_of, Ending, stopped, or_no, Request, check, Task, Language, ReadsFile, ReadsTypeOf, Prepares, RunEnds, IsOutputOfFirst, ValuesEnd, out_of_memory, stop_text, err_line, Closes, says, stops, RepliesEnd, fault_of, limit_of, Asks}
+use Rattle.om_outcome.specs.Outcome.{Taken, InputEnd, at_end, at_fault, at_length, unasked, whole, Found, opened, missing, failed, unfetched, Given, Stop, usage, declarations, read_fault, too_long, status_of, Said, nothing_said, stops, Reply, Replies, replies, texts_of, all_well as well_said, ending_of, stopped, Request, check, Work, checks, Task, Language, ReadsFile, ReadsTypeOf, Prepares, RunReplies, ValuesReply, StopsAt, out_of_memory, stop_text, err_line, Closes, fault_of, limit_of, Asks}
 use Rattle.om_edge.specs.Faults.{HasCause, RoseOrLast}
 use Rattle.om_edge.specs.Files.{File, contents_of}
 use Rattle.om_edge.specs.Sink.{Puts, PutsPart}
 use Rattle.om_session.specs.Call.{Call}
 use Rattle.om_session.specs.Given.{IsFoundOf, TakesFrom, Fetched, IsMeasured, is_fault, has_read_fault}
-use Rattle.om_session.specs.Run.{nothing, MayEnd, PutsLine, Completes, Breaks, Account, IsUsage, AsksForFile, CannotOpen, OnlyUsage, OnlyReadFault, OnlyWriteFault, OnlyOpenFault, OnlyTooLong, IfUsage, IsUnsaid, TellsWriteFault, TellsOpenFault, TellsReadFault, AsksFor, IsRefusedType, OnlyTypes, OnlyValue, IfMissing}
+use Rattle.om_session.specs.Run.{IsSaidFirst, PutsLine, Completes, Breaks, Account, IsUsage, AsksForFile, CannotOpen, OnlyUsage, OnlyReadFault, OnlyWriteFault, OnlyOpenFault, OnlyTooLong, IfUsage, IsUnsaid, TellsWriteFault, TellsOpenFault, TellsReadFault, AsksFor, IsRefusedType, OnlyTypes, OnlyValue, IfMissing}
 use Rattle.std.proofs.lemmas.Option.{IfSome_then}
-use Rattle.om_session.proofs.HeadlineLemmas.{no_stop}
+use Rattle.om_session.proofs.HeadlineLemmas.{no_stop, tail_after}
+use Rattle.om_session.proofs.PutLemmas.{rose_after}
+use Rattle.om_session.proofs.ValueLemmas.{spell_after}
 use Rattle.om_session.proofs.CompleteLemmas.{IsLawful, prepares_once}
 
 some_and : {X : Type 0} (o : Option X) (P : X → Type 0) → IsSome o → IfSome o P → IsSomeAnd o P
@@ -36,14 +39,28 @@ risen a b same less = omega arith
 abbrev pub IsReady : {D T : Type 0} → Language D T → List (List ℕ) → Given → Type 0
 IsReady {D} {T} language words given = (task : Task T) × Prepares language words given.file (Ok task)
 
--- memory ran out: out has the texts of some first values, and err the line that tells it
+-- memory ran out: out has what is said of the first values, and err the line that tells it
 abbrev pub IsSpent : {D T : Type 0} → Language D T → List (List ℕ) → Call → Given → Type 0
 IsSpent language words call given =
-    (text : List ℕ) × IsOutputOfFirst language words given text × Puts call.out text × Puts call.err (err_line (stop_text out_of_memory))
+    (said : List Said) × IsSaidFirst language words given said × Puts call.out (texts_of said) × Puts call.err (err_line (stop_text out_of_memory))
+
+-- this follows from what was given, or memory ran out
+abbrev pub MayEnd : {D T : Type 0} → Language D T → List (List ℕ) → Given → List Said → Reply → Type 0
+MayEnd language words given said last = RunReplies language words given (replies said last) ⊎ (last ≡ stops out_of_memory)
 
 -- err failed within its line
 abbrev pub IsUnput : {D T : Type 0} → Language D T → List (List ℕ) → Call → Given → Type 0
-IsUnput language words call given = (ending : Ending) × MayEnd language words given ending × Puts call.out ending.out × PutsPart call.err ending.err
+IsUnput language words call given =
+    (said : List Said) × (last : Reply) × IsSaidFirst language words given said × MayEnd language words given said last
+    × Puts call.out (ending_of (replies said last)).out × PutsPart call.err (ending_of (replies said last)).err
+
+-- bytes come after the values of what was taken, which was all, or they are refused
+pub record NoValue (limit : ℕ) (taken : Taken) : Type 0 where
+  pub trees : List Tree
+  pub end : End
+  pub stream : Stream taken.bytes limit trees end
+  pub some : end ≢ clean
+  pub ends : (taken.until ≡ at_end) ⊎ ((refusal : ReadRefusal) × (end ≡ refused refusal))
 
 -- why a call ends with a status
 pub data Why {D T : Type 0} (language : Language D T) (words : List (List ℕ)) (call : Call) (given : Given) : Status → Type 0 where
@@ -55,34 +72,14 @@ pub data Why {D T : Type 0} (language : Language D T) (words : List (List ℕ)) 
   no_types : (name type text : List ℕ) → AsksFor words name type → given.file name ≡ opened (whole text) → IsRefusedType language text type → Why language words call given statuses.Types
   file_fault : (name : List ℕ) (taken : Taken) → AsksForFile words name → given.file name ≡ opened taken → taken.until ≡ at_fault → Why language words call given statuses.ReadFault
   file_long : (name : List ℕ) (taken : Taken) → AsksForFile words name → given.file name ≡ opened taken → taken.until ≡ at_length → Why language words call given statuses.TooLong
-  no_value : IsReady language words given → (request : Request) → Asks words request → given.input.until ≡ at_end → (trees : List Tree) (end : End) → Stream given.input.bytes (limit_of request) trees end → end ≢ clean → Why language words call given statuses.Value
+  no_value : IsReady language words given → (request : Request) → Asks words request → NoValue (limit_of request) given.input → Why language words call given statuses.Value
   input_fault : given.input.until ≡ at_fault → Why language words call given statuses.ReadFault
   input_long : IsReady language words given → given.input.until ≡ at_length → Why language words call given statuses.TooLong
   memory : IsSpent language words call given → Why language words call given statuses.Memory
-  out_fault : Breaks language words given call → Why language words call given statuses.WriteFault
+  out_fault : (said : List Said) → IsSaidFirst language words given said → Breaks language words given said call → Why language words call given statuses.WriteFault
   err_fault : IsUnput language words call given → Why language words call given statuses.WriteFault
 
 module _ {D T : Type 0} (language : Language D T) (words : List (List ℕ)) (call : Call) (given : Given) where
-  or_no_why : (s : Status) → Why language words call given s → Why language words call given (or_no s)
-  or_no_why s (all_well ready e) = some_no ready e
-  or_no_why s (some_no ready e) = some_no ready e
-  or_no_why s (not_plain none) = not_plain none
-  or_no_why s (not_there name is none) = not_there name is none
-  or_no_why s (not_opened name is none) = not_opened name is none
-  or_no_why s (no_types name type text is found why) = no_types name type text is found why
-  or_no_why s (file_fault name taken is found e) = file_fault name taken is found e
-  or_no_why s (file_long name taken is found e) = file_long name taken is found e
-  or_no_why s (no_value ready request asks e trees end stream some) = no_value ready request asks e trees end stream some
-  or_no_why s (input_fault e) = input_fault e
-  or_no_why s (input_long ready e) = input_long ready e
-  or_no_why s (memory spent) = memory spent
-  or_no_why s (out_fault breaks) = out_fault breaks
-  or_no_why s (err_fault unput) = err_fault unput
-
-  well_why : (has_type : Bool) (s : Status) → Why language words call given s → Why language words call given (if has_type then s else or_no s)
-  well_why true s why = why
-  well_why false s why = or_no_why s why
-
   -- FILE was not read to its end
   file_why : (name : List ℕ) → AsksForFile words name → (found : Found) → given.file name ≡ found → (s : Stop) → ReadsFile name found (Err s) → Why language words call given (status_of s)
   file_why name is (opened taken) e s r = until_why taken.until refl r where
@@ -105,50 +102,77 @@ module _ {D T : Type 0} (language : Language D T) (words : List (List ℕ)) (cal
   prepares_why : (s : Stop) → Prepares language words given.file (Err s) → Why language words call given (status_of s)
   prepares_why s (Err stop, (none, e), same) =
       let told : usage ≡ s = cc in subst (λ s. Why language words call given (status_of s)) told (not_plain none)
-  prepares_why s (Ok (check f t), asks, (Ok type, found, same)) = absurd (cc same)
+  prepares_why s (Ok (check f t), asks, (Ok work, found, same)) = absurd (cc same)
   prepares_why s (Ok (check f t), asks, (Err stop, (Ok type, reads, found), same)) = absurd (cc found)
   prepares_why s (Ok (check f t), asks, (Err stop, (Err first, reads, e), same)) =
       let told : first ≡ s = cc in
       subst (λ s. Why language words call given (status_of s)) told (type_why f t (check f t, asks, refl) first reads)
 
-  closes_why : IsReady language words given → (request : Request) (trees : List Tree) (u : InputEnd) (end : End) (e : Ending) → Asks words request → Stream given.input.bytes (limit_of request) trees end → given.input.until ≡ u → Closes request trees u end e → Why language words call given e.status
-  closes_why ready (check f t) trees at_end clean e asks stream same h = subst (λ e. Why language words call given e.status) (sym h) (all_well ready same)
-  closes_why ready request trees at_end (refused refusal) e asks stream same h = subst (λ e. Why language words call given e.status) (sym h) (no_value ready request asks same trees (refused refusal) stream (λ no_end. cc))
-  closes_why ready request trees at_end (cut n) e asks stream same h = subst (λ e. Why language words call given e.status) (sym h) (no_value ready request asks same trees (cut n) stream (λ no_end. cc))
-  closes_why ready request trees at_fault end e asks stream same h = subst (λ e. Why language words call given e.status) (sym h) (input_fault same)
-  closes_why ready request trees at_length end e asks stream same h = subst (λ e. Why language words call given e.status) (sym h) (input_long ready same)
-  closes_why ready request trees unasked end e asks stream same h = absurd h
+  well_why : IsReady language words given → given.input.until ≡ at_end → (b : Bool) → Why language words call given (if b then statuses.Well else statuses.No)
+  well_why ready e true = all_well ready e
+  well_why ready e false = some_no ready e
 
-  replies_why : (task : Task T) (C : Ending → Type 0) → ((e : Ending) → C e → Why language words call given e.status) → (k : ℕ) (trees : List Tree) (e : Ending)
-      → RepliesEnd language task C k trees e → Why language words call given e.status
-  replies_why task C why k [] e h = why e h
-  replies_why task C why k (tree ∷ trees) e (says text has_type, replies, (rest, goes, same)) =
-      subst (λ e. Why language words call given e.status) (sym same) (well_why has_type rest.status (replies_why task C why (suc k) trees rest goes))
-  replies_why task C why k (tree ∷ trees) e (stops stop, replies, same) = absurd (no_stop language task.request task.type k tree stop replies)
+  closes_why : IsReady language words given → (request : Request) → Asks words request → (work : Work T) (said : List Said) (trees : List Tree) (u : InputEnd) (end : End) (last : Reply)
+      → given.input.until ≡ u → Stream given.input.bytes (limit_of request) trees end → Closes language work trees u end last → Why language words call given (ending_of (replies said last)).status
+  closes_why ready request asks (checks t) said trees at_end clean last e stream h =
+      subst (λ l. Why language words call given (ending_of (replies said l)).status) (sym h) (well_why ready e (well_said (said ++ nothing_said ∷ [])))
+  closes_why ready request asks work said trees at_end (refused refusal) last e stream h =
+      subst (λ l. Why language words call given (ending_of (replies said l)).status) (sym h)
+      (no_value ready request asks (record { trees = trees; end = refused refusal; stream = stream; some = λ no_end. cc; ends = inl e }))
+  closes_why ready request asks work said trees at_end (cut n) last e stream h =
+      subst (λ l. Why language words call given (ending_of (replies said l)).status) (sym h)
+      (no_value ready request asks (record { trees = trees; end = cut n; stream = stream; some = λ no_end. cc; ends = inl e }))
+  closes_why ready request asks work said trees unasked (refused refusal) last e stream h =
+      subst (λ l. Why language words call given (ending_of (replies said l)).status) (sym h)
+      (no_value ready request asks (record { trees = trees; end = refused refusal; stream = stream; some = λ no_end. cc; ends = inr (refusal, refl) }))
+  closes_why ready request asks work said trees unasked clean last e stream h = absurd h
+  closes_why ready request asks work said trees unasked (cut n) last e stream h = absurd h
+  closes_why ready request asks work said trees at_fault (refused refusal) last e stream h = absurd h
+  closes_why ready request asks work said trees at_fault clean last e stream h =
+      subst (λ l. Why language words call given (ending_of (replies said l)).status) (sym h) (input_fault e)
+  closes_why ready request asks work said trees at_fault (cut n) last e stream h =
+      subst (λ l. Why language words call given (ending_of (replies said l)).status) (sym h) (input_fault e)
+  closes_why ready request asks work said trees at_length (refused refusal) last e stream h = absurd h
+  closes_why ready request asks work said trees at_length clean last e stream h =
+      subst (λ l. Why language words call given (ending_of (replies said l)).status) (sym h) (input_long ready e)
+  closes_why ready request asks work said trees at_length (cut n) last e stream h =
+      subst (λ l. Why language words call given (ending_of (replies said l)).status) (sym h) (input_long ready e)
 
-  task_asks : (task : Task T) → Prepares language words given.file (Ok task) → Asks words task.request
+  pub task_asks : (task : Task T) → Prepares language words given.file (Ok task) → (request : Request) × Asks words request × (task.limit ≡ limit_of request)
   task_asks task (Err stop, h, same) = absurd (cc same)
   task_asks task (Ok request, asks, (Err stop, h, same)) = absurd (cc same)
-  task_asks task (Ok request, asks, (Ok type, h, same)) =
-      let told : task ≡ record { request = request; type = type } = cc in subst (λ t. Asks words t.request) (sym told) asks
+  task_asks task (Ok request, asks, (Ok work, h, same)) =
+      let told : task ≡ record { work = work; limit = limit_of request } = cc in (request, asks, ap (λ t. t.limit) told)
 
-  says_why : (ending : Ending) → RunEnds language words given ending → Why language words call given ending.status
-  says_why ending (Err stop, p, same) = subst (λ e. Why language words call given e.status) (sym same) (prepares_why stop p)
-  says_why ending (Ok task, p, (trees, end, stream, replies)) =
-      replies_why task (Closes task.request trees given.input.until end) (λ e h. closes_why (task, p) task.request trees given.input.until end e (task_asks task p) stream refl h) 0 trees ending replies
+  says_why : (all : Replies) → RunReplies language words given all → Why language words call given (ending_of all).status
+  says_why all (Err stop, p, same) = subst (λ e. Why language words call given (ending_of e).status) (sym same) (prepares_why stop p)
+  says_why all (Ok task, p, v) = go v.last where
+    go : ((stop : Stop) × StopsAt language task.work task.limit v.trees v.rest stop × (fault_of given.input.until ≡ None) × (all.last ≡ stops stop))
+        ⊎ ((end : End) × IsTail task.limit v.rest end × ((stop : Stop) → StopsAt language task.work task.limit v.trees v.rest stop → ⊥) × Closes language task.work v.trees given.input.until end all.last)
+        → Why language words call given (ending_of all).status
+    go (inl (stop, at, free, is)) = absurd (no_stop language task.work task.limit v.trees v.rest stop at)
+    go (inr (end, tail, none, closes)) =
+        let asked = task_asks task p in
+        closes_why (task, p) asked.0 asked.1 task.work all.said v.trees given.input.until end all.last refl
+        (subst (λ limit. Stream given.input.bytes limit v.trees end) asked.2 (v.rest, v.first.spelled, tail)) closes
 
 module _ {D T : Type 0} (language : Language D T) (words : List (List ℕ)) (call : Call) (a : Account language words call) where
   pub account_why : Why language words call a.given call.status
   account_why = ends a.ends where
-    ends : Completes language words a.given call ⊎ Breaks language words a.given call → Why language words call a.given call.status
-    ends (inr b) = subst (λ s. Why language words call a.given s) (sym b.status) (out_fault b)
+    ends : Completes language words a.given a.said call ⊎ Breaks language words a.given a.said call → Why language words call a.given call.status
+    ends (inr b) = subst (λ s. Why language words call a.given s) (sym b.status) (out_fault a.said a.first b)
     ends (inl c) = put c.line where
-      put : PutsLine call.err call.status c.ending → Why language words call a.given call.status
-      put (inr (part, same)) = subst (λ s. Why language words call a.given s) (sym same) (err_fault (c.ending, c.may_end, c.out, part))
+      put : PutsLine call.err call.status (ending_of (replies a.said c.last)) → Why language words call a.given call.status
+      put (inr (part, same)) = subst (λ s. Why language words call a.given s) (sym same) (err_fault (a.said, c.last, a.first, c.may_end, c.out, part))
       put (inl (line, same)) = subst (λ s. Why language words call a.given s) (sym same) (may c.may_end) where
-        may : MayEnd language words a.given c.ending → Why language words call a.given c.ending.status
-        may (inl said) = says_why language words call a.given c.ending said
-        may (inr (text, first, e)) = subst (λ e. Why language words call a.given e.status) (sym e) (memory (text, first, subst (λ e. Puts call.out e.out) e c.out, subst (λ e. Puts call.err e.err) e line))
+        may : MayEnd language words a.given a.said c.last → Why language words call a.given (ending_of (replies a.said c.last)).status
+        may (inl said) = says_why language words call a.given (replies a.said c.last) said
+        may (inr e) = subst (λ l. Why language words call a.given (ending_of (replies a.said l)).status) (sym e) (memory (
+          a.said,
+          a.first,
+          subst (λ text. Puts call.out (texts_of text)) (append-nil a.said) (subst (λ l. Puts call.out (ending_of (replies a.said l)).out) e c.out),
+          subst (λ l. Puts call.err (ending_of (replies a.said l)).err) e line,
+        ))
 
   pub file_fetched : (name : List ℕ) → AsksForFile words name → Fetched call.files name (a.given.file name)
   file_fetched name (type, (request, asks, typed)) = subst (λ o. IfSome o (λ t. Fetched call.files t.0 (a.given.file t.0))) typed (a.files.asked request asks)
@@ -162,19 +186,23 @@ module _ {D T : Type 0} (language : Language D T) (words : List (List ℕ)) (cal
   only_usage e = usage_of (subst (λ s. Why language words call a.given s) e account_why)
 
   write_of : Why language words call a.given statuses.WriteFault → RoseOrLast call.out.before.faults call.out.after.faults ⊎ RoseOrLast call.err.before.faults call.err.after.faults
-  write_of (out_fault breaks) = inl breaks.out.cause.rose
-  write_of (err_fault unput) = inr unput.3.cause.rose
+  write_of (out_fault said first breaks) = inl (rose_after _ _ _ breaks.out.1.cause breaks.out.2.cause)
+  write_of (err_fault unput) = inr unput.5.cause.rose
 
   pub only_write_fault : OnlyWriteFault call
   only_write_fault e = write_of (subst (λ s. Why language words call a.given s) e account_why)
 
+  -- a read of FILE failed
+  pub read_fault_of : (name : List ℕ) (taken : Taken) → AsksForFile words name → a.given.file name ≡ opened taken → taken.until ≡ at_fault → RoseOrLast call.files.before.read_faults call.files.after.read_faults
+  read_fault_of name taken is found e =
+      let f = file_fetched name is in
+      let cause = subst (λ o. HasCause call.files.before.read_faults call.files.after.read_faults (has_read_fault o)) found f.reading in
+      (rw e at cause).rose
+
   read_of : Why language words call a.given statuses.ReadFault
       → RoseOrLast call.input.before.faults call.input.after.faults ⊎ RoseOrLast call.files.before.read_faults call.files.after.read_faults
   read_of (input_fault e) = inl (rw e at a.input.cause).rose
-  read_of (file_fault name taken is found e) =
-      let f = file_fetched name is in
-      let cause = subst (λ o. HasCause call.files.before.read_faults call.files.after.read_faults (has_read_fault o)) found f.reading in
-      inr (rw e at cause).rose
+  read_of (file_fault name taken is found e) = inr (read_fault_of name taken is found e)
 
   pub only_read_fault : OnlyReadFault call
   only_read_fault e = read_of (subst (λ s. Why language words call a.given s) e account_why)
@@ -190,16 +218,12 @@ module _ {D T : Type 0} (language : Language D T) (words : List (List ℕ)) (cal
   pub only_open_fault : OnlyOpenFault words call
   only_open_fault e = open_of (subst (λ s. Why language words call a.given s) e account_why)
 
-  long_of : Why language words call a.given statuses.TooLong
-      → IfSome call.input.before.bytes (λ bytes. 2 ^ 48 ≤ length bytes)
-      ⊎ ((name : List ℕ) × AsksForFile words name × IfSome call.files.before.map (λ all. IsSomeAnd (contents_of all name) (λ bytes. 2 ^ 48 ≤ length bytes)))
-  long_of (input_long ready e) =
-      let long = subst (λ u. IsMeasured u (length a.given.input.bytes)) e a.input.measured in
-      inl (IfSome_then call.input.before.bytes a.input.told (λ bytes t. longer bytes a.given.input t.0 t.1 long))
-  long_of (file_long name taken is found e) =
+  -- FILE is too long
+  pub file_long_of : (name : List ℕ) (taken : Taken) → AsksForFile words name → a.given.file name ≡ opened taken → taken.until ≡ at_length
+      → (name : List ℕ) × AsksForFile words name × IfSome call.files.before.map (λ all. IsSomeAnd (contents_of all name) (λ bytes. 2 ^ 48 ≤ length bytes))
+  file_long_of name taken is found e =
       let f = subst (λ o. Fetched call.files name o) found (file_fetched name is) in
-      let long = subst (λ u. IsMeasured u (length taken.bytes)) e f.measured in
-      inr (
+      let long = subst (λ u. IsMeasured u (length taken.bytes)) e f.measured in (
         name,
         is,
         IfSome_then call.files.before.map f.map (λ all h.
@@ -207,63 +231,71 @@ module _ {D T : Type 0} (language : Language D T) (words : List (List ℕ)) (cal
             (λ bytes t. longer bytes taken t.0 t.1 long)),
       )
 
+  long_of : Why language words call a.given statuses.TooLong
+      → IfSome call.input.before.bytes (λ bytes. 2 ^ 48 ≤ length bytes)
+      ⊎ ((name : List ℕ) × AsksForFile words name × IfSome call.files.before.map (λ all. IsSomeAnd (contents_of all name) (λ bytes. 2 ^ 48 ≤ length bytes)))
+  long_of (input_long ready e) =
+      let long = subst (λ u. IsMeasured u (length a.given.input.bytes)) e a.input.measured in
+      inl (IfSome_then call.input.before.bytes a.input.told (λ bytes t. longer bytes a.given.input t.0 t.1 long))
+  long_of (file_long name taken is found e) = inr (file_long_of name taken is found e)
+
   pub only_too_long : OnlyTooLong words call
   only_too_long e = long_of (subst (λ s. Why language words call a.given s) e account_why)
 
   -- ---- what has to be told
 
-  usage_says : IsUsage words → (ending : Ending) → RunEnds language words a.given ending → ending.status ≡ statuses.Usage
-  usage_says none ending (Ok task, (Err stop, h, same), said) = absurd (cc same)
-  usage_says none ending (Ok task, (Ok request, asks, more), said) = absurd (none request asks)
-  usage_says none ending (Err stop, (Err first, h, same), e) =
-      let told : usage ≡ stop = let h1 = h.1 in cc in ap (λ e. e.status) e ∙ ap status_of (sym told)
-  usage_says none ending (Err stop, (Ok request, asks, more), e) = absurd (none request asks)
+  usage_says : IsUsage words → (all : Replies) → RunReplies language words a.given all → (ending_of all).status ≡ statuses.Usage
+  usage_says none all (Ok task, (Err stop, h, same), said) = absurd (cc same)
+  usage_says none all (Ok task, (Ok request, asks, more), said) = absurd (none request asks)
+  usage_says none all (Err stop, (Err first, h, same), e) =
+      let told : usage ≡ stop = let h1 = h.1 in cc in ap (λ e. (ending_of e).status) e ∙ ap status_of (sym told)
+  usage_says none all (Err stop, (Ok request, asks, more), e) = absurd (none request asks)
 
   -- the status where all that was said was put; else it is 7, or memory ran out and it is 9
-  said_status : (P : Status → Type 0) → ((ending : Ending) → RunEnds language words a.given ending → P ending.status) → P call.status ⊎ IsUnsaid call.status
+  said_status : (P : Status → Type 0) → ((all : Replies) → RunReplies language words a.given all → P (ending_of all).status) → P call.status ⊎ IsUnsaid call.status
   said_status P says_P = ends a.ends where
-    ends : Completes language words a.given call ⊎ Breaks language words a.given call → P call.status ⊎ IsUnsaid call.status
+    ends : Completes language words a.given a.said call ⊎ Breaks language words a.given a.said call → P call.status ⊎ IsUnsaid call.status
     ends (inr b) = inr (inr b.status)
     ends (inl c) = put c.line where
-      put : PutsLine call.err call.status c.ending → P call.status ⊎ IsUnsaid call.status
+      put : PutsLine call.err call.status (ending_of (replies a.said c.last)) → P call.status ⊎ IsUnsaid call.status
       put (inr (part, same)) = inr (inr same)
       put (inl (line, same)) = may c.may_end where
-        may : MayEnd language words a.given c.ending → P call.status ⊎ IsUnsaid call.status
-        may (inl said) = inl (subst P (sym same) (says_P c.ending said))
-        may (inr (text, first, e)) = inr (inl (same ∙ ap (λ e. e.status) e))
+        may : MayEnd language words a.given a.said c.last → P call.status ⊎ IsUnsaid call.status
+        may (inl said) = inl (subst P (sym same) (says_P (replies a.said c.last) said))
+        may (inr e) = inr (inl (same ∙ ap (λ l. (ending_of (replies a.said l)).status) e))
 
   pub if_usage : IfUsage words call
   if_usage none = said_status (λ s. s ≡ statuses.Usage) (usage_says none)
 
   pub tells_write_fault : TellsWriteFault call
   tells_write_fault = record { out = out_told a.ends; err = err_told a.ends } where
-    out_told : Completes language words a.given call ⊎ Breaks language words a.given call → call.out.before.faults < call.out.after.faults → call.status ≡ statuses.WriteFault
+    out_told : Completes language words a.given a.said call ⊎ Breaks language words a.given a.said call → call.out.before.faults < call.out.after.faults → call.status ≡ statuses.WriteFault
     out_told (inr b) less = b.status
     out_told (inl c) less = absurd (risen _ _ c.out.cause.kept less)
 
-    err_told : Completes language words a.given call ⊎ Breaks language words a.given call → call.err.before.faults < call.err.after.faults → call.status ≡ statuses.WriteFault
+    err_told : Completes language words a.given a.said call ⊎ Breaks language words a.given a.said call → call.err.before.faults < call.err.after.faults → call.status ≡ statuses.WriteFault
     err_told (inr b) less = absurd (risen _ _ b.err.cause.kept less)
     err_told (inl c) less = put c.line where
-      put : PutsLine call.err call.status c.ending → call.status ≡ statuses.WriteFault
+      put : PutsLine call.err call.status (ending_of (replies a.said c.last)) → call.status ≡ statuses.WriteFault
       put (inr (part, same)) = same
       put (inl (line, same)) = absurd (risen _ _ line.cause.kept less)
 
   -- where a stage stops the run, that is its status
-  stop_status : (ending : Ending) (found : Result T Stop) (type : Result (Option T) Stop) (prepared : Result (Task T) Stop) (request : Request) (s : Stop)
-      → found ≡ Err s → MatchResult found (λ x. type ≡ Ok (Some x)) (λ stop. type ≡ Err stop)
-      → MatchResult type (λ x. prepared ≡ Ok (record { request = request; type = x })) (λ stop. prepared ≡ Err stop)
-      → MatchResult prepared (λ task. ValuesEnd language task a.given.input ending) (λ stop. ending ≡ stopped stop)
-      → ending.status ≡ status_of s
-  stop_status ending (Ok x) type prepared request s e f g h = absurd (cc e)
-  stop_status ending (Err s1) (Ok x) prepared request s e f g h = absurd (cc f)
-  stop_status ending (Err s1) (Err s2) (Ok task) request s e f g h = absurd (cc g)
-  stop_status ending (Err s1) (Err s2) (Err s3) request s e f g h =
-      let told : s3 ≡ s = cc in ap (λ e. e.status) h ∙ ap status_of told
+  stop_status : (all : Replies) (found : Result T Stop) (type : Result (Work T) Stop) (prepared : Result (Task T) Stop) (request : Request) (s : Stop)
+      → found ≡ Err s → MatchResult found (λ x. type ≡ Ok (checks x)) (λ stop. type ≡ Err stop)
+      → MatchResult type (λ x. prepared ≡ Ok (record { work = x; limit = limit_of request })) (λ stop. prepared ≡ Err stop)
+      → MatchResult prepared (λ task. ValuesReply language task a.given.input all) (λ stop. all ≡ stopped stop)
+      → (ending_of all).status ≡ status_of s
+  stop_status all (Ok x) type prepared request s e f g h = absurd (cc e)
+  stop_status all (Err s1) (Ok x) prepared request s e f g h = absurd (cc f)
+  stop_status all (Err s1) (Err s2) (Ok task) request s e f g h = absurd (cc g)
+  stop_status all (Err s1) (Err s2) (Err s3) request s e f g h =
+      let told : s3 ≡ s = cc in ap (λ e. (ending_of e).status) h ∙ ap status_of told
 
-  module _ (f : List ℕ) (fetched : Fetched call.files f (a.given.file f)) (ending : Ending) where
+  module _ (f : List ℕ) (fetched : Fetched call.files f (a.given.file f)) (all : Replies) where
     -- a fetch that failed is told
     opening_at : call.files.before.open_faults < call.files.after.open_faults → (o : Found) → a.given.file f ≡ o → (text : Result (List ℕ) Stop) → ReadsFile f o text
-        → ((s : Stop) → text ≡ Err s → ending.status ≡ status_of s) → ending.status ≡ statuses.OpenFault
+        → ((s : Stop) → text ≡ Err s → (ending_of all).status ≡ status_of s) → (ending_of all).status ≡ statuses.OpenFault
     opening_at less (opened taken) same text r told = absurd (risen _ _ (subst (λ o. Fetched call.files f o) same fetched).opening.kept less)
     opening_at less missing same text r told = absurd (risen _ _ (subst (λ o. Fetched call.files f o) same fetched).opening.kept less)
     opening_at less unfetched same text r told = absurd (risen _ _ (subst (λ o. Fetched call.files f o) same fetched).opening.kept less)
@@ -272,7 +304,7 @@ module _ {D T : Type 0} (language : Language D T) (words : List (List ℕ)) (cal
 
     -- and so is a take of a file
     reading_at : call.files.before.read_faults < call.files.after.read_faults → (o : Found) → a.given.file f ≡ o → (text : Result (List ℕ) Stop) → ReadsFile f o text
-        → ((s : Stop) → text ≡ Err s → ending.status ≡ status_of s) → ending.status ≡ statuses.ReadFault
+        → ((s : Stop) → text ≡ Err s → (ending_of all).status ≡ status_of s) → (ending_of all).status ≡ statuses.ReadFault
     reading_at less missing same text r told = absurd (risen _ _ (subst (λ o. Fetched call.files f o) same fetched).reading.kept less)
     reading_at less unfetched same text r told = absurd (risen _ _ (subst (λ o. Fetched call.files f o) same fetched).reading.kept less)
     reading_at less failed same text r told = absurd (risen _ _ (subst (λ o. Fetched call.files f o) same fetched).reading.kept less)
@@ -281,7 +313,7 @@ module _ {D T : Type 0} (language : Language D T) (words : List (List ℕ)) (cal
       reads u e = subst (λ u. HasCause call.files.before.read_faults call.files.after.read_faults (is_fault u)) e (subst (λ o. Fetched call.files f o) same fetched).reading
 
       until_at : (u : InputEnd) → taken.until ≡ u → (text : Result (List ℕ) Stop) → ReadsFile f (opened taken) text
-          → ((s : Stop) → text ≡ Err s → ending.status ≡ status_of s) → ending.status ≡ statuses.ReadFault
+          → ((s : Stop) → text ≡ Err s → (ending_of all).status ≡ status_of s) → (ending_of all).status ≡ statuses.ReadFault
       until_at at_end e text r told = absurd (risen _ _ (reads at_end e).kept less)
       until_at at_length e text r told = absurd (risen _ _ (reads at_length e).kept less)
       until_at unasked e text r told = absurd (risen _ _ (reads unasked e).kept less)
@@ -290,44 +322,42 @@ module _ {D T : Type 0} (language : Language D T) (words : List (List ℕ)) (cal
           let h : fault_of at_fault ≡ Some s = subst (λ u. fault_of u ≡ Some s) e r in
           let stop : read_fault ≡ s = cc in told s refl ∙ ap status_of (sym stop)
 
-  opening_says : call.files.before.open_faults < call.files.after.open_faults → (ending : Ending) → RunEnds language words a.given ending → ending.status ≡ statuses.OpenFault
-  opening_says less ending (prepared, (Err stop, none, rest), said) = absurd (risen _ _ (ap (λ f. f.open_faults) (a.files.unasked none.0)) less)
-  opening_says less ending (prepared, (Ok (check f t), asks, (type, (found, (text, r, more), e), rest)), said) =
-      opening_at f (a.files.asked (check f t) asks) ending less (a.given.file f) refl text r
-      (λ s same. stop_status ending found type prepared (check f t) s (rw same at more) e rest said)
+  opening_says : call.files.before.open_faults < call.files.after.open_faults → (all : Replies) → RunReplies language words a.given all → (ending_of all).status ≡ statuses.OpenFault
+  opening_says less all (prepared, (Err stop, none, rest), said) = absurd (risen _ _ (ap (λ f. f.open_faults) (a.files.unasked none.0)) less)
+  opening_says less all (prepared, (Ok (check f t), asks, (type, (found, (text, r, more), e), rest)), said) =
+      opening_at f (a.files.asked (check f t) asks) all less (a.given.file f) refl text r
+      (λ s same. stop_status all found type prepared (check f t) s (rw same at more) e rest said)
 
-  reading_says : call.files.before.read_faults < call.files.after.read_faults → (ending : Ending) → RunEnds language words a.given ending → ending.status ≡ statuses.ReadFault
-  reading_says less ending (prepared, (Err stop, none, rest), said) = absurd (risen _ _ (ap (λ f. f.read_faults) (a.files.unasked none.0)) less)
-  reading_says less ending (prepared, (Ok (check f t), asks, (type, (found, (text, r, more), e), rest)), said) =
-      reading_at f (a.files.asked (check f t) asks) ending less (a.given.file f) refl text r
-      (λ s same. stop_status ending found type prepared (check f t) s (rw same at more) e rest said)
+  reading_says : call.files.before.read_faults < call.files.after.read_faults → (all : Replies) → RunReplies language words a.given all → (ending_of all).status ≡ statuses.ReadFault
+  reading_says less all (prepared, (Err stop, none, rest), said) = absurd (risen _ _ (ap (λ f. f.read_faults) (a.files.unasked none.0)) less)
+  reading_says less all (prepared, (Ok (check f t), asks, (type, (found, (text, r, more), e), rest)), said) =
+      reading_at f (a.files.asked (check f t) asks) all less (a.given.file f) refl text r
+      (λ s same. stop_status all found type prepared (check f t) s (rw same at more) e rest said)
 
   pub tells_open_fault : TellsOpenFault call
   tells_open_fault less = said_status (λ s. s ≡ statuses.OpenFault) (opening_says less)
 
   -- a take of the input that failed is told
-  replies_fault : (task : Task T) (C : Ending → Type 0) → ((e : Ending) → C e → e.status ≡ statuses.ReadFault) → (k : ℕ) (trees : List Tree) (e : Ending)
-      → RepliesEnd language task C k trees e → e.status ≡ statuses.ReadFault
-  replies_fault task C fault k [] e h = fault e h
-  replies_fault task C fault k (tree ∷ trees) e (says text has_type, replies, (rest, goes, same)) =
-      ap (λ e. e.status) same ∙ kept has_type rest.status (replies_fault task C fault (suc k) trees rest goes) where
-        kept : (has_type : Bool) (s : Status) → s ≡ statuses.ReadFault → (if has_type then s else or_no s) ≡ statuses.ReadFault
-        kept true s e = e
-        kept false s e = ap or_no e
-  replies_fault task C fault k (tree ∷ trees) e (stops stop, replies, same) = absurd (no_stop language task.request task.type k tree stop replies)
-
   module _ (lawful : IsLawful language) where
-    input_says : call.input.before.faults < call.input.after.faults → (u : InputEnd) → a.given.input.until ≡ u → (ending : Ending) → RunEnds language words a.given ending → ending.status ≡ statuses.ReadFault
-    input_says less at_end e ending said = absurd (risen _ _ (rw e at a.input.cause).kept less)
-    input_says less at_length e ending said = absurd (risen _ _ (rw e at a.input.cause).kept less)
-    input_says less unasked e ending said = absurd (risen _ _ (rw e at a.input.cause).kept less)
-    input_says less at_fault e ending (Err stop, p, same) = absurd (untaken a.asked) where
-      untaken : (a.given.input ≡ nothing) ⊎ IsReady language words a.given → ⊥
-      untaken (inl none) = cc (sym e ∙ ap (λ t. t.until) none)
-      untaken (inr (task, ready)) = let once = prepares_once language lawful a.given.file words task (Err stop) ready p in cc once
-    input_says less at_fault e ending (Ok task, p, (trees, end, stream, replies)) =
-        replies_fault task (Closes task.request trees at_fault end) (λ e h. ap (λ e. e.status) h) 0 trees ending
-        (subst (λ u. RepliesEnd language task (Closes task.request trees u end) 0 trees ending) e replies)
+    input_says : call.input.before.faults < call.input.after.faults → (u : InputEnd) → a.given.input.until ≡ u → (all : Replies) → RunReplies language words a.given all → (ending_of all).status ≡ statuses.ReadFault
+    input_says less at_end e all said = absurd (risen _ _ (rw e at a.input.cause).kept less)
+    input_says less at_length e all said = absurd (risen _ _ (rw e at a.input.cause).kept less)
+    input_says less unasked e all said = absurd (risen _ _ (rw e at a.input.cause).kept less)
+    input_says less at_fault e all (Err stop, p, same) = absurd (untaken a.first) where
+      untaken : IsSaidFirst language words a.given a.said → ⊥
+      untaken (inl (none, said)) = cc (sym e ∙ ap (λ t. t.until) none)
+      untaken (inr (task, ready, paced)) = let once = prepares_once language lawful a.given.file words task (Err stop) ready p in cc once
+    input_says less at_fault e all (Ok task, p, v) = go v.last where
+      fault : (end : End) → Closes language task.work v.trees at_fault end all.last → (ending_of all).status ≡ statuses.ReadFault
+      fault clean h = ap (λ l. (ending_of (replies all.said l)).status) h
+      fault (cut n) h = ap (λ l. (ending_of (replies all.said l)).status) h
+      fault (refused refusal) h = absurd h
+
+      go : ((stop : Stop) × StopsAt language task.work task.limit v.trees v.rest stop × (fault_of a.given.input.until ≡ None) × (all.last ≡ stops stop))
+          ⊎ ((end : End) × IsTail task.limit v.rest end × ((stop : Stop) → StopsAt language task.work task.limit v.trees v.rest stop → ⊥) × Closes language task.work v.trees a.given.input.until end all.last)
+          → (ending_of all).status ≡ statuses.ReadFault
+      go (inl (stop, at, free, is)) = absurd (no_stop language task.work task.limit v.trees v.rest stop at)
+      go (inr (end, tail, none, closes)) = fault end (subst (λ u. Closes language task.work v.trees u end all.last) e closes)
 
     pub tells_read_fault : TellsReadFault call
     tells_read_fault = record {
@@ -349,49 +379,57 @@ module _ {D T : Type 0} (language : Language D T) (words : List (List ℕ)) (cal
   pub only_types : OnlyTypes language words call
   only_types e = types_of (subst (λ s. Why language words call a.given s) e account_why)
 
+  -- what was taken goes on to all that was left
+  pub whole_stream : (limit : ℕ) (bytes : List ℕ) (rest : List ℕ) → TakesFrom bytes a.given.input rest → (v : NoValue limit a.given.input) → Stream bytes limit v.trees v.end
+  whole_stream limit bytes rest t v = go v.ends where
+    go : (a.given.input.until ≡ at_end) ⊎ ((refusal : ReadRefusal) × (v.end ≡ refused refusal)) → Stream bytes limit v.trees v.end
+    go (inl e) =
+        let all : bytes ≡ a.given.input.bytes = t.front ∙ (ap (λ r. a.given.input.bytes ++ r) (t.ends e) ∙ append-nil a.given.input.bytes) in
+        subst (λ b. Stream b limit v.trees v.end) (sym all) v.stream
+    go (inr (refusal, is)) =
+        let tail : IsTail limit v.stream.0 (refused refusal) = subst (λ end. IsTail limit v.stream.0 end) is v.stream.2 in
+        let after : Stream (a.given.input.bytes ++ rest) limit v.trees (refused refusal) =
+        (v.stream.0 ++ rest, spell_after limit a.given.input.bytes v.stream.0 rest v.trees v.stream.1, tail_after limit v.stream.0 rest refusal tail) in
+        subst (λ b. Stream b limit v.trees v.end) (sym t.front) (subst (λ end. Stream (a.given.input.bytes ++ rest) limit v.trees end) (sym is) after)
+
   value_of : Why language words call a.given statuses.Value
       → (request : Request) × Asks words request × (input : List ℕ) × IfSome call.input.before.bytes (λ bytes. bytes ≡ input)
       × (trees : List Tree) × (end : End) × Stream input (limit_of request) trees end × (end ≢ clean)
-  value_of (no_value ready request asks e trees end stream some) = (
-    request,
-    asks,
-    a.given.input.bytes,
-    IfSome_then call.input.before.bytes a.input.told (λ bytes t. t.1.front ∙ (ap (λ r. a.given.input.bytes ++ r) (t.1.ends e) ∙ append-nil a.given.input.bytes)),
-    trees,
-    end,
-    stream,
-    some,
-  )
+  value_of (no_value ready request asks v) = let i = input_of call.input.before.bytes a.input.told in (request, asks, i.0, i.1, i.2, i.3, i.4, i.5) where
+    input_of : (o : Option (List ℕ)) → IfSome o (λ bytes. (rest : List ℕ) × TakesFrom bytes a.given.input rest × (call.input.after.bytes ≡ Some rest))
+        → (input : List ℕ) × IfSome o (λ bytes. bytes ≡ input) × (trees : List Tree) × (end : End) × Stream input (limit_of request) trees end × (end ≢ clean)
+    input_of None told = (a.given.input.bytes, tt, v.trees, v.end, v.stream, v.some)
+    input_of (Some bytes) told = (bytes, refl, v.trees, v.end, whole_stream (limit_of request) bytes told.0 told.1 v, v.some)
 
   pub only_value : OnlyValue words call
   only_value e = value_of (subst (λ s. Why language words call a.given s) e account_why)
 
   -- where the map does not have FILE, it cannot be opened
-  missing_at : (f : List ℕ) → Fetched call.files f (a.given.file f) → IsSomeAnd call.files.before.map (λ all. contents_of all f ≡ None) → (ending : Ending)
+  missing_at : (f : List ℕ) → Fetched call.files f (a.given.file f) → IsSomeAnd call.files.before.map (λ all. contents_of all f ≡ None) → (all : Replies)
       → (o : Found) → a.given.file f ≡ o → (text : Result (List ℕ) Stop) → ReadsFile f o text
-      → ((s : Stop) → text ≡ Err s → ending.status ≡ status_of s) → ending.status ≡ statuses.OpenFault
-  missing_at f fetched none ending (opened taken) same text r told =
+      → ((s : Stop) → text ≡ Err s → (ending_of all).status ≡ status_of s) → (ending_of all).status ≡ statuses.OpenFault
+  missing_at f fetched none all (opened taken) same text r told =
       absurd (not_opened_of call.files.before.map none (subst (λ o. Fetched call.files f o) same fetched).map) where
         not_opened_of : (map : Option (List File)) → IsSomeAnd map (λ all. contents_of all f ≡ None) → IfSome map (λ all. IsFoundOf (contents_of all f) (opened taken)) → ⊥
         not_opened_of None h found = h
         not_opened_of (Some all) h found = subst (λ o. IsSomeAnd o (λ bytes. (rest : List ℕ) × TakesFrom bytes taken rest)) h found
-  missing_at f fetched none ending missing same (Ok bytes) r told = absurd (cc r)
-  missing_at f fetched none ending missing same (Err s) r told = told s refl ∙ ap status_of r
-  missing_at f fetched none ending failed same (Ok bytes) r told = absurd (cc r)
-  missing_at f fetched none ending failed same (Err s) r told = told s refl ∙ ap status_of r
-  missing_at f fetched none ending unfetched same (Ok bytes) r told = absurd (cc r)
-  missing_at f fetched none ending unfetched same (Err s) r told = absurd r
+  missing_at f fetched none all missing same (Ok bytes) r told = absurd (cc r)
+  missing_at f fetched none all missing same (Err s) r told = told s refl ∙ ap status_of r
+  missing_at f fetched none all failed same (Ok bytes) r told = absurd (cc r)
+  missing_at f fetched none all failed same (Err s) r told = told s refl ∙ ap status_of r
+  missing_at f fetched none all unfetched same (Ok bytes) r told = absurd (cc r)
+  missing_at f fetched none all unfetched same (Err s) r told = absurd r
 
   missing_says : (name : List ℕ) → AsksForFile words name → IsSomeAnd call.files.before.map (λ all. contents_of all name ≡ None)
-      → (ending : Ending) → RunEnds language words a.given ending → ending.status ≡ statuses.OpenFault
-  missing_says name (type, (request, other, typed)) none ending (prepared, (Err stop, h, rest), said) = absurd (h.0 request other)
-  missing_says name (type, (check g u, other, typed)) none ending (prepared, (Ok (check f t), asks, (found_type, (found, (text, r, more), e), rest)), said) =
+      → (all : Replies) → RunReplies language words a.given all → (ending_of all).status ≡ statuses.OpenFault
+  missing_says name (type, (request, other, typed)) none all (prepared, (Err stop, h, rest), said) = absurd (h.0 request other)
+  missing_says name (type, (check g u, other, typed)) none all (prepared, (Ok (check f t), asks, (found_type, (found, (text, r, more), e), rest)), said) =
       let one = asks.0 in let two = other.0 in
       let same : g ≡ f = cc in
       let pair : ◌≡◌ {A = List ℕ × List ℕ} (g, u) (name, type) = cc in
       let file : name ≡ f = sym (ap (λ p. p.0) pair) ∙ same in
-      missing_at f (a.files.asked (check f t) asks) (subst (λ n. IsSomeAnd call.files.before.map (λ all. contents_of all n ≡ None)) file none) ending
-      (a.given.file f) refl text r (λ s same. stop_status ending found found_type prepared (check f t) s (rw same at more) e rest said)
+      missing_at f (a.files.asked (check f t) asks) (subst (λ n. IsSomeAnd call.files.before.map (λ all. contents_of all n ≡ None)) file none) all
+      (a.given.file f) refl text r (λ s same. stop_status all found found_type prepared (check f t) s (rw same at more) e rest said)
 
   pub if_missing : IfMissing words call
   if_missing name is none = said_status (λ s. s ≡ statuses.OpenFault) (missing_says name is none)

@@ -1,7 +1,7 @@
 -- Where all is well, a run ends well.
-use Rattle.std.proofs.Common.{◌≡◌, ◌≢◌, ◌⊎◌, ℕ, zero, suc, get_or, ◌+◌, ◌*◌, Bool, true, false, List, [], ◌∷◌, ◌++◌, length, replicate, Option, Some, None, Result, Ok, Err, inl, inr, refl, sym, ap, ◌∙◌, subst, length-append, arith}
-use Rattle.std.specs.Prelude.{codes, flat_map, MatchResult}
-use Rattle.std.specs.List.{AllByRecursion}
+use Rattle.std.proofs.Common.{◌≡◌, ◌≢◌, ◌⊎◌, ℕ, zero, suc, get_or, ◌+◌, ◌*◌, Bool, true, false, List, [], ◌∷◌, ◌++◌, length, replicate, None, Result, Ok, Err, inl, inr, refl, sym, ap, ◌∙◌, subst, length-append, arith}
+use Rattle.std.specs.Prelude.{codes, flat_map, MatchResult, ◌&&◌, if◌then◌else◌}
+use Rattle.om_session.proofs.ValueLemmas.{all_well-snoc}
 use Rattle.om_model.specs.declared.status.Status.{Status}
 use Rattle.om_model.specs.declared.status.Status.TheVariants as statuses
 use Rattle.om_model.specs.Bytes.{AreBytes}
@@ -12,13 +12,13 @@ use Rattle.om_types.specs.ListShapes.{base_text}
 use Rattle.om_types.specs.VerdictLaws.{FaultsExcludeTypes}
 use Rattle.om_format.specs.Laws.{HasOneJudgement}
 use Rattle.om_format.specs.Tree.{Tree, root, objects_of}
-use Rattle.om_format.specs.Stream.{clean}
-use Rattle.om_outcome.specs.Outcome.{whole, at_end, Found, opened, Stop, Ending, stopped, Request, check, Task, Language, ReadsFile, ReadsTypeOf, Prepares, ValuesEnd, Closes, says, stops, IsReply, RepliesEnd, limit_of, found_of}
+use Rattle.om_format.specs.Stream.{End, clean, SpellAll, IsTail}
+use Rattle.om_outcome.specs.Outcome.{whole, at_end, Found, opened, Stop, fault_of, stopped, check, Work, checks, Task, Language, ReadsFile, ReadsTypeOf, Prepares, Said, nothing_said, Reply, Replies, replies, stops, all_well, ending_of, AllSay, StopsAt, ValuesReply, Closes, limit_of, found_of}
 use Rattle.om_edge.specs.Files.{File, contents_of}
 use Rattle.om_session.specs.Call.{Call}
 use Rattle.om_session.specs.Given.{TellsBytes}
 use Rattle.om_session.specs.Lists.{lists}
-use Rattle.om_session.specs.Run.{Account, IsAllWell, IsComplete, HasOutcome}
+use Rattle.om_session.specs.Run.{Account, AreAllWell, IsAllWell, IsComplete, HasOutcome}
 use Rattle.om_session.proofs.HeadlineLemmas.{no_stop, headline}
 use Rattle.om_session.proofs.StreamLemmas.{stream_once}
 
@@ -68,9 +68,6 @@ lists_lawful law = record {
 
 -- ---- the stages
 
-abbrev task_of : {T : Type 0} → Request → Option T → Task T
-task_of request type = record { request = request; type = type }
-
 module _ {D T : Type 0} (language : Language D T) (lawful : IsLawful language) (file : List ℕ → Found) where
   types_once : (f u : List ℕ) (t : T) (r : Result T Stop) → ReadsTypeOf language file (f, u) (Ok t) → ReadsTypeOf language file (f, u) r → Ok t ≡ r
   types_once f u t r (Err s, h, same) other = absurd (cc same)
@@ -92,30 +89,26 @@ module _ {D T : Type 0} (language : Language D T) (lawful : IsLawful language) (
   pub prepares_once : (words : List (List ℕ)) (task : Task T) (r : Result (Task T) Stop) → Prepares language words file (Ok task) → Prepares language words file r → Ok task ≡ r
   prepares_once words task r (Err s, h, same) other = absurd (cc same)
   prepares_once words task r (Ok (check f u), asks, (Err s, h, same)) other = absurd (cc same)
-  prepares_once words task r (Ok (check f u), asks, (Ok type, h, same)) (Err s, (none, e), told) = absurd (none (check f u) asks)
-  prepares_once words task r (Ok (check f u), asks, (Ok type, (Err s, reads, same), told)) (Ok (check g v), other, (found, (r3, reads', same'), told')) = absurd (cc same)
-  prepares_once words task r (Ok (check f u), asks, (Ok type, (Ok t, reads, same), told)) (Ok (check g v), other, (found, (r3, reads', same'), told')) =
+  prepares_once words task r (Ok (check f u), asks, (Ok work, h, same)) (Err s, (none, e), told) = absurd (none (check f u) asks)
+  prepares_once words task r (Ok (check f u), asks, (Ok work, (Err s, reads, same), told)) (Ok (check g v), other, (found, (r3, reads', same'), told')) = absurd (cc same)
+  prepares_once words task r (Ok (check f u), asks, (Ok work, (Ok t, reads, same), told)) (Ok (check g v), other, (found, (r3, reads', same'), told')) =
       let one = asks.0 in let two = other.0 in
       let names : g ≡ f = cc in
       let types : v ≡ u = cc in
       let moved : ReadsTypeOf language file (f, u) r3 = subst (λ u. ReadsTypeOf language file (f, u) r3) types (subst (λ f. ReadsTypeOf language file (f, v) r3) names reads') in
       let once : Ok t ≡ r3 = types_once f u t r3 reads moved in
       same_task found r3 once same' told' where
-        same_task : (found : Result (Option T) Stop) (r3 : Result T Stop) → Ok t ≡ r3
-            → MatchResult r3 (λ x. found ≡ Ok (Some x)) (λ stop. found ≡ Err stop)
-            → MatchResult found (λ x. r ≡ Ok (record { request = check g v; type = x })) (λ stop. r ≡ Err stop) → Ok task ≡ r
+        same_task : (found : Result (Work T) Stop) (r3 : Result T Stop) → Ok t ≡ r3
+            → MatchResult r3 (λ x. found ≡ Ok (checks x)) (λ stop. found ≡ Err stop)
+            → MatchResult found (λ x. r ≡ Ok (record { work = x; limit = limit_of (check g v) })) (λ stop. r ≡ Err stop) → Ok task ≡ r
         same_task found (Err s) e h k = absurd (cc e)
         same_task (Err s) (Ok x) e h k = absurd (cc h)
         same_task (Ok y) (Ok x) e h k =
-            let one = asks.0 in let two = other.0 in
-            let names : f ≡ g = cc in
-            let types : u ≡ v = cc in
-            let is : task ≡ record { request = check f u; type = type } = cc in
-            let ours : type ≡ Some t = cc in
-            let theirs : y ≡ Some x = cc in
+            let is : task ≡ record { work = work; limit = limit_of (check f u) } = cc in
+            let ours : work ≡ checks t = cc in
+            let theirs : y ≡ checks x = cc in
             let both : t ≡ x = cc in
-            ap (λ t. Ok t) is ∙ (ap (λ o. Ok (task_of (check f u) o)) (ours ∙ (ap (λ t. Some t) both ∙ sym theirs))
-            ∙ (ap (λ n. Ok (task_of (check n u) y)) names ∙ (ap (λ n. Ok (task_of (check g n) y)) types ∙ sym k)))
+            ap (λ t. Ok t) is ∙ (ap (λ w. Ok (record { work = w; limit = limit_of (check f u) })) (ours ∙ (ap (λ t. checks t) both ∙ sym theirs)) ∙ sym k)
 
 -- ---- the values
 
@@ -132,38 +125,43 @@ is_memory statuses.WriteFault = inr (λ e. cc e)
 is_memory statuses.OpenFault = inr (λ e. cc e)
 is_memory statuses.TooLong = inr (λ e. cc e)
 
-module _ {D T : Type 0} (language : Language D T) (lawful : IsLawful language) (type : T) where
-  verdict_of : (request : Request) (o : Option T) (k : ℕ) (tree : Tree) (text : List ℕ) (has_type : Bool) → o ≡ Some type → IsReply language request o k tree (says text has_type)
-      → (verdict : List ℕ) × language.LineOf type tree verdict has_type
-  verdict_of (check f u) None k tree text has_type e h = absurd (cc e)
-  verdict_of (check f u) (Some t) k tree text has_type e h = let same : t ≡ type = cc in (h.0, subst (λ t. language.LineOf t tree h.0 has_type) same h.1)
+module _ {D T : Type 0} (language : Language D T) (lawful : IsLawful language) where
+  says_well : (work : Work T) (k : ℕ) (trees : List Tree) (said : List Said) → AreAllWell language work trees → AllSay language work k trees said → all_well said ≡ true
+  says_well work k [] [] all h = refl
+  says_well work k [] (first ∷ said) all h = absurd h
+  says_well work k (tree ∷ trees) [] all h = absurd h
+  says_well (checks type) k (tree ∷ trees) (first ∷ said) all h = first_well first.well h.0.1 (says_well (checks type) (suc k) trees said all.1 h.1) where
+    first_well : (well : Bool) → language.LineOf type tree h.0.0 well → all_well said ≡ true → (well && all_well said) ≡ true
+    first_well true line rest = rest
+    first_well false line rest = absurd (lawful.verdict_once type tree all.0.0 h.0.0 all.0.1 line)
 
-  replies_well : (task : Task T) → task.type ≡ Some type → (C : Ending → Type 0) → ((e : Ending) → C e → e.status ≡ statuses.Well) → (k : ℕ) (trees : List Tree) (e : Ending)
-      → AllByRecursion (λ tree. (line : List ℕ) × language.LineOf type tree line true) trees → RepliesEnd language task C k trees e → e.status ≡ statuses.Well
-  replies_well task typed C well k [] e all h = well e h
-  replies_well task typed C well k (tree ∷ trees) e all (says text true, replies, (rest, goes, same)) =
-      ap (λ e. e.status) same ∙ replies_well task typed C well (suc k) trees rest all.1 goes
-  replies_well task typed C well k (tree ∷ trees) e all (says text false, replies, (rest, goes, same)) =
-      let v = verdict_of task.request task.type k tree text false typed replies in absurd (lawful.verdict_once type tree all.0.0 v.0 all.0.1 v.1)
-  replies_well task typed C well k (tree ∷ trees) e all (stops stop, replies, same) = absurd (no_stop language task.request task.type k tree stop replies)
-
-  finishes_well : (request : Request) (trees : List Tree) (e : Ending) → Closes request trees at_end clean e → e.status ≡ statuses.Well
-  finishes_well (check f u) trees e h = ap (λ e. e.status) h
+  finishes_well : (work : Work T) (trees : List Tree) (said : List Said) (last : Reply) → all_well said ≡ true → Closes language work trees at_end clean last → (ending_of (replies said last)).status ≡ statuses.Well
+  finishes_well (checks type) trees said last well h =
+      ap (λ l. (ending_of (replies said l)).status) h
+      ∙ ap (λ w. if w then statuses.Well else statuses.No) (all_well-snoc said nothing_said ∙ ap (λ w. w && true) well)
 
 module _ {D T : Type 0} (language : Language D T) (lawful : IsLawful language) (law : HasOneJudgement) (words : List (List ℕ)) (call : Call) where
+  values_well : (input : List ℕ) → AreBytes input → (task : Task T) (trees : List Tree) → SpellAll task.limit input trees [] → AreAllWell language task.work trees
+      → (all : Replies) → ValuesReply language task (whole input) all → (ending_of all).status ≡ statuses.Well
+  values_well input are_bytes task trees spelled well all v = go v.last where
+    go : ((stop : Stop) × StopsAt language task.work task.limit v.trees v.rest stop × (fault_of at_end ≡ None) × (all.last ≡ stops stop))
+        ⊎ ((end : End) × IsTail task.limit v.rest end × ((stop : Stop) → StopsAt language task.work task.limit v.trees v.rest stop → ⊥) × Closes language task.work v.trees at_end end all.last)
+        → (ending_of all).status ≡ statuses.Well
+    go (inl (stop, at, free, is)) = absurd (no_stop language task.work task.limit v.trees v.rest stop at)
+    go (inr (end, tail, none, closes)) =
+        let once = stream_once law task.limit input trees v.trees end are_bytes spelled (v.rest, v.first.spelled, tail) in
+        let said = subst (λ trees. AllSay language task.work 0 trees all.said) (sym once.0) v.first.all_say in
+        finishes_well language lawful task.work v.trees all.said all.last (says_well language lawful task.work 0 trees all.said well said)
+        (subst (λ end. Closes language task.work v.trees at_end end all.last) once.1 closes)
+
   ends_well : (input : List ℕ) (files : List File) → AreBytes input → (all : IsAllWell language words input files) → (o : HasOutcome language words call input files) → call.status ≡ statuses.Well
   ends_well input files are_bytes all o = o.status ∙ from o.outcome.0 (prepares_once language lawful (λ name. found_of (contents_of files name)) words all.task o.outcome.0 all.prepared o.outcome.1) o.outcome.2 where
     from : (prepared : Result (Task T) Stop) → Ok all.task ≡ prepared
-        → MatchResult prepared (λ task. ValuesEnd language task (whole input) o.ending) (λ stop. o.ending ≡ stopped stop) → o.ending.status ≡ statuses.Well
+        → MatchResult prepared (λ task. ValuesReply language task (whole input) o.all) (λ stop. o.all ≡ stopped stop) → (ending_of o.all).status ≡ statuses.Well
     from (Err s) e h = absurd (cc e)
     from (Ok task) e h =
         let same : task ≡ all.task = cc in
-        let v = subst (λ task. ValuesEnd language task (whole input) o.ending) same h in
-        let once = stream_once law (limit_of all.task.request) input all.trees v.0 v.1 are_bytes all.spelled v.2 in
-        let goes = subst (λ trees. RepliesEnd language all.task (Closes all.task.request trees at_end v.1) 0 trees o.ending) (sym once.0) v.3 in
-        let ends = subst (λ end. RepliesEnd language all.task (Closes all.task.request all.trees at_end end) 0 all.trees o.ending) once.1 goes in
-        replies_well language lawful all.type all.task all.typed (Closes all.task.request all.trees at_end clean)
-        (λ e closes. finishes_well language lawful all.type all.task.request all.trees e closes) 0 all.trees o.ending all.have_type ends
+        values_well input are_bytes all.task all.trees all.spelled all.well o.all (subst (λ task. ValuesReply language task (whole input) o.all) same h)
 
   pub complete : TellsBytes call.input → Account language words call → IsComplete language words call
   complete tells a input files honest all = decide (is_memory call.status) where

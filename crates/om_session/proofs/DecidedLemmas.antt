@@ -1,11 +1,14 @@
 -- An outcome has one status.
-use Rattle.std.proofs.Common.{◌≡◌, ◌⊎◌, ℕ, suc, Bool, true, false, List, [], ◌∷◌, Option, Some, None, Result, Ok, Err, inl, inr, refl, sym, ap, ◌∙◌, subst}
-use Rattle.std.specs.Prelude.{MatchResult}
+use Rattle.std.proofs.Common.{◌≡◌, ◌⊎◌, ℕ, suc, Bool, true, false, List, [], ◌∷◌, None, Result, Ok, Err, inl, inr, refl, sym, ap, ◌∙◌, subst}
+use Rattle.std.specs.Prelude.{MatchResult, ◌&&◌, if◌then◌else◌}
+use Rattle.om_model.specs.declared.status.Status.{Status}
+use Rattle.om_model.specs.declared.status.Status.TheVariants as statuses
+use Rattle.om_session.proofs.ValueLemmas.{all_well-snoc}
 use Rattle.om_model.specs.Bytes.{AreBytes}
 use Rattle.om_format.specs.Laws.{HasOneJudgement}
 use Rattle.om_format.specs.Tree.{Tree}
-use Rattle.om_format.specs.Stream.{End, clean, refused, cut}
-use Rattle.om_outcome.specs.Outcome.{whole, at_end, Found, opened, missing, failed, unfetched, Stop, usage, declarations, requested_type, status_of, Ending, stopped, with_output, or_no, Request, check, Asks, Then, OrRefusal, Task, Language, ReadsFile, ReadsTypeOf, Prepares, ValuesEnd, Closes, says, stops, IsReply, RepliesEnd, limit_of, found_of, Outcome}
+use Rattle.om_format.specs.Stream.{End, clean, refused, cut, IsTail, Stream}
+use Rattle.om_outcome.specs.Outcome.{whole, at_end, Found, opened, missing, failed, unfetched, Stop, fault_of, usage, declarations, requested_type, status_of, stopped, Request, check, Asks, Then, OrRefusal, Work, checks, Task, Language, ReadsFile, ReadsTypeOf, Prepares, Said, nothing_said, stops, Reply, Replies, replies, all_well, ending_of, Says, AllSay, StopsAt, ValuesReply, Closes, limit_of, found_of, Outcome}
 use Rattle.om_edge.specs.Files.{File, contents_of}
 use Rattle.om_session.specs.Call.{Call}
 use Rattle.om_session.specs.Given.{TellsBytes}
@@ -56,9 +59,9 @@ module _ {D T : Type 0} (language : Language D T) (lawful : IsLawful language) (
   unprepared : (words : List (List ℕ)) (s : Stop) → Prepares language words file (Err s) → Unprepared words s
   unprepared words s (Err a, (none, e), same) = inl (none, (let one : s ≡ a = cc in one ∙ e))
   unprepared words s (Ok (check f u), asks, (found, (r, reads, told), same)) = inr (f, u, asks, type_stop found r reads told same) where
-    type_stop : (found : Result (Option T) Stop) (r : Result T Stop) → ReadsTypeOf language file (f, u) r
-        → MatchResult r (λ x. found ≡ Ok (Some x)) (λ stop. found ≡ Err stop)
-        → MatchResult found (λ x. ◌≡◌ {A = Result (Task T) Stop} (Err s) (Ok (record { request = check f u; type = x }))) (λ stop. ◌≡◌ {A = Result (Task T) Stop} (Err s) (Err stop)) → ReadsTypeOf language file (f, u) (Err s)
+    type_stop : (found : Result (Work T) Stop) (r : Result T Stop) → ReadsTypeOf language file (f, u) r
+        → MatchResult r (λ x. found ≡ Ok (checks x)) (λ stop. found ≡ Err stop)
+        → MatchResult found (λ x. ◌≡◌ {A = Result (Task T) Stop} (Err s) (Ok (record { work = x; limit = limit_of (check f u) }))) (λ stop. ◌≡◌ {A = Result (Task T) Stop} (Err s) (Err stop)) → ReadsTypeOf language file (f, u) (Err s)
     type_stop (Ok x) r reads told same = absurd (cc same)
     type_stop (Err b) (Ok t) reads told same = absurd (cc told)
     type_stop (Err b) (Err c) reads told same = let is : c ≡ s = cc in subst (λ c. ReadsTypeOf language file (f, u) (Err c)) is reads
@@ -76,66 +79,79 @@ module _ {D T : Type 0} (language : Language D T) (lawful : IsLawful language) (
 -- ---- the values
 
 module _ {D T : Type 0} (language : Language D T) (lawful : IsLawful language) where
-  one_wellness : (request : Request) (type : Option T) (k : ℕ) (tree : Tree) (text other : List ℕ) (has_type next_has_type : Bool)
-      → IsReply language request type k tree (says text has_type) → IsReply language request type k tree (says other next_has_type) → has_type ≡ next_has_type
-  one_wellness (check f u) None k tree text other has_type next_has_type h g = absurd h
-  one_wellness (check f u) (Some t) k tree text other true true h g = refl
-  one_wellness (check f u) (Some t) k tree text other false false h g = refl
-  one_wellness (check f u) (Some t) k tree text other true false h g = absurd (lawful.verdict_once t tree h.0 g.0 h.1 g.1)
-  one_wellness (check f u) (Some t) k tree text other false true h g = absurd (lawful.verdict_once t tree g.0 h.0 g.1 h.1)
+  one_wellness : (work : Work T) (k : ℕ) (tree : Tree) (said other : Said) → Says language work k tree said → Says language work k tree other → said.well ≡ other.well
+  one_wellness (checks t) k tree said other h g = same said.well other.well h.1 g.1 where
+    same : (a b : Bool) → language.LineOf t tree h.0 a → language.LineOf t tree g.0 b → a ≡ b
+    same true true one two = refl
+    same false false one two = refl
+    same true false one two = absurd (lawful.verdict_once t tree h.0 g.0 one two)
+    same false true one two = absurd (lawful.verdict_once t tree g.0 h.0 two one)
 
-  same_after : (text other : List ℕ) (has_type : Bool) (e e' : Ending) → e.status ≡ e'.status → (with_output text has_type e).status ≡ (with_output other has_type e').status
-  same_after text other true e e' same = same
-  same_after text other false e e' same = ap or_no same
+  all_wellness : (work : Work T) (k : ℕ) (trees : List Tree) (said others : List Said) → AllSay language work k trees said → AllSay language work k trees others → all_well said ≡ all_well others
+  all_wellness work k [] [] [] h g = refl
+  all_wellness work k [] (first ∷ said) others h g = absurd h
+  all_wellness work k [] [] (other ∷ others) h g = absurd g
+  all_wellness work k (tree ∷ trees) [] others h g = absurd h
+  all_wellness work k (tree ∷ trees) (first ∷ said) [] h g = absurd g
+  all_wellness work k (tree ∷ trees) (first ∷ said) (other ∷ others) h g =
+      ap (λ w. w && all_well said) (one_wellness work k tree first other h.0 g.0) ∙ ap (λ w. other.well && w) (all_wellness work (suc k) trees said others h.1 g.1)
 
-  replies_status : (task : Task T) (C : Ending → Type 0) → ((e e' : Ending) → C e → C e' → e.status ≡ e'.status) → (k : ℕ) (trees : List Tree) (e e' : Ending)
-      → RepliesEnd language task C k trees e → RepliesEnd language task C k trees e' → e.status ≡ e'.status
-  replies_status task C once k [] e e' h h' = once e e' h h'
-  replies_status task C once k (tree ∷ trees) e e' (stops stop, replies, same) h' = absurd (no_stop language task.request task.type k tree stop replies)
-  replies_status task C once k (tree ∷ trees) e e' (says text has_type, replies, rest) (stops stop, replies', same) = absurd (no_stop language task.request task.type k tree stop replies')
-  replies_status task C once k (tree ∷ trees) e e' (says text has_type, replies, (rest, goes, same)) (says other next_has_type, replies', (rest', goes', same')) =
-      let is : has_type ≡ next_has_type = one_wellness task.request task.type k tree text other has_type next_has_type replies replies' in
-      let next = replies_status task C once (suc k) trees rest rest' goes goes' in
-      ap (λ e. e.status) same ∙ (same_after text other has_type rest rest' next
-      ∙ (ap (λ w. (with_output other w rest').status) is ∙ sym (ap (λ e. e.status) same')))
+  abbrev status : List Said → Reply → Status
+  status said last = (ending_of (replies said last)).status
 
-  closes_once : (request : Request) (trees : List Tree) (end : End) (e e' : Ending) → Closes request trees at_end end e → Closes request trees at_end end e' → e.status ≡ e'.status
-  closes_once (check f u) trees clean e e' h h' = ap (λ e. e.status) (h ∙ sym h')
-  closes_once request trees (refused r) e e' h h' = ap (λ e. e.status) (h ∙ sym h')
-  closes_once request trees (cut n) e e' h h' = ap (λ e. e.status) (h ∙ sym h')
+  closes_once : (work : Work T) (trees : List Tree) (end : End) (said others : List Said) (last other : Reply) → all_well said ≡ all_well others
+      → Closes language work trees at_end end last → Closes language work trees at_end end other → status said last ≡ status others other
+  closes_once (checks t) trees clean said others last other same h g =
+      let well = all_well-snoc said nothing_said ∙ (ap (λ w. w && true) same ∙ sym (all_well-snoc others nothing_said)) in
+      ap (λ l. status said l) h ∙ (ap (λ w. if w then statuses.Well else statuses.No) well ∙ sym (ap (λ l. status others l) g))
+  closes_once work trees (refused r) said others last other same h g = ap (λ l. status said l) h ∙ sym (ap (λ l. status others l) g)
+  closes_once work trees (cut n) said others last other same h g = ap (λ l. status said l) h ∙ sym (ap (λ l. status others l) g)
 
-  values_status : (law : HasOneJudgement) (task : Task T) (input : List ℕ) → AreBytes input → (e e' : Ending)
-      → ValuesEnd language task (whole input) e → ValuesEnd language task (whole input) e' → e.status ≡ e'.status
-  values_status law task input are_bytes e e' (trees, end, stream, goes) (trees', end', stream', goes') =
-      let once = streams_once law (limit_of task.request) input trees trees' end end' are_bytes stream stream' in
-      let moved = subst (λ trees. RepliesEnd language task (Closes task.request trees at_end end') 0 trees e') (sym once.0) goes' in
-      let ends = subst (λ end. RepliesEnd language task (Closes task.request trees at_end end) 0 trees e') (sym once.1) moved in
-      replies_status task (Closes task.request trees at_end end) (closes_once task.request trees end) 0 trees e e' goes ends
+  -- `check` comes to the last value
+  pub last_of : (task : Task T) (input : List ℕ) (all : Replies) (v : ValuesReply language task (whole input) all)
+      → (end : End) × Stream input task.limit v.trees end × Closes language task.work v.trees at_end end all.last
+  last_of task input all v = go v.last where
+    go : ((stop : Stop) × StopsAt language task.work task.limit v.trees v.rest stop × (fault_of at_end ≡ None) × (all.last ≡ stops stop))
+        ⊎ ((end : End) × IsTail task.limit v.rest end × ((stop : Stop) → StopsAt language task.work task.limit v.trees v.rest stop → ⊥) × Closes language task.work v.trees at_end end all.last)
+        → (end : End) × Stream input task.limit v.trees end × Closes language task.work v.trees at_end end all.last
+    go (inl (stop, at, free, is)) = absurd (no_stop language task.work task.limit v.trees v.rest stop at)
+    go (inr (end, tail, none, closes)) = (end, (v.rest, v.first.spelled, tail), closes)
+
+  values_status : (law : HasOneJudgement) (task : Task T) (input : List ℕ) → AreBytes input → (all other : Replies)
+      → ValuesReply language task (whole input) all → ValuesReply language task (whole input) other → (ending_of all).status ≡ (ending_of other).status
+  values_status law task input are_bytes all other v w =
+      let (end, stream, closes) = last_of task input all v in
+      let (end', stream', closes') = last_of task input other w in
+      let once = streams_once law task.limit input v.trees w.trees end end' are_bytes stream stream' in
+      let said = subst (λ trees. AllSay language task.work 0 trees other.said) (sym once.0) w.first.all_say in
+      let here = subst (λ trees. Closes language task.work trees at_end end' other.last) (sym once.0) closes' in
+      closes_once task.work v.trees end all.said other.said all.last other.last (all_wellness task.work 0 v.trees all.said other.said v.first.all_say said)
+      closes (subst (λ end. Closes language task.work v.trees at_end end other.last) (sym once.1) here)
 
 -- ---- the whole run
 
 module _ {D T : Type 0} (language : Language D T) (lawful : IsLawful language) (law : HasOneJudgement) (words : List (List ℕ)) where
-  one_status : (files : List File) (input : List ℕ) → AreBytes input → (e e' : Ending)
-      → Outcome language words (contents_of files) input e → Outcome language words (contents_of files) input e' → e.status ≡ e'.status
+  one_status : (files : List File) (input : List ℕ) → AreBytes input → (e e' : Replies)
+      → Outcome language words (contents_of files) input e → Outcome language words (contents_of files) input e' → (ending_of e).status ≡ (ending_of e').status
   one_status files input are_bytes e e' (prepared, p, m) (prepared', p', m') = from prepared prepared' p p' m m' where
     file : List ℕ → Found
     file name = found_of (contents_of files name)
 
     from : (prepared prepared' : Result (Task T) Stop) → Prepares language words file prepared → Prepares language words file prepared'
-        → MatchResult prepared (λ task. ValuesEnd language task (whole input) e) (λ stop. e ≡ stopped stop)
-        → MatchResult prepared' (λ task. ValuesEnd language task (whole input) e') (λ stop. e' ≡ stopped stop) → e.status ≡ e'.status
+        → MatchResult prepared (λ task. ValuesReply language task (whole input) e) (λ stop. e ≡ stopped stop)
+        → MatchResult prepared' (λ task. ValuesReply language task (whole input) e') (λ stop. e' ≡ stopped stop) → (ending_of e).status ≡ (ending_of e').status
     from (Ok task) (Err s) p p' m m' = let k = prepares_once language lawful file words task (Err s) p p' in absurd (cc k)
     from (Err s) (Ok task) p p' m m' = let k = prepares_once language lawful file words task (Err s) p' p in absurd (cc k)
     from (Err s) (Err s') p p' m m' =
-        ap (λ e. e.status) m ∙ (stop_statuses language lawful file words s s' (unprepared language lawful file words s p) (unprepared language lawful file words s' p')
-        ∙ sym (ap (λ e. e.status) m'))
+        ap (λ e. (ending_of e).status) m ∙ (stop_statuses language lawful file words s s' (unprepared language lawful file words s p) (unprepared language lawful file words s' p')
+        ∙ sym (ap (λ e. (ending_of e).status) m'))
     from (Ok task) (Ok task') p p' m m' =
         let k = prepares_once language lawful file words task (Ok task') p p' in
         let same : task' ≡ task = cc in
-        values_status language lawful law task input are_bytes e e' m (subst (λ task. ValuesEnd language task (whole input) e') same m')
+        values_status language lawful law task input are_bytes e e' m (subst (λ task. ValuesReply language task (whole input) e') same m')
 
   pub decided : (call : Call) → TellsBytes call.input → Account language words call → IsDecided language words call
-  decided call tells a input files honest some ending outcome =
+  decided call tells a input files honest some all outcome =
       let are_bytes : AreBytes input = rw honest.well_read.input_told at tells in
       let o = headline language words call a input files honest some in
-      o.status ∙ one_status files input are_bytes o.ending ending o.outcome outcome
+      o.status ∙ one_status files input are_bytes o.all all o.outcome outcome

@@ -1,17 +1,22 @@
 -- Where a status has to come, from the account of a call.
-use Rattle.std.proofs.Common.{◌≡◌, ◌⊎◌, ℕ, ◌^◌, ◌<◌, ◌≤◌, List, [], length, Option, Some, None, IfSome, Result, Ok, Err, inl, inr, refl, sym, ap, ◌∙◌, subst, arith}
+use Rattle.std.proofs.Common.{◌≡◌, ◌⊎◌, ℕ, ◌^◌, ◌<◌, ◌≤◌, List, [], ◌∷◌, length, Option, Some, None, IfSome, Result, Ok, Err, inl, inr, refl, sym, ap, ◌∙◌, subst, arith}
 use Rattle.std.specs.Prelude.{IsSomeAnd, MatchResult}
 use Rattle.om_model.specs.declared.status.Status.{Status}
 use Rattle.om_model.specs.declared.status.Status.TheVariants as statuses
-use Rattle.om_outcome.specs.Outcome.{Taken, at_end, at_length, whole, Found, opened, missing, failed, unfetched, Stop, Request, check, Task, Language, ReadsTypeOf, Prepares, found_of}
+use Rattle.om_model.specs.Bytes.{AreBytes}
+use Rattle.om_model.specs.declared.refusal.ReadRefusal.{ReadRefusal}
+use Rattle.om_format.specs.Laws.{HasOneJudgement}
+use Rattle.om_format.specs.Stream.{End, clean, refused as refused_end, cut, Stream}
+use Rattle.om_outcome.specs.Outcome.{Taken, at_end, at_length, whole, Found, opened, missing, failed, unfetched, Stop, Request, check, Asks, limit_of, Said, Work, checks, Task, Language, ReadsTypeOf, Prepares, found_of}
 use Rattle.om_edge.specs.Files.{File, contents_of}
 use Rattle.om_edge.specs.State.{FilesState, Change}
 use Rattle.om_session.specs.Call.{Call}
-use Rattle.om_session.specs.Given.{IsFoundOf, TakesFrom, Fetched, IsMeasured}
-use Rattle.om_session.specs.Run.{Account, IsUsage, AsksForFile, AsksFor, IsRefusedType, IsOutside, TellsFile, IfTypes, IfTooLong}
+use Rattle.om_session.specs.Given.{TellsBytes, IsFoundOf, TakesFrom, Fetched, IsMeasured}
+use Rattle.om_session.specs.Run.{HoldNoStop, Account, IsUsage, AsksForFile, AsksFor, IsRefusedType, IsOutside, TellsFile, IfTypes, IfTooLong}
 use Rattle.om_session.proofs.HeadlineLemmas.{all_taken}
 use Rattle.om_session.proofs.CompleteLemmas.{IsLawful}
-use Rattle.om_session.proofs.CauseLemmas.{IsReady, Why, all_well, some_no, not_plain, not_there, not_opened, no_types, file_fault, file_long, no_value, input_fault, input_long, memory, out_fault, err_fault, account_why, file_fetched, contents_are, longer}
+use Rattle.om_session.proofs.StreamLemmas.{streams_once}
+use Rattle.om_session.proofs.CauseLemmas.{NoValue, whole_stream, task_asks, IsReady, Why, all_well, some_no, not_plain, not_there, not_opened, no_types, file_fault, file_long, no_value, input_fault, input_long, memory, out_fault, err_fault, account_why, file_fetched, contents_are, longer}
 
 -- ---- plain words have one FILE and one TYPE
 
@@ -48,9 +53,9 @@ module _ {D T : Type 0} (language : Language D T) where
   reads_accepted file f u t (Ok text, h, (Err s, read, same)) = absurd (cc same)
   reads_accepted file f u t (Ok text, h, (Ok decls, read, typed)) = record { text = text; found = h; accepted = (decls, t, read, typed) }
 
-  type_found : (file : List ℕ → Found) (f u : List ℕ) (task : Task T) (request : Request) (result : Result (Option T) Stop) (r : Result T Stop) → ReadsTypeOf language file (f, u) r
-      → MatchResult r (λ x. result ≡ Ok (Some x)) (λ stop. result ≡ Err stop)
-      → MatchResult result (λ x. ◌≡◌ {A = Result (Task T) Stop} (Ok task) (Ok (record { request = request; type = x }))) (λ stop. ◌≡◌ {A = Result (Task T) Stop} (Ok task) (Err stop))
+  type_found : (file : List ℕ → Found) (f u : List ℕ) (task : Task T) (request : Request) (result : Result (Work T) Stop) (r : Result T Stop) → ReadsTypeOf language file (f, u) r
+      → MatchResult r (λ x. result ≡ Ok (checks x)) (λ stop. result ≡ Err stop)
+      → MatchResult result (λ x. ◌≡◌ {A = Result (Task T) Stop} (Ok task) (Ok (record { work = x; limit = limit_of request }))) (λ stop. ◌≡◌ {A = Result (Task T) Stop} (Ok task) (Err stop))
       → AcceptsFile file f u
   type_found file f u task request result (Ok t) reads found same = reads_accepted file f u t reads
   type_found file f u task request (Ok x) (Err s) reads found same = absurd (cc found)
@@ -115,6 +120,7 @@ module _ {D T : Type 0} (language : Language D T) (lawful : IsLawful language) (
   -- a cause that is none of the outside's is that of this status
   module _ (target : Status) (unended : IsReady language words a.given → a.given.input.until ≡ at_end → ⊥) (plain : ¬ IsUsage words)
       (types : (name type text : List ℕ) → AsksFor words name type → a.given.file name ≡ opened (whole text) → IsRefusedType language text type → statuses.Types ≡ target)
+      (unstopped : IsReady language words a.given → (request : Request) → Asks words request → NoValue (limit_of request) a.given.input → ⊥)
       (file : (name : List ℕ) (taken : Taken) → AsksForFile words name → a.given.file name ≡ opened taken → taken.until ≡ at_length → statuses.TooLong ≡ target)
       (input : IsReady language words a.given → statuses.TooLong ≡ target) where
     cause_or_outside : (s : Status) → Cause s → (s ≡ target) ⊎ IsOutside s
@@ -126,11 +132,11 @@ module _ {D T : Type 0} (language : Language D T) (lawful : IsLawful language) (
     cause_or_outside s (no_types n t x f e why) = inl (types n t x f e why)
     cause_or_outside s (file_fault n taken f e u) = inr (inl refl)
     cause_or_outside s (file_long n taken f e u) = inl (file n taken f e u)
-    cause_or_outside s (no_value ready request asks e trees end stream some) = absurd (unended ready e)
+    cause_or_outside s (no_value ready request asks v) = absurd (unstopped ready request asks v)
     cause_or_outside s (input_fault e) = inr (inl refl)
     cause_or_outside s (input_long ready e) = inl (input ready)
     cause_or_outside s (memory spent) = inr (inr (inr (inl refl)))
-    cause_or_outside s (out_fault breaks) = inr (inr (inr (inr refl)))
+    cause_or_outside s (out_fault said first breaks) = inr (inr (inr (inr refl)))
     cause_or_outside s (err_fault unput) = inr (inr (inr (inr refl)))
 
   -- what an accepted FILE that is told holds
@@ -144,9 +150,6 @@ module _ {D T : Type 0} (language : Language D T) (lawful : IsLawful language) (
       (told_short call.files name text told (whole here.text) fetched refl, subst (λ t. IsAccepted language t type) (ap (λ t. t.bytes) same) here.accepted)
 
   module _ (name type text : List ℕ) (is : AsksFor words name type) (told : TellsFile call.files name text) where
-    is_file : AsksForFile words name
-    is_file = (type, is)
-
     -- FILE of the words is the one that was found
     fetched_as : (other : List ℕ) → AsksForFile words other → (o : Found) → a.given.file other ≡ o → Fetched call.files name o
     fetched_as other is' o e =
@@ -159,7 +162,7 @@ module _ {D T : Type 0} (language : Language D T) (lawful : IsLawful language) (
 
       types_cause : (s : Status) → Cause s → (s ≡ statuses.Types) ⊎ IsOutside s
       types_cause =
-          cause_or_outside statuses.Types (λ ready e. not_ready ready) (λ none. none is.0 is.1) (λ n t x typed e why. refl)
+          cause_or_outside statuses.Types (λ ready e. not_ready ready) (λ none. none is.0 is.1) (λ n t x typed e why. refl) (λ ready request asks v. not_ready ready)
           (λ n taken f e u. let long = told_long call.files name text told taken (fetched_as n f (opened taken) e) u in absurd (omega arith))
           (λ ready. absurd (not_ready ready))
 
@@ -172,13 +175,14 @@ module _ {D T : Type 0} (language : Language D T) (lawful : IsLawful language) (
           cause_or_outside statuses.TooLong (λ ready e. unread ready) (λ none. none is.0 is.1)
           (λ n t x typed e why.
           let short = told_short call.files name text told (whole x) (fetched_as n (t, typed) (opened (whole x)) e) refl in absurd (omega arith))
-          (λ n taken f e u. refl) (λ ready. refl)
+          (λ ready request asks v. unread ready) (λ n taken f e u. refl) (λ ready. refl)
 
   pub if_types : IfTypes language words call
   if_types name type text is told short refused = types_cause name type text is told short refused call.status (account_why language words call a)
 
   module _ (files : List File) (task : Task T) (bytes : List ℕ) (map : call.files.before.map ≡ Some files) (prepared : Prepares language words (λ name. found_of (contents_of files name)) (Ok task))
-      (told : call.input.before.bytes ≡ Some bytes) (long : 2 ^ 48 ≤ length bytes) where
+      (told : call.input.before.bytes ≡ Some bytes) (long : 2 ^ 48 ≤ length bytes)
+      (law : HasOneJudgement) (are_bytes : AreBytes bytes) (said : List Said) (holds : HoldNoStop language task bytes said) where
     -- what was taken of the input is not all
     not_at_end : a.given.input.until ≡ at_end → ⊥
     not_at_end e =
@@ -196,14 +200,41 @@ module _ {D T : Type 0} (language : Language D T) (lawful : IsLawful language) (
         let texts : here.text ≡ text = sym (ap text_in same) in
         subst (λ t. IsAccepted language t type) texts here.accepted
 
+    -- bytes that hold no stop are not refused
+    held_end : (end : End) × Stream bytes task.limit holds.trees end × ((refusal : ReadRefusal) → end ≡ refused_end refusal → ⊥)
+    held_end = from holds.front refl where
+      from : (front : List ℕ) → holds.front ≡ front → (end : End) × Stream bytes task.limit holds.trees end × ((refusal : ReadRefusal) → end ≡ refused_end refusal → ⊥)
+      from [] e = (clean, (holds.front, holds.first.spelled, e), λ refusal e. cc e)
+      from (b ∷ front) e =
+          let some : 0 < length holds.front = let size : length holds.front ≡ length (b ∷ front) = ap length e in omega (arith, size) in
+          (cut (length holds.front), (holds.front, holds.first.spelled, (some, refl, holds.is_front)), λ refusal e. cc e)
+
+    one_limit : (request other : Request) → limit_of request ≡ limit_of other
+    one_limit (check f t) (check g u) = refl
+
+    not_stopped : (request : Request) → NoValue (limit_of request) a.given.input → ⊥
+    not_stopped request v = go v.ends where
+      taken : (rest : List ℕ) × TakesFrom bytes a.given.input rest × (call.input.after.bytes ≡ Some rest)
+      taken = rw told at a.input.told
+
+      go : (a.given.input.until ≡ at_end) ⊎ ((refusal : ReadRefusal) × (v.end ≡ refused_end refusal)) → ⊥
+      go (inl e) = not_at_end e
+      go (inr (refusal, is)) =
+          let asked = task_asks language words call (record { file = λ name. found_of (contents_of files name); input = a.given.input }) task prepared in
+          let limit : limit_of request ≡ task.limit = one_limit request asked.0 ∙ sym asked.2 in
+          let stream = whole_stream language words call a (limit_of request) bytes taken.0 taken.1 v in
+          let here : Stream bytes task.limit v.trees v.end = subst (λ limit. Stream bytes limit v.trees v.end) limit stream in
+          let once = streams_once law task.limit bytes holds.trees v.trees held_end.0 v.end are_bytes held_end.1 here in
+          held_end.2 refusal (once.1 ∙ is)
+
     input_cause : (s : Status) → Cause s → (s ≡ statuses.TooLong) ⊎ IsOutside s
     input_cause =
         let asked = prepared_asks language words (λ name. found_of (contents_of files name)) task prepared in
         cause_or_outside statuses.TooLong (λ ready e. not_at_end e) (λ none. none asked.2.0 asked.2.1)
-        (λ n t x typed e why. absurd (accepted_or_refused language lawful x t (map_accepts n t x typed e) why)) (λ n taken f e u. refl) (λ ready. refl)
+        (λ n t x typed e why. absurd (accepted_or_refused language lawful x t (map_accepts n t x typed e) why)) (λ ready request asks v. not_stopped request v) (λ n taken f e u. refl) (λ ready. refl)
 
-  pub if_too_long : IfTooLong language words call
-  if_too_long = record {
+  pub if_too_long : HasOneJudgement → TellsBytes call.input → IfTooLong language words call
+  if_too_long law tells = record {
     file = λ name bytes is told long. file_cause name is.0 bytes is.1 told long call.status (account_why language words call a);
-    input = λ files task bytes map prepared told long. input_cause files task bytes map prepared told long call.status (account_why language words call a);
+    input = λ files task bytes said map prepared told long holds. input_cause files task bytes map prepared told long law (rw told at tells) said holds call.status (account_why language words call a);
   }

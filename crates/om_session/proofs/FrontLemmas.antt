@@ -1,6 +1,5 @@
--- The texts of some first values are a front of an outcome's text: there is one that goes on after them.
-use Rattle.std.proofs.Common.{◌≡◌, ◌⊎◌, ℕ, zero, suc, ◌+◌, ◌-◌, ◌<◌, ◌≤◌, Bool, List, [], ◌∷◌, ◌++◌, length, take, drop, Option, Some, None, Result, Ok, Err, inl, inr, refl, sym, ap, ◌∙◌, subst, append_assoc, arith}
-use Rattle.std.specs.Prelude.{MatchResult}
+-- What is said of some first values is said first in an outcome: there is one that goes on after them.
+use Rattle.std.proofs.Common.{◌≡◌, ◌⊎◌, ℕ, zero, suc, ◌+◌, ◌-◌, ◌<◌, ◌≤◌, List, [], ◌∷◌, ◌++◌, length, take, drop, Option, Some, None, Result, Ok, Err, inl, inr, refl, sym, ap, subst, append_assoc, append-nil, arith}
 use Rattle.std.proofs.lemmas.List.{take-append-drop, length-drop, length-take-le}
 use Rattle.std.proofs.lemmas.List.Elements.{All-drop}
 use Rattle.om_model.specs.declared.status.Status.TheVariants as statuses
@@ -12,18 +11,19 @@ use Rattle.om_format.specs.Tree.{Tree}
 use Rattle.om_format.specs.Stream.{SpellAll, End, clean, refused, cut, Stream}
 use Rattle.om_outcome.specs.RefusalText.{refusal_text, truncated_text}
 use Rattle.om_outcome.specs.Outcome as o
-use Rattle.om_outcome.specs.Outcome.{Taken, at_end, whole, Found, opened, missing, Given, Stop, usage, cannot_open, declarations, requested_type, out_of_memory, stop_text, err_line, Ending, stopped, ended, with_output, line, Request, check, Asks, typed_by, Task, Language, ReadsFile, ReadsTypeOf, Prepares, RunEnds, ValuesEnd, IsOutputOfFirstValues, IsOutputOfFirst, Closes, says, stops, IsReply, RepliesEnd, limit_of, found_of, Outcome}
+use Rattle.om_outcome.specs.Outcome.{Taken, at_end, whole, Found, opened, missing, Given, Stop, usage, cannot_open, declarations, requested_type, out_of_memory, stop_text, err_line, Said, nothing_said, Reply, says, stops, Replies, replies, all_said, texts_of, ending_of, stopped, line, Request, check, Asks, Work, checks, Task, Language, ReadsFile, ReadsTypeOf, Prepares, RunReplies, ValuesReply, SayFirst, Says, AllSay, SaysOfFirst, Closes, limit_of, found_of, Outcome}
 use Rattle.om_edge.specs.Files.{File, contents_of}
 use Rattle.om_format.proofs.JudgementLaws.{one_judgement_lem}
 use Rattle.om_edge.specs.Sink.{Puts}
 use Rattle.om_session.specs.StreamLaws.{HasOneStream}
 use Rattle.om_session.specs.Call.{Call}
 use Rattle.om_session.specs.Given.{TakesFrom, TellsBytes}
-use Rattle.om_session.specs.Run.{MayEnd, Account, IsWellRead, IsFrontOfOutcome, IfMemory, IfWriteFault, OutBreaks, ErrBreaks, IsUsage}
+use Rattle.om_session.specs.Run.{IsSaidFirst, Account, IsWellRead, IsFrontOfOutcome, IfMemory, IfWriteFault, OutBreaks, ErrBreaks, IsUsage}
 use Rattle.om_session.proofs.HeadlineLemmas.{no_stop, prepares_same, says_same}
-use Rattle.om_session.proofs.LineLemmas.{spelled_some}
+use Rattle.om_session.proofs.ValueLemmas.{first_after, first_none}
+use Rattle.om_session.proofs.LengthLemmas.{spelled_some}
 use Rattle.om_session.proofs.StreamLemmas.{bytes_after, streams_once}
-use Rattle.om_session.proofs.CauseLemmas.{Why, memory, out_fault, err_fault, account_why}
+use Rattle.om_session.proofs.CauseLemmas.{Why, memory, out_fault, err_fault, MayEnd, account_why}
 use Rattle.om_session.proofs.TotalLemmas.{IsTotal, plain_or_not}
 
 -- ---- a stream goes on
@@ -31,12 +31,6 @@ use Rattle.om_session.proofs.TotalLemmas.{IsTotal, plain_or_not}
 pub spell_append : (limit : ℕ) (bytes rest tail : List ℕ) (trees more : List Tree) → SpellAll limit bytes trees rest → SpellAll limit rest more tail → SpellAll limit bytes (trees ++ more) tail
 spell_append limit bytes rest tail [] more same next = subst (λ bytes. SpellAll limit bytes more tail) (sym same) next
 spell_append limit bytes rest tail (tree ∷ trees) more (first, after, same, spelled, all) next = (first, after, same, spelled, spell_append limit after rest tail trees more all next)
-
--- bytes after those that are spelled stay after
-pub spell_after : (limit : ℕ) (bytes rest more : List ℕ) (trees : List Tree) → SpellAll limit bytes trees rest → SpellAll limit (bytes ++ more) trees (rest ++ more)
-spell_after limit bytes rest more [] same = ap (λ bytes. bytes ++ more) same
-spell_after limit bytes rest more (tree ∷ trees) (first, after, same, spelled, all) =
-    (first, after ++ more, ap (λ bytes. bytes ++ more) same ∙ append_assoc first after more, spelled, spell_after limit after rest more trees all)
 
 spell_bytes : (limit : ℕ) (bytes rest : List ℕ) (trees : List Tree) → SpellAll limit bytes trees rest → AreBytes bytes → AreBytes rest
 spell_bytes limit bytes rest [] same are_bytes = subst AreBytes same are_bytes
@@ -79,60 +73,30 @@ one_stream_lem limit bytes are_bytes =
       },
     )
 
--- ---- the values have texts
+-- ---- something is said of each value
 
-module _ {D T : Type 0} (language : Language D T) (task : Task T) where
-  -- after the texts of some first values come those of the others
-  pub replies_append : (C : Ending → Type 0) (k n : ℕ) (trees more : List Tree) (e rest : Ending) → n ≡ k + length trees
-      → RepliesEnd language task (λ closing. closing ≡ ended) k trees e → RepliesEnd language task C n more rest
-      → (all : Ending) × RepliesEnd language task C k (trees ++ more) all × (all.out ≡ e.out ++ rest.out)
-  replies_append C k n [] more e rest at same next =
-      let here : n ≡ k = omega arith in
-      (rest, subst (λ n. RepliesEnd language task C n more rest) here next, ap (λ e. e.out ++ rest.out) (sym same))
-  replies_append C k n (tree ∷ trees) more e rest at (stops stop, replies, same) next = absurd (no_stop language task.request task.type k tree stop replies)
-  replies_append C k n (tree ∷ trees) more e rest at (says text has_type, replies, (closing, goes, same)) next =
-      let all = replies_append C (suc k) n trees more closing rest (omega arith) goes next in (
-        with_output text has_type all.0,
-        (says text has_type, replies, (all.0, all.1, refl)),
-        ap (λ out. text ++ out) all.2 ∙ (sym (append_assoc text closing.out rest.out) ∙ ap (λ e. e.out ++ rest.out) (sym same)),
-      )
+module _ {D T : Type 0} (language : Language D T) where
+  say_append : (work : Work T) (k n : ℕ) (trees more : List Tree) (said others : List Said) → n ≡ k + length trees
+      → AllSay language work k trees said → AllSay language work n more others → AllSay language work k (trees ++ more) (said ++ others)
+  say_append work k n [] more [] others at h g = let here : n ≡ k = omega arith in subst (λ n. AllSay language work n more others) here g
+  say_append work k n [] more (first ∷ said) others at h g = absurd h
+  say_append work k n (tree ∷ trees) more [] others at h g = absurd h
+  say_append work k n (tree ∷ trees) more (first ∷ said) others at h g = (h.0, say_append work (suc k) n trees more said others (omega arith) h.1 g)
 
-  module _ (total : IsTotal language) where
-    -- each value has its text
-    pub replies_exist : (C : Ending → Type 0) (closing : Ending) → C closing → (type : T) → task.type ≡ Some type → (k : ℕ) (trees : List Tree) → (all : Ending) × RepliesEnd language task C k trees all
-    replies_exist C closing closes type typed k [] = (closing, closes)
-    replies_exist C closing closes type typed k (tree ∷ trees) =
-        let rest = replies_exist C closing closes type typed (suc k) trees in
-        let said = total.verdict type tree in
-        (with_output (line said.0) said.1 rest.0, (says (line said.0) said.1, replied task.request task.type typed said.0 said.1 said.2, (rest.0, rest.1, refl))) where
-          replied : (request : Request) (o : Option T) → o ≡ Some type → (verdict : List ℕ) (has_type : Bool) → language.LineOf type tree verdict has_type
-              → IsReply language request o k tree (says (line verdict) has_type)
-          replied (check f u) None e verdict has_type said = absurd (cc e)
-          replied (check f u) (Some t) e verdict has_type said =
-              let same : type ≡ t = cc in (verdict, subst (λ t. language.LineOf t tree verdict has_type) same said, refl)
+  say_exist : IsTotal language → (work : Work T) (k : ℕ) (trees : List Tree) → (said : List Said) × AllSay language work k trees said
+  say_exist total work k [] = ([], tt)
+  say_exist total (checks type) k (tree ∷ trees) =
+      let rest = say_exist total (checks type) (suc k) trees in
+      let here = total.verdict type tree in
+      (record { text = line here.0; well = here.1 } ∷ rest.0, ((here.0, here.2, refl), rest.1))
 
--- something is said after the values at the input's end
-closes_exist : (request : Request) (trees : List Tree) (end : End) → (closing : Ending) × Closes request trees at_end end closing
-closes_exist (check f u) trees clean = (ended, refl)
-closes_exist request trees (refused refusal) = (stopped (o.value (length trees) (refusal_text refusal)), refl)
-closes_exist request trees (cut n) = (stopped (o.value (length trees) (truncated_text n)), refl)
+  -- there is a last reply at the input's end
+  closes_exist : (work : Work T) (trees : List Tree) (end : End) → (last : Reply) × Closes language work trees at_end end last
+  closes_exist (checks type) trees clean = (says nothing_said, refl)
+  closes_exist work trees (refused refusal) = (stops (o.value (length trees) (refusal_text refusal)), refl)
+  closes_exist work trees (cut n) = (stops (o.value (length trees) (truncated_text n)), refl)
 
 -- ---- the stages before the values
-
-module _ {D T : Type 0} (language : Language D T) (file : List ℕ → Found) where
-  -- a task has its type
-  pub task_typed : (words : List (List ℕ)) (task : Task T) → Prepares language words file (Ok task) → (type : T) × (task.type ≡ Some type)
-  task_typed words task (Err stop, h, same) = absurd (cc same)
-  task_typed words task (Ok (check f u), asks, (result, (r, reads, found), same)) = at result r found same where
-    at : (result : Result (Option T) Stop) (r : Result T Stop) → MatchResult r (λ x. result ≡ Ok (Some x)) (λ stop. result ≡ Err stop)
-        → MatchResult result (λ x. ◌≡◌ {A = Result (Task T) Stop} (Ok task) (Ok (record { request = check f u; type = x }))) (λ stop. ◌≡◌ {A = Result (Task T) Stop} (Ok task) (Err stop))
-        → (type : T) × (task.type ≡ Some type)
-    at (Err stop) r found same = absurd (cc same)
-    at (Ok x) (Err s) found same = absurd (cc found)
-    at (Ok x) (Ok t) found same =
-        let is : task ≡ record { request = check f u; type = x } = cc in
-        let some : x ≡ Some t = cc in
-        (t, ap (λ t. t.type) is ∙ some)
 
 module _ {D T : Type 0} (language : Language D T) (total : IsTotal language) (files : List File) where
   abbrev in_map : List ℕ → Found
@@ -159,7 +123,7 @@ module _ {D T : Type 0} (language : Language D T) (total : IsTotal language) (fi
   prepares_exist : (words : List (List ℕ)) → (prepared : Result (Task T) Stop) × Prepares language words in_map prepared
   prepares_exist words = at (plain_or_not words) where
     typed : (f u : List ℕ) → Asks words (check f u) → (result : Result T Stop) → ReadsTypeOf language in_map (f, u) result → (prepared : Result (Task T) Stop) × Prepares language words in_map prepared
-    typed f u asks (Ok t) reads = (Ok (record { request = check f u; type = Some t }), (Ok (check f u), asks, (Ok (Some t), (Ok t, reads, refl), refl)))
+    typed f u asks (Ok t) reads = (Ok (record { work = checks t; limit = limit_of (check f u) }), (Ok (check f u), asks, (Ok (checks t), (Ok t, reads, refl), refl)))
     typed f u asks (Err s) reads = (Err s, (Ok (check f u), asks, (Err s, (Err s, reads, refl), refl)))
 
     at : ((request : Request) × Asks words request) ⊎ IsUsage words → (prepared : Result (Task T) Stop) × Prepares language words in_map prepared
@@ -168,55 +132,73 @@ module _ {D T : Type 0} (language : Language D T) (total : IsTotal language) (fi
 
   module _ (law : HasOneJudgement) (words : List (List ℕ)) (input : List ℕ) (are_bytes : AreBytes input) where
     -- some first values, and then the others
-    front_of_values : (task : Task T) → Prepares language words in_map (Ok task) → (text : List ℕ) → IsOutputOfFirstValues language task input text → IsFrontOfOutcome language words input files text
-    front_of_values task prepared text (trees, rest, spelled, e, replies, same) =
-        let limit = limit_of task.request in
-        let stream = stream_of law limit rest (spell_bytes limit input rest trees spelled are_bytes) in
-        let typed = task_typed language in_map words task prepared in
-        let all : List Tree = trees ++ stream.0 in
-        let closing = closes_exist task.request all stream.1 in
-        let C : Ending → Type 0 = λ e. Closes task.request all at_end stream.1 e in
-        let others = replies_exist language task total C closing.0 closing.1 typed.0 typed.1 (length trees) stream.0 in
-        let both = replies_append language task C 0 (length trees) trees stream.0 e others.0 (omega arith) replies others.1 in
+    front_of_values : (task : Task T) → Prepares language words in_map (Ok task) → (trees : List Tree) (said : List Said) (rest : List ℕ) → SayFirst language task input trees said rest → IsFrontOfOutcome language words input files said
+    front_of_values task prepared trees said rest first =
+        let stream = stream_of law task.limit rest (spell_bytes task.limit input rest trees first.spelled are_bytes) in
+        let others = say_exist language total task.work (length trees) stream.0 in
+        let last = closes_exist language task.work (trees ++ stream.0) stream.1 in
         record {
-          ending = both.0;
-          rest = others.0.out;
-          outcome = (Ok task, prepared, (all, stream.1, (stream.2.0, spell_append limit input rest stream.2.0 trees stream.0 spelled stream.2.1, stream.2.2), both.1));
-          front = both.2 ∙ ap (λ t. t ++ others.0.out) (sym same);
+          all = replies (said ++ others.0) last.0;
+          later = all_said (replies others.0 last.0);
+          outcome = (
+            Ok task,
+            prepared,
+            record {
+              trees = trees ++ stream.0;
+              rest = stream.2.0;
+              first = record {
+                spelled = spell_append task.limit input rest stream.2.0 trees stream.0 first.spelled stream.2.1;
+                all_say = say_append language task.work 0 (length trees) trees stream.0 said others.0 (omega arith) first.all_say others.1;
+              };
+              last = inr (stream.1, stream.2.2, λ stop at. no_stop language task.work task.limit (trees ++ stream.0) stream.2.0 stop at, last.1);
+            },
+          );
+          front = append_assoc said others.0 (all_said (replies [] last.0));
         }
 
     -- there is an outcome
     front_of_none : IsFrontOfOutcome language words input files []
     front_of_none = let p = prepares_exist words in at p.0 p.1 where
       at : (prepared : Result (Task T) Stop) → Prepares language words in_map prepared → IsFrontOfOutcome language words input files []
-      at (Ok task) p = front_of_values task p [] ([], input, refl, ended, refl, refl)
-      at (Err stop) p = record { ending = stopped stop; rest = []; outcome = (Err stop, p, refl); front = refl }
+      at (Ok task) p = front_of_values task p [] [] input (first_none language task input)
+      at (Err stop) p = record { all = stopped stop; later = []; outcome = (Err stop, p, refl); front = refl }
 
 -- ---- of a call
 
 module _ {D T : Type 0} (language : Language D T) (total : IsTotal language) (law : HasOneJudgement) (words : List (List ℕ)) (call : Call) (a : Account language words call)
     (input : List ℕ) (files : List File) (h : IsWellRead call input files) (are_bytes : AreBytes input) where
-  -- what is said of some first of the bytes taken is said of the input
-  some_of_input : (task : Task T) (text : List ℕ) → IsOutputOfFirstValues language task a.given.input.bytes text → IsOutputOfFirstValues language task input text
-  some_of_input task text (trees, rest, spelled, e, replies, same) =
+  -- what is said first of the bytes taken is said of the input
+  values_front : (task : Task T) → Prepares language words a.given.file (Ok task) → (trees : List Tree) (said : List Said) (rest : List ℕ) → SayFirst language task a.given.input.bytes trees said rest → IsFrontOfOutcome language words input files said
+  values_front task p trees said rest first =
       let taken : (rest : List ℕ) × TakesFrom input a.given.input rest × (call.input.after.bytes ≡ Some rest) = rw h.input_told at a.input.told in
-      let all = spell_after (limit_of task.request) a.given.input.bytes rest taken.0 trees spelled in
-      (trees, rest ++ taken.0, subst (λ bytes. SpellAll (limit_of task.request) bytes trees (rest ++ taken.0)) (sym taken.1.front) all, e, replies, same)
-
-  first_front : (text : List ℕ) → IsOutputOfFirst language words a.given text → IsFrontOfOutcome language words input files text
-  first_front text (inl none) = subst (IsFrontOfOutcome language words input files) (sym none) (front_of_none language total files law words input are_bytes)
-  first_front text (inr (task, p, some)) =
       front_of_values language total files law words input are_bytes task
-      (prepares_same language words call.files files h.files_told h.files_short h.opens h.reads a.given.file a.files (Ok task) p) text (some_of_input task text some)
+      (prepares_same language words call.files files h.files_told h.files_short h.opens h.reads a.given.file a.files (Ok task) p) trees said (rest ++ taken.0)
+      (subst (λ bytes. SayFirst language task bytes trees said (rest ++ taken.0)) (sym taken.1.front) (first_after language task a.given.input.bytes trees said rest taken.0 first))
 
-  -- an ending with what an outcome says, or where memory ran out
-  ending_front : (ending : Ending) → MayEnd language words a.given ending
-      → Outcome language words (contents_of files) input ending
-      ⊎ (IsFrontOfOutcome language words input files ending.out × (ending ≡ record (stopped out_of_memory) { out = ending.out }))
-  ending_front ending (inl said) = inl (says_same language words call a input files h ending said)
-  ending_front ending (inr (text, first, same)) =
-      let out : text ≡ ending.out = sym (ap (λ e. e.out) same) in
-      inr (subst (IsFrontOfOutcome language words input files) out (first_front text first), same ∙ ap (λ out. record (stopped out_of_memory) { out = out }) out)
+  first_front : (said : List Said) → IsSaidFirst language words a.given said → IsFrontOfOutcome language words input files said
+  first_front said (inl (taken, none)) = subst (IsFrontOfOutcome language words input files) (sym none) (front_of_none language total files law words input are_bytes)
+  first_front said (inr (task, p, paced)) =
+      values_front task p paced.holds.trees said (paced.holds.front ++ paced.in_hand)
+      (subst (λ bytes. SayFirst language task bytes paced.holds.trees said (paced.holds.front ++ paced.in_hand)) (sym paced.bytes_are)
+      (first_after language task paced.earlier paced.holds.trees said paced.holds.front paced.in_hand paced.holds.first))
+
+  -- the next text is said first too
+  next_front : (said : List Said) (next : Said) → SaysOfFirst language words a.given (said ++ next ∷ []) ⊎ RunReplies language words a.given (replies said (says next))
+      → IsFrontOfOutcome language words input files (said ++ next ∷ [])
+  next_front said next (inl (task, p, trees, rest, first)) = values_front task p trees (said ++ next ∷ []) rest first
+  next_front said next (inr reply) = record {
+    all = replies said (says next);
+    later = [];
+    outcome = says_same language words call a input files h (replies said (says next)) reply;
+    front = sym (append-nil (said ++ next ∷ []));
+  }
+
+  -- what an outcome says, or where memory ran out
+  ending_front : (said : List Said) (last : Reply) → IsSaidFirst language words a.given said → MayEnd language words a.given said last
+      → Outcome language words (contents_of files) input (replies said last)
+      ⊎ (IsFrontOfOutcome language words input files said × (last ≡ stops out_of_memory))
+  ending_front said last first (inl reply) = inl (says_same language words call a input files h (replies said last) reply)
+  ending_front said last first (inr same) = inr (first_front said first, same)
 
 module _ {D T : Type 0} (language : Language D T) (total : IsTotal language) (law : HasOneJudgement) (words : List (List ℕ)) (call : Call) (a : Account language words call) where
   pub if_memory : TellsBytes call.input → IfMemory language words call
@@ -225,8 +207,8 @@ module _ {D T : Type 0} (language : Language D T) (total : IsTotal language) (la
     are_bytes = rw h.input_told at tells
 
     at : Why language words call a.given statuses.Memory
-        → (text : List ℕ) × IsFrontOfOutcome language words input files text × Puts call.out text × Puts call.err (err_line (stop_text out_of_memory))
-    at (memory (text, first, out, err)) = (text, first_front language total law words call a input files h are_bytes text first, out, err)
+        → (said : List Said) × IsFrontOfOutcome language words input files said × Puts call.out (texts_of said) × Puts call.err (err_line (stop_text out_of_memory))
+    at (memory (said, first, out, err)) = (said, first_front language total law words call a input files h are_bytes said first, out, err)
 
   pub if_write_fault : TellsBytes call.input → IfWriteFault language words call
   if_write_fault tells input files h e = at (subst (Why language words call a.given) e (account_why language words call a)) where
@@ -234,5 +216,5 @@ module _ {D T : Type 0} (language : Language D T) (total : IsTotal language) (la
     are_bytes = rw h.input_told at tells
 
     at : Why language words call a.given statuses.WriteFault → OutBreaks language words call input files ⊎ ErrBreaks language words call input files
-    at (out_fault breaks) = inl (breaks.text, first_front language total law words call a input files h are_bytes breaks.text breaks.first, breaks.out, breaks.err)
-    at (err_fault (ending, may, out, part)) = inr (ending, out, part, ending_front language total law words call a input files h are_bytes ending may)
+    at (out_fault said first breaks) = inl (said, breaks.next, next_front language total law words call a input files h are_bytes said breaks.next breaks.is_next, breaks.out, breaks.err)
+    at (err_fault (said, last, first, may, out, part)) = inr (replies said last, out, part, ending_front language total law words call a input files h are_bytes said last first may)

@@ -1,16 +1,21 @@
 -- An honest call has the outcome of what was told.
-use Rattle.std.proofs.Common.{◌≡◌, ◌≢◌, ◌⊎◌, ℕ, suc, ◌+◌, ◌^◌, ◌<◌, ◌≤◌, List, [], ◌∷◌, ◌++◌, length, Option, Some, None, Result, Ok, Err, inl, inr, refl, sym, ap, ◌∙◌, subst, append-nil, length-append, arith}
+use Rattle.std.proofs.Common.{◌≡◌, ◌≢◌, ◌⊎◌, ℕ, ◌+◌, ◌^◌, ◌<◌, ◌≤◌, List, ◌++◌, length, Option, Some, None, Result, Ok, Err, inl, inr, refl, sym, ap, ◌∙◌, subst, append-nil, length-append, arith}
+use Rattle.std.proofs.lemmas.List.{take-append-le}
 use Rattle.std.specs.Prelude.{IsSomeAnd, MatchResult}
 use Rattle.om_model.specs.declared.status.Status.TheVariants as statuses
-use Rattle.om_format.specs.Stream.{End}
+use Rattle.om_model.specs.declared.refusal.ReadRefusal.{ReadRefusal}
+use Rattle.om_format.specs.Front.{IsRefused}
+use Rattle.om_format.specs.Stream.{End, clean, refused, cut, IsTail}
 use Rattle.om_format.specs.Tree.{Tree}
-use Rattle.om_outcome.specs.Outcome.{Taken, InputEnd, at_end, at_fault, at_length, unasked, whole, Found, opened, missing, failed, unfetched, Stop, Ending, stopped, Request, check, Task, Language, ReadsFile, ReadsTypeOf, Prepares, RunEnds, ValuesEnd, Closes, says, stops, IsReply, RepliesEnd, found_of, Outcome, fault_of}
+use Rattle.om_outcome.specs.Outcome.{Taken, InputEnd, at_end, at_fault, at_length, unasked, whole, Found, opened, missing, failed, unfetched, Stop, ending_of, Replies, replies, stops, stopped, out_of_memory, check, Work, checks, Task, Language, ReadsFile, ReadsTypeOf, Prepares, RunReplies, ValuesReply, StopsAt, Closes, found_of, Outcome, fault_of}
 use Rattle.om_edge.specs.Faults.{RoseOrLast}
 use Rattle.om_edge.specs.Files.{File, contents_of}
 use Rattle.om_edge.specs.State.{ByteState, FilesState, Change}
 use Rattle.om_session.specs.Call.{Call}
 use Rattle.om_session.specs.Given.{TakesFrom, Gathers, Fetched, IsFoundOf, IsMeasured}
-use Rattle.om_session.specs.Run.{FetchesFor, MayEnd, PutsLine, Completes, Breaks, Account, IsWellRead, IsHonest, HasOutcome, Headline}
+use Rattle.om_session.specs.Run.{FetchesFor, PutsLine, Completes, Breaks, Account, IsWellRead, IsHonest, HasOutcome, Headline}
+use Rattle.om_session.proofs.PutLemmas.{rose_after}
+use Rattle.om_session.proofs.ValueLemmas.{first_after}
 
 -- ---- what was taken, where it is told and there is no fault
 
@@ -76,56 +81,70 @@ module _ {D T : Type 0} (language : Language D T) (words : List (List ℕ)) (fil
   prepares_same prepared (Ok (check f t), asks, (found, (type, r, same), rest)) =
       (Ok (check f t), asks, (found, (type, reads_same f t (fetches.asked (check f t) asks) type r, same), rest))
 
--- `check` stops at no value
-pub no_stop : {D T : Type 0} (language : Language D T) (request : Request) (type : Option T) (k : ℕ) (tree : Tree) (stop : Stop) → IsReply language request type k tree (stops stop) → ⊥
-no_stop language (check f t) None k tree stop h = h
-no_stop language (check f t) (Some type) k tree stop h = h
+-- what is refused in the first bytes is refused in all
+pub tail_after : (limit : ℕ) (tail more : List ℕ) (refusal : ReadRefusal) → IsTail limit tail (refused refusal) → IsTail limit (tail ++ more) (refused refusal)
+tail_after limit tail more refusal (n, fits, is) =
+    (n, omega (arith, fits, length-append tail more), subst (λ b. IsRefused limit b refusal) (sym (take-append-le n tail more fits)) is)
 
--- so its values lead to what is said after them
-replies_close : {D T : Type 0} (language : Language D T) (task : Task T) (C : Ending → Type 0) → ((e : Ending) → C e → ⊥) → (k : ℕ) (trees : List Tree) (e : Ending)
-    → RepliesEnd language task C k trees e → ⊥
-replies_close language task C none k [] e h = none e h
-replies_close language task C none k (tree ∷ trees) e (says text has_type, replies, (rest, goes, same)) = replies_close language task C none (suc k) trees rest goes
-replies_close language task C none k (tree ∷ trees) e (stops stop, replies, same) = no_stop language task.request task.type k tree stop replies
+-- `check` stops at no value
+pub no_stop : {D T : Type 0} (language : Language D T) (work : Work T) (limit : ℕ) (trees : List Tree) (rest : List ℕ) (stop : Stop) → StopsAt language work limit trees rest stop → ⊥
+no_stop language (checks type) limit trees rest stop h = h
+
+module _ {D T : Type 0} (language : Language D T) (task : Task T) where
+  -- where more bytes come after a stop, the last reply is the same
+  pub reply_more : (bytes more : List ℕ) (all : Replies) → ValuesReply language task (record { bytes = bytes; until = unasked }) all → ValuesReply language task (whole (bytes ++ more)) all
+  reply_more bytes more all v = record {
+    trees = v.trees;
+    rest = v.rest ++ more;
+    first = first_after language task bytes v.trees all.said v.rest more v.first;
+    last = go v.last;
+  } where
+    go : ((stop : Stop) × StopsAt language task.work task.limit v.trees v.rest stop × (fault_of unasked ≡ None) × (all.last ≡ stops stop))
+        ⊎ ((end : End) × IsTail task.limit v.rest end × ((stop : Stop) → StopsAt language task.work task.limit v.trees v.rest stop → ⊥) × Closes language task.work v.trees unasked end all.last)
+        → ((stop : Stop) × StopsAt language task.work task.limit v.trees (v.rest ++ more) stop × (fault_of at_end ≡ None) × (all.last ≡ stops stop))
+        ⊎ ((end : End) × IsTail task.limit (v.rest ++ more) end × ((stop : Stop) → StopsAt language task.work task.limit v.trees (v.rest ++ more) stop → ⊥) × Closes language task.work v.trees at_end end all.last)
+    go (inl (stop, at, free, is)) = absurd (no_stop language task.work task.limit v.trees v.rest stop at)
+    go (inr (clean, tail, none, closes)) = absurd closes
+    go (inr (cut n, tail, none, closes)) = absurd closes
+    go (inr (refused refusal, tail, none, closes)) =
+        inr (refused refusal, tail_after task.limit v.rest more refusal tail, λ stop at. no_stop language task.work task.limit v.trees (v.rest ++ more) stop at, closes)
 
 module _ {D T : Type 0} (language : Language D T) (task : Task T) (source : Change ByteState) (input : List ℕ) (told : source.before.bytes ≡ Some input)
-    (short : length input < 2 ^ 48) (no_fault : ¬ RoseOrLast source.before.faults source.after.faults) (taken : Taken) (took : Gathers source taken) (ending : Ending) where
+    (short : length input < 2 ^ 48) (no_fault : ¬ RoseOrLast source.before.faults source.after.faults) (taken : Taken) (took : Gathers source taken) (all : Replies) where
   taken_input : (rest : List ℕ) × TakesFrom input taken rest × (source.after.bytes ≡ Some rest)
   taken_input = rw told at took.told
 
-  says_input : (u : InputEnd) → taken.until ≡ u → ValuesEnd language task taken ending → ValuesEnd language task (whole input) ending
-  says_input at_end e said = subst (λ t. ValuesEnd language task t ending) (all_taken input taken taken_input.0 taken_input.1 e) said
+  says_input : (u : InputEnd) → taken.until ≡ u → ValuesReply language task taken all → ValuesReply language task (whole input) all
+  says_input at_end e said = subst (λ t. ValuesReply language task t all) (all_taken input taken taken_input.0 taken_input.1 e) said
   says_input at_fault e said = absurd (no_fault (rw e at took.cause).rose)
   says_input at_length e said = absurd (too_short input taken taken_input.0 taken_input.1 short (subst (λ u. IsMeasured u (length taken.bytes)) e took.measured))
-  says_input unasked e (trees, end, stream, replies) =
-      absurd (replies_close language task (Closes task.request trees unasked end) (λ e closes. closes_not task.request trees end e closes) 0 trees ending
-      (subst (λ u. RepliesEnd language task (Closes task.request trees u end) 0 trees ending) e replies)) where
-        closes_not : (request : Request) (trees : List Tree) (end : End) (e : Ending) → Closes request trees unasked end e → ⊥
-        closes_not request trees end e h = h
+  says_input unasked e said =
+      subst (λ b. ValuesReply language task (whole b) all) (sym taken_input.1.front)
+      (reply_more language task taken.bytes taken_input.0 all (subst (λ u. ValuesReply language task (record { bytes = taken.bytes; until = u }) all) e said))
 
 module _ {D T : Type 0} (language : Language D T) (words : List (List ℕ)) (call : Call) (a : Account language words call) where
-  pub says_same : (input : List ℕ) (files : List File) → IsWellRead call input files → (ending : Ending) → RunEnds language words a.given ending → Outcome language words (contents_of files) input ending
-  says_same input files h ending (prepared, p, rest) = (
+  pub says_same : (input : List ℕ) (files : List File) → IsWellRead call input files → (all : Replies) → RunReplies language words a.given all → Outcome language words (contents_of files) input all
+  says_same input files h all (prepared, p, rest) = (
     prepared,
     prepares_same language words call.files files h.files_told h.files_short h.opens h.reads a.given.file a.files prepared p,
     goes prepared rest,
   ) where
     goes : (prepared : Result (Task T) Stop)
-        → MatchResult prepared (λ task. ValuesEnd language task a.given.input ending) (λ stop. ending ≡ stopped stop)
-        → MatchResult prepared (λ task. ValuesEnd language task (whole input) ending) (λ stop. ending ≡ stopped stop)
-    goes (Ok task) said = says_input language task call.input input h.input_told h.input_short h.takes a.given.input a.input ending a.given.input.until refl said
+        → MatchResult prepared (λ task. ValuesReply language task a.given.input all) (λ stop. all ≡ stopped stop)
+        → MatchResult prepared (λ task. ValuesReply language task (whole input) all) (λ stop. all ≡ stopped stop)
+    goes (Ok task) said = says_input language task call.input input h.input_told h.input_short h.takes a.given.input a.input all a.given.input.until refl said
     goes (Err stop) same = same
 
   has_outcome : (input : List ℕ) (files : List File) → IsHonest call input files → call.status ≢ statuses.Memory
-      → Completes language words a.given call ⊎ Breaks language words a.given call → HasOutcome language words call input files
-  has_outcome input files h not_memory (inr b) = absurd (h.out b.out.cause.rose)
+      → Completes language words a.given a.said call ⊎ Breaks language words a.given a.said call → HasOutcome language words call input files
+  has_outcome input files h not_memory (inr b) = absurd (h.out (rose_after _ _ _ b.out.1.cause b.out.2.cause))
   has_outcome input files h not_memory (inl c) = put c.line where
-    put : PutsLine call.err call.status c.ending → HasOutcome language words call input files
+    put : PutsLine call.err call.status (ending_of (replies a.said c.last)) → HasOutcome language words call input files
     put (inr part) = absurd (h.err part.0.cause.rose)
     put (inl line) = may c.may_end where
-      may : MayEnd language words a.given c.ending → HasOutcome language words call input files
-      may (inl said) = record { ending = c.ending; outcome = says_same input files h.well_read c.ending said; out = c.out; err = line.0; status = line.1 }
-      may (inr (text, first, same)) = absurd (not_memory (line.1 ∙ ap (λ e. e.status) same))
+      may : RunReplies language words a.given (replies a.said c.last) ⊎ (c.last ≡ stops out_of_memory) → HasOutcome language words call input files
+      may (inl said) = record { all = replies a.said c.last; outcome = says_same input files h.well_read (replies a.said c.last) said; out = c.out; err = line.0; status = line.1 }
+      may (inr memory) = absurd (not_memory (line.1 ∙ ap (λ last. (ending_of (replies a.said last)).status) memory))
 
   pub headline : Headline language words call
   headline input files h not_memory = has_outcome input files h not_memory a.ends

@@ -86,7 +86,3 @@ no_lists text rest base front counted t = (
       let parts = base_of_text base t.base rest (lists_text t.lists) (sym front ∙ spelled.spelled) in
       absurd (none-some t.lists ((counted t.lists).1 (parts.1, spelled.few))),
 )
-
--- one list more
-pub lists_text-more : (n : ℕ) → lists_text (n + 1) ≡ lists_text n ++ codes " list"
-lists_text-more n = lists_text-add n 1

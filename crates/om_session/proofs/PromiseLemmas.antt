@@ -9,6 +9,7 @@ use Rattle.om_session.proofs.CauseLemmas.{only_usage, if_usage, only_types, only
 use Rattle.om_session.proofs.CompleteLemmas.{IsLawful, complete}
 use Rattle.om_session.proofs.DecidedLemmas.{decided}
 use Rattle.om_session.proofs.ExactLemmas.{if_types, if_too_long}
+use Rattle.om_session.proofs.PaceLemmas.{if_input_fails}
 use Rattle.om_session.proofs.FrontLemmas.{if_memory, if_write_fault}
 use Rattle.om_session.proofs.HeadlineLemmas.{headline}
 use Rattle.om_session.proofs.TotalLemmas.{IsTotal}
@@ -31,7 +32,8 @@ module _ {D T : Type 0} (language : Language D T) (lawful : IsLawful language) (
     open_fault_only = only_open_fault language words call a;
     missing_if = if_missing language words call a;
     too_long_only = only_too_long language words call a;
-    too_long_if = if_too_long language lawful words call a;
+    too_long_if = if_too_long language lawful words call a law tells;
+    input_fails_if = if_input_fails language words call a;
     memory_if = if_memory language total law words call a tells;
     write_fault_if = if_write_fault language total law words call a tells;
     tells_read_fault = tells_read_fault language words call a lawful;

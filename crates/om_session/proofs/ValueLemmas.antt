@@ -1,88 +1,106 @@
--- One value more.
-use Rattle.std.proofs.Common.{◌≡◌, ℕ, suc, ◌+◌, ◌≤◌, Bool, true, false, List, [], ◌∷◌, ◌++◌, length, take, drop, refl, sym, ap, ◌∙◌, subst, append_assoc, length-append, arith}
+-- One value more, and bytes that come after.
+use Rattle.std.proofs.Common.{◌≡◌, ℕ, suc, ◌+◌, ◌<◌, Bool, true, false, List, [], ◌∷◌, ◌++◌, length, take, inl, inr, refl, sym, ap, ◌∙◌, subst, append_assoc, append-nil, length-append, take_all, arith}
+use Rattle.std.proofs.lemmas.List.{length-take-le}
 use Rattle.std.specs.Prelude.{◌&&◌}
-use Rattle.std.proofs.lemmas.List.{take-append-drop}
-use Rattle.om_model.specs.declared.status.Status.{Status}
-use Rattle.om_model.specs.declared.status.Status.TheVariants as statuses
+use Rattle.om_model.specs.Bytes.{AreBytes}
+use Rattle.om_model.specs.declared.refusal.ReadRefusal.{ReadRefusal}
+use Rattle.om_format.specs.Front.{IsFront, IsRefused}
+use Rattle.om_format.specs.Judgement.{Judgement, Judges, value}
+use Rattle.om_format.specs.Judgement as j
+use Rattle.om_format.proofs.JudgementLaws.{one_judgement_lem}
 use Rattle.om_format.specs.Tree.{Tree}
 use Rattle.om_format.specs.Spelled.{SpelledUnder}
 use Rattle.om_format.specs.Stream.{SpellAll}
-use Rattle.om_outcome.specs.Outcome.{Language, Task, Ending, or_no, with_output, Reply, says, stops, IsReply, ReplyEnds, RepliesEnd, limit_of}
-use Rattle.om_session.specs.Values.{HasOutputOfFirst}
+use Rattle.om_session.proofs.LengthLemmas.{spelled_some}
+use Rattle.om_outcome.specs.Outcome.{Language, Task, Said, Says, AllSay, SayFirst, texts_of, all_well}
 
-or_no_once : (s : Status) → or_no (or_no s) ≡ or_no s
-or_no_once statuses.Well = refl
-or_no_once statuses.No = refl
-or_no_once statuses.Usage = refl
-or_no_once statuses.Types = refl
-or_no_once statuses.Value = refl
-or_no_once statuses.Script = refl
-or_no_once statuses.ReadFault = refl
-or_no_once statuses.WriteFault = refl
-or_no_once statuses.OpenFault = refl
-or_no_once statuses.Memory = refl
-or_no_once statuses.TooLong = refl
+-- ---- the bytes
 
-abbrev ending : List ℕ → List ℕ → Status → Ending
-ending out err status = record { out = out; err = err; status = status }
+-- a front is no value
+pub not_whole : (limit : ℕ) (bytes : List ℕ) (tree : Tree) → AreBytes bytes → IsFront limit bytes → SpelledUnder limit bytes tree → ⊥
+not_whole limit bytes tree are_bytes front spelled =
+    let law = one_judgement_lem limit bytes are_bytes in
+    let one = law.1.only j.front front in
+    let other = law.1.only (value (length bytes) tree) (omega arith, subst (λ b. SpelledUnder limit b tree) (sym (take_all (length bytes) bytes (omega arith))) spelled) in
+    let both : j.front ≡ value (length bytes) tree = one ∙ sym other in cc both
 
--- texts after one another
-pub with_output-with_output : (text more : List ℕ) (has_type next_has_type : Bool) (e : Ending) → with_output text has_type (with_output more next_has_type e) ≡ with_output (text ++ more) (has_type && next_has_type) e
-with_output-with_output text more true next_has_type e = ap (λ out. ending out e.err (with_output more next_has_type e).status) (sym (append_assoc text more e.out))
-with_output-with_output text more false true e = ap (λ out. ending out e.err (or_no e.status)) (sym (append_assoc text more e.out))
-with_output-with_output text more false false e =
-    ap (λ out. ending out e.err (or_no (or_no e.status))) (sym (append_assoc text more e.out))
-    ∙ ap (λ s. ending ((text ++ more) ++ e.out) e.err s) (or_no_once e.status)
+-- what is refused has a byte
+refused_some : (limit : ℕ) (bytes : List ℕ) (refusal : ReadRefusal) → IsRefused limit bytes refusal → 0 < length bytes
+refused_some limit bytes refusal (inl h) = let size : length bytes ≡ length h.front + 1 = ap length h.bytes_are ∙ length-append h.front (h.last ∷ []) in omega (arith, size)
+refused_some limit bytes refusal (inr h) = let size : length bytes ≡ length h.front + 1 = ap length h.bytes_are ∙ length-append h.front (h.last ∷ []) in omega (arith, size)
 
+-- no bytes are a front
+pub nothing_front : (limit : ℕ) → AreBytes [] → IsFront limit []
+nothing_front limit are_bytes = let law = one_judgement_lem limit [] are_bytes in from law.0 law.1.holds where
+  from : (judgement : Judgement) → Judges limit [] judgement → IsFront limit []
+  from j.front holds = holds
+  from (value n tree) holds = let some = spelled_some limit (take n []) tree holds.1 in absurd (omega (arith, some, length-take-le {A = ℕ} n []))
+  from (j.refused n refusal) holds = let some = refused_some limit (take n []) refusal holds.1 in absurd (omega (arith, some, length-take-le {A = ℕ} n []))
+
+-- one value more
 pub spell_snoc : (limit : ℕ) (bytes : List ℕ) (trees : List Tree) (tree : Tree) (first rest : List ℕ)
     → SpelledUnder limit first tree → SpellAll limit bytes trees (first ++ rest) → SpellAll limit bytes (trees ++ tree ∷ []) rest
 spell_snoc limit bytes [] tree first rest spelled before = (first, rest, before, spelled, refl)
 spell_snoc limit bytes (t ∷ trees) tree first rest spelled before =
     (before.0, before.1, before.2, before.3, spell_snoc limit before.1 trees tree first rest spelled before.4)
 
+-- bytes after those that are spelled stay after
+pub spell_after : (limit : ℕ) (bytes rest more : List ℕ) (trees : List Tree) → SpellAll limit bytes trees rest → SpellAll limit (bytes ++ more) trees (rest ++ more)
+spell_after limit bytes rest more [] same = ap (λ bytes. bytes ++ more) same
+spell_after limit bytes rest more (tree ∷ trees) (first, after, same, spelled, all) =
+    (first, after ++ more, ap (λ bytes. bytes ++ more) same ∙ append_assoc first after more, spelled, spell_after limit after rest more trees all)
+
+-- ---- what is said
+
+pub texts_of-append : (said more : List Said) → texts_of (said ++ more) ≡ texts_of said ++ texts_of more
+texts_of-append [] more = refl
+texts_of-append (first ∷ said) more =
+    ap (λ texts. first.text ++ texts) (texts_of-append said more) ∙ sym (append_assoc first.text (texts_of said) (texts_of more))
+
+pub texts_of-one : (next : Said) → texts_of (next ∷ []) ≡ next.text
+texts_of-one next = append-nil next.text
+
+and_assoc : (a b c : Bool) → (a && b) && c ≡ a && (b && c)
+and_assoc true b c = refl
+and_assoc false b c = refl
+
+-- `true` on the right
+pub and_true : (b : Bool) → b && true ≡ b
+and_true true = refl
+and_true false = refl
+
+pub all_well-snoc : (said : List Said) (next : Said) → all_well (said ++ next ∷ []) ≡ all_well said && next.well
+all_well-snoc [] next = and_true next.well
+all_well-snoc (first ∷ said) next =
+    ap (λ well. first.well && well) (all_well-snoc said next) ∙ sym (and_assoc first.well (all_well said) next.well)
+
 module _ {D T : Type 0} (language : Language D T) (task : Task T) where
-  -- what is said where the values end, said otherwise
-  pub replies_weaker : (C C' : Ending → Type 0) → ((e : Ending) → C e → C' e) → (k : ℕ) (trees : List Tree) (e : Ending)
-      → RepliesEnd language task C k trees e → RepliesEnd language task C' k trees e
-  replies_weaker C C' implies k [] e h = implies e h
-  replies_weaker C C' implies k (tree ∷ trees) e h = (h.0, h.1, weaker_end (λ rest. replies_weaker C C' implies (suc k) trees rest) h.0 h.2) where
-    weaker_end : ((rest : Ending) → RepliesEnd language task C (suc k) trees rest → RepliesEnd language task C' (suc k) trees rest)
-        → (t : Reply) → ReplyEnds t (RepliesEnd language task C (suc k) trees) e → ReplyEnds t (RepliesEnd language task C' (suc k) trees) e
-    weaker_end weaker (says text has_type) g = (g.0, weaker g.0 g.1, g.2)
-    weaker_end weaker (stops stop) g = g
+  say_snoc : (k n : ℕ) (trees : List Tree) (said : List Said) (tree : Tree) (next : Said) → n ≡ k + length trees
+      → AllSay language task.work k trees said → Says language task.work n tree next → AllSay language task.work k (trees ++ tree ∷ []) (said ++ next ∷ [])
+  say_snoc k n [] [] tree next at before says =
+      let same : n ≡ k = omega arith in (subst (λ m. Says language task.work m tree next) same says, tt)
+  say_snoc k n [] (first ∷ said) tree next at before says = absurd before
+  say_snoc k n (t ∷ trees) [] tree next at before says = absurd before
+  say_snoc k n (t ∷ trees) (first ∷ said) tree next at before says =
+      (before.0, say_snoc (suc k) n trees said tree next (omega arith) before.1 says)
 
-  -- value n
-  abbrev pub One : (Ending → Type 0) → ℕ → Tree → Ending → Type 0
-  One C n tree e = (t : Reply) × IsReply language task.request task.type n tree t × ReplyEnds t C e
+  -- nothing is said yet
+  pub first_none : (bytes : List ℕ) → SayFirst language task bytes [] [] bytes
+  first_none bytes = record { spelled = refl; all_say = tt }
 
-  pub replies_snoc : (C : Ending → Type 0) (k n : ℕ) (trees : List Tree) (tree : Tree) (e : Ending) → n ≡ k + length trees
-      → RepliesEnd language task (One C n tree) k trees e → RepliesEnd language task C k (trees ++ tree ∷ []) e
-  replies_snoc C k n [] tree e at h = let same : n ≡ k = omega arith in subst (λ m. One C m tree e) same h
-  replies_snoc C k n (first ∷ trees) tree e at h =
-      (h.0, h.1, snoc_end (λ rest. replies_snoc C (suc k) n trees tree rest (omega arith)) h.0 h.2) where
-        snoc_end : ((rest : Ending) → RepliesEnd language task (One C n tree) (suc k) trees rest → RepliesEnd language task C (suc k) (trees ++ tree ∷ []) rest)
-            → (t : Reply) → ReplyEnds t (RepliesEnd language task (One C n tree) (suc k) trees) e → ReplyEnds t (RepliesEnd language task C (suc k) (trees ++ tree ∷ [])) e
-        snoc_end snoc (says text has_type) g = (g.0, snoc g.0 g.1, g.2)
-        snoc_end snoc (stops stop) g = g
+  -- one value more
+  pub first_more : (bytes : List ℕ) (trees : List Tree) (said : List Said) (first rest : List ℕ) (tree : Tree) (next : Said)
+      → SayFirst language task bytes trees said (first ++ rest) → SpelledUnder task.limit first tree → Says language task.work (length trees) tree next
+      → SayFirst language task bytes (trees ++ tree ∷ []) (said ++ next ∷ []) rest
+  first_more bytes trees said first rest tree next before spelled says = record {
+    spelled = spell_snoc task.limit bytes trees tree first rest spelled before.spelled;
+    all_say = say_snoc 0 (length trees) trees said tree next (omega arith) before.all_say says;
+  }
 
-  -- nothing was said yet
-  pub says_nothing : (bytes : List ℕ) → HasOutputOfFirst language task bytes bytes [] true 0
-  says_nothing bytes = record { trees = []; spelled = refl; counted = refl; replied = λ closing. refl }
-
-  pub says_more : (bytes rest text more : List ℕ) (has_type next_has_type : Bool) (count n : ℕ) (tree : Tree)
-      → n ≤ length rest → SpelledUnder (limit_of task.request) (take n rest) tree → IsReply language task.request task.type count tree (says more next_has_type)
-      → HasOutputOfFirst language task bytes rest text has_type count → HasOutputOfFirst language task bytes (drop n rest) (text ++ more) (has_type && next_has_type) (count + 1)
-  says_more bytes rest text more has_type next_has_type count n tree fits spelled replies before = record {
-    trees = before.trees ++ tree ∷ [];
-    spelled = spell_snoc (limit_of task.request) bytes before.trees tree (take n rest) (drop n rest) spelled
-        (subst (λ r. SpellAll (limit_of task.request) bytes before.trees r) (sym (take-append-drop n rest)) before.spelled);
-    counted = length-append before.trees (tree ∷ []) ∙ ap (λ m. m + 1) before.counted;
-    replied = λ closing.
-        let next : Ending = with_output more next_has_type closing in
-        let one : RepliesEnd language task (One (λ e. e ≡ closing) count tree) 0 before.trees (with_output text has_type next) =
-        replies_weaker (λ e. e ≡ next) (One (λ e. e ≡ closing) count tree) (λ e same. (says more next_has_type, replies, (closing, refl, same))) 0 before.trees
-        (with_output text has_type next) (before.replied next) in
-        let at : count ≡ 0 + length before.trees = let counted = before.counted in omega arith in
-        subst (λ e. RepliesEnd language task (λ e. e ≡ closing) 0 (before.trees ++ tree ∷ []) e) (with_output-with_output text more has_type next_has_type closing)
-        (replies_snoc (λ e. e ≡ closing) 0 count before.trees tree (with_output text has_type next) at one);
+  -- more bytes come after
+  pub first_after : (bytes : List ℕ) (trees : List Tree) (said : List Said) (rest more : List ℕ)
+      → SayFirst language task bytes trees said rest → SayFirst language task (bytes ++ more) trees said (rest ++ more)
+  first_after bytes trees said rest more before = record {
+    spelled = spell_after task.limit bytes rest more trees before.spelled;
+    all_say = before.all_say;
   }

@@ -1,16 +1,17 @@
--- What is promised of a call of `run`. One account of the call carries all: what the outside gave, how a run ends with
--- that, and how much of it was put. The others follow from it.
-use Rattle.std.specs.Prelude.{ℕ, ◌^◌, ◌<◌, ◌≤◌, ◌≡◌, ◌≢◌, ◌⊎◌, true, List, [], ◌++◌, length, Some, None, IsSomeAnd, IfSome, Ok, Err}
+-- What is promised of a call of `run`. One account of the call carries all: what the outside gave, what is said of that,
+-- and how much of it was put. The others follow from it.
+use Rattle.std.specs.Prelude.{ℕ, ◌^◌, ◌<◌, ◌≤◌, ◌≡◌, ◌≢◌, ◌⊎◌, true, List, [], ◌∷◌, ◌++◌, length, Some, None, IsSomeAnd, IfSome, Ok, Err}
 use Rattle.om_model.specs.declared.status.Status.{Status}
 use Rattle.om_model.specs.declared.status.Status.TheVariants.{Well, Usage, ReadFault, WriteFault, OpenFault, Memory, TooLong, Types, Value}
 use Rattle.std.specs.List.{AllByRecursion}
 use Rattle.om_format.specs.Tree.{Tree}
 use Rattle.om_format.specs.Stream.{SpellAll, End, clean, Stream}
-use Rattle.om_outcome.specs.Outcome.{Taken, unasked, Found, Given, Request, Language, Ending, Task, Asks, typed_by, limit_of, Prepares, found_of, RunEnds, IsOutputOfFirst, Outcome, stopped, out_of_memory, stop_text, err_line}
+use Rattle.om_format.specs.Front.{IsFront}
+use Rattle.om_outcome.specs.Outcome.{Taken, unasked, nothing, Found, Given, Stop, Request, Language, Ending, ending_of, Said, says, stops, Reply, Replies, replies, all_said, texts_of, Work, checks, Task, Asks, typed_by, limit_of, Prepares, StopsAt, SayFirst, found_of, RunReplies, SaysOfFirst, Outcome, out_of_memory, stop_text, err_line}
 use Rattle.om_edge.specs.Faults.{RoseOrLast}
 use Rattle.om_edge.specs.Files.{File, contents_of}
 use Rattle.om_edge.specs.Sink.{Puts, PutsPart}
-use Rattle.om_edge.specs.State.{ByteState, FilesState, Change}
+use Rattle.om_edge.specs.State.{ByteState, FilesState, Change, change}
 use Rattle.om_session.specs.Call.{Call}
 use Rattle.om_session.specs.Given.{Gathers, Fetched}
 
@@ -21,44 +22,65 @@ pub record FetchesFor (words : List (List ℕ)) (files : Change FilesState) (fil
   pub asked : (request : Request) → Asks words request → IfSome (typed_by request) (λ typed. Fetched files typed.0 (file typed.0))
   pub unasked : ((request : Request) → Asks words request → ⊥) → files.after ≡ files.before
 
--- how a run ends: with what follows from what was given, or where memory runs out, after the texts of some first values
-abbrev pub MayEnd : {D T : Type 0} → Language D T → List (List ℕ) → Given → Ending → Type 0
-MayEnd language words given ending =
-    RunEnds language words given ending
-    ⊎ ((text : List ℕ) × IsOutputOfFirst language words given text × (ending ≡ record (stopped out_of_memory) { out = text }))
+-- Nothing in the bytes stops the run: they are values of which this is said, and a front of one more.
+pub record HoldNoStop {D T : Type 0} (language : Language D T) (task : Task T) (bytes : List ℕ) (said : List Said) : Type 0 where
+  pub trees : List Tree
+  pub front : List ℕ
+  pub first : SayFirst language task bytes trees said front
+  pub is_front : IsFront task.limit front
+  pub goes_on : (stop : Stop) → StopsAt language task.work task.limit trees front stop → ⊥
+
+-- The input is taken in pieces of at most 4,096 bytes, and the next piece only where nothing stops the run in all before:
+-- what was taken but for the bytes in hand, which are some of the last piece, holds no stop, and this is said of its
+-- values. Where more was asked for, and a call failed or the input ended, nothing is in hand.
+pub record IsPaced {D T : Type 0} (language : Language D T) (task : Task T) (taken : Taken) (said : List Said) : Type 0 where
+  pub earlier : List ℕ
+  pub in_hand : List ℕ
+  pub bytes_are : taken.bytes ≡ earlier ++ in_hand
+  pub holds : HoldNoStop language task earlier said
+  pub piece : length in_hand ≤ 4096
+  pub asked : (taken.until ≡ unasked) ⊎ (in_hand ≡ [])
+
+-- what is said of the values, where a run came so far, and before that nothing; then nothing was taken
+abbrev pub IsSaidFirst : {D T : Type 0} → Language D T → List (List ℕ) → Given → List Said → Type 0
+IsSaidFirst {D} {T} language words given said =
+    ((given.input ≡ nothing) × (said ≡ []))
+    ⊎ ((task : Task T) × Prepares language words given.file (Ok task) × IsPaced language task given.input said)
 
 -- err has the line of the ending, whose status is answered; or the line could not be put whole
 abbrev pub PutsLine : Change ByteState → Status → Ending → Type 0
 PutsLine err status ending =
     (Puts err ending.err × (status ≡ ending.status)) ⊎ (PutsPart err ending.err × (status ≡ WriteFault))
 
--- all was put that belongs to the ending, but for its line perhaps
-pub record Completes {D T : Type 0} (language : Language D T) (words : List (List ℕ)) (given : Given) (call : Call) : Type 0 where
-  pub ending : Ending
-  pub may_end : MayEnd language words given ending
-  pub out : Puts call.out ending.out
-  pub line : PutsLine call.err call.status ending
+-- a text was put whole, and then not all of the next one
+abbrev pub PutsPartAfter : Change ByteState → List ℕ → List ℕ → Type 0
+PutsPartAfter sink text next =
+    (between : ByteState) × Puts (change sink.before between) text × PutsPart (change between sink.after) next
 
--- out failed within the texts of some first values, and err has nothing
-pub record Breaks {D T : Type 0} (language : Language D T) (words : List (List ℕ)) (given : Given) (call : Call) : Type 0 where
-  pub text : List ℕ
-  pub first : IsOutputOfFirst language words given text
-  pub out : PutsPart call.out text
+-- after what was said all was put that belongs to the last reply, but for its line perhaps; that reply follows from what
+-- was given, or memory ran out
+pub record Completes {D T : Type 0} (language : Language D T) (words : List (List ℕ)) (given : Given) (said : List Said) (call : Call) : Type 0 where
+  pub last : Reply
+  pub may_end : RunReplies language words given (replies said last) ⊎ (last ≡ stops out_of_memory)
+  pub out : Puts call.out (ending_of (replies said last)).out
+  pub line : PutsLine call.err call.status (ending_of (replies said last))
+
+-- after what was said out failed within the next text, and err has nothing
+pub record Breaks {D T : Type 0} (language : Language D T) (words : List (List ℕ)) (given : Given) (said : List Said) (call : Call) : Type 0 where
+  pub next : Said
+  pub is_next : SaysOfFirst language words given (said ++ next ∷ []) ⊎ RunReplies language words given (replies said (says next))
+  pub out : PutsPartAfter call.out (texts_of said) next.text
   pub err : Puts call.err []
   pub status : call.status ≡ WriteFault
-
--- nothing was taken
-abbrev pub nothing : Taken
-nothing = record { bytes = []; until = unasked }
 
 -- what was given in the call, and what was put
 pub record Account {D T : Type 0} (language : Language D T) (words : List (List ℕ)) (call : Call) : Type 0 where
   pub given : Given
   pub input : Gathers call.input given.input
   pub files : FetchesFor words call.files given.file
-  -- nothing is taken of the input, or the stages before the values are passed
-  pub asked : (given.input ≡ nothing) ⊎ ((task : Task T) × Prepares language words given.file (Ok task))
-  pub ends : Completes language words given call ⊎ Breaks language words given call
+  pub said : List Said
+  pub first : IsSaidFirst language words given said
+  pub ends : Completes language words given said call ⊎ Breaks language words given said call
 
 -- ---- the headline
 
@@ -80,11 +102,11 @@ pub record IsHonest (call : Call) (input : List ℕ) (files : List File) : Type 
 
 -- the outcome of the words, the files and the input is what out, err and the status say
 pub record HasOutcome {D T : Type 0} (language : Language D T) (words : List (List ℕ)) (call : Call) (input : List ℕ) (files : List File) : Type 0 where
-  pub ending : Ending
-  pub outcome : Outcome language words (contents_of files) input ending
-  pub out : Puts call.out ending.out
-  pub err : Puts call.err ending.err
-  pub status : call.status ≡ ending.status
+  pub all : Replies
+  pub outcome : Outcome language words (contents_of files) input all
+  pub out : Puts call.out (ending_of all).out
+  pub err : Puts call.err (ending_of all).err
+  pub status : call.status ≡ (ending_of all).status
 
 -- Unless memory runs out, an honest call has the outcome, however the input was cut.
 abbrev pub Headline : {D T : Type 0} → Language D T → List (List ℕ) → Call → Type 0
@@ -177,11 +199,12 @@ OnlyTooLong words call = call.status ≡ TooLong
     → IfSome call.input.before.bytes (λ bytes. 2 ^ 48 ≤ length bytes)
     ⊎ ((name : List ℕ) × AsksForFile words name × IfSome call.files.before.map (λ all. IsSomeAnd (contents_of all name) (λ bytes. 2 ^ 48 ≤ length bytes)))
 
--- and where FILE is told and has so many; or the words, FILE and TYPE are accepted, and the input is told and has so many
+-- and where FILE is told and has so many; or the words, FILE and TYPE are accepted, and the input is told and has so many,
+-- with no stop in them
 pub record IfTooLong {D T : Type 0} (language : Language D T) (words : List (List ℕ)) (call : Call) : Type 0 where
   pub file : (name bytes : List ℕ) → AsksForFile words name → TellsFile call.files name bytes → 2 ^ 48 ≤ length bytes → (call.status ≡ TooLong) ⊎ IsOutside call.status
-  pub input : (files : List File) (task : Task T) (bytes : List ℕ) → call.files.before.map ≡ Some files → Prepares language words (λ name. found_of (contents_of files name)) (Ok task)
-      → call.input.before.bytes ≡ Some bytes → 2 ^ 48 ≤ length bytes → (call.status ≡ TooLong) ⊎ IsOutside call.status
+  pub input : (files : List File) (task : Task T) (bytes : List ℕ) (said : List Said) → call.files.before.map ≡ Some files → Prepares language words (λ name. found_of (contents_of files name)) (Ok task)
+      → call.input.before.bytes ≡ Some bytes → 2 ^ 48 ≤ length bytes → HoldNoStop language task bytes said → (call.status ≡ TooLong) ⊎ IsOutside call.status
 
 -- a failed call is not taken for one that went well: where a count rose, the status is 6, 7, 8 or 9
 pub record TellsWriteFault (call : Call) : Type 0 where
@@ -195,32 +218,53 @@ pub record TellsReadFault (call : Call) : Type 0 where
   pub input : call.input.before.faults < call.input.after.faults → (call.status ≡ ReadFault) ⊎ IsUnsaid call.status
   pub file : call.files.before.read_faults < call.files.after.read_faults → (call.status ≡ ReadFault) ⊎ IsUnsaid call.status
 
+-- ---- where the input failed, or was too long
+
+-- what was taken of the input holds no stop, and out has what is said of its values
+pub record HasPutAll {D T : Type 0} (language : Language D T) (words : List (List ℕ)) (call : Call) : Type 0 where
+  pub taken : Taken
+  pub gathers : Gathers call.input taken
+  pub file : List ℕ → Found
+  pub task : Task T
+  pub prepared : Prepares language words file (Ok task)
+  pub said : List Said
+  pub holds : HoldNoStop language task taken.bytes said
+  pub out : Puts call.out (texts_of said)
+
+-- 6 or 10: the input caused it, and then all is put; or a read of FILE failed, or FILE is too long
+abbrev pub IfInputFails : {D T : Type 0} → Language D T → List (List ℕ) → Call → Type 0
+IfInputFails language words call = (call.status ≡ ReadFault) ⊎ (call.status ≡ TooLong)
+    → HasPutAll language words call
+    ⊎ (RoseOrLast call.files.before.read_faults call.files.after.read_faults
+    ⊎ ((name : List ℕ) × AsksForFile words name × IfSome call.files.before.map (λ all. IsSomeAnd (contents_of all name) (λ bytes. 2 ^ 48 ≤ length bytes))))
+
 -- ---- where memory ran out, or out or err failed
 
--- the text is a front of that of an outcome, or all of it
-pub record IsFrontOfOutcome {D T : Type 0} (language : Language D T) (words : List (List ℕ)) (input : List ℕ) (files : List File) (text : List ℕ) : Type 0 where
-  pub ending : Ending
-  pub rest : List ℕ
-  pub outcome : Outcome language words (contents_of files) input ending
-  pub front : ending.out ≡ text ++ rest
+-- this is said first in an outcome, or all that is said
+pub record IsFrontOfOutcome {D T : Type 0} (language : Language D T) (words : List (List ℕ)) (input : List ℕ) (files : List File) (said : List Said) : Type 0 where
+  pub all : Replies
+  pub later : List Said
+  pub outcome : Outcome language words (contents_of files) input all
+  pub front : all_said all ≡ said ++ later
 
--- 9: out has a front of an outcome's text, and err the line that tells it
+-- 9: out has the first texts of an outcome, and err the line that tells it
 abbrev pub IfMemory : {D T : Type 0} → Language D T → List (List ℕ) → Call → Type 0
 IfMemory language words call =
     (input : List ℕ) (files : List File) → IsWellRead call input files → call.status ≡ Memory
-    → (text : List ℕ) × IsFrontOfOutcome language words input files text × Puts call.out text × Puts call.err (err_line (stop_text out_of_memory))
+    → (said : List Said) × IsFrontOfOutcome language words input files said × Puts call.out (texts_of said) × Puts call.err (err_line (stop_text out_of_memory))
 
--- 7 by out: it has a proper front of an outcome's text, and err has nothing
+-- 7 by out: it has the first texts of an outcome, and of the next one a part, and err has nothing
 abbrev pub OutBreaks : {D T : Type 0} → Language D T → List (List ℕ) → Call → List ℕ → List File → Type 0
 OutBreaks language words call input files =
-    (text : List ℕ) × IsFrontOfOutcome language words input files text × PutsPart call.out text × Puts call.err []
+    (said : List Said) × (next : Said) × IsFrontOfOutcome language words input files (said ++ next ∷ [])
+    × PutsPartAfter call.out (texts_of said) next.text × Puts call.err []
 
 -- 7 by err: it has a proper front of a line, of an outcome or where memory ran out, and out what belongs to it
 abbrev pub ErrBreaks : {D T : Type 0} → Language D T → List (List ℕ) → Call → List ℕ → List File → Type 0
 ErrBreaks language words call input files =
-    (ending : Ending) × Puts call.out ending.out × PutsPart call.err ending.err
-    × (Outcome language words (contents_of files) input ending
-    ⊎ (IsFrontOfOutcome language words input files ending.out × (ending ≡ record (stopped out_of_memory) { out = ending.out })))
+    (all : Replies) × Puts call.out (ending_of all).out × PutsPart call.err (ending_of all).err
+    × (Outcome language words (contents_of files) input all
+    ⊎ (IsFrontOfOutcome language words input files all.said × (all.last ≡ stops out_of_memory)))
 
 abbrev pub IfWriteFault : {D T : Type 0} → Language D T → List (List ℕ) → Call → Type 0
 IfWriteFault language words call =
@@ -229,15 +273,17 @@ IfWriteFault language words call =
 
 -- ---- completeness
 
--- the words, the declarations and the type are accepted, and the input is values that have the type
+-- nothing is wrong with the values
+abbrev pub AreAllWell : {D T : Type 0} → Language D T → Work T → List Tree → Type 0
+AreAllWell language (checks type) trees = AllByRecursion (λ tree. (line : List ℕ) × language.LineOf type tree line true) trees
+
+-- the words, the declarations and the type are accepted, and the input is values with which nothing is wrong
 pub record IsAllWell {D T : Type 0} (language : Language D T) (words : List (List ℕ)) (input : List ℕ) (files : List File) : Type 0 where
   pub task : Task T
   pub prepared : Prepares language words (λ name. found_of (contents_of files name)) (Ok task)
-  pub type : T
-  pub typed : task.type ≡ Some type
   pub trees : List Tree
-  pub spelled : SpellAll (limit_of task.request) input trees []
-  pub have_type : AllByRecursion (λ tree. (line : List ℕ) × language.LineOf type tree line true) trees
+  pub spelled : SpellAll task.limit input trees []
+  pub well : AreAllWell language task.work trees
 
 -- where all is well, the run ends well, or memory ran out
 abbrev pub IsComplete : {D T : Type 0} → Language D T → List (List ℕ) → Call → Type 0
@@ -252,12 +298,12 @@ IsComplete language words call =
 abbrev pub IsDecided : {D T : Type 0} → Language D T → List (List ℕ) → Call → Type 0
 IsDecided language words call =
     (input : List ℕ) (files : List File) → IsHonest call input files → call.status ≢ Memory
-    → (ending : Ending) → Outcome language words (contents_of files) input ending → call.status ≡ ending.status
+    → (all : Replies) → Outcome language words (contents_of files) input all → call.status ≡ (ending_of all).status
 
 -- ---- all of it
 
 pub record Promises {D T : Type 0} (language : Language D T) (words : List (List ℕ)) (call : Call) : Type 0 where
-  -- what the outside gave, how a run ends with that, and how much of it was put
+  -- what the outside gave, what is said of that, and how much of it was put
   pub account : Account language words call
   -- unless memory runs out, an honest call has the outcome of the words, the files and the input
   pub headline : Headline language words call
@@ -283,6 +329,8 @@ pub record Promises {D T : Type 0} (language : Language D T) (words : List (List
   -- 10: the input or FILE has 2^48 bytes or more
   pub too_long_only : OnlyTooLong words call
   pub too_long_if : IfTooLong language words call
+  -- 6 or 10 by the input: what was taken holds no earlier stop, and out has what is said of its values
+  pub input_fails_if : IfInputFails language words call
   -- 9: memory ran out, and out has a front of what an outcome puts
   pub memory_if : IfMemory language words call
   -- 7: out or err failed, and has a front of what an outcome puts

@@ -1,5 +1,5 @@
-//! Whole runs over a source, files and sinks in memory. Each row is run with the input in pieces of 1 byte, of 7 and of
-//! 4096, and must end alike.
+//! Whole runs over a source, files and sinks in memory. Each row is run with the input in pieces of 1, 2, 3, 7, 1000 and
+//! 4096 bytes, and must end alike.
 
 ghost use Rattle.std.specs.Prelude.{◌≤◌};
 
@@ -15,12 +15,19 @@ use std::alloc::Global;
 use std::process::Abort;
 use std::test::Fail;
 
+/// Bytes, by hexadecimal digits: all of them, or what comes after a small header. Of the header there are the numbers: the
+/// length of the data, the objects, and the words on 32 and on 64 bits.
+#[derive(Clone, Copy)]
+enum Input {
+    Hex(&'static str),
+    Small(u32, u32, u32, u32, &'static str),
+}
+
 /// Checks an input at a type, with an empty `t.ml`, room for all texts, and no call that fails.
 struct Case {
     shows: &'static str,
     type_text: &'static str,
-    /// The bytes, by hexadecimal digits.
-    input: &'static str,
+    input: Input,
     status: Status,
     out: &'static str,
     err: &'static str,
@@ -64,13 +71,15 @@ struct Outside {
     err: MemSink,
 }
 
-const INTEGER: &str = "8495a6be 00000001 00000000 00000000 00000000 41";
+const INTEGER: Input = Input::Small(1, 0, 0, 0, "41");
 
-const STRING: &str = "8495a6be 00000004 00000001 00000002 00000002 23616263";
+const STRING: Input = Input::Small(4, 1, 2, 2, "23616263");
 
-const LIST: &str = "8495a6be 00000005 00000002 00000006 00000006 a041a04240";
+const LIST: Input = Input::Small(5, 2, 6, 6, "a041a04240");
 
-const BYTE_AFTER: &str = "8495a6be 00000002 00000000 00000000 00000000 4141";
+const NOTHING: Input = Input::Hex("");
+
+const BYTE_AFTER: Input = Input::Small(2, 0, 0, 0, "4141");
 
 const ALL_FITS: usize = 4096;
 
@@ -81,6 +90,29 @@ fn push_hex(alloc: Global, bytes: &mut Vec<u8>, digits: &str) -> Result<(), Fail
         bytes.extend_from_slice(more.as_slice())?;
     }
     Ok(())
+}
+
+fn push_header(
+    bytes: &mut Vec<u8>,
+    length: u32,
+    objects: u32,
+    w32: u32,
+    w64: u32,
+) -> Result<(), Fail> {
+    for number in [0x8495a6be, length, objects, w32, w64] {
+        bytes.extend_from_slice(&number.to_be_bytes())?;
+    }
+    Ok(())
+}
+
+fn push_input(alloc: Global, bytes: &mut Vec<u8>, input: Input) -> Result<(), Fail> {
+    match input {
+        Input::Hex(digits) => push_hex(alloc, bytes, digits),
+        Input::Small(length, objects, w32, w64, data) => {
+            push_header(bytes, length, objects, w32, w64)?;
+            push_hex(alloc, bytes, data)
+        }
+    }
 }
 
 fn push_word(alloc: Global, words: &mut Vec<String>, word: &str) -> Result<(), Fail> {
@@ -120,13 +152,13 @@ fn row_of(alloc: Global, case: &Case) -> Result<Row, Fail> {
 fn check_row(
     alloc: Global,
     type_text: &str,
-    input: &str,
+    input: Input,
     status: Status,
     out: &str,
     err: &str,
 ) -> Result<Row, Fail> {
     let mut bytes = Vec::new(alloc);
-    push_hex(alloc, &mut bytes, input)?;
+    push_input(alloc, &mut bytes, input)?;
     Ok(Row {
         words: check_words(alloc, "t.ml", type_text)?,
         file: Some(Vec::new(alloc)),
@@ -234,9 +266,9 @@ fn expect_in_pieces(
 }
 
 fn expect_row(rt: &impl Abort, alloc: Global, shows: &str, row: &Row) -> Result<(), Fail> {
-    expect_in_pieces(rt, alloc, shows, row, 1)?;
-    expect_in_pieces(rt, alloc, shows, row, 7)?;
-    expect_in_pieces(rt, alloc, shows, row, 4096)?;
+    for piece in [1, 2, 3, 7, 1000, 4096] {
+        expect_in_pieces(rt, alloc, shows, row, piece)?;
+    }
     Ok(())
 }
 

@@ -4,38 +4,22 @@ ghost use Rattle.std.specs.Prelude.{List, ℕ};
 ghost use Rattle.om_outcome.specs.Outcome.{Asks, check as check_of};
 ghost use Rattle.om_edge.specs.State.{change};
 ghost use Rattle.om_session.specs.Call.{call};
-ghost use Rattle.om_session.specs.Check.{ClosesAs, ChecksValues};
+ghost use Rattle.om_session.specs.Check.{ChecksValues};
 ghost use Rattle.om_session.specs.Lists.{lists};
 ghost use Rattle.om_session.specs.Run.{Account, Promises};
 ghost use Rattle.om_session.specs.Words.{texts};
 
-use crate::gather::{InputEnd, gather};
 use crate::stop::{Stop, report_stop};
 use crate::types::find_type;
-use crate::values::{Checked, StreamEnd, put_values};
+use crate::values::{Halt, put_values};
 use crate::words::{Command, read_words};
-use om_edge::{Opener, Sink, Source, WriteError};
+use om_edge::{Opener, Sink, Source};
 use om_format::laws::one_judgement;
 use om_model::status::Status;
 use om_types::laws::faults_exclude_types;
 use om_types::list_type::ListType;
 use om_typing::each_has_a_line;
 use std::alloc::Global;
-
-// Why a run stops after the values: first what happened to the input, then what comes there.
-fn stop_after(until: InputEnd, said: &Checked) -> Option<Stop<'static>>
-    ensures { ClosesAs until said.now result }
-{
-    match until {
-        InputEnd::Fault => Some(Stop::ReadFault),
-        InputEnd::Length => Some(Stop::TooLong),
-        InputEnd::End => match said.end {
-            StreamEnd::Refused(refusal) => Some(Stop::Refused(said.count, refusal)),
-            StreamEnd::Cut(taken) => Some(Stop::Cut(said.count, taken)),
-            StreamEnd::Clean => None,
-        },
-    }
-}
 
 // Checks the values of the input at a type.
 fn check_values<S: Source, K: Sink, E: Sink>(
@@ -47,18 +31,11 @@ fn check_values<S: Source, K: Sink, E: Sink>(
 ) -> Status
     ensures { ChecksValues ty (change (S.state input.old) (S.state input.new)) (change (K.state out.old) (K.state out.new)) (change (E.state err.old) (E.state err.new)) result }
 {
-    let gathered = match gather(alloc, input) {
-        Ok(gathered) => gathered,
-        Err(_) => return report_stop(alloc, err, Stop::Memory),
-    };
-    match put_values(alloc, gathered.bytes.as_slice(), ty, out) {
-        Ok(said) => match stop_after(gathered.until, &said) {
-            Some(stop) => report_stop(alloc, err, stop),
-            None if said.has_type => Status::Well,
-            None => Status::No,
-        },
-        Err(WriteError::Memory) => report_stop(alloc, err, Stop::Memory),
-        Err(WriteError::Fault) => Status::WriteFault,
+    match put_values(alloc, ty, input, out) {
+        Ok(true) => Status::Well,
+        Ok(false) => Status::No,
+        Err(Halt::Stop(stop)) => report_stop(alloc, err, stop),
+        Err(Halt::WriteFault) => Status::WriteFault,
     }
 }
 

@@ -1,7 +1,8 @@
 //! Calls that fail after the type: those that take from the input, and those that put on out and on err.
 
 use super::{
-    ALL_FITS, BYTE_AFTER, INTEGER, STRING, check_row, expect_in_pieces, expect_row, push_hex,
+    ALL_FITS, BYTE_AFTER, INTEGER, Input, NOTHING, STRING, check_row, expect_in_pieces, expect_row,
+    push_input,
 };
 use om_model::status::Status;
 use std::alloc::Global;
@@ -9,7 +10,7 @@ use std::process::Abort;
 use std::test::Fail;
 
 /// An integer in two bytes of data.
-const WIDE_INTEGER: &str = "8495a6be 00000002 00000000 00000000 00000000 0041";
+const WIDE_INTEGER: Input = Input::Small(2, 0, 0, 0, "0041");
 
 /// So many bytes in a call, the number of the take that fails, and what is on out.
 static TAKES: [(usize, u64, &str); 13] = [
@@ -37,7 +38,7 @@ fn expect_failed_take(
 ) -> Result<(), Fail> {
     let err = "omarshal: read fault\n";
     let mut row = check_row(alloc, "int", INTEGER, Status::ReadFault, out, err)?;
-    push_hex(alloc, &mut row.input, INTEGER)?;
+    push_input(alloc, &mut row.input, INTEGER)?;
     row.failing_take = Some(take);
     row.faults.takes = 1;
     expect_in_pieces(rt, alloc, "a take that fails", &row, piece)
@@ -63,6 +64,38 @@ fn no_more_is_asked_for_after_an_end(rt: HostRuntime) -> Result<(), Fail> {
     Ok(())
 }
 
+// The value before the refused one, if there is one, has its line, and the take after the piece that is refused is at hand
+// to fail.
+fn expect_no_take_after(
+    rt: &impl Abort,
+    alloc: Global,
+    first: Input,
+    out: &str,
+    err: &str,
+    piece: usize,
+    take: u64,
+) -> Result<(), Fail> {
+    let mut row = check_row(alloc, "int", first, Status::Value, out, err)?;
+    push_input(alloc, &mut row.input, BYTE_AFTER)?;
+    push_input(alloc, &mut row.input, INTEGER)?;
+    row.failing_take = Some(take);
+    expect_in_pieces(rt, alloc, "a refusal", &row, piece)
+}
+
+// A refusal is decided at a byte: the 21st, and after a value of 21 bytes the 42nd.
+#[test]
+fn no_more_is_asked_for_after_a_refusal(rt: HostRuntime) -> Result<(), Fail> {
+    let err = "omarshal: value 0: LengthMismatch(1) at 21\n";
+    for (piece, take) in [(1, 21), (2, 11), (3, 7), (7, 3), (22, 1), (1000, 1)] {
+        expect_no_take_after(&rt, rt.alloc(), NOTHING, "", err, piece, take)?;
+    }
+    let err = "omarshal: value 1: LengthMismatch(1) at 21\n";
+    for (piece, take) in [(1, 42), (2, 21), (3, 14), (7, 6), (42, 1), (4096, 1)] {
+        expect_no_take_after(&rt, rt.alloc(), INTEGER, "yes\n", err, piece, take)?;
+    }
+    Ok(())
+}
+
 // Integers of 22 bytes, so many, and 200 of 21 bytes, of which one take gives what it may, and the next one fails.
 fn expect_first_take(
     rt: &impl Abort,
@@ -71,12 +104,12 @@ fn expect_first_take(
     lines: usize,
 ) -> Result<(), Fail> {
     let err = "omarshal: read fault\n";
-    let mut row = check_row(alloc, "int", "", Status::ReadFault, "", err)?;
+    let mut row = check_row(alloc, "int", NOTHING, Status::ReadFault, "", err)?;
     for _ in 0..wide {
-        push_hex(alloc, &mut row.input, WIDE_INTEGER)?;
+        push_input(alloc, &mut row.input, WIDE_INTEGER)?;
     }
     for _ in 0..200 {
-        push_hex(alloc, &mut row.input, INTEGER)?;
+        push_input(alloc, &mut row.input, INTEGER)?;
     }
     for _ in 0..lines {
         row.out.extend_from_slice(b"yes\n")?;
@@ -99,7 +132,7 @@ fn expect_fault_after(
     rt: &impl Abort,
     alloc: Global,
     shows: &str,
-    value: &str,
+    value: Input,
     out: &str,
 ) -> Result<(), Fail> {
     let err = "omarshal: read fault\n";
@@ -109,22 +142,21 @@ fn expect_fault_after(
     expect_in_pieces(rt, alloc, shows, &row, 1)
 }
 
-// The fault is told, and not what comes before it.
+// The fault is told, and not a no or a cut before it.
 #[test]
-fn a_fault_of_the_input_comes_before_a_refusal_and_a_no(rt: HostRuntime) -> Result<(), Fail> {
+fn a_fault_of_the_input_comes_before_a_no_and_a_cut(rt: HostRuntime) -> Result<(), Fail> {
     let no = "no .: expected int, found string\n";
     expect_fault_after(&rt, rt.alloc(), "a no", STRING, no)?;
-    expect_fault_after(&rt, rt.alloc(), "a refusal", BYTE_AFTER, "")?;
-    expect_fault_after(&rt, rt.alloc(), "a cut", "8495a6", "")?;
-    expect_fault_after(&rt, rt.alloc(), "nothing", "", "")?;
+    expect_fault_after(&rt, rt.alloc(), "a cut", Input::Hex("8495a6"), "")?;
+    expect_fault_after(&rt, rt.alloc(), "nothing", NOTHING, "")?;
     Ok(())
 }
 
 /// Two values, the room on out and on err, and what fits.
 struct SinkCase {
     shows: &'static str,
-    first: &'static str,
-    second: &'static str,
+    first: Input,
+    second: Input,
     out_room: usize,
     err_room: usize,
     out: &'static str,
@@ -198,7 +230,7 @@ static FULL_SINKS: [SinkCase; 8] = [
     SinkCase {
         shows: "err has no room for a line feed",
         first: INTEGER,
-        second: "84",
+        second: Input::Hex("84"),
         out_room: ALL_FITS,
         err_room: 31,
         out: "yes\n",
@@ -209,7 +241,7 @@ static FULL_SINKS: [SinkCase; 8] = [
 fn expect_full_sink(rt: &impl Abort, alloc: Global, case: &SinkCase) -> Result<(), Fail> {
     let status = Status::WriteFault;
     let mut row = check_row(alloc, "int", case.first, status, case.out, case.err)?;
-    push_hex(alloc, &mut row.input, case.second)?;
+    push_input(alloc, &mut row.input, case.second)?;
     row.out_room = case.out_room;
     row.err_room = case.err_room;
     expect_row(rt, alloc, case.shows, &row)
@@ -227,7 +259,7 @@ fn a_full_sink_is_a_write_fault(rt: HostRuntime) -> Result<(), Fail> {
 fn expect_filled(
     rt: &impl Abort,
     alloc: Global,
-    value: &str,
+    value: Input,
     status: Status,
     out: &str,
     err: &str,
@@ -243,8 +275,8 @@ fn expect_filled(
 fn a_sink_may_be_filled_to_its_last_byte(rt: HostRuntime) -> Result<(), Fail> {
     let cut = "omarshal: value 0: Truncated(1)\n";
     expect_filled(&rt, rt.alloc(), INTEGER, Status::Well, "yes\n", "")?;
-    expect_filled(&rt, rt.alloc(), "84", Status::Value, "", cut)?;
-    expect_filled(&rt, rt.alloc(), "", Status::Well, "", "")?;
+    expect_filled(&rt, rt.alloc(), Input::Hex("84"), Status::Value, "", cut)?;
+    expect_filled(&rt, rt.alloc(), NOTHING, Status::Well, "", "")?;
     Ok(())
 }
 
@@ -252,7 +284,7 @@ fn a_sink_may_be_filled_to_its_last_byte(rt: HostRuntime) -> Result<(), Fail> {
 fn expect_one_put(
     rt: &impl Abort,
     alloc: Global,
-    value: &str,
+    value: Input,
     status: Status,
     out: &str,
     err: &str,
@@ -266,6 +298,6 @@ fn expect_one_put(
 fn a_line_is_put_in_one_call(rt: HostRuntime) -> Result<(), Fail> {
     let cut = "omarshal: value 0: Truncated(1)\n";
     expect_one_put(&rt, rt.alloc(), INTEGER, Status::Well, "yes\n", "")?;
-    expect_one_put(&rt, rt.alloc(), "84", Status::Value, "", cut)?;
+    expect_one_put(&rt, rt.alloc(), Input::Hex("84"), Status::Value, "", cut)?;
     Ok(())
 }

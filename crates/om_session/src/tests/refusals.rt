@@ -1,6 +1,6 @@
 //! Bytes that are no value.
 
-use super::{Case, LIST, check_row, expect_cases, expect_row};
+use super::{Case, Input, LIST, check_row, expect_cases, expect_row};
 use om_model::status::Status;
 use std::alloc::Global;
 use std::process::Abort;
@@ -10,7 +10,7 @@ static REFUSALS: [Case; 25] = [
     Case {
         shows: "three bytes",
         type_text: "int",
-        input: "8495a6",
+        input: Input::Hex("8495a6"),
         status: Status::Value,
         out: "",
         err: "omarshal: value 0: Truncated(3)\n",
@@ -18,7 +18,9 @@ static REFUSALS: [Case; 25] = [
     Case {
         shows: "a value, and one that is cut",
         type_text: "int",
-        input: "8495a6be 00000001 00000000 00000000 00000000 41 8495a6be 00000005 00000002 00000006 00000006 a041",
+        input: Input::Hex(
+            "8495a6be 00000001 00000000 00000000 00000000 41 8495a6be 00000005 00000002 00000006 00000006 a041",
+        ),
         status: Status::Value,
         out: "yes\n",
         err: "omarshal: value 1: Truncated(22)\n",
@@ -26,7 +28,7 @@ static REFUSALS: [Case; 25] = [
     Case {
         shows: "a reference to nothing",
         type_text: "int",
-        input: "8495a6be 00000002 00000000 00000000 00000000 0400",
+        input: Input::Small(2, 0, 0, 0, "0400"),
         status: Status::Value,
         out: "",
         err: "omarshal: value 0: BadShared(0, 0) at 20\n",
@@ -34,7 +36,7 @@ static REFUSALS: [Case; 25] = [
     Case {
         shows: "an integer of 64 bits",
         type_text: "int",
-        input: "8495a6be 00000009 00000000 00000000 00000000 034000000000000000",
+        input: Input::Small(9, 0, 0, 0, "034000000000000000"),
         status: Status::Value,
         out: "",
         err: "omarshal: value 0: IntRange(4611686018427387904) at 20\n",
@@ -42,7 +44,7 @@ static REFUSALS: [Case; 25] = [
     Case {
         shows: "a reference without a count of objects",
         type_text: "int",
-        input: "8495a6be 00000004 00000000 00000003 00000003 a0410401",
+        input: Input::Small(4, 0, 3, 3, "a0410401"),
         status: Status::Value,
         out: "",
         err: "omarshal: value 0: NoTable at 22\n",
@@ -50,7 +52,7 @@ static REFUSALS: [Case; 25] = [
     Case {
         shows: "a block longer than the data",
         type_text: "int",
-        input: "8495a6be 00000006 00000001 00000001 00000001 084000000041",
+        input: Input::Small(6, 1, 1, 1, "084000000041"),
         status: Status::Value,
         out: "",
         err: "omarshal: value 0: Overlong(1048576, 1) at 20\n",
@@ -58,7 +60,7 @@ static REFUSALS: [Case; 25] = [
     Case {
         shows: "no data",
         type_text: "int",
-        input: "8495a6be 00000000 00000000 00000000 00000000",
+        input: Input::Small(0, 0, 0, 0, ""),
         status: Status::Value,
         out: "",
         err: "omarshal: value 0: Overlong(1, 0) at 20\n",
@@ -66,7 +68,7 @@ static REFUSALS: [Case; 25] = [
     Case {
         shows: "a code pointer",
         type_text: "int",
-        input: "8495a6be 00000001 00000000 00000000 00000000 10",
+        input: Input::Small(1, 0, 0, 0, "10"),
         status: Status::Value,
         out: "",
         err: "omarshal: value 0: PointerCode(10) at 20\n",
@@ -74,7 +76,7 @@ static REFUSALS: [Case; 25] = [
     Case {
         shows: "a code of no meaning",
         type_text: "int",
-        input: "8495a6be 00000001 00000000 00000000 00000000 1a",
+        input: Input::Small(1, 0, 0, 0, "1a"),
         status: Status::Value,
         out: "",
         err: "omarshal: value 0: BadCode(1a) at 20\n",
@@ -82,7 +84,7 @@ static REFUSALS: [Case; 25] = [
     Case {
         shows: "a compressed value",
         type_text: "int",
-        input: "8495a6bd",
+        input: Input::Hex("8495a6bd"),
         status: Status::Value,
         out: "",
         err: "omarshal: value 0: Compressed\n",
@@ -90,7 +92,7 @@ static REFUSALS: [Case; 25] = [
     Case {
         shows: "a byte after the value",
         type_text: "int",
-        input: "8495a6be 00000002 00000000 00000000 00000000 4141",
+        input: Input::Small(2, 0, 0, 0, "4141"),
         status: Status::Value,
         out: "",
         err: "omarshal: value 0: LengthMismatch(1) at 21\n",
@@ -98,7 +100,7 @@ static REFUSALS: [Case; 25] = [
     Case {
         shows: "another count of words on 32 bits",
         type_text: "int",
-        input: "8495a6be 00000001 00000000 00000005 00000000 41",
+        input: Input::Small(1, 0, 5, 0, "41"),
         status: Status::Value,
         out: "",
         err: "omarshal: value 0: SizeMismatch(w32, 5, 0) at 21\n",
@@ -106,7 +108,7 @@ static REFUSALS: [Case; 25] = [
     Case {
         shows: "another count of words on 64 bits",
         type_text: "int",
-        input: "8495a6be 00000004 00000001 00000002 00000001 23616263",
+        input: Input::Small(4, 1, 2, 1, "23616263"),
         status: Status::Value,
         out: "",
         err: "omarshal: value 0: SizeMismatch(w64, 1, 2) at 20\n",
@@ -114,7 +116,7 @@ static REFUSALS: [Case; 25] = [
     Case {
         shows: "another count of objects",
         type_text: "int",
-        input: "8495a6be 00000004 00000009 00000002 00000002 23616263",
+        input: Input::Small(4, 9, 2, 2, "23616263"),
         status: Status::Value,
         out: "",
         err: "omarshal: value 0: CountMismatch(9, 1) at 24\n",
@@ -122,7 +124,7 @@ static REFUSALS: [Case; 25] = [
     Case {
         shows: "a native integer of no known width",
         type_text: "int",
-        input: "8495a6be 00000009 00000001 00000003 00000003 195f6e000300000005",
+        input: Input::Small(9, 1, 3, 3, "195f6e000300000005"),
         status: Status::Value,
         out: "",
         err: "omarshal: value 0: BadNative(3) at 20\n",
@@ -130,15 +132,15 @@ static REFUSALS: [Case; 25] = [
     Case {
         shows: "a native integer cut by the data",
         type_text: "int",
-        input: "8495a6be 00000005 00000001 00000003 00000003 195f6e0001",
+        input: Input::Small(5, 1, 3, 3, "195f6e0001"),
         status: Status::Value,
         out: "",
         err: "omarshal: value 0: Overlong(4, 0) at 20\n",
     },
     Case {
-        shows: "a block with the tag of an abstract object",
+        shows: "a block with a tag above 243",
         type_text: "int",
-        input: "8495a6be 00000006 00000001 00000002 00000002 08000004f441",
+        input: Input::Small(6, 1, 2, 2, "08000004f441"),
         status: Status::Value,
         out: "",
         err: "omarshal: value 0: BadTag(244) at 20\n",
@@ -146,7 +148,7 @@ static REFUSALS: [Case; 25] = [
     Case {
         shows: "an empty array of doubles",
         type_text: "int",
-        input: "8495a6be 00000002 00000000 00000000 00000000 0e00",
+        input: Input::Small(2, 0, 0, 0, "0e00"),
         status: Status::Value,
         out: "",
         err: "omarshal: value 0: ZeroArray at 20\n",
@@ -154,7 +156,7 @@ static REFUSALS: [Case; 25] = [
     Case {
         shows: "an unknown custom",
         type_text: "int",
-        input: "8495a6be 00000004 00000000 00000000 00000000 195f7800",
+        input: Input::Small(4, 0, 0, 0, "195f7800"),
         status: Status::Value,
         out: "",
         err: "omarshal: value 0: OtherCustom(19) at 20\n",
@@ -162,7 +164,7 @@ static REFUSALS: [Case; 25] = [
     Case {
         shows: "an unknown custom by the code of older runtimes",
         type_text: "int",
-        input: "8495a6be 00000004 00000000 00000000 00000000 125f7800",
+        input: Input::Small(4, 0, 0, 0, "125f7800"),
         status: Status::Value,
         out: "",
         err: "omarshal: value 0: OtherCustom(12) at 20\n",
@@ -170,7 +172,7 @@ static REFUSALS: [Case; 25] = [
     Case {
         shows: "an integer cut by the data",
         type_text: "int",
-        input: "8495a6be 00000001 00000000 00000000 00000000 02",
+        input: Input::Small(1, 0, 0, 0, "02"),
         status: Status::Value,
         out: "",
         err: "omarshal: value 0: Overlong(4, 0) at 20\n",
@@ -178,7 +180,7 @@ static REFUSALS: [Case; 25] = [
     Case {
         shows: "a big header and no data",
         type_text: "int",
-        input: "8495a6bf 00000000 0000000000000000 0000000000000000 0000000000000000",
+        input: Input::Hex("8495a6bf 00000000 0000000000000000 0000000000000000 0000000000000000"),
         status: Status::Value,
         out: "",
         err: "omarshal: value 0: Overlong(1, 0) at 32\n",
@@ -186,7 +188,7 @@ static REFUSALS: [Case; 25] = [
     Case {
         shows: "another magic",
         type_text: "int",
-        input: "8495a6bc",
+        input: Input::Hex("8495a6bc"),
         status: Status::Value,
         out: "",
         err: "omarshal: value 0: BadMagic(8495a6bc)\n",
@@ -194,7 +196,7 @@ static REFUSALS: [Case; 25] = [
     Case {
         shows: "more words than the limit",
         type_text: "int",
-        input: "8495a6be 00000001 00000000 00000000 08000001 41",
+        input: Input::Small(1, 0, 0, 134217729, "41"),
         status: Status::Value,
         out: "",
         err: "omarshal: value 0: TooLarge(words, 134217729, 134217728)\n",
@@ -202,7 +204,9 @@ static REFUSALS: [Case; 25] = [
     Case {
         shows: "more data than the limit",
         type_text: "int",
-        input: "8495a6bf 00000000 0001000000000000 0000000000000000 0000000000000000 41",
+        input: Input::Hex(
+            "8495a6bf 00000000 0001000000000000 0000000000000000 0000000000000000 41",
+        ),
         status: Status::Value,
         out: "",
         err: "omarshal: value 0: TooLarge(length, 281474976710656, 281474976710655)\n",
@@ -220,7 +224,7 @@ fn expect_cut(
     rt: &impl Abort,
     alloc: Global,
     type_text: &str,
-    value: &str,
+    value: Input,
     n: usize,
 ) -> Result<(), Fail> {
     let err = format!(in alloc; "omarshal: value 0: Truncated({n})\n")?;
@@ -232,7 +236,9 @@ fn expect_cut(
 // Each front of a value, but the empty one and the whole value, is cut.
 #[test]
 fn each_front_of_a_value_is_cut(rt: HostRuntime) -> Result<(), Fail> {
-    let wide = "8495a6bf 0000002a 0000000000000001 0000000000000000 0000000000000000 41";
+    let wide = Input::Hex(
+        "8495a6bf 0000002a 0000000000000001 0000000000000000 0000000000000000 41",
+    );
     for n in 1..25 {
         expect_cut(&rt, rt.alloc(), "int list", LIST, n)?;
     }

@@ -1,7 +1,8 @@
 //! Values that have the type or not.
 
 use super::{
-    BYTE_AFTER, Case, INTEGER, LIST, STRING, check_row, expect_cases, expect_row, push_hex,
+    BYTE_AFTER, Case, INTEGER, Input, LIST, NOTHING, STRING, check_row, expect_cases, expect_row,
+    push_input,
 };
 use om_model::status::Status;
 use std::alloc::Global;
@@ -12,7 +13,7 @@ static VALUES: [Case; 12] = [
     Case {
         shows: "an integer",
         type_text: "int",
-        input: "8495a6be 00000001 00000000 00000000 00000000 41",
+        input: Input::Small(1, 0, 0, 0, "41"),
         status: Status::Well,
         out: "yes\n",
         err: "",
@@ -20,7 +21,7 @@ static VALUES: [Case; 12] = [
     Case {
         shows: "a string where an integer is expected",
         type_text: "int",
-        input: "8495a6be 00000004 00000001 00000002 00000002 23616263",
+        input: Input::Small(4, 1, 2, 2, "23616263"),
         status: Status::No,
         out: "no .: expected int, found string\n",
         err: "",
@@ -28,7 +29,7 @@ static VALUES: [Case; 12] = [
     Case {
         shows: "a list of two",
         type_text: "int list",
-        input: "8495a6be 00000005 00000002 00000006 00000006 a041a04240",
+        input: Input::Small(5, 2, 6, 6, "a041a04240"),
         status: Status::Well,
         out: "yes\n",
         err: "",
@@ -36,7 +37,7 @@ static VALUES: [Case; 12] = [
     Case {
         shows: "a list of two, without a count of objects",
         type_text: "int list",
-        input: "8495a6be 00000005 00000000 00000006 00000006 a041a04240",
+        input: Input::Small(5, 0, 6, 6, "a041a04240"),
         status: Status::Well,
         out: "yes\n",
         err: "",
@@ -44,7 +45,7 @@ static VALUES: [Case; 12] = [
     Case {
         shows: "a list that goes round",
         type_text: "int list",
-        input: "8495a6be 00000004 00000001 00000003 00000003 a0410401",
+        input: Input::Small(4, 1, 3, 3, "a0410401"),
         status: Status::Well,
         out: "yes\n",
         err: "",
@@ -52,7 +53,7 @@ static VALUES: [Case; 12] = [
     Case {
         shows: "an atom where a list is expected",
         type_text: "int list",
-        input: "8495a6be 00000001 00000000 00000000 00000000 80",
+        input: Input::Small(1, 0, 0, 0, "80"),
         status: Status::No,
         out: "no .: expected int list, found atom 0\n",
         err: "",
@@ -60,7 +61,9 @@ static VALUES: [Case; 12] = [
     Case {
         shows: "an integer after a big header",
         type_text: "int",
-        input: "8495a6bf 0000002a 0000000000000001 0000000000000000 0000000000000000 41",
+        input: Input::Hex(
+            "8495a6bf 0000002a 0000000000000001 0000000000000000 0000000000000000 41",
+        ),
         status: Status::Well,
         out: "yes\n",
         err: "",
@@ -68,7 +71,7 @@ static VALUES: [Case; 12] = [
     Case {
         shows: "no value",
         type_text: "int",
-        input: "",
+        input: NOTHING,
         status: Status::Well,
         out: "",
         err: "",
@@ -76,7 +79,7 @@ static VALUES: [Case; 12] = [
     Case {
         shows: "a double",
         type_text: "int",
-        input: "8495a6be 00000009 00000001 00000003 00000002 0b3ff0000000000000",
+        input: Input::Small(9, 1, 3, 2, "0b3ff0000000000000"),
         status: Status::No,
         out: "no .: expected int, found float\n",
         err: "",
@@ -84,7 +87,7 @@ static VALUES: [Case; 12] = [
     Case {
         shows: "an array of doubles",
         type_text: "int",
-        input: "8495a6be 00000012 00000001 00000005 00000003 0e02000000000000f03f0000000000000040",
+        input: Input::Small(18, 1, 5, 3, "0e02000000000000f03f0000000000000040"),
         status: Status::No,
         out: "no .: expected int, found float array of 2\n",
         err: "",
@@ -92,7 +95,7 @@ static VALUES: [Case; 12] = [
     Case {
         shows: "an int64",
         type_text: "int",
-        input: "8495a6be 0000000c 00000001 00000004 00000003 195f6a000000000000000005",
+        input: Input::Small(12, 1, 4, 3, "195f6a000000000000000005"),
         status: Status::No,
         out: "no .: expected int, found int64\n",
         err: "",
@@ -100,7 +103,7 @@ static VALUES: [Case; 12] = [
     Case {
         shows: "a block after a wide header word",
         type_text: "int",
-        input: "8495a6be 0000000a 00000001 00000002 00000002 13000000000000070041",
+        input: Input::Small(10, 1, 2, 2, "13000000000000070041"),
         status: Status::No,
         out: "no .: expected int, found block 0 of 1\n",
         err: "",
@@ -116,9 +119,9 @@ fn values_are_checked(rt: HostRuntime) -> Result<(), Fail> {
 /// Three values in their order, or fewer: there may be no text.
 struct Stream {
     shows: &'static str,
-    first: &'static str,
-    second: &'static str,
-    third: &'static str,
+    first: Input,
+    second: Input,
+    third: Input,
     status: Status,
     out: &'static str,
     err: &'static str,
@@ -129,7 +132,7 @@ static STREAMS: [Stream; 5] = [
         shows: "two values that have the type",
         first: INTEGER,
         second: INTEGER,
-        third: "",
+        third: NOTHING,
         status: Status::Well,
         out: "yes\nyes\n",
         err: "",
@@ -138,7 +141,7 @@ static STREAMS: [Stream; 5] = [
         shows: "a later yes heals no earlier no",
         first: STRING,
         second: INTEGER,
-        third: "",
+        third: NOTHING,
         status: Status::No,
         out: "no .: expected int, found string\nyes\n",
         err: "",
@@ -165,7 +168,7 @@ static STREAMS: [Stream; 5] = [
         shows: "the end in the magic of the third value",
         first: INTEGER,
         second: LIST,
-        third: "8495",
+        third: Input::Hex("8495"),
         status: Status::Value,
         out: "yes\nno .: expected int, found block 0 of 2\n",
         err: "omarshal: value 2: Truncated(2)\n",
@@ -181,8 +184,8 @@ fn expect_stream(rt: &impl Abort, alloc: Global, stream: &Stream) -> Result<(), 
         stream.out,
         stream.err,
     )?;
-    push_hex(alloc, &mut row.input, stream.second)?;
-    push_hex(alloc, &mut row.input, stream.third)?;
+    push_input(alloc, &mut row.input, stream.second)?;
+    push_input(alloc, &mut row.input, stream.third)?;
     expect_row(rt, alloc, stream.shows, &row)
 }
 
@@ -203,7 +206,7 @@ fn expect_lists(
     out: &str,
     err: &str,
 ) -> Result<(), Fail> {
-    let zero = "8495a6be 00000001 00000000 00000000 00000000 40";
+    let zero = Input::Small(1, 0, 0, 0, "40");
     let mut type_text = String::from_str(alloc, "string")?;
     for _ in 0..lists {
         type_text.push_str(" list")?;

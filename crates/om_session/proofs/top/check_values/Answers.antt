@@ -1,48 +1,39 @@
-use Rattle.std.proofs.Common.{refl, sym, ap}
+use Rattle.std.proofs.Common.{sym, ap}
 use Rattle.std.specs.Prelude.{if◌then◌else◌}
 use Rattle.om_model.specs.declared.status.Status.TheVariants as statuses
-use Rattle.om_session.specs.Gathered.{taken_of}
-use Rattle.om_session.proofs.CheckLemmas.{gather_memory, said_stopped, said_ended, said_memory, said_fault}
+use Rattle.om_edge.specs.State.{change}
+use Rattle.om_session.proofs.CheckLemmas.{closes_ended, closes_stopped}
 use Rattle.om_session.proofs.top.check_values.Goals as goal
 
-pub returns-in-Err : goal.returns-in-Err
-returns-in-Err g c = (c.in-Err.ensures.0, c.in-Err.ensures.1, gather_memory c.args.ty c.in-Err.ensures.0 (g.K.Sink.state c.args.out.now) _ c.report_stop.result c.report_stop.ensures)
+pub returns-in-Ok-true : goal.returns-in-Ok-true
+returns-in-Ok-true g c =
+    let v = c.in-Ok-true.ensures in (
+      v.0,
+      v.1,
+      v.2,
+      v.3,
+      closes_ended c.args.ty v.0 v.2 (change (g.K.Sink.state c.args.out.now) (g.K.Sink.state c.put_values.new.out)) c.in-Ok-true.field-0 v.4 (g.E.Sink.state c.args.err.now)
+          statuses.Well (ap (λ b. if b then statuses.Well else statuses.No) (sym c.in-Ok-true.field-0-test)),
+    )
 
-pub returns-in-Some : goal.returns-in-Some
-returns-in-Some g c = (
-  taken_of c.in-Ok.gathered,
-  c.in-Ok.ensures,
-  said_stopped c.args.ty (taken_of c.in-Ok.gathered) _ c.in-Ok.gathered.until refl c.in-Ok-put_values.said (rw c.as_slice.ensures.value at c.in-Ok-put_values.ensures) c.in-Some.stop
-      c.in-Some.ensures _ c.report_stop-in-Some.result c.report_stop-in-Some.ensures,
-)
+pub returns-in-Ok-false : goal.returns-in-Ok-false
+returns-in-Ok-false g c =
+    let v = c.in-Ok-false.ensures in (
+      v.0,
+      v.1,
+      v.2,
+      v.3,
+      closes_ended c.args.ty v.0 v.2 (change (g.K.Sink.state c.args.out.now) (g.K.Sink.state c.put_values.new.out)) c.in-Ok-false.field-0 v.4 (g.E.Sink.state c.args.err.now)
+          statuses.No (ap (λ b. if b then statuses.Well else statuses.No) (sym c.in-Ok-false.field-0-test)),
+    )
 
-pub returns-in-None : goal.returns-in-None
-returns-in-None g c = (
-  taken_of c.in-Ok.gathered,
-  c.in-Ok.ensures,
-  said_ended c.args.ty (taken_of c.in-Ok.gathered) _ c.in-Ok.gathered.until refl c.in-Ok-put_values.said (rw c.as_slice.ensures.value at c.in-Ok-put_values.ensures)
-      c.in-None.ensures (g.E.Sink.state c.args.err.now) statuses.Well (ap (λ b. if b then statuses.Well else statuses.No) (sym c.if-said.true)),
-)
-
-pub returns-in-Ok-put_values : goal.returns-in-Ok-put_values
-returns-in-Ok-put_values g c = (
-  taken_of c.in-Ok.gathered,
-  c.in-Ok.ensures,
-  said_ended c.args.ty (taken_of c.in-Ok.gathered) _ c.in-Ok.gathered.until refl c.in-Ok-put_values.said (rw c.as_slice.ensures.value at c.in-Ok-put_values.ensures)
-      c.in-None.ensures (g.E.Sink.state c.args.err.now) statuses.No (ap (λ b. if b then statuses.Well else statuses.No) (sym c.if-said.false)),
-)
-
-pub returns-in-Err-Memory : goal.returns-in-Err-Memory
-returns-in-Err-Memory g c = (
-  taken_of c.in-Ok.gathered,
-  c.in-Ok.ensures,
-  said_memory c.args.ty (taken_of c.in-Ok.gathered) _ (rw (c.in-Err-Memory.field-0-is, c.as_slice.ensures.value) at c.in-Err-Memory.ensures) _ c.report_stop-in-Err-Memory.result
-      c.report_stop-in-Err-Memory.ensures,
-)
-
-pub returns : goal.returns
-returns g c = (
-  taken_of c.in-Ok.gathered,
-  c.in-Ok.ensures,
-  said_fault c.args.ty (taken_of c.in-Ok.gathered) _ (rw (c.in-Err-Fault.field-0-is, c.as_slice.ensures.value) at c.in-Err-Fault.ensures) (g.E.Sink.state c.args.err.now),
-)
+pub returns-in-Err-Stop : goal.returns-in-Err-Stop
+returns-in-Err-Stop g c =
+    let v = rw c.in-Err-Stop.field-0-is at c.in-Err-Stop.ensures in (
+      v.0,
+      v.1,
+      v.2,
+      v.3,
+      closes_stopped c.args.ty v.0 v.2 (change (g.K.Sink.state c.args.out.now) (g.K.Sink.state c.put_values.new.out)) c.in-Err-Stop.stop v.4
+          (change (g.E.Sink.state c.args.err.now) (g.E.Sink.state c.report_stop.new.err)) c.report_stop.result c.report_stop.ensures,
+    )

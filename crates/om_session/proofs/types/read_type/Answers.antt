@@ -3,7 +3,7 @@ use Rattle.std.specs.Prelude.{◌==◌}
 use Rattle.om_types.specs.ListShapes.{IsListTypeText}
 use Rattle.om_outcome.specs.Outcome.{fault_of, read_fault, too_long}
 use Rattle.om_session.specs.Gathered.{taken_of, until_of}
-use Rattle.om_session.proofs.LineLemmas.{no_bytes, some_bytes}
+use Rattle.om_session.proofs.LengthLemmas.{no_bytes, some_bytes}
 use Rattle.om_session.proofs.TypeLemmas.{reads_fault, reads_declarations, reads_type, reads_no_type}
 use Rattle.om_session.proofs.types.read_type.Goals as goal
 

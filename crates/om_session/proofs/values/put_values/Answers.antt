@@ -1,48 +1,32 @@
-use Rattle.std.proofs.Common.{◌+◌, ◌<◌, ◌≤◌, ◌≡◌, ◌++◌, length, drop, sym, ap, subst, length-drop, arith}
-use Rattle.std.specs.Prelude.{◌&&◌}
-use Rattle.om_session.specs.Lists.{lists}
-use Rattle.om_session.specs.Values.{HasOutputOfFirst, checks}
-use Rattle.om_session.proofs.PutLemmas.{puts_then}
-use Rattle.om_session.proofs.LineLemmas.{line_more, values_end, values_err, no_bytes}
+use Rattle.std.proofs.Common.{arith}
+use Rattle.std.proofs.lemmas.List.{length-take}
+use Rattle.om_session.proofs.LoopLemmas.{values_begin, values_too_long, values_fault, values_end, values_more, values_halt}
 use Rattle.om_session.proofs.values.put_values.Goals as goal
 
-pub loop-rest-preserved : goal.loop-rest-preserved
-loop-rest-preserved g c =
-    let next = rw c.in-Ok-Value.field-0-is at c.in-Ok-Value.ensures in
-    let some : 0 < c.in-Ok-Value.taken = next.1.some in
-    let fits : c.in-Ok-Value.taken ≤ length c.loop-rest.rest.now = next.1.fits in
-    let left : length c.skip-rest.result.now ≡ length (drop c.in-Ok-Value.taken c.loop-rest.rest.now) = ap length c.skip-rest.ensures in
-    let dropped = length-drop c.in-Ok-Value.taken c.loop-rest.rest.now in
-    record {
-      fewer = let fewer = c.loop-rest.invariant.fewer in omega (arith, left, dropped, fewer);
-      said = λ file type_text.
-          let so_far = c.loop-rest.invariant.said file type_text in (
-            so_far.0 ++ next.0,
-            subst (λ r. HasOutputOfFirst lists (checks file type_text c.args.ty) c.args.bytes.now r (so_far.0 ++ next.0) (c.loop-rest.has_type && c.in-Ok-Value.next_has_type) (c.loop-rest.count + 1))
-                (sym c.skip-rest.ensures)
-                (line_more file type_text c.args.bytes.now c.loop-rest.rest.now so_far.0 c.args.ty c.loop-rest.has_type c.loop-rest.count so_far.1
-                c.in-Ok-Value.taken next.0 c.in-Ok-Value.next_has_type next.1),
-            puts_then _ _ _ so_far.0 next.0 so_far.2 next.2,
-          );
-    }
+pub loop-taken-init : goal.loop-taken-init
+loop-taken-init g c = values_begin c.args.ty (g.S.Source.state c.args.input.now) (g.K.Sink.state c.args.out.now) c.new-values.result (c.new-values.ensures c.args.ty)
 
-pub returns-in-Ok-End : goal.returns-in-Ok-End
-returns-in-Ok-End g c =
-    let next = rw c.in-Ok-End.field-0-is at c.in-Ok-End.ensures in
-    λ file type_text.
-    let so_far = c.loop-rest.invariant.said file type_text in
-    values_end file type_text c.args.bytes.now c.loop-rest.rest.now so_far.0 c.args.ty c.loop-rest.has_type c.loop-rest.count so_far.1
-    _ _ _ so_far.2 c.in-Ok-End.end next.0 next.1
+pub returns-in_default : goal.returns-in_default
+returns-in_default g c = values_fault _ _ _ _ _ _ _ c.loop-taken.invariant (g.S.Source.state c.take.new.self) c.take.new.buf c.in_default.field-0 (omega (arith, c.loop-taken-test.true)) c.in_default.ensures
 
-pub returns-in-Err : goal.returns-in-Err
-returns-in-Err g c =
-    λ file type_text.
-    let so_far = c.loop-rest.invariant.said file type_text in
-    values_err file type_text c.args.bytes.now c.loop-rest.rest.now so_far.0 c.args.ty c.loop-rest.has_type c.loop-rest.count so_far.1
-    _ _ _ so_far.2 c.in-Err.error c.in-Err.ensures
+pub returns-then-n-eq0 : goal.returns-then-n-eq0
+returns-then-n-eq0 g c =
+    values_end _ _ _ _ _ _ _ c.loop-taken.invariant (g.S.Source.state c.take.new.self) c.take.new.buf c.at_end.result (omega (arith, c.loop-taken-test.true)) (omega (arith, c.take.auto.buf))
+    (rw c.if-n-eq0.true at c.in-Ok.ensures) c.at_end.ensures
+
+pub returns-in_err-read_piece : goal.returns-in_err-read_piece
+returns-in_err-read_piece g c =
+    let s = c.loop-taken.invariant in
+    let fits = c.in-Ok.ensures.within in
+    values_halt _ _ _ _ _ _ _ s (g.S.Source.state c.take.new.self) c.take.new.buf c.in-Ok.n c.in-Ok.ensures c.in_err-read_piece.ensures.are_bytes
+    (g.K.Sink.state c.read_piece.new.out) c.read_piece.new.self c.in_err-read_piece.field-0.0 c.from_residual.result c.from_residual.ensures.1
+    (omega (arith, length-take c.in-Ok.n c.take.new.buf, fits, c.take.auto.buf)) (c.in_err-read_piece.ensures.reads s.bytes s.said s.reads)
+
+pub loop-taken-preserved : goal.loop-taken-preserved
+loop-taken-preserved g c =
+    let s = c.loop-taken.invariant in
+    values_more _ _ _ _ _ _ _ s (g.S.Source.state c.take.new.self) c.take.new.buf c.in-Ok.n c.in-Ok.ensures c.in_ok-read_piece.ensures.are_bytes
+    (g.K.Sink.state c.read_piece.new.out) c.read_piece.new.self c.in-Ok.ensures.within (c.in_ok-read_piece.ensures.reads s.bytes s.said s.reads)
 
 pub returns : goal.returns
-returns g c =
-    λ file type_text.
-    let so_far = c.loop-rest.invariant.said file type_text in
-    (so_far.0, c.loop-rest.rest.now, so_far.1, no_bytes c.loop-rest.rest.now c.loop-rest-test.ensures, so_far.2)
+returns g c = values_too_long _ _ _ _ _ _ _ c.loop-taken.invariant (omega (arith, c.loop-taken-test.false))
