@@ -7,9 +7,16 @@ use om_model::Memory;
 use om_model::code::Custom;
 use om_model::refusal::ReadRefusal;
 use om_model::value::{Obj, Val};
-use om_read::{Value, Whole};
+use om_read::Value;
 use om_reference::{Graph, Judgement, graph_of, judge};
 use std::alloc::{AllocError, Global};
+
+/// A value, and how many bytes it took.
+#[derive(Drop)]
+pub struct Read {
+    pub value: Value,
+    pub taken: usize,
+}
 
 fn push_values(alloc: Global, text: &mut String, values: &[Val]) -> Result<(), AllocError> {
     for value in values {
@@ -59,7 +66,7 @@ fn push_content(alloc: Global, text: &mut String, heap: &Heap, o: u64) -> Result
 }
 
 // The bytes taken, the root, and the objects in their order.
-fn read_value_text(alloc: Global, value: &Value, taken: u64) -> Result<String, AllocError> {
+fn value_text(alloc: Global, value: &Value, taken: usize) -> Result<String, AllocError> {
     let root = value.root;
     let mut text = format!(in alloc; "{taken} {root:?}")?;
     for o in 0..value.heap.count() {
@@ -70,11 +77,14 @@ fn read_value_text(alloc: Global, value: &Value, taken: u64) -> Result<String, A
     Ok(text)
 }
 
-/// An answer of the reader as text.
-pub fn read_text(alloc: Global, answer: &Result<Whole, ReadRefusal>) -> Result<String, AllocError> {
+/// What a reader makes of some bytes, as text: there is no value where more bytes have to come.
+pub fn read_text(
+    alloc: Global,
+    answer: &Result<Option<Read>, ReadRefusal>,
+) -> Result<String, AllocError> {
     match answer {
-        Ok(Whole::Done { value, taken }) => read_value_text(alloc, value, *taken),
-        Ok(Whole::Cut) => String::from_str(alloc, "Cut"),
+        Ok(Some(read)) => value_text(alloc, &read.value, read.taken),
+        Ok(None) => String::from_str(alloc, "Cut"),
         Err(refusal) => format!(in alloc; "{refusal:?}"),
     }
 }

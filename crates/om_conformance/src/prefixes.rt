@@ -1,14 +1,50 @@
 //! What becomes of each prefix of some bytes.
 
-use crate::compare::{plain_text, read_text};
-use om_read::read_value;
+use crate::compare::{Read, plain_text, read_text};
+use om_model::refusal::ReadRefusal;
+use om_read::Reader;
+use std::alloc::Global;
 use std::io;
 use std::io::ErrorKind;
 
-/// What the reader answers, and what the plain program does where it differs.
+// What a reader makes of the bytes, which it gets in one piece.
+fn read_whole(alloc: Global, bytes: &[u8], limit: u64) -> Result<Option<Read>, ReadRefusal> {
+    let mut reader = Reader::new(alloc, limit);
+    let fed = reader.feed(bytes)?;
+    if !fed.done {
+        return Ok(None);
+    }
+    Ok(Some(Read {
+        value: reader.finish(),
+        taken: fed.taken,
+    }))
+}
+
+// What a reader makes of the bytes, which it gets one at a time.
+fn read_by_byte(alloc: Global, bytes: &[u8], limit: u64) -> Result<Option<Read>, ReadRefusal> {
+    let mut reader = Reader::new(alloc, limit);
+    for i in 0..bytes.len() {
+        let fed = reader.feed(&bytes[i..i + 1])?;
+        if fed.done {
+            return Ok(Some(Read {
+                value: reader.finish(),
+                taken: i + 1,
+            }));
+        }
+    }
+    Ok(None)
+}
+
+/// What the reader answers to the bytes in one piece; what it answers to them one by one, and what the plain program does,
+/// where they differ.
 fn answer_text(rt: &HostRuntime, bytes: &[u8], limit: u64) -> io::Result<String> {
     let alloc = rt.alloc();
-    let mut text = read_text(alloc, &read_value(alloc, bytes, limit))?;
+    let mut text = read_text(alloc, &read_whole(alloc, bytes, limit))?;
+    let single = read_text(alloc, &read_by_byte(alloc, bytes, limit))?;
+    if single.as_str() != text.as_str() {
+        text.push_str(", but byte by byte ")?;
+        text.push_str(single.as_str())?;
+    }
     let Ok(plain) = plain_text(alloc, bytes, limit) else {
         return Err(ErrorKind::OutOfMemory.into());
     };
