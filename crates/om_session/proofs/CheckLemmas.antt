@@ -9,17 +9,17 @@ use Rattle.om_edge.specs.Sink.{Puts}
 use Rattle.om_edge.specs.State.{ByteState, Change, change}
 use Rattle.om_session.specs.declared.stop.Stop as codes
 use Rattle.om_session.specs.declared.values.Halt.TheVariants as halts
-use Rattle.om_session.specs.Check.{ClosesValues}
+use Rattle.om_session.specs.Check.{ClosesValues, ChecksValues}
 use Rattle.om_session.specs.Lists.{lists}
 use Rattle.om_session.specs.Run.{PutsLine}
 use Rattle.om_session.specs.Stops.{stop_of, Reports}
-use Rattle.om_session.specs.Values.{EndsValues, checks_of}
+use Rattle.om_session.specs.Values.{EndsValues, PutsValues, checks_of}
 use Rattle.om_session.proofs.PutLemmas.{puts_nothing}
 use Rattle.om_session.proofs.ValueLemmas.{texts_of-append, all_well-snoc, and_true}
 
 module _ (t : ListType) (taken : Taken) (said : List Said) (out : Change ByteState) where
   -- the input ends
-  pub closes_ended : (has_type : Bool) → EndsValues t taken said out (Ok has_type) → (e : ByteState) (status : Status)
+  closes_ended : (has_type : Bool) → EndsValues t taken said out (Ok has_type) → (e : ByteState) (status : Status)
       → status ≡ (if has_type then statuses.Well else statuses.No) → ClosesValues t taken said out (change e e) status
   closes_ended has_type (reply, well, put) e status is =
       let all : all_well (said ++ nothing_said ∷ []) ≡ has_type = all_well-snoc said nothing_said ∙ (and_true (all_well said) ∙ sym well) in
@@ -31,7 +31,7 @@ module _ (t : ListType) (taken : Taken) (said : List Said) (out : Change ByteSta
       )
 
   -- the run stops
-  pub closes_stopped : (stop : codes.Stop) → EndsValues t taken said out (Err (halts.Stop stop)) → (err : Change ByteState) (status : Status)
+  closes_stopped : (stop : codes.Stop) → EndsValues t taken said out (Err (halts.Stop stop)) → (err : Change ByteState) (status : Status)
       → Reports (stop_of stop) err status → ClosesValues t taken said out err status
   closes_stopped stop (reply, put) err status r = which r.which where
     texts : Puts out (texts_of (said ++ []))
@@ -44,3 +44,13 @@ module _ (t : ListType) (taken : Taken) (said : List Said) (out : Change ByteSta
     which : (r.said ≡ stop_of stop) ⊎ (r.said ≡ out_of_memory) → ClosesValues t taken said out err status
     which (inl same) = closes (stop_of stop) same reply
     which (inr same) = closes out_of_memory same (inr refl)
+
+-- the same, with what was taken
+module _ (t : ListType) (input out : Change ByteState) where
+  pub checks_ended : (has_type : Bool) → PutsValues t input out (Ok has_type) → (e : ByteState) (status : Status)
+      → status ≡ (if has_type then statuses.Well else statuses.No) → ChecksValues t input out (change e e) status
+  checks_ended has_type (taken, gathers, said, paced, ends) e status is = (taken, gathers, said, paced, closes_ended t taken said out has_type ends e status is)
+
+  pub checks_stopped : (stop : codes.Stop) → PutsValues t input out (Err (halts.Stop stop)) → (err : Change ByteState) (status : Status)
+      → Reports (stop_of stop) err status → ChecksValues t input out err status
+  checks_stopped stop (taken, gathers, said, paced, ends) err status r = (taken, gathers, said, paced, closes_stopped t taken said out stop ends err status r)
