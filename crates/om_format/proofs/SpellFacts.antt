@@ -100,7 +100,7 @@ small_integer : (c : Context) (z : ℤ) → is_integer z ≡ true → integer_re
 small_integer c z e = fails_if_none (not (is_integer z)) (IntRange (place c) z) (not_from_true (is_integer z) e)
 
 -- fields that are not refused are sound
-fields_from_none : (c : Context) (code : ℕ) (kind : CodeKind) (rest : List ℕ) → field_refusal c code kind rest ≡ None → VariableFits c kind (custom_of (take 3 rest)) rest → AreSoundFields kind rest (c.sums.objects) c.head.objects
+pub fields_from_none : (c : Context) (code : ℕ) (kind : CodeKind) (rest : List ℕ) → field_refusal c code kind rest ≡ None → VariableFits c kind (custom_of (take 3 rest)) rest → AreSoundFields kind rest (c.sums.objects) c.head.objects
 fields_from_none c code (kinds.SmallBlock tag size) rest e f = tt
 fields_from_none c code (kinds.SmallInt n) rest e f = tt
 fields_from_none c code (kinds.SmallString n) rest e f = tt

@@ -1,6 +1,7 @@
 pub mod TotalsLemmas
 pub mod SizeLemmas
 pub mod StepLemmas
+pub mod PassingLemmas
 pub mod FieldLemmas
 pub mod TreeLemmas
 pub mod BuildLemmas
@@ -11,4 +12,5 @@ pub mod HeadLemmas
 pub mod NextLemmas
 pub mod ReadingLemmas
 pub mod PiecesLemmas
+pub mod CommonLemmas
 pub mod ReaderLemmas

@@ -210,6 +210,17 @@ leads_at limit taken pieces part h e =
     subst (λ (k : ℕ). LeadsAs pieces.reading.totals k taken pieces.reading.builder part) (sym h.0)
     (subst (λ (xs : List ℕ). LeadsAs pieces.reading.totals limit taken pieces.reading.builder xs) e h.1)
 
+-- where no token was taken by itself all still leads there
+pub still_leads : (limit : ℕ) (taken rest : List ℕ) (pieces : Pieces) (new : Reading) (n : ℕ) → LeadsPieces limit taken pieces → pieces.part.items ≡ [] → new.limit ≡ pieces.reading.limit → n ≡ 0
+    → ((bytes : List ℕ) → LeadsAs pieces.reading.totals pieces.reading.limit bytes pieces.reading.builder []
+    → (n ≤ length rest) × LeadsAs new.totals pieces.reading.limit (bytes ++ take n rest) new.builder [])
+    → LeadsAs new.totals new.limit taken new.builder []
+still_leads limit taken rest pieces new n h none same zero takes =
+    let t = (takes taken (leads_at limit taken pieces [] h none)).1 in
+    let e : taken ++ take n rest ≡ taken = ap (λ k. taken ++ take k rest) zero ∙ append-nil taken in
+    subst (λ (k : ℕ). LeadsAs new.totals k taken new.builder []) (sym same)
+    (subst (λ xs. LeadsAs new.totals pieces.reading.limit xs new.builder []) e t)
+
 -- no part waited
 pub next_taken_whole : (limit : ℕ) (taken rest : List ℕ) (len : ℕ) (new : Reading) → NextRead limit taken [] rest new (Ok len)
     → (0 < len) × (len ≤ length rest) × LeadsAs new.totals limit (taken ++ take len rest) new.builder []

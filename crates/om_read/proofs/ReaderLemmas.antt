@@ -85,7 +85,7 @@ pub as_within : (o : Option Totals) (limit : ℕ) (taken : List ℕ) (state : Bo
 as_within None limit taken state part h = ap (λ (b : Building). heap_words b.objects) h.2
 as_within (Some totals) limit taken state part h =
     let words = words_built h.0 h.1 totals state h.2.builds in
-    let few : heap_words state.built.objects ≤ totals.head.w64 = omega (arith, words, h.2.builds.sums.w64, totals.within) in
+    let few : heap_words state.built.objects ≤ totals.head.w64 = omega (arith, words, h.2.builds.sums.w64, totals.within64) in
     let facts = HeaderFacts-passes limit h.0 h.2.header_passes in
     (totals.room, few, subst (λ x. x.w64 ≤ limit) h.2.builds.sums.head facts.words)
 

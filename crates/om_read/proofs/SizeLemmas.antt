@@ -12,6 +12,7 @@ use Rattle.om_format.specs.Code.{custom_of}
 use Rattle.om_format.specs.Raw.{fixed_bytes, variable_bytes, measure_after, block_measure, custom_measure, custom_bytes}
 use Rattle.om_format.specs.Words.{of_object, fields, words32, words64}
 use Rattle.om_headers.specs.Counting.{IsCountable}
+use Rattle.om_read.specs.Totals.{AreFew}
 
 -- ---- a small measure
 
@@ -90,10 +91,6 @@ words-small (measures.Doubles n) h = omega arith
 words-small (measures.Custom a b) h = omega arith
 
 -- ---- words against bytes
-
--- a token takes fewer words than three for each of its bytes, and one for each of its fields
-abbrev pub AreFew : (Measure → ℕ) → Option Measure → ℕ → Type 0
-AreFew words measure n = of_object words measure + 1 ≤ 3 * n + of_object fields measure
 
 few_block : (n k : ℕ) → AreFew most_words (block_measure n) (1 + k)
 few_block zero k = omega arith

@@ -1,5 +1,5 @@
 -- What has been read of a value: its header and whole tokens, the place after them, and the graph that they build.
-use Rattle.std.specs.Prelude.{ℕ, ◌≡◌, ◌≢◌, ◌<◌, ◌≤◌, List, length, take, All, Some, None, Result, Ok, Err}
+use Rattle.std.specs.Prelude.{ℕ, ◌≡◌, ◌≢◌, ◌-◌, ◌<◌, ◌≤◌, List, length, take, All, Some, None, Result, Ok, Err}
 use Rattle.std.specs.List.{AllZip}
 use Rattle.om_model.specs.declared.refusal.ReadRefusal.{ReadRefusal}
 use Rattle.om_model.specs.declared.refusal.ReadRefusal.TheVariants.{Memory}
@@ -15,6 +15,7 @@ use Rattle.om_format.specs.Judgement.{Judgement, front, value, refused}
 use Rattle.om_read.specs.declared.unread.Unread.{Unread}
 use Rattle.om_read.specs.declared.unread.Unread.TheVariants.{NeedMore, Refused}
 use Rattle.om_read.specs.declared.totals.Totals.{Totals}
+use Rattle.om_model.specs.declared.out_of_memory.Memory.{Memory as OutOfMemory}
 use Rattle.om_read.specs.declared.value.Value.{Value}
 use Rattle.om_read.specs.declared.value.Whole.{Whole}
 use Rattle.om_read.specs.declared.value.Whole.TheVariants.{Done, Cut}
@@ -39,6 +40,13 @@ NextOf header before rest state (Err NeedMore) =
 NextOf header before rest state (Err (Refused r)) = r ≢ Memory → first_refusal (length rest) (token_steps (context header before) rest) ≡ Some r
 NextOf header before rest state (Ok next) =
     (first_refusal (length rest) (token_steps (context header before) rest) ≡ None) × (raw_length rest ≤ length rest) × Builds header (with_next before rest) next state
+
+-- one token is taken and leads on, not to the end; or nothing is taken and all stays
+abbrev pub TakesOne : List ℕ → List (List ℕ) → List ℕ → Totals → Bounded → Totals → Bounded → Result ℕ OutOfMemory → Type 0
+TakesOne header before bytes place state next new (Ok n) =
+    (n ≡ 0 → (next ≡ place) × (new ≡ state))
+    × (0 < n → (n ≡ next.taken - place.taken) × (0 < next.pending) × NextOf header before bytes new (Ok next))
+TakesOne header before bytes place state next new (Err memory) = Unit {0}
 
 -- ---- a whole value
 

@@ -1,9 +1,11 @@
 -- Where a place is in the words of the definitions, and the place after one token more.
-use Rattle.std.specs.Prelude.{ℕ, ◌≡◌, ◌+◌, List, length, ◌<◌, ◌≤◌, Some, None, Result, Ok, Err}
+use Rattle.std.specs.Prelude.{ℕ, ◌≡◌, ◌≢◌, ◌+◌, ◌*◌, List, length, ◌<◌, ◌≤◌, Bool, true, false, Option, Some, None, Result, Ok, Err}
 use Rattle.om_model.specs.declared.code.CodeKind.{CodeKind}
+use Rattle.om_model.specs.declared.code.CodeKind.TheVariants as kinds
+use Rattle.om_model.specs.declared.code.Measure.{Measure}
 use Rattle.om_format.specs.Raw.{fixed_bytes, variable_bytes, measure_after, raw_length, raw_measure}
-use Rattle.om_format.specs.Words.{Sums, one_more}
-use Rattle.om_format.specs.Step.{Context, first_refusal, token_steps}
+use Rattle.om_format.specs.Words.{Sums, one_more, of_object, fields}
+use Rattle.om_format.specs.Step.{Context, first_refusal, field_refusal, token_steps}
 use Rattle.om_read.specs.declared.unread.Unread.{Unread}
 use Rattle.om_read.specs.declared.unread.Unread.TheVariants.{NeedMore, Refused}
 use Rattle.om_read.specs.declared.totals.Totals.{Totals}
@@ -42,9 +44,32 @@ IsNext c bytes (Err NeedMore) = (first_refusal (length bytes) (token_steps c byt
 IsNext c bytes (Ok next) =
     (first_refusal (length bytes) (token_steps c bytes) ≡ None) × (raw_length bytes ≤ length bytes) × AreTotals next (after c bytes)
 
+-- the context after a token of n bytes whose object has this measure
+abbrev pub moved : Context → ℕ → Option Measure → Context
+moved c n measure = record c { taken = c.taken + n; sums = one_more c.sums measure }
+
 -- the context after a token of this kind
 abbrev pub after_kind : Context → CodeKind → List ℕ → Context
-after_kind c kind rest = record c {
-  taken = c.taken + (1 + fixed_bytes kind + variable_bytes kind rest);
-  sums = one_more c.sums (measure_after kind rest);
-}
+after_kind c kind rest = moved c (1 + fixed_bytes kind + variable_bytes kind rest) (measure_after kind rest)
+
+-- the words of an object, on 32 bits or on 64, are fewer than three for each byte of its token and one for each field
+abbrev pub AreFew : (Measure → ℕ) → Option Measure → ℕ → Type 0
+AreFew words measure n = of_object words measure + 1 ≤ 3 * n + of_object fields measure
+
+-- the place goes on so, and is not at the end; or it stays
+abbrev pub Advances : Totals → ℕ → Option Measure → Totals → Bool → Type 0
+Advances old n measure new true = (0 < new.pending) × AreTotals new (moved (context_of old) n measure)
+Advances old n measure new false = new ≡ old
+
+-- all kinds but customs
+abbrev pub IsPlain : CodeKind → Type 0
+IsPlain (kinds.Custom old) = ⊥
+IsPlain kind = Unit {0}
+
+-- a token of this kind is whole in the bytes after its code, its fields are sound, and it leads on to the next place
+pub record PassesTo (place : Totals) (code : ℕ) (kind : CodeKind) (rest : List ℕ) (next : Totals) : Type 0 where
+  pub whole : fixed_bytes kind + variable_bytes kind rest ≤ length rest
+  pub plain : IsPlain kind
+  pub sound : field_refusal (context_of place) code kind rest ≡ None
+  pub more : 0 < next.pending
+  pub next_is : AreTotals next (after_kind (context_of place) kind rest)

@@ -2,6 +2,7 @@
 #![tactic(auto)]
 
 mod build;
+mod common;
 mod content;
 mod decode;
 mod head;

@@ -51,6 +51,10 @@ impl Pieces {
         requires leads { (limit : ℕ) × (taken : List ℕ) × LeadsPieces limit taken self.old }
         ensures { (limit : ℕ) (taken : List ℕ) → LeadsPieces limit taken self.old → Takes limit taken rest.now self.new result }
     {
+        let common = self.reading.take_common(rest)?;
+        if common > 0 {
+            return Ok(common);
+        }
         match self.reading.next(alloc, rest) {
             Ok(len) => Ok(len),
             Err(Unread::NeedMore) => {

@@ -1,12 +1,14 @@
 //! The header and the tokens that were read whole, and what they build.
 
-ghost use Rattle.std.specs.Prelude.{◌≡◌, ◌++◌, ◌↔◌, ℕ, List, [], None, IsTrue};
+ghost use Rattle.std.specs.Prelude.{◌≡◌, ◌≤◌, ◌++◌, ◌↔◌, ℕ, List, [], length, take, None, IsTrue, OnOk, IfOk};
 
 use crate::build::Builder;
+use crate::common::take_common;
 use crate::head::judge_header;
 use crate::read::next_token;
 use crate::totals::Totals;
 use crate::unread::Unread;
+use om_model::Memory;
 use std::alloc::Global;
 
 /// The limit of words, the sums over the tokens once the header is whole, and what they build.
@@ -58,6 +60,23 @@ impl Reading {
             }
             Err(stop) => Err(stop),
         }
+    }
+
+    /// Takes tokens after the header that surely pass: how many bytes they have.
+    pub fn take_common(&mut self, bytes: &[u8]) -> Result<usize, Memory>
+        requires open { IsWhole self.old.totals → ⊥ }
+        requires leads { (taken : List ℕ) × LeadsAs self.old.totals self.old.limit taken self.old.builder [] }
+        ensures limit { self.new.limit ≡ self.old.limit }
+        ensures open { OnOk result (IsWhole self.new.totals → ⊥) }
+        ensures takes { (taken : List ℕ) → LeadsAs self.old.totals self.old.limit taken self.old.builder [] →
+            IfOk result (λ n. (n ≤ length bytes.now) × LeadsAs self.new.totals self.old.limit (taken ++ take n bytes.now) self.new.builder []) }
+    {
+        let Some(mut totals) = self.totals else {
+            return Ok(0);
+        };
+        let n = take_common(&mut totals, &mut self.builder, bytes)?;
+        self.totals = Some(totals);
+        Ok(n)
     }
 
     /// Reads the header, or after it the next token, where the bytes begin with all of it: how many bytes it has.

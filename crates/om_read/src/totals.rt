@@ -1,6 +1,6 @@
 //! Where a token stands, and the steps that compare it with what came before.
 
-ghost use Rattle.std.specs.Prelude.{◌≡◌, ◌≤◌, ◌<◌, ◌+◌, ◌-◌, ◌*◌, ◌^◌, ◌++◌, ◌∷◌, [], length, take, slice_index, None, OnOk, IfOk, nat_lt, List, Option, ℕ, ◌==◌, if◌then◌else◌};
+ghost use Rattle.std.specs.Prelude.{◌≡◌, ◌≤◌, ◌<◌, ◌+◌, ◌-◌, ◌*◌, ◌^◌, ◌++◌, ◌∷◌, [], length, take, slice_index, None, OnOk, IfOk, false, nat_lt, List, Option, ℕ, ◌==◌, if◌then◌else◌};
 ghost use Rattle.std.specs.Option.{ForSome};
 
 use crate::token::{
@@ -30,7 +30,8 @@ pub struct Totals {
     ghost few: { objects ≤ taken },
     ghost words32: { w32 ≤ 3 * taken + pending },
     ghost words64: { w64 ≤ 3 * taken + pending },
-    ghost within: { w64 ≤ head.w64 },
+    ghost within32: { head.big ≡ false → w32 ≤ head.w32 },
+    ghost within64: { w64 ≤ head.w64 },
 }
 
 impl Totals {
@@ -38,7 +39,7 @@ impl Totals {
     ghost use Rattle.om_format.specs.Raw.{field_bytes, fixed_bytes, variable_bytes, sizing_bytes};
     ghost use Rattle.om_format.specs.Words.{of_object, fields as fields_of, words32, words64};
     ghost use Rattle.om_format.specs.Step.{overlong as overlong_refusal, field_refusal as refusal_of_fields, shared_refusal as refusal_of_shared, integer_refusal as refusal_of_integer, code_refusal as refusal_of_code, native_steps, variable_steps, entry_steps, closing_steps, words32_refusal, words64_refusal, end_steps, or_else, place};
-    ghost use Rattle.om_read.specs.Totals.{AreTotals, IsNext, context_of, sums, after_kind};
+    ghost use Rattle.om_read.specs.Totals.{AreTotals, IsNext, Advances, AreFew, context_of, sums, after_kind};
     ghost use Rattle.om_headers.specs.Counting.{IsCountable};
     ghost use Rattle.om_read.specs.Progress.{answered, and_then, progress, of_refusal};
 
@@ -217,7 +218,8 @@ impl Totals {
 
     /// A sum of words exceeds what the header states.
     fn exceeded(&self, w32: u64, w64: u64) -> Option<ReadRefusal>
-        ensures within { result ≡ None → w64 ≤ self.now.head.w64 }
+        ensures within32 { result ≡ None → self.now.head.big ≡ false → w32 ≤ self.now.head.w32 }
+        ensures within64 { result ≡ None → w64 ≤ self.now.head.w64 }
         ensures refusal { let c = context_of self.now in
             result ≡ or_else (words32_refusal nat_lt (place c) c.head w32) (words64_refusal nat_lt (place c) c.head w64) }
     {
@@ -332,6 +334,39 @@ impl Totals {
             CodeFault::PointerCode => ReadRefusal::PointerCode(self.at(), code),
             CodeFault::CustomLen => ReadRefusal::OtherCustom(self.at(), code),
         }
+    }
+
+    /// Goes on after a token of `n` bytes whose object has this measure, if it fits and is not the last.
+    pub fn advance(&mut self, n: u64, measure: Option<Measure>) -> bool
+        requires open { 0 < self.old.pending }
+        requires some { 0 < n }
+        requires short { n < 2 ^ 32 }
+        requires small { of_object fields_of measure < 2 ^ 60 }
+        requires countable { ForSome measure IsCountable }
+        requires few32 { AreFew words32 measure n }
+        requires few64 { AreFew words64 measure n }
+        ensures { Advances self.old n measure self.new result }
+    {
+        let taken = self.taken + n;
+        let pending = self.pending_after(measure);
+        let objects = self.objects_after(measure);
+        let (w32, w64) = self.words_after(measure);
+        if pending == 0 || self.head.length < taken + pending || self.head.w64 < w64 {
+            return false;
+        }
+        if !self.head.big && self.head.w32 < w32 {
+            return false;
+        }
+        *self = Totals {
+            head: self.head,
+            start: self.start,
+            taken,
+            objects,
+            pending,
+            w32,
+            w64,
+        };
+        true
     }
 
     /// Judges the next token, by all the bytes that are there: the place after it, once it is whole and passes.

@@ -73,7 +73,7 @@ add-requires-clause-fits c =
     let len : raw_length rest ≡ next.taken - c.args.place.now.taken = omega (arith, length_is d) in
     let h = c.requires.leads in
     let j = judged d h.0 h.1 h.2 in
-    let fits = next_fits h.0 h.1 c.args.place.now next c.args.builder.now rest h.2 j.2 next.within in
+    let fits = next_fits h.0 h.1 c.args.place.now next c.args.builder.now rest h.2 j.2 next.within64 in
     subst (λ n. Fits c.args.builder.now (raw_measure (take n rest))) len
     (subst (Fits c.args.builder.now) (sym (raw_measure-take (raw_length rest) rest (omega arith))) fits)
 

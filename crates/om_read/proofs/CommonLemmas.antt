@@ -1,0 +1,84 @@
+-- Tokens that are taken without the judge.
+use Rattle.std.proofs.Common.{ℕ, suc, ◌≡◌, ◌+◌, ◌-◌, ◌<◌, List, [], ◌∷◌, ◌++◌, length, take, drop, get_or, Option, Some, Ok, None, true, pos, refl, arith, ap, sym, ◌∙◌, subst}
+use Rattle.om_model.specs.Bytes.{AreBytes}
+use Rattle.om_model.specs.declared.code.CodeKind.{CodeKind}
+use Rattle.om_model.specs.declared.code.CodeKind.TheVariants as kinds
+use Rattle.om_model.specs.declared.code.Measure.{Measure}
+use Rattle.om_format.specs.Code.{kind_of}
+use Rattle.om_format.specs.Raw.{fixed_bytes, variable_bytes, block_measure, raw_length}
+use Rattle.om_format.specs.Token.{Token, Spells, SpellsFrom, SpellsAfter, block_or_atom, integer}
+use Rattle.om_format.specs.Front.{context}
+use Rattle.om_read.specs.declared.totals.Totals.{Totals}
+use Rattle.om_read.specs.Totals.{AreTotals, PassesTo, Advances, context_of, moved}
+use Rattle.om_read.specs.Build.{Bounded, Fits, absorb_in}
+use Rattle.om_read.specs.Reading.{Builds, TakesOne}
+use Rattle.om_read.specs.Pieces.{LeadsAs, TakesCommon}
+use Rattle.om_read.proofs.TotalsLemmas.{next_there}
+use Rattle.om_read.proofs.StepLemmas.{bytes_length}
+use Rattle.om_read.proofs.PassingLemmas.{passes_next}
+use Rattle.om_read.proofs.NextLemmas.{words_built, next_leads}
+use Rattle.om_read.proofs.PiecesLemmas.{token_is_read, length_rest, taken_on}
+
+-- the object of a token with which the place goes on has room
+pub advance_fits : (header : List ℕ) (before : List (List ℕ)) (place next : Totals) (state : Bounded) (n : ℕ) (measure : Option Measure) → Builds header before place state
+    → AreTotals next (moved (context_of place) n measure) → Fits state measure
+advance_fits header before place next state n measure h m =
+    let words = words_built header before place state h in
+    let room : state.room ≡ next.head.w64 = h.room ∙ ap (λ x. x.w64) m.head in
+    omega (arith, m.w64, h.sums.w64, next.within64)
+
+-- the bytes of a token are its code and those after it
+spelled_after : (bytes : List ℕ) (kind : CodeKind) (t : Token) → 0 < length bytes → kind_of (get_or bytes 0 0) ≡ Ok kind
+    → Spells t (take (raw_length bytes) bytes) → SpellsAfter kind (take (fixed_bytes kind + variable_bytes kind (drop 1 bytes)) (drop 1 bytes)) t
+spelled_after [] kind t some k s = absurd (omega arith)
+spelled_after (code ∷ rest) kind t some k s =
+    let n = fixed_bytes kind + variable_bytes kind rest in
+    let len : raw_length (code ∷ rest) ≡ suc n = omega (arith, bytes_length (code ∷ rest) kind some k) in
+    let whole : Spells t (code ∷ take n rest) = subst (λ (m : ℕ). Spells t (take m (code ∷ rest))) len s in
+    subst (λ r. SpellsFrom r (take n rest) t) k whole.1
+
+module _ (header : List ℕ) (before : List (List ℕ)) (place next : Totals) (state state' : Bounded) (bytes : List ℕ) (valid : AreBytes bytes) (some : 0 < length bytes) (is_open : 0 < place.pending) (h : Builds header before place state) where
+  -- a token of this kind is taken
+  pub common_taken : (kind : CodeKind) (n : ℕ) → n ≡ 1 + fixed_bytes kind + variable_bytes kind (drop 1 bytes) → kind_of (get_or bytes 0 0) ≡ Ok kind → PassesTo place (get_or bytes 0 0) kind (drop 1 bytes) next
+      → ((t : Token) → SpellsAfter kind (take (fixed_bytes kind + variable_bytes kind (drop 1 bytes)) (drop 1 bytes)) t → state' ≡ absorb_in state t)
+      → TakesOne header before bytes place state next state' (Ok n)
+  common_taken kind n e k p adds =
+      let j = next_there place (context header before) bytes (Ok next) h.sums (passes_next place next bytes kind some k p) in (
+        λ none. absurd (omega arith),
+        λ _. (
+          omega (arith, p.next_is.taken),
+          p.more,
+          (j.0, j.1, next_leads header before place next state state' bytes valid is_open h j.0 j.1 j.2 (λ t s. adds t (spelled_after bytes kind t some k s))),
+        ),
+      )
+
+  pub block_taken : (tag size : ℕ) → kind_of (get_or bytes 0 0) ≡ Ok (kinds.SmallBlock tag size) → Advances place 1 (block_measure size) next true
+      → state' ≡ absorb_in state (block_or_atom tag size) → TakesOne header before bytes place state next state' (Ok 1)
+  block_taken tag size k a adds =
+      common_taken (kinds.SmallBlock tag size) 1 refl k (record { whole = omega arith; plain = λ e. cc e; sound = refl; more = a.0; next_is = a.1 })
+      (λ t s. adds ∙ ap (absorb_in state) (sym s.1))
+
+  pub integer_taken : (value : ℕ) → kind_of (get_or bytes 0 0) ≡ Ok (kinds.SmallInt value) → Advances place 1 None next true
+      → state' ≡ absorb_in state (integer (pos value)) → TakesOne header before bytes place state next state' (Ok 1)
+  integer_taken value k a adds =
+      common_taken (kinds.SmallInt value) 1 refl k (record { whole = omega arith; plain = λ e. cc e; sound = refl; more = a.0; next_is = a.1 })
+      (λ t s. adds ∙ ap (absorb_in state) (sym s.1))
+
+-- ---- one after another
+
+pub one_taken : (limit : ℕ) (taken bytes : List ℕ) (place next : Totals) (state state' : Bounded) (n : ℕ) → 0 < place.pending → LeadsAs (Some place) limit taken state [] → 0 < n
+    → ((header : List ℕ) (before : List (List ℕ)) → Builds header before place state → TakesOne header before bytes place state next state' (Ok n))
+    → TakesCommon limit taken bytes next state' n
+one_taken limit taken bytes place next state state' n is_open l some takes =
+    let m = (takes l.0 l.1 l.2.builds).1 some in
+    let r = token_is_read limit taken [] bytes l.0 l.1 place state l.2 is_open next state' m.2 in
+    let e : next.taken - place.taken - 0 ≡ n = omega (arith, m.0) in
+    (omega (arith, e, r.1), m.1, subst (λ k. LeadsAs (Some next) limit (taken ++ take k bytes) state' []) e r.2)
+
+pub one_more_taken : (limit : ℕ) (taken bytes : List ℕ) (place next : Totals) (state state' : Bounded) (a n : ℕ) → TakesCommon limit taken bytes place state a → 0 < n
+    → ((header : List ℕ) (before : List (List ℕ)) → Builds header before place state → TakesOne header before (take (length bytes - a) (drop a bytes)) place state next state' (Ok n))
+    → TakesCommon limit taken bytes next state' (a + n)
+one_more_taken limit taken bytes place next state state' a n t some takes =
+    let rest = take (length bytes - a) (drop a bytes) in
+    let r = one_taken limit (taken ++ take a bytes) rest place next state state' n t.1 t.2 some takes in
+    (omega (arith, r.0, t.0, length_rest bytes a), r.1, subst (λ xs. LeadsAs (Some next) limit xs state' []) (taken_on taken bytes a n) r.2)

@@ -1,0 +1,49 @@
+-- A token that surely passes is the next one.
+use Rattle.std.proofs.Common.{ℕ, ◌≡◌, ◌≢◌, ◌+◌, ◌<◌, ◌≤◌, List, [], ◌∷◌, length, take, drop, get_or, Option, Some, Ok, arith, refl, ap, sym, ◌∙◌, subst}
+use Rattle.om_model.specs.declared.code.CodeKind.{CodeKind}
+use Rattle.om_model.specs.declared.code.CodeKind.TheVariants as kinds
+use Rattle.om_model.specs.declared.code.CustomKind.{CustomKind}
+use Rattle.om_model.specs.declared.code.CustomKind.TheVariants as customs
+use Rattle.om_model.specs.declared.header.Head.{Head}
+use Rattle.om_format.specs.Code.{kind_of, custom_of}
+use Rattle.om_format.specs.Step.{Context, first_refusal}
+use Rattle.om_format.proofs.SpellFacts.{VariableFits, TokenFacts, token_length, fields_from_none, none_from_facts}
+use Rattle.om_format.proofs.TokenStepLemmas.{token_steps-ok}
+use Rattle.om_read.specs.declared.totals.Totals.{Totals}
+use Rattle.om_read.specs.Totals.{AreTotals, IsNext, PassesTo, context_of, IsPlain}
+use Rattle.om_read.proofs.StepLemmas.{bytes_length, bytes_after}
+
+-- the variable bytes are within the data
+variable_fits : (c : Context) (kind : CodeKind) (custom : Option CustomKind) (rest : List ℕ) → IsPlain kind → c.taken + token_length kind rest ≤ c.head.length → VariableFits c kind custom rest
+variable_fits c (kinds.Custom old) (Some customs.Native) rest plain h = absurd plain
+variable_fits c kind custom rest plain h = omega arith
+
+-- what its steps ask holds
+facts_from_place : (place next : Totals) (code : ℕ) (kind : CodeKind) (rest : List ℕ) → PassesTo place code kind rest next → TokenFacts (context_of place) kind rest
+facts_from_place place next code kind rest p =
+    let c : Context = context_of place in
+    let length_is = ap (λ (h : Head). h.length) p.next_is.head in
+    let big_is = ap (λ (h : Head). h.big) p.next_is.head in
+    let w32_is = ap (λ (h : Head). h.w32) p.next_is.head in
+    let w64_is = ap (λ (h : Head). h.w64) p.next_is.head in
+    let fits : VariableFits c kind (custom_of (take 3 rest)) rest = variable_fits c kind (custom_of (take 3 rest)) rest p.plain (omega (arith, length_is, p.next_is.taken, next.room)) in
+    record {
+      fixed = omega (arith, length_is, p.next_is.taken, next.room);
+      fields = fields_from_none c code kind rest p.sound fits;
+      variable = fits;
+      room = omega (arith, length_is, p.next_is.taken, p.next_is.pending, next.room);
+      w32 = λ small. omega (arith, w32_is, p.next_is.w32, next.within32 (sym big_is ∙ small));
+      w64 = omega (arith, w64_is, p.next_is.w64, next.within64);
+      end = λ last. absurd (omega (arith, p.more, p.next_is.pending, last));
+    }
+
+pub passes_next : (place next : Totals) (bytes : List ℕ) (kind : CodeKind) → 0 < length bytes → kind_of (get_or bytes 0 0) ≡ Ok kind
+    → PassesTo place (get_or bytes 0 0) kind (drop 1 bytes) next → IsNext (context_of place) bytes (Ok next)
+passes_next place next [] kind some k p = absurd (omega arith)
+passes_next place next (code ∷ rest) kind some k p =
+    let c : Context = context_of place in (
+      ap (first_refusal (length (code ∷ rest))) (token_steps-ok c code kind rest k)
+          ∙ none_from_facts c code kind rest (length (code ∷ rest)) (facts_from_place place next code kind rest p),
+      omega (arith, p.whole, bytes_length (code ∷ rest) kind some k),
+      subst (AreTotals next) (bytes_after c (code ∷ rest) kind some k) p.next_is,
+    )

@@ -1,0 +1,63 @@
+//! Most tokens pass for sure, by few tests: they are taken here, one after another. What is in doubt is left to the judge.
+
+ghost use Rattle.std.specs.Prelude.{◌≡◌, ◌<◌, ℕ, List, [], length, IfOk, Some};
+ghost use Rattle.om_read.specs.Reading.{Builds, TakesOne};
+ghost use Rattle.om_read.specs.Pieces.{LeadsAs, TakesCommon};
+
+use crate::build::Builder;
+use crate::decode::block_or_atom;
+use crate::token::block_measure_of;
+use crate::totals::Totals;
+use om_codes::code_kind;
+use om_model::Memory;
+use om_model::code::CodeKind;
+
+/// Takes the next token, if it surely passes: how many bytes it has, or 0.
+fn take_one(totals: &mut Totals, builder: &mut Builder, bytes: &[u8]) -> Result<usize, Memory>
+    requires some { 0 < length bytes.now }
+    requires open { 0 < totals.old.pending }
+    requires leads { (header : List ℕ) × (before : List (List ℕ)) × Builds header before totals.old builder.old }
+    ensures { (header : List ℕ) (before : List (List ℕ)) → Builds header before totals.old builder.old →
+        TakesOne header before bytes.now totals.old builder.old totals.new builder.new result }
+{
+    match code_kind(bytes[0]) {
+        Ok(CodeKind::SmallBlock(tag, size)) => {
+            let size = u64::from(size);
+            if !totals.advance(1, block_measure_of(size)) {
+                return Ok(0);
+            }
+            block_or_atom(builder, tag, size)?;
+            Ok(1)
+        }
+        Ok(CodeKind::SmallInt(value)) => {
+            if !totals.advance(1, None) {
+                return Ok(0);
+            }
+            builder.integer(i64::from(value));
+            Ok(1)
+        }
+        _ => Ok(0),
+    }
+}
+
+/// Takes tokens that surely pass: how many bytes they have.
+pub fn take_common(
+    totals: &mut Totals,
+    builder: &mut Builder,
+    bytes: &[u8],
+) -> Result<usize, Memory>
+    requires open { 0 < totals.old.pending }
+    requires leads { (limit : ℕ) × (taken : List ℕ) × LeadsAs (Some totals.old) limit taken builder.old [] }
+    ensures { (limit : ℕ) (taken : List ℕ) → LeadsAs (Some totals.old) limit taken builder.old [] →
+        IfOk result (TakesCommon limit taken bytes.now totals.new builder.new) }
+{
+    let mut at = 0;
+    while at < bytes.len() {
+        let n = take_one(totals, builder, &bytes[at..])?;
+        if n == 0 {
+            return Ok(at);
+        }
+        at += n;
+    }
+    Ok(at)
+}
