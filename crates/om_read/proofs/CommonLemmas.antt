@@ -1,22 +1,26 @@
 -- Tokens that are taken without the judge.
-use Rattle.std.proofs.Common.{ℕ, suc, ◌≡◌, ◌+◌, ◌-◌, ◌<◌, List, [], ◌∷◌, ◌++◌, length, take, drop, get_or, Option, Some, Ok, None, true, pos, refl, arith, ap, sym, ◌∙◌, subst}
+use Rattle.std.proofs.Common.{ℕ, suc, ◌≡◌, ◌+◌, ◌-◌, ◌<◌, ◌≤◌, List, [], ◌∷◌, ◌++◌, length, take, drop, get_or, Option, Some, Ok, None, true, pos, refl, arith, ap, sym, ◌∙◌, subst, subst₂, ◌≢◌, ◌^◌}
 use Rattle.om_model.specs.Bytes.{AreBytes}
 use Rattle.om_model.specs.declared.code.CodeKind.{CodeKind}
 use Rattle.om_model.specs.declared.code.CodeKind.TheVariants as kinds
 use Rattle.om_model.specs.declared.code.Measure.{Measure}
 use Rattle.om_format.specs.Code.{kind_of}
-use Rattle.om_format.specs.Raw.{fixed_bytes, variable_bytes, block_measure, raw_length}
+use Rattle.om_format.specs.Raw.{fixed_bytes, variable_bytes, block_measure, measure_after, raw_length}
+use Rattle.om_format.specs.Step.{field_refusal}
+use Rattle.om_format.specs.Words.{of_object, fields}
 use Rattle.om_format.specs.Token.{Token, Spells, SpellsFrom, SpellsAfter, block_or_atom, integer}
 use Rattle.om_format.specs.Front.{context}
 use Rattle.om_read.specs.declared.totals.Totals.{Totals}
-use Rattle.om_read.specs.Totals.{AreTotals, PassesTo, Advances, context_of, moved}
+use Rattle.om_read.specs.Totals.{AreTotals, PassesTo, Advances, context_of, moved, IsPlain}
 use Rattle.om_read.specs.Build.{Bounded, Fits, absorb_in}
 use Rattle.om_read.specs.Reading.{Builds, TakesOne}
 use Rattle.om_read.specs.Pieces.{LeadsAs, TakesCommon}
 use Rattle.om_read.proofs.TotalsLemmas.{next_there}
 use Rattle.om_read.proofs.StepLemmas.{bytes_length}
 use Rattle.om_read.proofs.PassingLemmas.{passes_next}
-use Rattle.om_read.proofs.NextLemmas.{words_built, next_leads}
+use Rattle.om_read.proofs.NextLemmas.{words_built, next_leads, next_spelled}
+use Rattle.om_format.proofs.SpellValues.{IsToken-spelled}
+use Rattle.om_read.specs.Contents.{SpellsTokenAfter}
 use Rattle.om_read.proofs.PiecesLemmas.{token_is_read, length_rest, taken_on}
 
 -- the object of a token with which the place goes on has room
@@ -52,16 +56,23 @@ module _ (header : List ℕ) (before : List (List ℕ)) (place next : Totals) (s
         ),
       )
 
+  pub common_spelled : (kind : CodeKind) → kind_of (get_or bytes 0 0) ≡ Ok kind → PassesTo place (get_or bytes 0 0) kind (drop 1 bytes) next
+      → SpellsTokenAfter kind (take (fixed_bytes kind + variable_bytes kind (drop 1 bytes)) (drop 1 bytes)) (length state.built.objects)
+  common_spelled kind k p =
+      let j = next_there place (context header before) bytes (Ok next) h.sums (passes_next place next bytes kind some k p) in
+      let s = next_spelled header before place state bytes valid h j.0 j.1 in
+      (s.0, spelled_after bytes kind s.0 some k s.1, IsToken-spelled s.0 (take (raw_length bytes) bytes) s.1, s.2)
+
   pub block_taken : (tag size : ℕ) → kind_of (get_or bytes 0 0) ≡ Ok (kinds.SmallBlock tag size) → Advances place 1 (block_measure size) next true
       → state' ≡ absorb_in state (block_or_atom tag size) → TakesOne header before bytes place state next state' (Ok 1)
   block_taken tag size k a adds =
-      common_taken (kinds.SmallBlock tag size) 1 refl k (record { whole = omega arith; plain = λ e. cc e; sound = refl; more = a.0; next_is = a.1 })
+      common_taken (kinds.SmallBlock tag size) 1 refl k (record { whole = omega arith; plain = tt; sound = refl; more = a.0; next_is = a.1 })
       (λ t s. adds ∙ ap (absorb_in state) (sym s.1))
 
   pub integer_taken : (value : ℕ) → kind_of (get_or bytes 0 0) ≡ Ok (kinds.SmallInt value) → Advances place 1 None next true
       → state' ≡ absorb_in state (integer (pos value)) → TakesOne header before bytes place state next state' (Ok 1)
   integer_taken value k a adds =
-      common_taken (kinds.SmallInt value) 1 refl k (record { whole = omega arith; plain = λ e. cc e; sound = refl; more = a.0; next_is = a.1 })
+      common_taken (kinds.SmallInt value) 1 refl k (record { whole = omega arith; plain = tt; sound = refl; more = a.0; next_is = a.1 })
       (λ t s. adds ∙ ap (absorb_in state) (sym s.1))
 
 -- ---- one after another
@@ -82,3 +93,22 @@ one_more_taken limit taken bytes place next state state' a n t some takes =
     let rest = take (length bytes - a) (drop a bytes) in
     let r = one_taken limit (taken ++ take a bytes) rest place next state state' n t.1 t.2 some takes in
     (omega (arith, r.0, t.0, length_rest bytes a), r.1, subst (λ xs. LeadsAs (Some next) limit xs state' []) (taken_on taken bytes a n) r.2)
+
+-- ---- what a token of some kind says, by the bytes after its code
+
+-- the place to which it passes
+pub passes_from : (place next : Totals) (code : ℕ) (kind : CodeKind) (rest : List ℕ) (len : ℕ) (measure : Option Measure) → len ≡ fixed_bytes kind + variable_bytes kind rest → len ≤ length rest → IsPlain kind
+    → field_refusal (context_of place) code kind rest ≡ None → measure ≡ measure_after kind rest → Advances place (1 + len) measure next true → PassesTo place code kind rest next
+passes_from place next code kind rest len measure l within plain sound m a =
+    let n : 1 + len ≡ 1 + fixed_bytes kind + variable_bytes kind rest = omega arith in
+    record {
+      whole = omega arith;
+      plain = plain;
+      sound = sound;
+      more = a.0;
+      next_is = subst₂ (λ (k : ℕ) (o : Option Measure). AreTotals next (moved (context_of place) k o)) n m a.1;
+    }
+
+-- its object has few fields
+pub few_fields : (place next : Totals) (n : ℕ) (measure : Option Measure) → Advances place n measure next true → of_object fields measure < 2 ^ 53
+few_fields place next n measure a = omega (arith, a.1.pending, next.room, next.short)

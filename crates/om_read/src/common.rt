@@ -1,19 +1,55 @@
 //! Most tokens pass for sure, by few tests: they are taken here, one after another. What is in doubt is left to the judge.
 
-ghost use Rattle.std.specs.Prelude.{◌≡◌, ◌<◌, ℕ, List, [], length, IfOk, Some};
+ghost use Rattle.std.specs.Prelude.{◌≡◌, ◌<◌, ℕ, List, [], length, slice_index, IfOk, Some, Ok};
+ghost use Rattle.om_format.specs.Code.{kind_of, IsKind};
 ghost use Rattle.om_read.specs.Reading.{Builds, TakesOne};
 ghost use Rattle.om_read.specs.Pieces.{LeadsAs, TakesCommon};
 
 use crate::build::Builder;
-use crate::decode::block_or_atom;
-use crate::token::block_measure_of;
+use crate::decode::{block_or_atom, decode};
+use crate::token::{block_measure_of, measure_at};
 use crate::totals::Totals;
 use om_codes::code_kind;
 use om_model::Memory;
+use om_model::bytes::skip;
 use om_model::code::CodeKind;
+use std::alloc::Global;
+
+/// Takes the next token, which is of this kind, if it surely passes.
+#[tactic(auto, using(crate::proofs::SizeLemmas::measure_small, crate::proofs::SizeLemmas::few_words32, crate::proofs::SizeLemmas::few_words64))]
+fn take_kind(
+    alloc: Global,
+    totals: &mut Totals,
+    builder: &mut Builder,
+    kind: CodeKind,
+    bytes: &[u8],
+) -> Result<usize, Memory>
+    requires some { 0 < length bytes.now }
+    requires kind { kind_of (slice_index bytes.now 0) ≡ Ok kind }
+    requires known { IsKind kind }
+    requires open { 0 < totals.old.pending }
+    requires leads { (header : List ℕ) × (before : List (List ℕ)) × Builds header before totals.old builder.old }
+    ensures { (header : List ℕ) (before : List (List ℕ)) → Builds header before totals.old builder.old →
+        TakesOne header before bytes.now totals.old builder.old totals.new builder.new result }
+{
+    let rest = skip(bytes, 1);
+    let Some(len) = totals.sound_len(bytes[0], kind, rest) else {
+        return Ok(0);
+    };
+    if !totals.advance(1 + len as u64, measure_at(kind, rest)) {
+        return Ok(0);
+    }
+    decode(alloc, builder, kind, &rest[..len])?;
+    Ok(1 + len)
+}
 
 /// Takes the next token, if it surely passes: how many bytes it has, or 0.
-fn take_one(totals: &mut Totals, builder: &mut Builder, bytes: &[u8]) -> Result<usize, Memory>
+fn take_one(
+    alloc: Global,
+    totals: &mut Totals,
+    builder: &mut Builder,
+    bytes: &[u8],
+) -> Result<usize, Memory>
     requires some { 0 < length bytes.now }
     requires open { 0 < totals.old.pending }
     requires leads { (header : List ℕ) × (before : List (List ℕ)) × Builds header before totals.old builder.old }
@@ -36,12 +72,14 @@ fn take_one(totals: &mut Totals, builder: &mut Builder, bytes: &[u8]) -> Result<
             builder.integer(i64::from(value));
             Ok(1)
         }
-        _ => Ok(0),
+        Ok(kind) => take_kind(alloc, totals, builder, kind, bytes),
+        Err(_) => Ok(0),
     }
 }
 
 /// Takes tokens that surely pass: how many bytes they have.
 pub fn take_common(
+    alloc: Global,
     totals: &mut Totals,
     builder: &mut Builder,
     bytes: &[u8],
@@ -53,7 +91,7 @@ pub fn take_common(
 {
     let mut at = 0;
     while at < bytes.len() {
-        let n = take_one(totals, builder, &bytes[at..])?;
+        let n = take_one(alloc, totals, builder, &bytes[at..])?;
         if n == 0 {
             return Ok(at);
         }

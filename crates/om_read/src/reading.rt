@@ -63,7 +63,7 @@ impl Reading {
     }
 
     /// Takes tokens after the header that surely pass: how many bytes they have.
-    pub fn take_common(&mut self, bytes: &[u8]) -> Result<usize, Memory>
+    pub fn take_common(&mut self, alloc: Global, bytes: &[u8]) -> Result<usize, Memory>
         requires open { IsWhole self.old.totals → ⊥ }
         requires leads { (taken : List ℕ) × LeadsAs self.old.totals self.old.limit taken self.old.builder [] }
         ensures limit { self.new.limit ≡ self.old.limit }
@@ -74,7 +74,7 @@ impl Reading {
         let Some(mut totals) = self.totals else {
             return Ok(0);
         };
-        let n = take_common(&mut totals, &mut self.builder, bytes)?;
+        let n = take_common(alloc, &mut totals, &mut self.builder, bytes)?;
         self.totals = Some(totals);
         Ok(n)
     }

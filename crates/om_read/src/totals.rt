@@ -1,6 +1,6 @@
 //! Where a token stands, and the steps that compare it with what came before.
 
-ghost use Rattle.std.specs.Prelude.{◌≡◌, ◌≤◌, ◌<◌, ◌+◌, ◌-◌, ◌*◌, ◌^◌, ◌++◌, ◌∷◌, [], length, take, slice_index, None, OnOk, IfOk, false, nat_lt, List, Option, ℕ, ◌==◌, if◌then◌else◌};
+ghost use Rattle.std.specs.Prelude.{◌≡◌, ◌≤◌, ◌<◌, ◌+◌, ◌-◌, ◌*◌, ◌^◌, ◌++◌, ◌∷◌, [], length, take, slice_index, None, OnOk, IfOk, IfSome, ◌≢◌, false, nat_lt, List, Option, ℕ, ◌==◌, if◌then◌else◌};
 ghost use Rattle.std.specs.Option.{ForSome};
 
 use crate::token::{
@@ -39,8 +39,9 @@ impl Totals {
     ghost use Rattle.om_format.specs.Raw.{field_bytes, fixed_bytes, variable_bytes, sizing_bytes};
     ghost use Rattle.om_format.specs.Words.{of_object, fields as fields_of, words32, words64};
     ghost use Rattle.om_format.specs.Step.{overlong as overlong_refusal, field_refusal as refusal_of_fields, shared_refusal as refusal_of_shared, integer_refusal as refusal_of_integer, code_refusal as refusal_of_code, native_steps, variable_steps, entry_steps, closing_steps, words32_refusal, words64_refusal, end_steps, or_else, place};
-    ghost use Rattle.om_read.specs.Totals.{AreTotals, IsNext, Advances, AreFew, context_of, sums, after_kind};
+    ghost use Rattle.om_read.specs.Totals.{AreTotals, IsNext, Advances, AreFew, context_of, sums, after_kind, IsPlain};
     ghost use Rattle.om_headers.specs.Counting.{IsCountable};
+    ghost use Rattle.om_model.specs.declared.code.CodeKind.TheVariants as kinds;
     ghost use Rattle.om_read.specs.Progress.{answered, and_then, progress, of_refusal};
 
     /// The place of the token's code, from the header's first byte.
@@ -334,6 +335,26 @@ impl Totals {
             CodeFault::PointerCode => ReadRefusal::PointerCode(self.at(), code),
             CodeFault::CustomLen => ReadRefusal::OtherCustom(self.at(), code),
         }
+    }
+
+    /// How many bytes the token has after its code, if its kind is a common one, it is whole and its fields are sound.
+    pub fn sound_len(&self, code: u8, kind: CodeKind, rest: &[u8]) -> Option<usize>
+        requires { IsKind kind }
+        ensures { IfSome result (λ len. (len ≡ fixed_bytes kind + variable_bytes kind rest.now) × (len < 32) × (len ≤ length rest.now) × IsPlain kind
+            × (refusal_of_fields (context_of self.now) code kind rest.now ≡ None)) }
+    {
+        let len = match kind {
+            CodeKind::SmallBlock(_, _) | CodeKind::SmallInt(_) => 0,
+            CodeKind::SmallString(len) => usize::from(len),
+            CodeKind::Int(width) if width < 8 => usize::from(width),
+            CodeKind::Shared(width) => usize::from(width),
+            CodeKind::Double(_) => 8,
+            _ => return None,
+        };
+        if rest.len() < len || self.field_refusal(code, kind, rest).is_some() {
+            return None;
+        }
+        Some(len)
     }
 
     /// Goes on after a token of `n` bytes whose object has this measure, if it fits and is not the last.
