@@ -53,8 +53,17 @@ impl Builder {
     pub fn new(alloc: Global, room: u64) -> Builder
         ensures { result ≡ empty room }
     {
+        Builder::over(alloc, room, Heap::new(alloc))
+    }
+
+    /// The same, in the memory of a heap that is done with.
+    pub fn over(alloc: Global, room: u64, heap: Heap) -> Builder
+        ensures { result ≡ empty room }
+    {
+        let mut heap = heap;
+        heap.clear();
         Builder {
-            heap: Heap::new(alloc),
+            heap,
             open_blocks: Vec::new(alloc),
             root: None,
             room,
@@ -70,6 +79,7 @@ impl Builder {
     }
 
     /// The value comes: it is the root, or the next field of the innermost open block.
+    #[inline(always)]
     fn fill(&mut self, v: Val)
         requires well { WellOpen self.old.built }
         requires valid { IsValue (length self.old.built.objects) v }
@@ -126,6 +136,7 @@ impl Builder {
     }
 
     /// A block, whose fields are to come.
+    #[inline(always)]
     pub fn block(&mut self, tag: u8, size: u64) -> Result<(), Memory>
         requires well { WellOpen self.old.built }
         requires range { tag ≤ 243 }

@@ -20,6 +20,7 @@ use om_model::code::CodeKind;
 use std::alloc::Global;
 
 /// A block, or an atom where it has no fields.
+#[inline(always)]
 pub fn block_or_atom(builder: &mut Builder, tag: u8, size: u64) -> Result<(), Memory>
     requires well { WellOpen builder.old.built }
     requires range { tag ≤ 243 }
@@ -68,6 +69,7 @@ fn doubles(
 }
 
 /// The token of this kind, after whose code stands `rest`, comes.
+#[inline(always)]
 pub fn decode(
     alloc: Global,
     builder: &mut Builder,

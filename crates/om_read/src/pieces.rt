@@ -5,6 +5,7 @@ ghost use Rattle.std.specs.Prelude.{◌≡◌, ◌<◌, ℕ, List, [], length, t
 use crate::reading::Reading;
 use crate::unread::Unread;
 use crate::value::Value;
+use om_heap::Heap;
 use om_model::refusal::ReadRefusal;
 use std::alloc::Global;
 
@@ -33,12 +34,12 @@ impl Pieces {
     ghost use Rattle.om_model.specs.Bytes.{AreBytes};
     ghost use Rattle.om_read.specs.Pieces.{LeadsPieces, IsWhole, Takes, TakesPiece};
 
-    /// Nothing is read.
-    pub fn new(alloc: Global, limit: u64) -> Pieces
+    /// Nothing is read. The heap is done with.
+    pub fn over(alloc: Global, limit: u64, heap: Heap) -> Pieces
         ensures { LeadsPieces limit [] result }
     {
         Pieces {
-            reading: Reading::new(alloc, limit),
+            reading: Reading::over(alloc, limit, heap),
             part: Vec::new(alloc),
         }
     }

@@ -6,6 +6,7 @@ ghost use Rattle.om_read.specs.Reading.{RefusedIn};
 
 use crate::pieces::Pieces;
 use crate::value::Value;
+use om_heap::Heap;
 use om_model::refusal::ReadRefusal;
 use std::alloc::Global;
 
@@ -40,9 +41,18 @@ impl Reader {
         ensures leads { Leads limit [] result }
         ensures only { (other : ℕ) (taken : List ℕ) → Leads other taken result → taken ≡ [] }
     {
+        Reader::over(alloc, limit, Heap::new(alloc))
+    }
+
+    /// The same in the memory of a heap that is done with, as one after another of many values is read.
+    pub fn over(alloc: Global, limit: u64, heap: Heap) -> Reader
+        ensures reader { IsReader result }
+        ensures leads { Leads limit [] result }
+        ensures only { (other : ℕ) (taken : List ℕ) → Leads other taken result → taken ≡ [] }
+    {
         Reader {
             alloc,
-            pieces: Pieces::new(alloc, limit),
+            pieces: Pieces::over(alloc, limit, heap),
             refusal: None,
         }
     }

@@ -8,6 +8,7 @@ use crate::head::judge_header;
 use crate::read::next_token;
 use crate::totals::Totals;
 use crate::unread::Unread;
+use om_heap::Heap;
 use om_model::Memory;
 use std::alloc::Global;
 
@@ -22,15 +23,15 @@ pub struct Reading {
 impl Reading {
     ghost use Rattle.om_read.specs.Pieces.{LeadsAs, IsWhole, NextRead};
 
-    /// Nothing is read.
-    pub fn new(alloc: Global, limit: u64) -> Reading
+    /// Nothing is read. The heap is done with.
+    pub fn over(alloc: Global, limit: u64, heap: Heap) -> Reading
         ensures limit { result.limit ≡ limit }
         ensures leads { LeadsAs result.totals limit [] result.builder [] }
     {
         Reading {
             limit,
             totals: None,
-            builder: Builder::new(alloc, 0),
+            builder: Builder::over(alloc, 0, heap),
         }
     }
 
