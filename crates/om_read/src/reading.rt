@@ -63,7 +63,8 @@ impl Reading {
         }
     }
 
-    /// Takes tokens after the header that surely pass: how many bytes they have.
+    /// Takes tokens after the header that surely pass: how many bytes they have. Where one value alone is to come, as at
+    /// first, the judge is asked at once.
     pub fn take_common(&mut self, alloc: Global, bytes: &[u8]) -> Result<usize, Memory>
         requires open { IsWhole self.old.totals → ⊥ }
         requires leads { (taken : List ℕ) × LeadsAs self.old.totals self.old.limit taken self.old.builder [] }
@@ -72,8 +73,9 @@ impl Reading {
         ensures takes { (taken : List ℕ) → LeadsAs self.old.totals self.old.limit taken self.old.builder [] →
             IfOk result (λ n. (n ≤ length bytes.now) × LeadsAs self.new.totals self.old.limit (taken ++ take n bytes.now) self.new.builder []) }
     {
-        let Some(mut totals) = self.totals else {
-            return Ok(0);
+        let mut totals = match &self.totals {
+            Some(totals) if totals.pending > 1 => *totals,
+            _ => return Ok(0),
         };
         let n = take_common(alloc, &mut totals, &mut self.builder, bytes)?;
         self.totals = Some(totals);

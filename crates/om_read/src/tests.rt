@@ -1,5 +1,6 @@
 use super::*;
 use om_heap::Kind;
+use om_model::refusal::ReadRefusal;
 use om_model::value::Val;
 use std::alloc::Global;
 use std::test::Fail;
@@ -62,6 +63,83 @@ fn reads_deep_values(rt: HostRuntime) -> Result<(), Fail> {
                 assert_eq!(rt; value.heap.count(), 100_000);
             }
             _ => assert!(rt; false, "no value of {tokens}"),
+        }
+    }
+    Ok(())
+}
+
+// A list of two and a byte after it, cut in two at each place.
+#[test]
+fn reads_two_pieces(rt: HostRuntime) -> Result<(), Fail> {
+    let bytes = small(rt.alloc(), [5, 2, 6, 6], "a041a0424041")?;
+    for cut in 0..bytes.len() {
+        let mut reader = Reader::new(rt.alloc(), 6);
+        let taken = cut.min(25);
+        let done = cut == 25;
+        assert_eq!(rt;
+            reader.feed(&bytes[..cut]),
+            Ok(Fed { taken, done }),
+            "at {cut}"
+        );
+        let Ok(fed) = reader.feed(&bytes[cut..]) else {
+            assert!(rt; false, "refused after {cut}");
+            continue;
+        };
+        assert_eq!(rt; taken + fed.taken, 25, "at {cut}");
+        if fed.done {
+            let value = reader.finish();
+            assert_eq!(rt; value.root, Val::Ref(0));
+            assert_eq!(rt; value.heap.count(), 2);
+            assert_eq!(rt; value.heap.kind(1), Kind::Block(0, 2));
+            assert_eq!(rt; value.heap.field(1, 0), Val::Int(2));
+        } else {
+            assert!(rt; false, "not done after {cut}");
+        }
+    }
+    Ok(())
+}
+
+// A reference in a stream that counts no objects, cut in two at each place before the byte that decides it.
+#[test]
+fn keeps_a_refusal(rt: HostRuntime) -> Result<(), Fail> {
+    let bytes = small(rt.alloc(), [4, 0, 3, 3], "a0410401")?;
+    for cut in 0..bytes.len() {
+        let mut reader = Reader::new(rt.alloc(), 6);
+        let front = Ok(Fed {
+            taken: cut,
+            done: false,
+        });
+        assert_eq!(rt; reader.feed(&bytes[..cut]), front, "at {cut}");
+        assert_eq!(rt;
+            reader.feed(&bytes[cut..]),
+            Err(ReadRefusal::NoTable(22)),
+            "at {cut}"
+        );
+        assert_eq!(rt;
+            reader.feed(&bytes),
+            Err(ReadRefusal::NoTable(22)),
+            "after {cut}"
+        );
+    }
+    Ok(())
+}
+
+// The input ends after each number of bytes.
+#[test]
+fn ends_inside_a_value(rt: HostRuntime) -> Result<(), Fail> {
+    let bytes = small(rt.alloc(), [5, 2, 6, 6], "a041a04240")?;
+    for cut in 0..bytes.len() + 1 {
+        let mut reader = Reader::new(rt.alloc(), 6);
+        match reader.feed(&bytes[..cut]) {
+            Ok(_) => {
+                let expected = if cut == 0 || cut == 25 {
+                    Ok(())
+                } else {
+                    Err(Truncated { taken: cut as u64 })
+                };
+                assert_eq!(rt; reader.at_end(), expected, "at {cut}");
+            }
+            Err(_) => assert!(rt; false, "refused at {cut}"),
         }
     }
     Ok(())
