@@ -1,7 +1,7 @@
 -- How many words on 64 bits the objects have that tokens build.
 use Rattle.std.proofs.Common.{◌≡◌, ℕ, ◌+◌, ◌<◌, ◌≤◌, List, [], ◌∷◌, ◌++◌, length, map, take, pos, Option, arith, ap, sym, ◌∙◌, refl, length-set, length-append}
 use Rattle.std.specs.List.{AllZip, concat}
-use Rattle.std.specs.Prelude.{All, Result, Ok, Err}
+use Rattle.std.specs.Prelude.{All}
 use Rattle.std.proofs.lemmas.List.{length-replicate, length-take, take_at}
 use Rattle.std.proofs.lemmas.List.Elements.{All-nil, All-cons, All-head, All-tail}
 use Rattle.std.proofs.lemmas.List.Sums.{sum_by-cons, sum_by-set}
@@ -9,7 +9,6 @@ use Rattle.om_model.specs.declared.value.Val.{Val}
 use Rattle.om_model.specs.declared.value.Val.TheVariants as vals
 use Rattle.om_model.specs.declared.value.Obj.{Obj}
 use Rattle.om_model.specs.declared.value.Obj.TheVariants as objs
-use Rattle.om_model.specs.declared.refusal.ReadRefusal.{ReadRefusal}
 use Rattle.om_format.specs.Words.{of_object, words64, all_words64}
 use Rattle.om_format.specs.Header.{header_length, head_of}
 use Rattle.om_format.specs.Token.{Token, integer, atom, shared, block, leaf, IsToken, measure_of, Spells}
@@ -21,10 +20,7 @@ use Rattle.om_format.proofs.OneJudgement.{header_length-append}
 use Rattle.om_heap.specs.Heap.{object_at, with_field, set_field, object_words, heap_words}
 use Rattle.om_heap.proofs.WriteLemmas.{heap_words-append}
 use Rattle.om_read.specs.Build.{Building, start, fill, blank, blank_fields, absorb, absorb_all, AreOpen, WellOpen}
-use Rattle.om_read.specs.Reading.{IsRead, IsBounded}
 use Rattle.om_read.specs.declared.build.OpenBlock.{OpenBlock}
-use Rattle.om_read.specs.declared.value.Whole.{Whole}
-use Rattle.om_read.specs.declared.value.Whole.TheVariants.{Done, Cut}
 use Rattle.om_read.proofs.BuildLemmas.{AreOpen-append, WellOpen-absorb, WellOpen-start}
 use Rattle.om_read.proofs.TreeLemmas.{absorb_start}
 
@@ -127,11 +123,3 @@ spelled_words limit n bytes tree s =
     let words = heap_words-objects_of tree s.spells.is_tree (spelled_tokens (tokens tree) s.pieces s.spells.spells) in
     let stated : heap_words (objects_of tree 0) ≡ (head_of s.header).w64 = words ∙ sym s.spells.states.w64 in
     (stated ∙ ap (λ h. h.w64) same, omega (arith, s.words))
-
-pub bounded_from_says : (limit : ℕ) (bytes : List ℕ) (result : Result Whole ReadRefusal) → IsRead limit bytes result → IsBounded limit bytes result
-bounded_from_says limit bytes (Ok (Done read taken)) h =
-    let w = spelled_words limit taken bytes h.0 h.2 in
-    let same = ap heap_words h.3.heap in
-    (same ∙ w.0, omega (arith, w.1))
-bounded_from_says limit bytes (Ok Cut) h = tt
-bounded_from_says limit bytes (Err refusal) h = tt

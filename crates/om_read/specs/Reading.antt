@@ -7,20 +7,14 @@ use Rattle.om_format.specs.Raw.{raw_length}
 use Rattle.om_format.specs.Step.{first_refusal, token_steps}
 use Rattle.om_format.specs.Token.{Token, IsToken, Spells}
 use Rattle.om_format.specs.Tree.{Tree, root, objects_of}
-use Rattle.om_format.specs.Header.{head_of}
 use Rattle.om_model.specs.Graph.{IsValue}
-use Rattle.om_format.specs.Spelled.{SpelledUnder}
-use Rattle.om_format.specs.Front.{context, with_next, IsFront, IsRefused}
-use Rattle.om_format.specs.Judgement.{Judgement, front, value, refused}
+use Rattle.om_format.specs.Front.{context, with_next, IsRefused}
 use Rattle.om_read.specs.declared.unread.Unread.{Unread}
 use Rattle.om_read.specs.declared.unread.Unread.TheVariants.{NeedMore, Refused}
 use Rattle.om_read.specs.declared.totals.Totals.{Totals}
 use Rattle.om_model.specs.declared.out_of_memory.Memory.{Memory as OutOfMemory}
 use Rattle.om_read.specs.declared.value.Value.{Value}
-use Rattle.om_read.specs.declared.value.Whole.{Whole}
-use Rattle.om_read.specs.declared.value.Whole.TheVariants.{Done, Cut}
 use Rattle.om_read.specs.Totals.{AreTotals}
-use Rattle.om_heap.specs.Heap.{heap_words}
 use Rattle.om_read.specs.Build.{Bounded, start, absorb_all}
 
 -- the place is that after these bytes, and the graph is built from the tokens that they spell, in the room that the
@@ -64,27 +58,3 @@ UnlessMemory refusal P = P
 -- some of the first bytes are refused so, unless memory runs out
 abbrev pub RefusedIn : ℕ → List ℕ → ReadRefusal → Type 0
 RefusedIn limit bytes refusal = UnlessMemory refusal ((n : ℕ) × (n ≤ length bytes) × IsRefused limit (take n bytes) refusal)
-
--- what an answer says of the bytes: the tree that the first of them spell, that they are a front, or a refusal
-abbrev pub IsRead : ℕ → List ℕ → Result Whole ReadRefusal → Type 0
-IsRead limit bytes (Ok (Done read taken)) =
-    (tree : Tree) × (taken ≤ length bytes) × SpelledUnder limit (take taken bytes) tree × IsValueOf read tree
-IsRead limit bytes (Ok Cut) = IsFront limit bytes
-IsRead limit bytes (Err refusal) = RefusedIn limit bytes refusal
-
--- the answer to what becomes of the bytes, but for out of memory
-abbrev pub AnswersTo : Judgement → Result Whole ReadRefusal → Type 0
-AnswersTo front result = result ≡ Ok Cut
-AnswersTo (value n tree) result = (read : Value) × (result ≡ Ok (Done read n)) × IsValueOf read tree
-AnswersTo (refused n refusal) result = result ≡ Err refusal
-
--- a value has the words that its header states, and no more than the limit
-abbrev pub IsBounded : ℕ → List ℕ → Result Whole ReadRefusal → Type 0
-IsBounded limit bytes (Ok (Done read taken)) = (heap_words read.heap ≡ (head_of bytes).w64) × (heap_words read.heap ≤ limit)
-IsBounded limit bytes (Ok Cut) = Unit {0}
-IsBounded limit bytes (Err refusal) = Unit {0}
-
--- the answer where the steps end early
-abbrev pub answer_of : Unread → Result Whole ReadRefusal
-answer_of NeedMore = Ok Cut
-answer_of (Refused refusal) = Err refusal

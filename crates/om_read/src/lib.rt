@@ -15,9 +15,8 @@ mod totals;
 mod unread;
 mod value;
 
-pub use read::read_value;
 pub use reader::{Fed, Reader, Truncated};
-pub use value::{Value, Whole};
+pub use value::Value;
 
 #[cfg(test)]
 mod tests;

@@ -9,10 +9,3 @@ pub struct Value {
     pub heap: Heap,
     pub root: Val,
 }
-
-/// What becomes of bytes that are no refusal: a value in the first `taken`, or more have to come.
-#[derive(Drop)]
-pub enum Whole {
-    Done { value: Value, taken: u64 },
-    Cut,
-}
