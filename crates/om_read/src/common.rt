@@ -17,6 +17,7 @@ use std::alloc::Global;
 
 /// Takes the next token, which is of this kind, if it surely passes.
 #[tactic(auto, using(crate::proofs::SizeLemmas::measure_small, crate::proofs::SizeLemmas::few_words32, crate::proofs::SizeLemmas::few_words64))]
+#[inline(always)]
 fn take_kind(
     alloc: Global,
     totals: &mut Totals,
@@ -71,6 +72,17 @@ fn take_one(
             }
             builder.integer(i64::from(value));
             Ok(1)
+        }
+        // Each of these kinds gets code of its own.
+        Ok(CodeKind::Int(1)) => take_kind(alloc, totals, builder, CodeKind::Int(1), bytes),
+        Ok(CodeKind::Int(2)) => take_kind(alloc, totals, builder, CodeKind::Int(2), bytes),
+        Ok(CodeKind::Int(4)) => take_kind(alloc, totals, builder, CodeKind::Int(4), bytes),
+        Ok(CodeKind::Shared(1)) => take_kind(alloc, totals, builder, CodeKind::Shared(1), bytes),
+        Ok(CodeKind::SmallString(len)) => {
+            take_kind(alloc, totals, builder, CodeKind::SmallString(len), bytes)
+        }
+        Ok(CodeKind::Double(true)) => {
+            take_kind(alloc, totals, builder, CodeKind::Double(true), bytes)
         }
         Ok(kind) => take_kind(alloc, totals, builder, kind, bytes),
         Err(_) => Ok(0),

@@ -20,6 +20,11 @@ pub struct Reading {
     pub builder: Builder,
 }
 
+/// The first byte is the code of a small block with fields.
+fn opens_block(bytes: &[u8]) -> bool {
+    !bytes.is_empty() && bytes[0] >= 0x90
+}
+
 impl Reading {
     ghost use Rattle.om_read.specs.Pieces.{LeadsAs, IsWhole, NextRead};
 
@@ -63,8 +68,8 @@ impl Reading {
         }
     }
 
-    /// Takes tokens after the header that surely pass: how many bytes they have. Where one value alone is to come, as at
-    /// first, the judge is asked at once.
+    /// Takes tokens after the header that surely pass: how many bytes they have. A last token does not, so it is left to
+    /// the judge at once.
     pub fn take_common(&mut self, alloc: Global, bytes: &[u8]) -> Result<usize, Memory>
         requires open { IsWhole self.old.totals → ⊥ }
         requires leads { (taken : List ℕ) × LeadsAs self.old.totals self.old.limit taken self.old.builder [] }
@@ -74,7 +79,7 @@ impl Reading {
             IfOk result (λ n. (n ≤ length bytes.now) × LeadsAs self.new.totals self.old.limit (taken ++ take n bytes.now) self.new.builder []) }
     {
         let mut totals = match &self.totals {
-            Some(totals) if totals.pending > 1 => *totals,
+            Some(totals) if totals.pending > 1 || opens_block(bytes) => *totals,
             _ => return Ok(0),
         };
         let n = take_common(alloc, &mut totals, &mut self.builder, bytes)?;
