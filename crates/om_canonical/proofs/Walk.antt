@@ -1,6 +1,6 @@
 -- Each value of a graph has a tree: the objects are met depth first, and each but the first time by a reference.
 use Rattle.std.proofs.Common.{ℕ, zero, suc, ◌≡◌, ◌≢◌, ◌+◌, ◌-◌, ◌<◌, ◌≤◌, ◌∙◌, ◌⊎◌, inl, inr, ⊎_elim, List, [], ◌∷◌, ◌++◌, length, Some, refl, sym, ap, subst, arith, add-zero, append_assoc, append-nil, length-append}
-use Rattle.std.specs.Prelude.{slice_get, Contains, IsSomeAnd, All}
+use Rattle.std.specs.Prelude.{slice_get, Contains, All}
 use Rattle.std.specs.List.{AllZip}
 use Rattle.std.proofs.lemmas.List.{length_push}
 use Rattle.std.proofs.lemmas.List.Elements.{All-head, All-tail, All-contains}
@@ -16,19 +16,12 @@ use Rattle.om_format.specs.Tree.{Tree, Forest, node, none, more, trees_in, IsTre
 use Rattle.om_format.specs.Iso.{AreAlike, AreAlikeObjects, IsPairing, IsTreeOf}
 use Rattle.om_format.proofs.Counts.{leaf_fields}
 use Rattle.om_canonical.specs.Laws.{HasOneTree}
+use Rattle.om_canonical.specs.Numbering.{pairs_from, numbered, AreDistinct, Shows, IsNumbering}
 use Rattle.om_canonical.proofs.ListLemmas.{IsSomeAnd-weaker, slice_get_left, slice_get_push, slice_get_push_cases, below, Contains-below, AllZip-weaker, AllZip-append, AllZip-at}
 use Rattle.om_canonical.proofs.IsoLemmas.{AreAmong, AreAlike-more, AreAlikeObjects-more, alike_at}
 use Rattle.om_canonical.proofs.SameTree.{made_by_leaf, one_tree_only}
 
 -- ---- numbers, by the places at which they are met
-
-abbrev pub pairs_from : ℕ → List ℕ → List (ℕ × ℕ)
-pairs_from c [] = []
-pairs_from c (k ∷ ks) = (k, c) ∷ pairs_from (c + 1) ks
-
--- each number with its place
-abbrev pub numbered : List ℕ → List (ℕ × ℕ)
-numbered ks = pairs_from 0 ks
 
 at_place : (c : ℕ) (ks : List ℕ) (i k : ℕ) → slice_get ks i ≡ Some k → Contains (pairs_from c ks) (k, c + i)
 at_place c [] i k is = absurd (none-some k is)
@@ -66,10 +59,6 @@ numbered-more : (ks news : List ℕ) → AreAmong (numbered ks) (numbered (ks ++
 numbered-more ks news k l among = numbered_at (ks ++ news) l k (slice_get_left ks news l k (at_numbered ks k l among))
 
 -- ---- what was met
-
--- no number is met twice
-abbrev AreDistinct : List ℕ → Type 0
-AreDistinct ks = (i j k : ℕ) → slice_get ks i ≡ Some k → slice_get ks j ≡ Some k → i ≡ j
 
 abbrev IsMet : List ℕ → ℕ → Type 0
 IsMet ks k = (i : ℕ) × (slice_get ks i ≡ Some k)
@@ -156,10 +145,6 @@ IsReady-new g met unmet c fuel k ready less new =
     )
 
 -- ---- what a walk gives
-
--- the object in the tree's graph is alike the one of this number
-abbrev Shows : List Obj → List ℕ → ℕ → Obj → Type 0
-Shows g met k b = IsSomeAnd (slice_get g k) (λ a. AreAlikeObjects (numbered met) a b)
 
 record Walked (g : List Obj) (met : List ℕ) (c : ℕ) (v : Val) : Type 0 where
   tree : Tree
@@ -373,3 +358,17 @@ pub has_one_tree : (g : List Obj) (v : Val) → IsGraph g → IsValue (length g)
 has_one_tree g v is_graph is_value =
     let t = tree_exists g v is_graph is_value in
     record { tree = t.0; is = t.1; only = λ other is_of. one_tree_only g v other t.0 is_of t.1 }
+
+-- the objects of the tree of a value can be numbered
+pub numbering : (g : List Obj) (v : Val) (tree : Tree) → IsGraph g → IsValue (length g) v → IsTreeOf g v tree → (ks : List ℕ) × IsNumbering g v tree ks
+numbering g v tree is_graph is_value is_of =
+    let w = walk g (length g) is_graph [] (below (length g)) 0 v (start g) is_value in
+    let of_walk : IsTreeOf g v w.tree = record {
+      is_tree = w.is_tree;
+      refers_back = w.back;
+      same = (numbered w.news, IsPairing-numbered g (objects_of w.tree 0) w.news w.distinct w.objects, w.value);
+    } in (
+      w.news,
+      subst (λ t. IsNumbering g v t w.news) (one_tree_only g v w.tree tree of_walk is_of)
+          (record { distinct = w.distinct; objects = w.objects; value = w.value }),
+    )

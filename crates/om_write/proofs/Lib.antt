@@ -1,0 +1,9 @@
+pub mod BoundLemmas
+pub mod ForestLemmas
+pub mod FrameLemmas
+pub mod LeftLemmas
+pub mod NextLemmas
+pub mod SizeLemmas
+pub mod SumLemmas
+pub mod TextLemmas
+pub mod WalkLemmas

@@ -1,0 +1,182 @@
+-- One call of `next`.
+use Rattle.std.proofs.Common.{ℕ, zero, suc, ◌≡◌, ◌≢◌, ◌+◌, ◌*◌, ◌-◌, ◌<◌, ◌≤◌, ◌^◌, ◌∙◌, List, ◌∷◌, length, map, drop, refl, sym, ap, subst, arith, length-drop, ℤ}
+use Rattle.std.specs.Prelude.{slice_index, slice_set, All, vec_len, vec_capacity}
+use Rattle.std.proofs.lemmas.Option.{slice_get_within}
+use Rattle.om_model.specs.declared.value.Val.{Val}
+use Rattle.om_model.specs.declared.value.Val.TheVariants as vals
+use Rattle.om_model.specs.declared.value.Obj.{Obj}
+use Rattle.om_model.specs.Graph.{IsValue}
+use Rattle.om_format.specs.Words.{all_words64}
+use Rattle.om_format.specs.Token.{integer, atom, shared, measure_of}
+use Rattle.om_format.specs.Tree.{Tree, Forest, none, more, node, tokens, forest_tokens}
+use Rattle.om_format.specs.Canonical.{data_spelling}
+use Rattle.om_format.specs.Iso.{IsTreeOf}
+use Rattle.om_canonical.proofs.CanonLemmas.{tokens-le}
+use Rattle.om_canonical.proofs.Walk.{has_one_tree, numbering}
+use Rattle.om_heap.specs.Heap.{object_at, IsHeap}
+use Rattle.om_write.specs.Step.{object_token, token_in}
+use Rattle.om_write.specs.Walking.{AreLeft, IsAt, IsWalk, IsFrame, IsMet, left_in, pending}
+use Rattle.om_write.specs.declared.walk.Step.{Step}
+use Rattle.om_write.specs.declared.walk.Step.TheVariants as steps
+use Rattle.om_write.specs.declared.walk.Walk.{Walk}
+use Rattle.om_write.proofs.BoundLemmas.{few_words, few_objects, objects-le-words}
+use Rattle.om_write.proofs.LeftLemmas.{object_next}
+use Rattle.om_write.proofs.SizeLemmas.{tree_words, few_bytes}
+use Rattle.om_write.proofs.WalkLemmas.{Advances, Keeps, Enters, advance_integer, advance_atom, advance_reference, advance_object, marks_behind}
+
+-- ---- how large a value is
+
+pub record IsBounded (tree : Tree) : Type 0 where
+  pub words : all_words64 (map measure_of (tokens tree)) < 2 ^ 60
+  pub bytes : length (data_spelling (tokens tree)) ≤ 9 + 9 * all_words64 (map measure_of (tokens tree))
+  pub tokens : length (tokens tree) ≤ length (data_spelling (tokens tree))
+
+pub bounded : (g : List Obj) (v : Val) (tree : Tree) → IsHeap g → IsValue (length g) v → IsTreeOf g v tree → IsBounded tree
+bounded g v tree heap is_value is_of =
+    let n = numbering g v tree heap.is_graph is_value is_of in record {
+      words = omega (arith, few_words g v tree n.0 n.1, tree_words tree 0 is_of.is_tree, heap.words);
+      bytes = few_bytes tree is_of.is_tree;
+      tokens = tokens-le tree is_of.is_tree;
+    }
+
+-- ---- after `next_value`
+
+some_token : (tree : Tree) (ks : List ℕ) (c : ℕ) (forest : Forest) (v : Val) (values : List Val) → AreLeft tree ks c forest (v ∷ values) → 0 < length (forest_tokens forest)
+some_token tree ks c none v values left = absurd left.alike
+some_token tree ks c (more (node t s) f) v values left = omega arith
+
+module _ (g : List Obj) (walk nv : Walk) (v : Val) (w : IsWalk g walk) (value : pending g walk ≡ v ∷ left_in g nv.frames.items)
+    (frames : All (IsFrame g) nv.frames.items) (depth : vec_len nv.frames ≤ vec_len walk.frames) (capacity : vec_capacity nv.frames ≡ vec_capacity walk.frames)
+    (frame : nv ≡ record walk { frames = nv.frames }) where
+  same_root : nv.root ≡ walk.root
+  same_root = ap (λ (x : Walk). x.root) frame
+
+  same_given : nv.given ≡ walk.given
+  same_given = ap (λ (x : Walk). x.given) frame
+
+  same_count : nv.count ≡ walk.count
+  same_count = ap (λ (x : Walk). x.count) frame
+
+  same_marks : nv.marks ≡ walk.marks
+  same_marks = ap (λ (x : Walk). x.marks) frame
+
+  pub given_small : nv.given + 1 < 2 ^ 64
+  given_small =
+      let t = has_one_tree g walk.root w.heap.is_graph w.value in
+      let at = w.at t.tree t.is in
+      let b = bounded g walk.root t.tree w.heap w.value t.is in
+      let some = some_token t.tree at.ks walk.count at.forest v (left_in g nv.frames.items) (subst (AreLeft t.tree at.ks walk.count at.forest) value at.left) in
+      let left : length (drop walk.given (tokens t.tree)) ≡ length (forest_tokens at.forest) = ap length at.tokens_left in
+      omega (arith, same_given, length-drop walk.given (tokens t.tree), b.words, b.bytes, b.tokens)
+
+  abbrev stepped : Walk
+  stepped = record nv { given = nv.given + 1 }
+
+  keeps : Keeps walk stepped
+  keeps = record { root = same_root; given = ap (λ n. n + 1) same_given; count = same_count; marks = ap (λ ms. ms.items) same_marks }
+
+  after : ((tree : Tree) → IsTreeOf g walk.root tree → IsAt g tree stepped) → IsWalk g stepped
+  after at = record {
+    heap = w.heap;
+    value = subst (IsValue (length g)) (sym same_root) w.value;
+    frames = frames;
+    depth = omega (arith, same_count, w.depth);
+    marks = ap (λ ms. vec_len ms) same_marks ∙ w.marks;
+    room = omega (arith, w.room);
+    at = λ tree is_of. at tree (subst (λ r. IsTreeOf g r tree) same_root is_of);
+  }
+
+  pub integer_advances : (z : ℤ) → v ≡ vals.Int z → (tree : Tree) → IsTreeOf g walk.root tree → Advances g tree walk stepped (integer z)
+  integer_advances z is tree is_of = advance_integer g tree walk stepped z (w.at tree is_of) keeps (subst (λ x. pending g walk ≡ x ∷ left_in g nv.frames.items) is value)
+
+  pub integer_walk : (z : ℤ) → v ≡ vals.Int z → IsWalk g stepped
+  integer_walk z is = after (λ tree is_of. (integer_advances z is tree is_of).at)
+
+  pub atom_advances : (tag : ℕ) → v ≡ vals.Atom tag → (tree : Tree) → IsTreeOf g walk.root tree → Advances g tree walk stepped (atom tag)
+  atom_advances tag is tree is_of = advance_atom g tree walk stepped tag (w.at tree is_of) keeps (subst (λ x. pending g walk ≡ x ∷ left_in g nv.frames.items) is value)
+
+  pub atom_walk : (tag : ℕ) → v ≡ vals.Atom tag → IsWalk g stepped
+  atom_walk tag is = after (λ tree is_of. (atom_advances tag is tree is_of).at)
+
+  -- ---- before `meet`
+
+  pub mark_behind : (k : ℕ) → slice_index nv.marks.items k ≤ nv.count
+  mark_behind k =
+      let t = has_one_tree g walk.root w.heap.is_graph w.value in
+      let at = w.at t.tree t.is in
+      rw (same_count, same_marks) (marks_behind g at.ks walk.count k walk.marks.items at.marked)
+
+  -- before an object that is met first, fewer were met than there are
+  fewer_met : (k : ℕ) → v ≡ vals.Ref k → slice_index walk.marks.items k ≡ 0 → walk.count < length g
+  fewer_met k is new =
+      let t = has_one_tree g walk.root w.heap.is_graph w.value in
+      let at = w.at t.tree t.is in
+      let left : AreLeft t.tree at.ks walk.count at.forest (vals.Ref k ∷ left_in g nv.frames.items) =
+      subst (λ x. AreLeft t.tree at.ks walk.count at.forest (x ∷ left_in g nv.frames.items)) is (subst (AreLeft t.tree at.ks walk.count at.forest) value at.left) in
+      let meets = object_next g walk.root t.tree at.ks walk.count k walk.marks.items at.forest (left_in g nv.frames.items) at.numbering at.marked new left in
+      let among : walk.count < length at.ks = slice_get_within at.ks walk.count k meets.at_c in
+      omega (arith, few_objects g walk.root t.tree at.ks at.numbering)
+
+  mark_is_old : (k n : ℕ) → slice_index nv.marks.items k ≡ n → slice_index walk.marks.items k ≡ n
+  mark_is_old k n is = subst (λ ms. slice_index ms.items k ≡ n) same_marks is
+
+  pub frame_room : (k : ℕ) → v ≡ vals.Ref k → slice_index nv.marks.items k ≡ 0 → vec_len nv.frames < vec_capacity nv.frames
+  frame_room k is new = omega (arith, fewer_met k is (mark_is_old k 0 new), w.depth, w.room)
+
+  pub count_small : (k : ℕ) → v ≡ vals.Ref k → slice_index nv.marks.items k ≡ 0 → nv.count + 1 < 2 ^ 64
+  count_small k is new = omega (arith, fewer_met k is (mark_is_old k 0 new), same_count, objects-le-words g, w.heap.words)
+
+  pub marks_many : vec_len nv.marks ≡ length g
+  marks_many = ap (λ ms. vec_len ms) same_marks ∙ w.marks
+
+  -- ---- after `meet`
+
+  pub record Follows (new : Walk) (step : Step) : Type 0 where
+    pub advances : (tree : Tree) → IsTreeOf g walk.root tree → Advances g tree walk new (token_in g step)
+    pub more_given : new.given ≡ walk.given + 1
+    pub is_walk : IsWalk g new
+
+  met_first : (k : ℕ) (new : Walk) (step : Step) → v ≡ vals.Ref k → k < length g → slice_index nv.marks.items k ≡ 0 → IsMet g k stepped new step → Follows new step
+  met_first k new step is inside mark met =
+      let enters : Enters g k (left_in g nv.frames.items) walk new = record {
+        root = met.root ∙ same_root;
+        given = met.given ∙ ap (λ n. n + 1) same_given;
+        count = met.count ∙ ap (λ n. n + 1) same_count;
+        marks = met.marks ∙ ap (λ ms. slice_set ms.items k (nv.count + 1)) same_marks ∙ ap (λ n. slice_set walk.marks.items k (n + 1)) same_count;
+        left = met.left;
+      } in
+      let goes : (tree : Tree) → IsTreeOf g walk.root tree → Advances g tree walk new (object_token (object_at g k)) = λ tree is_of.
+      advance_object g tree walk new k (left_in g nv.frames.items) (w.at tree is_of) enters inside (mark_is_old k 0 mark)
+      (subst (λ x. pending g walk ≡ x ∷ left_in g nv.frames.items) is value) in record {
+        advances = λ tree is_of. subst (Advances g tree walk new) (sym met.token) (goes tree is_of);
+        more_given = enters.given;
+        is_walk = record {
+          heap = w.heap;
+          value = subst (IsValue (length g)) (sym enters.root) w.value;
+          frames = met.frames;
+          depth = omega (arith, met.depth, met.count, same_count, w.depth);
+          marks = met.many_marks ∙ marks_many;
+          room = omega (arith, w.room, met.capacity);
+          at = λ tree is_of. (goes tree (subst (λ r. IsTreeOf g r tree) enters.root is_of)).at;
+        };
+      }
+
+  met_again : (k i : ℕ) → v ≡ vals.Ref k → slice_index nv.marks.items k ≡ suc i → Follows stepped (steps.Shared (nv.count - (slice_index nv.marks.items k - 1)))
+  met_again k i is mark =
+      let offset : walk.count - i ≡ nv.count - (slice_index nv.marks.items k - 1) = omega (arith, same_count) in
+      let goes : (tree : Tree) → IsTreeOf g walk.root tree → Advances g tree walk stepped (shared (walk.count - i)) = λ tree is_of.
+      advance_reference g tree walk stepped k i (w.at tree is_of) keeps (mark_is_old k (suc i) mark)
+      (subst (λ x. pending g walk ≡ x ∷ left_in g nv.frames.items) is value) in record {
+        advances = λ tree is_of. subst (λ n. Advances g tree walk stepped (shared n)) offset (goes tree is_of);
+        more_given = keeps.given;
+        is_walk = after (λ tree is_of. (goes tree is_of).at);
+      }
+
+  pub reference_follows : (k : ℕ) (new : Walk) (step : Step) → v ≡ vals.Ref k → k < length g → (slice_index nv.marks.items k ≡ 0 → IsMet g k stepped new step)
+      → (slice_index nv.marks.items k ≢ 0 → (new ≡ stepped) × (step ≡ steps.Shared (nv.count - (slice_index nv.marks.items k - 1)))) → Follows new step
+  reference_follows k new step is inside first again = by_mark (slice_index nv.marks.items k) refl where
+    by_mark : (m : ℕ) → slice_index nv.marks.items k ≡ m → Follows new step
+    by_mark zero mark = met_first k new step is inside mark (first mark)
+    by_mark (suc i) mark =
+        let r = again (λ none. omega arith) in
+        subst (λ x. Follows x step) (sym r.0) (subst (Follows stepped) (sym r.1) (met_again k i is mark))

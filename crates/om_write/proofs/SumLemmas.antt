@@ -1,0 +1,151 @@
+-- The numbers of a header, token by token.
+use Rattle.std.proofs.Common.{ℕ, zero, suc, ◌≡◌, ◌+◌, ◌*◌, ◌-◌, ◌<◌, ◌≤◌, ◌^◌, ◌∙◌, Bool, true, false, ◌||◌, leb, leb-false, List, [], ◌∷◌, ◌++◌, length, map, take, drop, Some, refl, sym, ap, subst, arith, length-append, append-nil}
+use Rattle.std.specs.Prelude.{slice_get, sum_by, flat_map}
+use Rattle.std.proofs.lemmas.List.{map-append, take-append-drop}
+use Rattle.std.proofs.Math.Seq.{take-length}
+use Rattle.std.proofs.lemmas.List.Sums.{sum_by-append, sum_by-cons}
+use Rattle.om_model.specs.declared.code.Measure.{Measure}
+use Rattle.om_model.specs.declared.code.Measure.TheVariants as measures
+use Rattle.om_model.specs.declared.value.Obj.{Obj}
+use Rattle.om_model.specs.declared.value.Obj.TheVariants as objs
+use Rattle.om_format.specs.Words.{of_object, words32, words64, objects, all_words32, all_words64}
+use Rattle.om_format.specs.Token.{Token, integer, atom, shared, block, leaf, measure_of}
+use Rattle.om_format.specs.Tree.{Tree, tokens, made_by}
+use Rattle.om_format.specs.Canonical.{double_bytes, doubles_front, spelling, data_spelling, canonical_head}
+use Rattle.om_format.specs.Iso.{IsTreeOf}
+use Rattle.om_canonical.proofs.Walk.{has_one_tree}
+use Rattle.om_headers.specs.Spelling.{FitsSmall}
+use Rattle.om_write.specs.Step.{IsNext, token_in}
+use Rattle.om_write.specs.Sums.{token_totals, object_totals, totals_of, plus, FitTotals}
+use Rattle.om_write.specs.Walking.{IsWalk}
+use Rattle.om_write.specs.declared.measure.Totals.{Totals}
+use Rattle.om_write.specs.declared.walk.Step.{Step}
+use Rattle.om_write.specs.declared.walk.Walk.{Walk}
+use Rattle.om_write.proofs.NextLemmas.{IsBounded, bounded}
+use Rattle.om_write.proofs.SizeLemmas.{length-data, length_doubles, few_words32}
+
+-- ---- one more token
+
+pub take_one : {X : Type 0} (n : ℕ) (xs : List X) (x : X) → slice_get xs n ≡ Some x → take (n + 1) xs ≡ take n xs ++ x ∷ []
+take_one zero [] x is = absurd (cc)
+take_one zero (y ∷ xs) x is = cc
+take_one (suc n) [] x is = absurd (cc)
+take_one (suc n) (y ∷ xs) x is = let place : suc n + 1 ≡ suc (n + 1) = omega arith in rw place (ap (λ zs. y ∷ zs) (take_one n xs x is))
+
+words-append : (f : Measure → ℕ) (xs ys : List Token) → sum_by (of_object f) (map measure_of (xs ++ ys)) ≡ sum_by (of_object f) (map measure_of xs) + sum_by (of_object f) (map measure_of ys)
+words-append f xs ys = ap (sum_by (of_object f)) (map-append measure_of xs ys) ∙ sum_by-append (of_object f) (map measure_of xs) (map measure_of ys)
+
+words-one : (f : Measure → ℕ) (t : Token) → sum_by (of_object f) (map measure_of (t ∷ [])) ≡ of_object f (measure_of t)
+words-one f t = omega (arith, sum_by-cons (of_object f) (measure_of t) [])
+
+pub totals-append : (xs ys : List Token) → totals_of (xs ++ ys) ≡ plus (totals_of xs) (totals_of ys)
+totals-append xs ys = rw (length-data xs ys, words-append (λ _. 1) xs ys, words-append words32 xs ys, words-append words64 xs ys) refl
+
+totals-one : (t : Token) → totals_of (t ∷ []) ≡ token_totals t
+totals-one t =
+    let bytes : length (spelling t ++ []) ≡ length (spelling t) = ap length (append-nil (spelling t)) in
+    rw (bytes, words-one (λ _. 1) t, words-one words32 t, words-one words64 t) refl
+
+pub totals-take : (n : ℕ) (ts : List Token) (t : Token) → slice_get ts n ≡ Some t → totals_of (take (n + 1) ts) ≡ plus (totals_of (take n ts)) (token_totals t)
+totals-take n ts t is = ap totals_of (take_one n ts t is) ∙ totals-append (take n ts) (t ∷ []) ∙ ap (plus (totals_of (take n ts))) (totals-one t)
+
+-- ---- each number fits
+
+object_word : (t : Token) → made_by t ≤ of_object words64 (measure_of t)
+object_word (integer z) = omega arith
+object_word (atom tag) = omega arith
+object_word (shared offset) = omega arith
+object_word (block tag size) = omega arith
+object_word (leaf (objs.Block tag vs)) = omega arith
+object_word (leaf (objs.Bytes bytes)) = omega arith
+object_word (leaf (objs.Double bits)) = omega arith
+object_word (leaf (objs.Doubles all)) = omega arith
+object_word (leaf (objs.I32 z)) = omega arith
+object_word (leaf (objs.I64 z)) = omega arith
+object_word (leaf (objs.Native z)) = omega arith
+
+few_objects : (ts : List Token) → objects (map measure_of ts) ≤ all_words64 (map measure_of ts)
+few_objects [] = omega arith
+few_objects (t ∷ ts) =
+    omega (arith, sum_by-cons (of_object (λ _. 1)) (measure_of t) (map measure_of ts), sum_by-cons (of_object words64) (measure_of t) (map measure_of ts), object_word t, few_objects ts)
+
+all_fit : (tree : Tree) → IsBounded tree → FitTotals (totals_of (tokens tree))
+all_fit tree b = record {
+  length = omega (arith, b.words, b.bytes);
+  objects = omega (arith, b.words, few_objects (tokens tree));
+  w32 = omega (arith, b.words, few_words32 (tokens tree));
+  w64 = omega (arith, b.words);
+}
+
+front_fits : (a b : Totals) → FitTotals (plus a b) → FitTotals a
+front_fits a b h = record { length = omega (arith, h.length); objects = omega (arith, h.objects); w32 = omega (arith, h.w32); w64 = omega (arith, h.w64) }
+
+pub some_fit : (n : ℕ) (tree : Tree) → IsBounded tree → FitTotals (totals_of (take n (tokens tree)))
+some_fit n tree b =
+    let whole : totals_of (tokens tree) ≡ plus (totals_of (take n (tokens tree))) (totals_of (drop n (tokens tree))) =
+    ap totals_of (sym (take-append-drop n (tokens tree))) ∙ totals-append (take n (tokens tree)) (drop n (tokens tree)) in
+    front_fits (totals_of (take n (tokens tree))) (totals_of (drop n (tokens tree))) (subst FitTotals whole (all_fit tree b))
+
+pub all_taken : {X : Type 0} (n : ℕ) (ts : List X) → n ≡ length ts → take n ts ≡ ts
+all_taken n ts is = ap (λ m. take m ts) is ∙ take-length ts
+
+-- ---- a turn of a loop over a walk
+
+-- the walk gave this step, and is at the next token
+abbrev pub Gave : List Obj → Walk → Walk → Step → Type 0
+Gave g walk new step = (tree : Tree) → IsTreeOf g walk.root tree → IsNext g (tokens tree) walk.given (Some step) new.given
+
+pub given_falls : (g : List Obj) (walk new : Walk) (step : Step) → IsWalk g walk → IsWalk g new → new.root ≡ walk.root → Gave g walk new step → 2 ^ 64 - new.given < 2 ^ 64 - walk.given
+given_falls g walk new step w n root gave =
+    let t = has_one_tree g walk.root w.heap.is_graph w.value in
+    let b = bounded g walk.root t.tree w.heap w.value t.is in
+    let at = n.at t.tree (subst (λ r. IsTreeOf g r t.tree) (sym root) t.is) in
+    omega (arith, (gave t.tree t.is).1, at.within, b.words, b.bytes, b.tokens)
+
+-- the totals of the tokens that were given
+abbrev pub AreTotals : List Obj → Walk → Totals → Type 0
+AreTotals g walk totals = (tree : Tree) → IsTreeOf g walk.root tree → totals ≡ totals_of (take walk.given (tokens tree))
+
+pub totals_next : (g : List Obj) (walk new : Walk) (step : Step) (totals : Totals) → Gave g walk new step → AreTotals g walk totals
+    → (tree : Tree) → IsTreeOf g walk.root tree → plus totals (token_totals (token_in g step)) ≡ totals_of (take new.given (tokens tree))
+totals_next g walk new step totals gave are tree is_of =
+    let r = gave tree is_of in
+    ap (λ x. plus x (token_totals (token_in g step))) (are tree is_of)
+    ∙ sym (totals-take walk.given (tokens tree) (token_in g step) r.0)
+    ∙ ap (λ n. totals_of (take n (tokens tree))) (sym r.1)
+
+pub totals_fit : (g : List Obj) (walk new : Walk) (step : Step) (totals : Totals) → IsWalk g walk → Gave g walk new step → AreTotals g walk totals → FitTotals (plus totals (token_totals (token_in g step)))
+totals_fit g walk new step totals w gave are =
+    let t = has_one_tree g walk.root w.heap.is_graph w.value in
+    subst FitTotals (sym (totals_next g walk new step totals gave are t.tree t.is)) (some_fit new.given t.tree (bounded g walk.root t.tree w.heap w.value t.is))
+
+-- an array of doubles
+pub doubles_totals : (o : Obj) (all : List ℕ) (front n : ℕ) → o ≡ objs.Doubles all → n ≡ length all → front ≡ length (doubles_front n) → object_totals (front + 8 * n) (measures.Doubles n) ≡ token_totals (leaf o)
+doubles_totals o all front n is many first =
+    let bytes : length (doubles_front (length all) ++ flat_map double_bytes all) ≡ front + 8 * n =
+    length-append (doubles_front (length all)) (flat_map double_bytes all) ∙ ap (λ m. length (doubles_front (length all)) + m) (length_doubles all)
+    ∙ ap (λ m. length (doubles_front m) + 8 * m) (sym many) ∙ ap (λ m. m + 8 * n) (sym first) in
+    ap (λ m. object_totals m (measures.Doubles n)) (sym bytes)
+    ∙ ap (λ m. object_totals (length (doubles_front (length all) ++ flat_map double_bytes all)) (measures.Doubles m)) many
+    ∙ sym (ap (λ x. token_totals (leaf x)) is)
+
+-- ---- the header
+
+or_false : (a b : Bool) → (a || b) ≡ false → (a ≡ false) × (b ≡ false)
+or_false true b e = absurd (cc)
+or_false false b e = (refl, e)
+
+-- each number of a header that is not big has four bytes
+pub canonical_fits : (ts : List Token) → FitsSmall (canonical_head ts)
+canonical_fits ts small =
+    let n = length (data_spelling ts) in
+    let w32 = all_words32 (map measure_of ts) in
+    let w64 = all_words64 (map measure_of ts) in
+    let parts = or_false (leb (2 ^ 32) n) (leb (2 ^ 32) w32 || leb (2 ^ 32) w64) small in
+    let words = or_false (leb (2 ^ 32) w32) (leb (2 ^ 32) w64) parts.1 in
+    let few : w64 < 2 ^ 32 = leb-false (2 ^ 32) w64 words.1 in record {
+      length = leb-false (2 ^ 32) n parts.0;
+      objects = omega (arith, few_objects ts);
+      w32 = leb-false (2 ^ 32) w32 words.0;
+      w64 = few;
+    }

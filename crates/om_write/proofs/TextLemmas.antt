@@ -1,0 +1,218 @@
+-- A text that goes to a sink through a buffer.
+use Rattle.std.proofs.Common.{ℕ, zero, suc, drop, get_or, ◌≡◌, ◌+◌, ◌<◌, ◌≤◌, ◌∙◌, true, false, List, [], ◌∷◌, ◌++◌, length, take, Option, Some, None, Ok, Err, Result, refl, sym, ap, subst, arith, append_assoc, append-nil, length-append}
+use Rattle.std.specs.Prelude.{IfSome, IsErr, OnOk, MatchResult, flat_map, slice_get}
+use Rattle.std.proofs.lemmas.List.{take-append-le, take-append-drop}
+use Rattle.std.proofs.lemmas.List.Concat.{flat_map-append}
+use Rattle.std.proofs.lemmas.Result.{MatchResult-from_err}
+use Rattle.om_model.specs.declared.value.Obj.{Obj}
+use Rattle.om_model.specs.declared.value.Obj.TheVariants as objects
+use Rattle.om_format.specs.Canonical.{double_bytes, string_front, doubles_front, leaf_spelling, spelling, data_spelling, header_spelling, canonical_head, canon}
+use Rattle.om_format.specs.Tree.{Tree, tokens}
+use Rattle.om_format.specs.Token.{Token}
+use Rattle.om_heap.specs.Heap.{doubles_of}
+use Rattle.om_edge.specs.State.{ByteState, change}
+use Rattle.om_edge.specs.Faults.{HasCause}
+use Rattle.om_edge.specs.Sink.{Puts, PutsPart, AppendsPart}
+use Rattle.om_write.proofs.SumLemmas.{take_one}
+use Rattle.om_write.specs.Text.{Carries, AddsAll, AddsPart, Adds}
+
+-- ---- puts one after another
+
+appended_twice : (x y z : Option (List ℕ)) (p q : List ℕ) → IfSome x (λ b. y ≡ Some (b ++ p)) → IfSome y (λ b. z ≡ Some (b ++ q)) → IfSome x (λ b. z ≡ Some (b ++ (p ++ q)))
+appended_twice None y z p q first second = tt
+appended_twice (Some b) y z p q first second =
+    let r : z ≡ Some ((b ++ p) ++ q) = subst (λ o. IfSome o (λ b. z ≡ Some (b ++ q))) first second in
+    r ∙ ap Some (append_assoc b p q)
+
+take_over : (p q : List ℕ) (n : ℕ) → take (length p + n) (p ++ q) ≡ p ++ take n q
+take_over [] q n = ap (λ m. take m q) (omega arith)
+take_over (x ∷ p) q n = let place : suc (length p) + n ≡ suc (length p + n) = omega arith in rw place (ap (λ t. x ∷ t) (take_over p q n))
+
+part_after : (x y z : Option (List ℕ)) (p q : List ℕ) → IfSome x (λ b. y ≡ Some (b ++ p)) → IfSome y (λ b. AppendsPart b q z) → IfSome x (λ b. AppendsPart b (p ++ q) z)
+part_after None y z p q first second = tt
+part_after (Some b) y z p q first second =
+    let r : AppendsPart (b ++ p) q z = subst (λ o. IfSome o (λ b. AppendsPart b q z)) first second in
+    let front : take (length p + r.0) (p ++ q) ≡ p ++ take r.0 q = take_over p q r.0 in
+    (length p + r.0, omega (arith, length-append p q, r.1), r.2 ∙ ap Some (append_assoc b p (take r.0 q) ∙ ap (λ t. b ++ t) (sym front)))
+
+part_longer : (x z : Option (List ℕ)) (p q : List ℕ) → IfSome x (λ b. AppendsPart b p z) → IfSome x (λ b. AppendsPart b (p ++ q) z)
+part_longer None z p q part = tt
+part_longer (Some b) z p q part =
+    let few : part.0 ≤ length p = omega (arith, part.1) in
+    let front : take part.0 (p ++ q) ≡ take part.0 p = take-append-le part.0 p q few in
+    (part.0, omega (arith, length-append p q, part.1), part.2 ∙ ap (λ t. Some (b ++ t)) (sym front))
+
+puts_puts : (a b c : ByteState) (p q : List ℕ) → Puts (change a b) p → Puts (change b c) q → Puts (change a c) (p ++ q)
+puts_puts a b c p q first second = record {
+  appended = appended_twice a.bytes b.bytes c.bytes p q first.appended second.appended;
+  told = second.told ∙ first.told;
+  cause = subst (λ n. HasCause n c.faults false) first.cause.kept second.cause;
+}
+
+puts_part : (a b c : ByteState) (p q : List ℕ) → Puts (change a b) p → PutsPart (change b c) q → PutsPart (change a c) (p ++ q)
+puts_part a b c p q first second = record {
+  appended = part_after a.bytes b.bytes c.bytes p q first.appended second.appended;
+  told = second.told ∙ first.told;
+  cause = subst (λ n. HasCause n c.faults true) first.cause.kept second.cause;
+}
+
+-- a part of a text is a part of each longer one
+pub part_more : (a c : ByteState) (p q : List ℕ) → PutsPart (change a c) p → PutsPart (change a c) (p ++ q)
+part_more a c p q part = record { appended = part_longer a.bytes c.bytes p q part.appended; told = part.told; cause = part.cause }
+
+-- ---- the text
+
+starts_at : (x : Option (List ℕ)) → IfSome x (λ b. x ≡ Some (b ++ []))
+starts_at None = tt
+starts_at (Some b) = ap Some (sym (append-nil b))
+
+pub carries_nothing : (s : ByteState) → Carries s s [] []
+carries_nothing s = record {
+  front = [];
+  whole = refl;
+  puts = record {
+    appended = starts_at s.bytes;
+    told = refl;
+    cause = record { never_falls = omega arith; rose = tt; kept = refl; at_last = λ e. e };
+  };
+}
+
+pub flushed : (old new : ByteState) (buffer : List ℕ) → Puts (change old new) buffer → AddsAll old new buffer [] []
+flushed old new buffer puts before text carries = record {
+  front = carries.front ++ buffer;
+  whole = ap (λ t. t ++ []) carries.whole;
+  puts = puts_puts before old new carries.front buffer carries.puts puts;
+}
+
+pub flush_failed : (old new : ByteState) (buffer : List ℕ) → PutsPart (change old new) buffer → AddsPart old new buffer []
+flush_failed old new buffer part before text carries =
+    part_more before new text [] (subst (PutsPart (change before new)) carries.whole (puts_part before old new carries.front buffer carries.puts part))
+
+-- the buffer is lengthened
+pub buffered : (now : ByteState) (buffer piece : List ℕ) → AddsAll now now buffer (buffer ++ piece) piece
+buffered now buffer piece before text carries = record {
+  front = carries.front;
+  whole = sym (append_assoc carries.front buffer piece) ∙ ap (λ t. t ++ piece) carries.whole;
+  puts = carries.puts;
+}
+
+pub adds_nothing : (a : ByteState) (x : List ℕ) → AddsAll a a x x []
+adds_nothing a x before text carries = subst (Carries before a x) (sym (append-nil text)) carries
+
+-- one piece, and then another
+pub adds_both : (a b c : ByteState) (x y z p q : List ℕ) → AddsAll a b x y p → AddsAll b c y z q → AddsAll a c x z (p ++ q)
+adds_both a b c x y z p q first second before text carries =
+    subst (Carries before c z) (append_assoc text p q) (second before (text ++ p) (first before text carries))
+
+pub adds_then_part : (a b c : ByteState) (x y p q : List ℕ) → AddsAll a b x y p → AddsPart b c y q → AddsPart a c x (p ++ q)
+adds_then_part a b c x y p q first second before text carries =
+    subst (PutsPart (change before c)) (append_assoc text p q) (second before (text ++ p) (first before text carries))
+
+-- where a piece failed, a longer one did
+pub adds_part_of : (a b : ByteState) (x p q : List ℕ) → AddsPart a b x p → AddsPart a b x (p ++ q)
+adds_part_of a b x p q first before text carries =
+    subst (PutsPart (change before b)) (append_assoc text p q) (part_more before b (text ++ p) q (first before text carries))
+
+-- the answer of a call that failed
+pub adds_if_failed : {A E : Type 0} (a b : ByteState) (x y p : List ℕ) (result : Result A E) → IsErr result → AddsPart a b x p → Adds a b x y p result
+adds_if_failed a b x y p result is part = MatchResult-from_err result (λ _. AddsAll a b x y p) (λ _. AddsPart a b x p) is (λ _. part)
+
+pub adds_then : {A E : Type 0} (a b c : ByteState) (x y z p q : List ℕ) (result : Result A E) → AddsAll a b x y p → Adds b c y z q result → Adds a c x z (p ++ q) result
+adds_then a b c x y z p q (Ok done) first second = adds_both a b c x y z p q first second
+adds_then a b c x y z p q (Err failed) first second = adds_then_part a b c x y p q first second
+
+-- ---- a content, element by element
+
+take_more : (xs : List ℕ) (i : ℕ) → i < length xs → take (i + 1) xs ≡ take i xs ++ get_or xs i 0 ∷ []
+take_more [] i inside = absurd (omega arith)
+take_more (x ∷ xs) zero inside = refl
+take_more (x ∷ xs) (suc i) inside = let place : suc i + 1 ≡ suc (i + 1) = omega arith in rw place (ap (λ ys. x ∷ ys) (take_more xs i (omega arith)))
+
+-- what an element adds to the text of the elements before it
+text_more : (f : ℕ → List ℕ) (xs : List ℕ) (i : ℕ) → i < length xs → flat_map f (take (i + 1) xs) ≡ flat_map f (take i xs) ++ f (get_or xs i 0)
+text_more f xs i inside =
+    ap (flat_map f) (take_more xs i inside) ∙ flat_map-append f (take i xs) (get_or xs i 0 ∷ [])
+    ∙ ap (λ t. flat_map f (take i xs) ++ t) (append-nil (f (get_or xs i 0)))
+
+text_split : (f : ℕ → List ℕ) (xs : List ℕ) (i : ℕ) → flat_map f (take i xs) ++ flat_map f (drop i xs) ≡ flat_map f xs
+text_split f xs i = sym (flat_map-append f (take i xs) (drop i xs)) ∙ ap (flat_map f) (take-append-drop i xs)
+
+pub content_more : (a b c : ByteState) (x y z : List ℕ) (f : ℕ → List ℕ) (xs : List ℕ) (i : ℕ) → i < length xs
+    → AddsAll a b x y (flat_map f (take i xs)) → AddsAll b c y z (f (get_or xs i 0)) → AddsAll a c x z (flat_map f (take (i + 1) xs))
+content_more a b c x y z f xs i inside first second =
+    subst (AddsAll a c x z) (sym (text_more f xs i inside)) (adds_both a b c x y z (flat_map f (take i xs)) (f (get_or xs i 0)) first second)
+
+pub content_failed : (a b c : ByteState) (x y : List ℕ) (f : ℕ → List ℕ) (xs : List ℕ) (i : ℕ) → i < length xs
+    → AddsAll a b x y (flat_map f (take i xs)) → AddsPart b c y (f (get_or xs i 0)) → AddsPart a c x (flat_map f xs)
+content_failed a b c x y f xs i inside first second =
+    subst (AddsPart a c x) (text_split f xs (i + 1))
+    (adds_part_of a c x (flat_map f (take (i + 1) xs)) (flat_map f (drop (i + 1) xs))
+    (subst (AddsPart a c x) (sym (text_more f xs i inside)) (adds_then_part a b c x y (flat_map f (take i xs)) (f (get_or xs i 0)) first second)))
+
+-- bytes are their own text
+abbrev pub itself : ℕ → List ℕ
+itself b = b ∷ []
+
+pub flat_map-itself : (xs : List ℕ) → flat_map itself xs ≡ xs
+flat_map-itself [] = refl
+flat_map-itself (x ∷ xs) = ap (λ ys. x ∷ ys) (flat_map-itself xs)
+
+-- ---- leaves
+
+pub string_text : (o : Obj) (bytes front : List ℕ) (n : ℕ) → o ≡ objects.Bytes bytes → n ≡ length bytes → front ≡ string_front n → front ++ bytes ≡ leaf_spelling o
+string_text o bytes front n is many first = ap (λ t. t ++ bytes) (first ∙ ap string_front many) ∙ sym (ap leaf_spelling is)
+
+pub double_text : (o : Obj) (bits : ℕ) → o ≡ objects.Double bits → (0x0c ∷ []) ++ flat_map double_bytes (doubles_of o) ≡ leaf_spelling o
+double_text o bits is =
+    subst (λ x. (0x0c ∷ []) ++ flat_map double_bytes (doubles_of x) ≡ leaf_spelling x) (sym is) (ap (λ t. 0x0c ∷ t) (append-nil (double_bytes bits)))
+
+pub doubles_text : (o : Obj) (all front : List ℕ) (n : ℕ) → o ≡ objects.Doubles all → n ≡ length all → front ≡ doubles_front n → front ++ flat_map double_bytes all ≡ leaf_spelling o
+doubles_text o all front n is many first = ap (λ t. t ++ flat_map double_bytes all) (first ∙ ap doubles_front many) ∙ sym (ap leaf_spelling is)
+
+-- ---- tokens
+
+data-push : (ts : List Token) (t : Token) → data_spelling (ts ++ t ∷ []) ≡ data_spelling ts ++ spelling t
+data-push ts t = flat_map-append spelling ts (t ∷ []) ∙ ap (λ bytes. data_spelling ts ++ bytes) (append-nil (spelling t))
+
+pub token_more : (a b c : ByteState) (x y z : List ℕ) (ts : List Token) (t : Token) (n m : ℕ) → slice_get ts n ≡ Some t → m ≡ n + 1
+    → AddsAll a b x y (data_spelling (take n ts)) → AddsAll b c y z (spelling t) → AddsAll a c x z (data_spelling (take m ts))
+token_more a b c x y z ts t n m is next first second =
+    subst (AddsAll a c x z) (sym (ap (λ k. data_spelling (take k ts)) next ∙ ap data_spelling (take_one n ts t is) ∙ data-push (take n ts) t))
+    (adds_both a b c x y z (data_spelling (take n ts)) (spelling t) first second)
+
+pub token_failed : (a b c : ByteState) (x y : List ℕ) (ts : List Token) (t : Token) (n : ℕ) → slice_get ts n ≡ Some t
+    → AddsAll a b x y (data_spelling (take n ts)) → AddsPart b c y (spelling t) → AddsPart a c x (data_spelling ts)
+token_failed a b c x y ts t n is first second =
+    let whole : data_spelling (take (n + 1) ts) ++ data_spelling (drop (n + 1) ts) ≡ data_spelling ts =
+    sym (flat_map-append spelling (take (n + 1) ts) (drop (n + 1) ts)) ∙ ap data_spelling (take-append-drop (n + 1) ts) in
+    subst (AddsPart a c x) whole
+    (adds_part_of a c x (data_spelling (take (n + 1) ts)) (data_spelling (drop (n + 1) ts))
+    (subst (AddsPart a c x) (sym (ap data_spelling (take_one n ts t is) ∙ data-push (take n ts) t))
+    (adds_then_part a b c x y (data_spelling (take n ts)) (spelling t) first second)))
+
+-- ---- the whole
+
+-- what was put from an empty buffer on is the text
+pub all_put : (a b : ByteState) (x y text : List ℕ) → x ≡ [] → y ≡ [] → AddsAll a b x y text → Puts (change a b) text
+all_put a b x y text empty gone adds =
+    let nothing : Carries a a x [] = subst (λ z. Carries a a z []) (sym empty) (carries_nothing a) in
+    let carries = adds a [] nothing in
+    let same : carries.front ≡ text = sym (append-nil carries.front) ∙ ap (λ z. carries.front ++ z) (sym gone) ∙ carries.whole in
+    subst (Puts (change a b)) same carries.puts
+
+pub part_put : (a b : ByteState) (x text : List ℕ) → x ≡ [] → AddsPart a b x text → PutsPart (change a b) text
+part_put a b x text empty adds = adds a [] (subst (λ z. Carries a a z []) (sym empty) (carries_nothing a))
+
+pub canon_is : (tree : Tree) → header_spelling (canonical_head (tokens tree)) ++ data_spelling (tokens tree) ≡ canon tree
+unfolding canon
+canon_is tree = refl
+
+-- a header, the tokens, and what was left in the buffer
+pub whole_put : {A E : Type 0} (a b c d : ByteState) (x y z w head body text : List ℕ) (result : Result A E) → x ≡ [] → AddsAll a b x y head → AddsAll b c y z body
+    → Adds c d z w [] result → OnOk result (w ≡ []) → head ++ body ≡ text → MatchResult result (λ _. Puts (change a d) text) (λ _. PutsPart (change a d) text)
+whole_put a b c d x y z w head body text (Ok done) empty first second last gone is =
+    all_put a d x w text empty gone (subst (AddsAll a d x w) (append-nil (head ++ body) ∙ is)
+    (adds_both a c d x z w (head ++ body) [] (adds_both a b c x y z head body first second) last))
+whole_put a b c d x y z w head body text (Err failed) empty first second last gone is =
+    part_put a d x text empty (subst (AddsPart a d x) (append-nil (head ++ body) ∙ is)
+    (adds_then_part a c d x z (head ++ body) [] (adds_both a b c x y z head body first second) last))

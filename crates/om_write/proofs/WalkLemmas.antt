@@ -1,0 +1,204 @@
+-- A walk from token to token.
+use Rattle.std.proofs.Common.{ℕ, zero, suc, ◌≡◌, ◌≢◌, ◌==◌, false, cond, eqb, eqb-true, ◌+◌, ◌-◌, ◌<◌, ◌≤◌, ◌∙◌, replicate, length-drop, List, [], ◌∷◌, ◌++◌, length, drop, Some, refl, sym, ap, subst, arith, inl, inr, append-nil, add-one, get_or, length-set, get_or-set_same, get_or-set_other, ℤ}
+use Rattle.std.specs.Prelude.{slice_get, slice_index, slice_set, vec_len, vec_capacity}
+use Rattle.std.proofs.lemmas.Bool.{cases_Bool}
+use Rattle.std.proofs.lemmas.List.{length-replicate}
+use Rattle.std.proofs.lemmas.Option.{same_Some}
+use Rattle.om_model.proofs.Options.{same_or_not}
+use Rattle.om_model.specs.declared.value.Val.{Val}
+use Rattle.om_model.specs.declared.value.Val.TheVariants as vals
+use Rattle.om_model.specs.declared.value.Obj.{Obj}
+use Rattle.om_model.specs.Graph.{IsValue}
+use Rattle.om_format.specs.Token.{Token, integer, atom, shared}
+use Rattle.om_format.specs.Tree.{Tree, none, more, tokens, forest_tokens, objects_of}
+use Rattle.om_canonical.specs.Numbering.{AreDistinct, IsNumbering}
+use Rattle.om_canonical.proofs.Walk.{numbering}
+use Rattle.om_heap.specs.Heap.{object_at, fields_of, IsHeap}
+use Rattle.om_write.specs.Step.{object_token}
+use Rattle.om_write.specs.Walking.{AreMarked, AreLeft, IsAt, IsWalk, left_in, pending}
+use Rattle.om_write.specs.declared.walk.Walk.{Walk}
+use Rattle.om_write.proofs.LeftLemmas.{Goes, nothing_left, integer_next, atom_next, object_next, reference_next}
+
+-- ---- marks
+
+pub mark_more : (g : List Obj) (ks : List ℕ) (c k : ℕ) (marks : List ℕ) → AreDistinct ks → slice_get ks c ≡ Some k → k < length g → AreMarked g ks c marks → AreMarked g ks (c + 1) (slice_set marks k (c + 1))
+mark_more g ks c k marks distinct at_c inside marked =
+    let within : k < length marks = rw marked.size inside in record {
+      size = length-set marks k (c + 1) ∙ marked.size;
+      found = λ i m less is. elim (same_or_not i c) [
+        | inl here ↦
+            let same : m ≡ k = same_Some m k (sym (rw here at is) ∙ at_c) in
+            let at_k : get_or (slice_set marks k (c + 1)) k 0 ≡ c + 1 = get_or-set_same marks k (c + 1) 0 within in
+            rw (same, here) (at_k ∙ add-one c)
+        | inr before ↦
+            let other : m ≢ k = λ same. before (distinct i c m is (rw same at_c)) in
+            let at_m : get_or (slice_set marks k (c + 1)) m 0 ≡ get_or marks m 0 = get_or-set_other marks k m (c + 1) 0 other in
+            at_m ∙ marked.found i m (omega arith) is
+      ];
+      named = λ i m is. elim (same_or_not m k) [
+        | inl same ↦
+            let at_k : get_or (slice_set marks k (c + 1)) k 0 ≡ c + 1 = get_or-set_same marks k (c + 1) 0 within in
+            let here : c + 1 ≡ suc i = sym at_k ∙ rw same at is in
+            let e : i ≡ c = omega arith in
+            (omega arith, rw (e, same) at_c)
+        | inr other ↦
+            let at_m : get_or (slice_set marks k (c + 1)) m 0 ≡ get_or marks m 0 = get_or-set_other marks k m (c + 1) 0 other in
+            let r = marked.named i m (sym at_m ∙ is) in (omega (arith, r.0), r.1)
+      ];
+    }
+
+zero_at : (n k : ℕ) → slice_index (replicate n 0) k ≡ 0
+zero_at zero k = refl
+zero_at (suc n) zero = refl
+zero_at (suc n) (suc k) = zero_at n k
+
+no_marks : (g : List Obj) (ks : List ℕ) → AreMarked g ks 0 (replicate (length g) 0)
+no_marks g ks = record {
+  size = length-replicate (length g) 0;
+  found = λ i k less is. absurd (omega arith);
+  named = λ i k is. absurd (omega (arith, zero_at (length g) k));
+}
+
+-- a mark tells an earlier object
+pub marks_behind : (g : List Obj) (ks : List ℕ) (c k : ℕ) (marks : List ℕ) → AreMarked g ks c marks → slice_index marks k ≤ c
+marks_behind g ks c k marks marked = behind (slice_index marks k) refl where
+  behind : (m : ℕ) → slice_index marks k ≡ m → m ≤ c
+  behind zero e = omega arith
+  behind (suc i) e = omega (arith, (marked.named i k e).0)
+
+-- ---- the first token
+
+pub start_walk : (g : List Obj) (walk : Walk) → IsHeap g → IsValue (length g) walk.root → walk.given ≡ 0 → walk.count ≡ 0 → walk.frames.items ≡ [] → vec_len walk.frames ≡ 0
+    → walk.marks.items ≡ replicate (length g) 0 → vec_len walk.marks ≡ length g → length g ≤ vec_capacity walk.frames → IsWalk g walk
+start_walk g walk heap value given count frames depth marks size room = record {
+  heap = heap;
+  value = value;
+  frames = rw frames (λ k d less. absurd (omega arith));
+  depth = omega arith;
+  marks = size;
+  room = room;
+  at = λ tree is_of.
+      let n = numbering g walk.root tree heap.is_graph value is_of in
+      let left : AreLeft tree n.0 0 (more tree none) (walk.root ∷ []) = record {
+        are_trees = (is_of.is_tree, tt);
+        back = (is_of.refers_back, tt);
+        objects = sym (append-nil (objects_of tree 0));
+        alike = (n.1.value, tt);
+      } in record {
+        ks = n.0;
+        numbering = n.1;
+        forest = more tree none;
+        tokens_left = rw given (sym (append-nil (tokens tree)));
+        within = omega arith;
+        left = subst (λ m. AreLeft tree n.0 m (more tree none) (pending g walk)) (sym count)
+            (subst (AreLeft tree n.0 0 (more tree none)) (sym (only_root g walk given frames)) left);
+        marked = rw (count, marks) (no_marks g n.0);
+      };
+} where
+  only_root : (g : List Obj) (walk : Walk) → walk.given ≡ 0 → walk.frames.items ≡ [] → pending g walk ≡ walk.root ∷ []
+  only_root g walk given frames = rw (given, frames) refl
+
+-- ---- the next token
+
+pub record IsDropped {X : Type 0} (n : ℕ) (xs : List X) (x : X) (ys : List X) : Type 0 where
+  pub at_n : slice_get xs n ≡ Some x
+  pub after : drop (n + 1) xs ≡ ys
+  pub within : n < length xs
+
+drop_next : {X : Type 0} (n : ℕ) (xs : List X) (x : X) (ys : List X) → drop n xs ≡ x ∷ ys → IsDropped n xs x ys
+drop_next zero [] x ys is = absurd (cc)
+drop_next zero (y ∷ xs) x ys is = record { at_n = cc; after = cc; within = omega arith }
+drop_next (suc n) [] x ys is = absurd (cc)
+drop_next (suc n) (y ∷ xs) x ys is = let r = drop_next n xs x ys is in let place : suc n + 1 ≡ suc (n + 1) = omega arith in record {
+  at_n = r.at_n;
+  after = rw place r.after;
+  within = omega (arith, r.within);
+}
+
+not_same : (a b : ℕ) → a ≢ b → (a == b) ≡ false
+not_same a b other = elim (cases_Bool (eqb a b)) [ inl e ↦ absurd (other (eqb-true a b e)) | inr e ↦ e ]
+
+-- a walk after one more token
+pub record Advances (g : List Obj) (tree : Tree) (walk new : Walk) (token : Token) : Type 0 where
+  pub at_given : slice_get (tokens tree) walk.given ≡ Some token
+  pub more_given : walk.given < length (tokens tree)
+  pub at : IsAt g tree new
+
+nothing_at_root : (g : List Obj) (walk : Walk) (n : ℕ) → walk.given ≡ n + 1 → pending g walk ≡ left_in g walk.frames.items
+nothing_at_root g walk n given =
+    let test : (walk.given == 0) ≡ false = not_same walk.given 0 (λ same. omega (arith, given)) in
+    ap (λ b. cond b (walk.root ∷ []) [] ++ left_in g walk.frames.items) test
+
+advance : (g : List Obj) (tree : Tree) (walk new : Walk) (token : Token) (at : IsAt g tree walk) → new.root ≡ walk.root → new.given ≡ walk.given + 1
+    → Goes tree at.ks walk.count at.forest token new.count (left_in g new.frames.items) → AreMarked g at.ks new.count new.marks.items → Advances g tree walk new token
+advance g tree walk new token at root given goes marked =
+    let next = drop_next walk.given (tokens tree) token (forest_tokens goes.rest) (at.tokens_left ∙ goes.tokens_are) in record {
+      at_given = next.at_n;
+      more_given = next.within;
+      at = record {
+        ks = at.ks;
+        numbering = subst (λ v. IsNumbering g v tree at.ks) (sym root) at.numbering;
+        forest = goes.rest;
+        tokens_left = rw given next.after;
+        within = omega (arith, next.within);
+        left = subst (AreLeft tree at.ks new.count goes.rest) (sym (nothing_at_root g new walk.given given)) goes.left;
+        marked = marked;
+      };
+    }
+
+-- what a step leaves as it was
+pub record Keeps (walk new : Walk) : Type 0 where
+  pub root : new.root ≡ walk.root
+  pub given : new.given ≡ walk.given + 1
+  pub count : new.count ≡ walk.count
+  pub marks : new.marks.items ≡ walk.marks.items
+
+still_marked : (g : List Obj) (ks : List ℕ) (walk new : Walk) → Keeps walk new → AreMarked g ks walk.count walk.marks.items → AreMarked g ks new.count new.marks.items
+still_marked g ks walk new keeps marked = rw (keeps.count, keeps.marks) marked
+
+pub advance_integer : (g : List Obj) (tree : Tree) (walk new : Walk) (z : ℤ) → IsAt g tree walk → Keeps walk new → pending g walk ≡ vals.Int z ∷ left_in g new.frames.items → Advances g tree walk new (integer z)
+advance_integer g tree walk new z at keeps is =
+    let left : AreLeft tree at.ks walk.count at.forest (vals.Int z ∷ left_in g new.frames.items) = subst (AreLeft tree at.ks walk.count at.forest) is at.left in
+    advance g tree walk new (integer z) at keeps.root keeps.given
+    (rw keeps.count (integer_next tree at.ks walk.count at.forest z (left_in g new.frames.items) left))
+    (still_marked g at.ks walk new keeps at.marked)
+
+pub advance_atom : (g : List Obj) (tree : Tree) (walk new : Walk) (tag : ℕ) → IsAt g tree walk → Keeps walk new → pending g walk ≡ vals.Atom tag ∷ left_in g new.frames.items → Advances g tree walk new (atom tag)
+advance_atom g tree walk new tag at keeps is =
+    let left : AreLeft tree at.ks walk.count at.forest (vals.Atom tag ∷ left_in g new.frames.items) = subst (AreLeft tree at.ks walk.count at.forest) is at.left in
+    advance g tree walk new (atom tag) at keeps.root keeps.given
+    (rw keeps.count (atom_next tree at.ks walk.count at.forest tag (left_in g new.frames.items) left))
+    (still_marked g at.ks walk new keeps at.marked)
+
+pub advance_reference : (g : List Obj) (tree : Tree) (walk new : Walk) (k i : ℕ) → IsAt g tree walk → Keeps walk new → slice_index walk.marks.items k ≡ suc i
+    → pending g walk ≡ vals.Ref k ∷ left_in g new.frames.items → Advances g tree walk new (shared (walk.count - i))
+advance_reference g tree walk new k i at keeps mark is =
+    let left : AreLeft tree at.ks walk.count at.forest (vals.Ref k ∷ left_in g new.frames.items) = subst (AreLeft tree at.ks walk.count at.forest) is at.left in
+    advance g tree walk new (shared (walk.count - i)) at keeps.root keeps.given
+    (rw keeps.count (reference_next g walk.root tree at.ks walk.count k i walk.marks.items at.forest (left_in g new.frames.items) at.numbering at.marked mark left))
+    (still_marked g at.ks walk new keeps at.marked)
+
+-- what a step to an object changes
+pub record Enters (g : List Obj) (k : ℕ) (values : List Val) (walk new : Walk) : Type 0 where
+  pub root : new.root ≡ walk.root
+  pub given : new.given ≡ walk.given + 1
+  pub count : new.count ≡ walk.count + 1
+  pub marks : new.marks.items ≡ slice_set walk.marks.items k (walk.count + 1)
+  pub left : left_in g new.frames.items ≡ fields_of (object_at g k) ++ values
+
+pub advance_object : (g : List Obj) (tree : Tree) (walk new : Walk) (k : ℕ) (values : List Val) → IsAt g tree walk → Enters g k values walk new → k < length g → slice_index walk.marks.items k ≡ 0
+    → pending g walk ≡ vals.Ref k ∷ values → Advances g tree walk new (object_token (object_at g k))
+advance_object g tree walk new k values at enters inside mark is =
+    let left : AreLeft tree at.ks walk.count at.forest (vals.Ref k ∷ values) = subst (AreLeft tree at.ks walk.count at.forest) is at.left in
+    let meets = object_next g walk.root tree at.ks walk.count k walk.marks.items at.forest values at.numbering at.marked mark left in
+    advance g tree walk new (object_token (object_at g k)) at enters.root enters.given
+    (rw (enters.count, enters.left) meets.goes)
+    (rw (enters.count, enters.marks) (mark_more g at.ks walk.count k walk.marks.items at.numbering.distinct meets.at_c inside at.marked))
+
+-- ---- the end
+
+pub all_given : (g : List Obj) (tree : Tree) (walk : Walk) → IsAt g tree walk → pending g walk ≡ [] → walk.given ≡ length (tokens tree)
+all_given g tree walk at is =
+    let none_left = nothing_left tree at.ks walk.count at.forest (subst (AreLeft tree at.ks walk.count at.forest) is at.left) in
+    let gone : length (drop walk.given (tokens tree)) ≡ 0 = ap length (at.tokens_left ∙ none_left) in
+    omega (arith, length-drop walk.given (tokens tree), at.within)

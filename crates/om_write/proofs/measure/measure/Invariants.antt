@@ -1,0 +1,14 @@
+use Rattle.std.proofs.Common.{◌≡◌, ◌-◌, ◌^◌}
+use Rattle.om_write.proofs.SumLemmas.{AreTotals}
+use Rattle.om_write.specs.Walking.{IsWalk}
+use Rattle.om_write.proofs.measure.measure.Given as goal
+
+abbrev pub invariant-tokens : goal.invariant-tokens
+invariant-tokens l = record {
+  walk : IsWalk l.heap l.walk;
+  root : l.walk.root ≡ l.fn.walk.root;
+  totals : AreTotals l.heap l.walk l.totals;
+}
+
+abbrev pub decreases-tokens : goal.decreases-tokens
+decreases-tokens l = 2 ^ 64 - l.walk.given

@@ -1,0 +1,5 @@
+pub mod Step
+pub mod Sums
+pub mod Text
+pub mod Walking
+pub mod Written

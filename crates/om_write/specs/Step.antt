@@ -1,0 +1,35 @@
+-- The tokens that a walk gives.
+use Rattle.std.specs.Prelude.{ℕ, ◌+◌, ◌^◌, ◌<◌, ◌≤◌, ◌≡◌, List, length, Option, Some, None, slice_get}
+use Rattle.om_model.specs.declared.value.Obj.{Obj}
+use Rattle.om_model.specs.declared.value.Obj.TheVariants as objects
+use Rattle.om_model.specs.Graph.{IsInteger}
+use Rattle.om_format.specs.Token.{Token, integer, atom, shared, block, leaf}
+use Rattle.om_heap.specs.Heap.{object_at}
+use Rattle.om_write.specs.declared.walk.Step.{Step}
+use Rattle.om_write.specs.declared.walk.Step.TheVariants as steps
+
+-- the token that a step is in a graph
+abbrev pub token_in : List Obj → Step → Token
+token_in g (steps.Integer z) = integer z
+token_in g (steps.Atom tag) = atom tag
+token_in g (steps.Shared offset) = shared offset
+token_in g (steps.Block tag size) = block tag size
+token_in g (steps.Leaf k) = leaf (object_at g k)
+
+-- its numbers are in range
+abbrev pub IsHeld : List Obj → Step → Type 0
+IsHeld g (steps.Integer z) = IsInteger z
+IsHeld g (steps.Atom tag) = tag ≤ 243
+IsHeld g (steps.Shared offset) = 1 ≤ offset
+IsHeld g (steps.Block tag size) = (tag ≤ 243) × (size < 2 ^ 54)
+IsHeld g (steps.Leaf k) = k < length g
+
+-- token number n of all, or none where there are n
+abbrev pub IsNext : List Obj → List Token → ℕ → Option Step → ℕ → Type 0
+IsNext g all n None m = (n ≡ length all) × (m ≡ n)
+IsNext g all n (Some step) m = (slice_get all n ≡ Some (token_in g step)) × (m ≡ n + 1)
+
+-- the token of an object that is met first
+abbrev pub object_token : Obj → Token
+object_token (objects.Block tag values) = block tag (length values)
+object_token object = leaf object

@@ -1,0 +1,82 @@
+-- Where a walk is among the tokens of a value.
+use Rattle.std.specs.Prelude.{ℕ, suc, ◌+◌, ◌<◌, ◌≤◌, ◌≡◌, ◌==◌, List, [], ◌∷◌, ◌++◌, length, drop, All, Some, slice_get, slice_index, slice_set, vec_len, vec_capacity, if◌then◌else◌}
+use Rattle.std.specs.List.{AllZip}
+use Rattle.om_model.specs.declared.value.Val.{Val}
+use Rattle.om_model.specs.declared.value.Obj.{Obj}
+use Rattle.om_model.specs.Graph.{IsValue}
+use Rattle.om_format.specs.Tree.{Tree, Forest, tokens, forest_tokens, AreTrees, AllReferBack, roots, objects_of, all_objects}
+use Rattle.om_format.specs.Iso.{AreAlike, IsTreeOf}
+use Rattle.om_canonical.specs.Numbering.{numbered, IsNumbering}
+use Rattle.om_heap.specs.Heap.{object_at, fields_of, IsHeap}
+use Rattle.om_write.specs.Step.{token_in, object_token}
+use Rattle.om_write.specs.declared.walk.Step.{Step}
+use Rattle.om_write.specs.declared.walk.Frame.{Frame}
+use Rattle.om_write.specs.declared.walk.Walk.{Walk}
+
+-- ---- the values that are still to come
+
+-- a block that has fields left
+abbrev pub IsFrame : List Obj → Frame → Type 0
+IsFrame g frame = (frame.next < frame.size) × (frame.size ≡ length (fields_of (object_at g frame.block)))
+
+abbrev pub fields_left : List Obj → Frame → List Val
+fields_left g frame = drop frame.next (fields_of (object_at g frame.block))
+
+-- those of the last block come first
+abbrev pub left_in : List Obj → List Frame → List Val
+left_in g [] = []
+left_in g (frame ∷ frames) = left_in g frames ++ fields_left g frame
+
+abbrev pub root_left : Walk → List Val
+root_left walk = if walk.given == 0 then walk.root ∷ [] else []
+
+abbrev pub pending : List Obj → Walk → List Val
+pending g walk = root_left walk ++ left_in g walk.frames.items
+
+-- ---- objects that are met first
+
+pub record IsMet (g : List Obj) (k : ℕ) (old new : Walk) (step : Step) : Type 0 where
+  pub root : new.root ≡ old.root
+  pub given : new.given ≡ old.given
+  pub count : new.count ≡ old.count + 1
+  pub marks : new.marks.items ≡ slice_set old.marks.items k (old.count + 1)
+  pub left : left_in g new.frames.items ≡ fields_of (object_at g k) ++ left_in g old.frames.items
+  pub frames : All (IsFrame g) new.frames.items
+  pub many_marks : vec_len new.marks ≡ vec_len old.marks
+  pub depth : vec_len new.frames ≤ vec_len old.frames + 1
+  pub capacity : vec_capacity new.frames ≡ vec_capacity old.frames
+  pub token : token_in g step ≡ object_token (object_at g k)
+
+-- of the first c objects met the marks tell their places, counted from 1, and of all others 0
+pub record AreMarked (g : List Obj) (ks : List ℕ) (c : ℕ) (marks : List ℕ) : Type 0 where
+  pub size : length marks ≡ length g
+  pub found : (i k : ℕ) → i < c → slice_get ks i ≡ Some k → slice_index marks k ≡ suc i
+  pub named : (i k : ℕ) → slice_index marks k ≡ suc i → (i < c) × (slice_get ks i ≡ Some k)
+
+-- ---- the place in the tree
+
+-- after c objects these trees are left, and they are those of these values
+pub record AreLeft (tree : Tree) (ks : List ℕ) (c : ℕ) (forest : Forest) (values : List Val) : Type 0 where
+  pub are_trees : AreTrees forest
+  pub back : AllReferBack forest c
+  pub objects : drop c (objects_of tree 0) ≡ all_objects forest c
+  pub alike : AllZip (AreAlike (numbered ks)) values (roots forest c)
+
+pub record IsAt (g : List Obj) (tree : Tree) (walk : Walk) : Type 0 where
+  pub ks : List ℕ
+  pub numbering : IsNumbering g walk.root tree ks
+  pub forest : Forest
+  pub tokens_left : drop walk.given (tokens tree) ≡ forest_tokens forest
+  pub within : walk.given ≤ length (tokens tree)
+  pub left : AreLeft tree ks walk.count forest (pending g walk)
+  pub marked : AreMarked g ks walk.count walk.marks.items
+
+-- the walk is at a place among the tokens of each tree of its root, of which there is one
+pub record IsWalk (g : List Obj) (walk : Walk) : Type 0 where
+  pub heap : IsHeap g
+  pub value : IsValue (length g) walk.root
+  pub frames : All (IsFrame g) walk.frames.items
+  pub depth : vec_len walk.frames ≤ walk.count
+  pub marks : vec_len walk.marks ≡ length g
+  pub room : length g ≤ vec_capacity walk.frames
+  pub at : (tree : Tree) → IsTreeOf g walk.root tree → IsAt g tree walk

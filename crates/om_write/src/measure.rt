@@ -1,0 +1,137 @@
+//! What the header states of a value.
+
+ghost use Rattle.std.specs.Prelude.{◌≡◌, ◌<◌, ◌≤◌, ◌^◌, length};
+ghost use Rattle.om_format.specs.Iso.{IsTreeOf};
+ghost use Rattle.om_format.specs.Tree.{Tree, tokens};
+ghost use Rattle.om_format.specs.Token.{leaf};
+ghost use Rattle.om_format.specs.Canonical.{canonical_head};
+ghost use Rattle.om_headers.specs.Counting.{IsCountable};
+ghost use Rattle.om_heap.specs.Heap.{IsHeap, object_at};
+ghost use Rattle.om_write.specs.Step.{token_in, IsHeld};
+ghost use Rattle.om_write.specs.Sums.{token_totals, object_totals, plus, head_of_totals, measure_of_custom, FitTotals};
+ghost use Rattle.om_write.specs.Walking.{IsWalk};
+
+use crate::walk::{Step, Walk};
+use om_codes::{spell_block, spell_double_array_len, spell_int, spell_shared, spell_string_len};
+use om_headers::{Head, Measure, words_of};
+use om_heap::{Heap, Kind};
+use om_model::code::Custom;
+
+/// The bytes of tokens, their objects, and the words of these on 32 and on 64 bits.
+#[derive(Clone, Copy, Debug, PartialEq, Eq)]
+pub struct Totals {
+    length: u64,
+    objects: u64,
+    w32: u64,
+    w64: u64,
+}
+
+impl Totals {
+    // Of a token that makes no object.
+    fn of_bytes(length: usize) -> Totals
+        ensures { result ≡ record { length = length; objects = 0; w32 = 0; w64 = 0 } }
+    {
+        Totals {
+            length: length as u64,
+            objects: 0,
+            w32: 0,
+            w64: 0,
+        }
+    }
+
+    // Of one that makes an object.
+    fn of_object(length: u64, measure: Measure) -> Totals
+        requires { IsCountable measure }
+        ensures { result ≡ object_totals length measure }
+    {
+        let (w32, w64) = words_of(measure);
+        Totals {
+            length,
+            objects: 1,
+            w32,
+            w64,
+        }
+    }
+
+    fn add(&mut self, other: Totals)
+        requires { FitTotals (plus self.old other) }
+        ensures { self.new ≡ plus self.old other }
+    {
+        self.length += other.length;
+        self.objects += other.objects;
+        self.w32 += other.w32;
+        self.w64 += other.w64;
+    }
+
+    // The header of a value whose tokens these are.
+    fn head(self) -> Head
+        ensures { result ≡ head_of_totals self }
+    {
+        Head {
+            big: self.length >= 1 << 32 || self.w32 >= 1 << 32 || self.w64 >= 1 << 32,
+            length: self.length,
+            objects: self.objects,
+            w32: self.w32,
+            w64: self.w64,
+        }
+    }
+}
+
+/// The header of the value that a walk begins.
+pub fn measure(heap: &Heap, walk: &mut Walk) -> Head
+    requires walk { IsWalk heap.now walk.old }
+    requires first { walk.old.given ≡ 0 }
+    ensures walk { IsWalk heap.now walk.new }
+    ensures root { walk.new.root ≡ walk.old.root }
+    ensures head { (tree : Tree) → IsTreeOf heap.now walk.old.root tree → result ≡ canonical_head (tokens tree) }
+{
+    let mut totals = Totals::of_bytes(0);
+    'tokens: while let Some(step) = walk.next(heap) {
+        totals.add(step_totals(heap, step));
+    }
+    totals.head()
+}
+
+// What one token adds.
+fn step_totals(heap: &Heap, step: Step) -> Totals
+    requires heap { IsHeap heap.now }
+    requires held { IsHeld heap.now step }
+    ensures { result ≡ token_totals (token_in heap.now step) }
+{
+    match step {
+        Step::Integer(z) => Totals::of_bytes(spell_int(z).1),
+        Step::Atom(tag) => Totals::of_bytes(spell_block(tag, 0).1),
+        Step::Shared(offset) => Totals::of_bytes(spell_shared(offset).1),
+        Step::Block(tag, size) => {
+            Totals::of_object(spell_block(tag, size).1 as u64, Measure::Block(size))
+        }
+        Step::Leaf(k) => leaf_totals(heap, k),
+    }
+}
+
+fn leaf_totals(heap: &Heap, k: u64) -> Totals
+    requires heap { IsHeap heap.now }
+    requires inside { k < length heap.now }
+    ensures { result ≡ token_totals (leaf (object_at heap.now k)) }
+{
+    match heap.kind(k) {
+        Kind::Block(..) => Totals::of_bytes(0),
+        Kind::Bytes(n) => Totals::of_object(spell_string_len(n).1 as u64 + n, Measure::Bytes(n)),
+        Kind::Double => Totals::of_object(9, Measure::Double),
+        Kind::Doubles(n) => {
+            let front = spell_double_array_len(n).1 as u64;
+            Totals::of_object(front + 8 * n, Measure::Doubles(n))
+        }
+        Kind::Custom(c) => { Totals::of_object(om_customs::spell(c).1 as u64, custom_measure(c)) }
+    }
+}
+
+fn custom_measure(c: Custom) -> Measure
+    ensures { result ≡ measure_of_custom c }
+{
+    match c {
+        Custom::I32(_) => Measure::Custom(4, 4),
+        Custom::I64(_) => Measure::Custom(8, 8),
+        Custom::Native(_) => Measure::Custom(4, 8),
+    }
+}

@@ -1,0 +1,56 @@
+//! Text that goes to a sink through a buffer.
+
+ghost use Rattle.std.specs.Prelude.{◌≡◌, ◌+◌, ◌≤◌, [], length, IfOk, OnOk, vec_len, vec_capacity};
+ghost use Rattle.om_write.specs.Text.{Adds};
+
+use om_edge::{Failed, Sink, put_all};
+use om_model::Memory;
+use std::alloc::Global;
+
+/// How many bytes are put at once.
+pub const LIMIT: usize = 65536;
+
+/// An empty buffer.
+pub fn new_buffer(alloc: Global) -> Result<Vec<u8>, Memory>
+    ensures empty { IfOk result (λ buffer. buffer.items ≡ []) }
+    ensures room { IfOk result (λ buffer. LIMIT ≤ vec_capacity buffer) }
+{
+    Ok(Vec::with_capacity(alloc, LIMIT)?)
+}
+
+/// Puts what the buffer has.
+pub fn flush<K: Sink>(out: &mut K, buffer: &mut Vec<u8>) -> Result<(), Failed>
+    ensures adds { Adds (K.state out.old) (K.state out.new) buffer.old.items buffer.new.items [] result }
+    ensures empty { OnOk result (buffer.new.items ≡ []) }
+    ensures none { OnOk result (vec_len buffer.new ≡ 0) }
+    ensures capacity { vec_capacity buffer.new ≡ vec_capacity buffer.old }
+{
+    put_all(out, buffer.as_slice())?;
+    buffer.clear();
+    Ok(())
+}
+
+// Puts what the buffer has where there is no room for n more bytes.
+fn make_room<K: Sink>(out: &mut K, buffer: &mut Vec<u8>, n: usize) -> Result<(), Failed>
+    requires { n ≤ LIMIT }
+    ensures adds { Adds (K.state out.old) (K.state out.new) buffer.old.items buffer.new.items [] result }
+    ensures room { OnOk result (vec_len buffer.new + n ≤ LIMIT) }
+    ensures capacity { vec_capacity buffer.new ≡ vec_capacity buffer.old }
+{
+    if buffer.len() <= LIMIT - n {
+        return Ok(());
+    }
+    flush(out, buffer)
+}
+
+/// Lengthens the text by a short piece.
+pub fn add<K: Sink>(out: &mut K, buffer: &mut Vec<u8>, piece: &[u8]) -> Result<(), Failed>
+    requires short { length piece.now ≤ LIMIT }
+    requires room { LIMIT ≤ vec_capacity buffer.old }
+    ensures adds { Adds (K.state out.old) (K.state out.new) buffer.old.items buffer.new.items piece.now result }
+    ensures room { LIMIT ≤ vec_capacity buffer.new }
+{
+    make_room(out, buffer, piece.len())?;
+    buffer.extend_from_slice(piece).unwrap();
+    Ok(())
+}
