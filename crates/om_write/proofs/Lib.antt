@@ -1,4 +1,5 @@
 pub mod BoundLemmas
+pub mod CompatLemmas
 pub mod ForestLemmas
 pub mod FrameLemmas
 pub mod LeftLemmas

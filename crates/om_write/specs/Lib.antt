@@ -1,5 +1,6 @@
 pub mod Step
 pub mod Sums
+pub mod Tells
 pub mod Text
 pub mod Walking
 pub mod Written

@@ -1,10 +1,16 @@
 //! The writer: a value of a heap as the bytes that the runtime writes (`extern.c`).
 #![tactic(auto)]
 
+mod compat;
 mod measure;
 mod spell;
+#[cfg(test)]
+mod tests;
 mod text;
 mod walk;
 mod writer;
+mod writer32;
 
+pub use compat::Compat;
 pub use writer::write;
+pub use writer32::{Write32Error, write32};

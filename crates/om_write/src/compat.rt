@@ -1,0 +1,95 @@
+//! What a reader on 32 bits cannot hold (`extern.c`, flag `Compat_32`).
+
+ghost use Rattle.std.specs.Prelude.{◌≡◌, ◌<◌, length, true, false, find, None, IsSomeAnd, MatchOption};
+ghost use Rattle.om_format.specs.Canonical.{is_signed};
+ghost use Rattle.om_format.specs.Compat.{is_large, large_header, token};
+ghost use Rattle.om_format.specs.Iso.{IsTreeOf};
+ghost use Rattle.om_format.specs.Token.{leaf};
+ghost use Rattle.om_format.specs.Tree.{Tree, tokens};
+ghost use Rattle.om_heap.specs.Heap.{IsHeap, object_at};
+ghost use Rattle.om_write.specs.Step.{token_in, IsHeld};
+ghost use Rattle.om_write.specs.Tells.{Tells};
+ghost use Rattle.om_write.specs.Walking.{IsWalk};
+
+use crate::walk::{Step, Walk};
+use om_headers::Head;
+use om_heap::{Heap, Kind};
+use om_model::code::Custom;
+
+/// What is too large: an integer or a `Nativeint` by itself, a block by its fields, a string by its bytes, an array by its
+/// doubles, and a header by the greatest of its numbers.
+#[derive(Clone, Copy, Debug, PartialEq, Eq)]
+pub enum Compat {
+    Int(i64),
+    Block(u64),
+    Bytes(u64),
+    Native(i64),
+    Doubles(u64),
+    Header(u64),
+}
+
+/// The first token of a walk that is too large.
+pub fn first_large(heap: &Heap, walk: &mut Walk) -> Option<Compat>
+    requires walk { IsWalk heap.now walk.old }
+    requires first { walk.old.given ≡ 0 }
+    ensures walk { IsWalk heap.now walk.new }
+    ensures root { walk.new.root ≡ walk.old.root }
+    ensures large { (tree : Tree) → IsTreeOf heap.now walk.old.root tree → MatchOption result
+        (find is_large (tokens tree) ≡ None)
+        (λ compat. IsSomeAnd (find is_large (tokens tree)) (λ t. Tells (token t) compat)) }
+{
+    'tokens: while let Some(step) = walk.next(heap) {
+        if let Some(compat) = step_compat(heap, step) {
+            return Some(compat);
+        }
+    }
+    None
+}
+
+/// The greatest number of a header that has to be big.
+pub fn head_compat(head: Head) -> Option<Compat>
+    ensures { MatchOption result (large_header head ≡ None) (λ compat. IsSomeAnd (large_header head) (λ t. Tells t compat)) }
+{
+    if head.big {
+        let greatest = head.length.max(head.w32.max(head.w64));
+        Some(Compat::Header(greatest))
+    } else {
+        None
+    }
+}
+
+fn step_compat(heap: &Heap, step: Step) -> Option<Compat>
+    requires { IsHeld heap.now step }
+    ensures { MatchOption result (is_large (token_in heap.now step) ≡ false)
+        (λ compat. (is_large (token_in heap.now step) ≡ true) × Tells (token (token_in heap.now step)) compat) }
+{
+    match step {
+        Step::Integer(-0x4000_0000..0x4000_0000) => None,
+        Step::Integer(z) => Some(Compat::Int(z)),
+        Step::Block(_, size) if size > 0x3f_ffff => Some(Compat::Block(size)),
+        Step::Leaf(k) => leaf_compat(heap, k),
+        _ => None,
+    }
+}
+
+fn leaf_compat(heap: &Heap, k: u64) -> Option<Compat>
+    requires { k < length heap.now }
+    ensures { MatchOption result (is_large (leaf (object_at heap.now k)) ≡ false)
+        (λ compat. (is_large (leaf (object_at heap.now k)) ≡ true) × Tells (token (leaf (object_at heap.now k))) compat) }
+{
+    match heap.kind(k) {
+        Kind::Bytes(n) if n > 0xff_fffb => Some(Compat::Bytes(n)),
+        Kind::Doubles(n) if n > 0x1f_ffff => Some(Compat::Doubles(n)),
+        Kind::Custom(Custom::Native(z)) => native_compat(z),
+        _ => None,
+    }
+}
+
+fn native_compat(z: i64) -> Option<Compat>
+    ensures { MatchOption result (is_signed 31 z ≡ true) (λ compat. (is_signed 31 z ≡ false) × (compat ≡ Compat.Native z)) }
+{
+    match z {
+        -0x8000_0000..0x8000_0000 => None,
+        _ => Some(Compat::Native(z)),
+    }
+}

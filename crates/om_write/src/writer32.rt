@@ -1,0 +1,76 @@
+//! The bytes of a value that a reader on 32 bits can hold.
+
+ghost use Rattle.std.specs.Prelude.{◌≡◌, length, IfErr};
+ghost use Rattle.om_model.specs.Graph.{IsValue};
+ghost use Rattle.om_format.specs.Iso.{IsTreeOf};
+ghost use Rattle.om_format.specs.Tree.{Tree};
+ghost use Rattle.om_edge.specs.State.{change};
+ghost use Rattle.om_write.specs.Written.{Writes32, IsEarly};
+ghost use Rattle.om_write.specs.declared.writer32.Write32Error.TheVariants.{Fault, Memory as OutOfMemory};
+
+use crate::compat::{Compat, first_large, head_compat};
+use crate::measure::measure;
+use crate::text::new_buffer;
+use crate::walk::Walk;
+use crate::writer::put_value;
+use om_edge::{Failed, Sink};
+use om_heap::Heap;
+use om_model::Memory;
+use om_model::value::Val;
+use std::alloc::Global;
+use thiserror::Error;
+
+/// Why a value was not written for a reader on 32 bits.
+#[derive(Clone, Copy, Debug, PartialEq, Eq, Error)]
+pub enum Write32Error {
+    #[error("too large for 32 bits")]
+    Compat(Compat),
+    #[error("write fault")]
+    Fault,
+    #[error("out of memory")]
+    Memory,
+}
+
+impl From<Failed> for Write32Error {
+    ghost from_gives = { λ _ e. e ≡ Fault };
+
+    fn from(_: Failed) -> Self {
+        Write32Error::Fault
+    }
+}
+
+impl From<Memory> for Write32Error {
+    ghost from_gives = { λ _ e. e ≡ OutOfMemory };
+
+    fn from(_: Memory) -> Self {
+        Write32Error::Memory
+    }
+}
+
+/// Puts what `write` puts, where a reader on 32 bits can hold the value. Else it answers the first token that is too
+/// large, or where there is none the header, and puts nothing.
+pub fn write32<K: Sink>(
+    alloc: Global,
+    heap: &Heap,
+    root: Val,
+    out: &mut K,
+) -> Result<(), Write32Error>
+    requires { IsValue (length heap.now) root }
+    ensures puts { (tree : Tree) → IsTreeOf heap.now root tree
+        → Writes32 (change (K.state out.old) (K.state out.new)) tree result }
+    ensures untouched { IfErr result (λ error. IsEarly error → out.new ≡ out.old) }
+{
+    let mut walk = Walk::new(alloc, heap, root)?;
+    let mut buffer = new_buffer(alloc)?;
+    if let Some(compat) = first_large(heap, &mut walk) {
+        return Err(Write32Error::Compat(compat));
+    }
+    walk.restart(heap);
+    let head = measure(heap, &mut walk);
+    if let Some(compat) = head_compat(head) {
+        return Err(Write32Error::Compat(compat));
+    }
+    walk.restart(heap);
+    put_value(heap, head, &mut walk, out, &mut buffer)?;
+    Ok(())
+}
