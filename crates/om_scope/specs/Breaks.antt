@@ -1,0 +1,108 @@
+-- Rules on names, over what the code knows of a declaration.
+use Rattle.std.specs.Prelude.{ℕ, ◌<◌, ◌⊎◌, ◌≡◌, ◌≢◌, IsTrue, List, Some, None, Option}
+use Rattle.std.specs.Prelude.{slice_get, Contains, map, length, IsSome}
+use Rattle.om_types.specs.declared.decl.Decl.{Decl}
+use Rattle.om_types.specs.Declarations.{arity_of, declaration_of, predeclared}
+use Rattle.om_types.specs.Occurrence.{Placed}
+use Rattle.om_types.specs.Scope.{Rule, IsSecond, twice, unknown_name, arity}
+use Rattle.om_types.specs.Scope.{unbound_variable, irregular, too_many_constructors}
+use Rattle.om_scope.specs.declared.site.Use.{Use}
+use Rattle.om_scope.specs.declared.site.Site.{Site}
+use Rattle.om_scope.specs.declared.site.TypeSite.{TypeSite}
+use Rattle.om_scope.specs.declared.rule.NameRule.{NameRule}
+use Rattle.om_scope.specs.declared.rule.NameRule.TheVariants as names
+use Rattle.om_scope.specs.declared.rule.UseRule.{UseRule}
+use Rattle.om_scope.specs.declared.rule.UseRule.TheVariants as use_rules
+
+abbrev pub names_of_decls : List Decl → List (List ℕ)
+names_of_decls decls = map (λ (d : Decl). d.name) decls
+
+-- a declaration is of a later group than this one, where there is one; or there is none
+abbrev pub Later : Option Decl → Option ℕ → Type 0
+Later None group = Unit {0}
+Later (Some d) None = ⊥
+Later (Some d) (Some group) = group < d.group
+
+-- a declaration is there, of this group
+abbrev pub OfGroup : Option Decl → Option ℕ → Type 0
+OfGroup None group = ⊥
+OfGroup (Some d) None = ⊥
+OfGroup (Some d) (Some group) = d.group ≡ group
+
+-- a name is there that takes another number of arguments
+abbrev pub IsOther : Option ℕ → ℕ → Type 0
+IsOther None arguments = ⊥
+IsOther (Some n) arguments = n ≢ arguments
+
+-- a use breaks a rule, in a declaration of this group or in the text of a type
+abbrev pub BreaksUse : UseRule → List Decl → Option ℕ → Use → Type 0
+BreaksUse use_rules.UnknownName decls group u =
+    (predeclared u.name ≡ None) × Later (declaration_of decls u.name) group
+BreaksUse use_rules.Arity decls group u = IsOther (arity_of decls u.name) u.arguments
+BreaksUse use_rules.Irregular decls group u =
+    IsTrue u.grows × OfGroup (declaration_of decls u.name) group
+
+abbrev pub UsesBreak : UseRule → List Decl → Option ℕ → List Use → ℕ → Type 0
+UsesBreak rule decls group uses k =
+    (u : Use) × Contains uses u × ((u.place ≡ k) × BreaksUse rule decls group u)
+
+-- the name at lexeme k is predeclared
+abbrev pub IsPredeclaredAt : List Placed → ℕ → Type 0
+IsPredeclaredAt names k =
+    (p : Placed) × Contains names p × ((p.0 ≡ k) × IsSome (predeclared p.1))
+
+-- the name at lexeme k stands earlier too, or is predeclared
+abbrev pub NamesTwice : List Placed → ℕ → Type 0
+NamesTwice names k = IsSecond names k ⊎ IsPredeclaredAt names k
+
+-- the variable at lexeme k is no parameter
+abbrev pub VariablesBreak : List (List ℕ) → List Placed → ℕ → Type 0
+VariablesBreak parameters variables k =
+    (v : Placed) × Contains variables v × ((v.0 ≡ k) × (¬ Contains parameters v.1))
+
+-- what stands in a declaration breaks a rule at lexeme k
+abbrev pub SiteBreaks : NameRule → List Decl → Decl → Site → ℕ → Type 0
+SiteBreaks names.Twice decls d site k =
+    (row : List Placed) × Contains site.rows row × IsSecond row k
+SiteBreaks names.UnknownName decls d site k =
+    UsesBreak use_rules.UnknownName decls (Some d.group) site.uses k
+SiteBreaks names.Arity decls d site k = UsesBreak use_rules.Arity decls (Some d.group) site.uses k
+SiteBreaks names.UnboundVariable decls d site k =
+    VariablesBreak d.parameters site.variables k
+SiteBreaks names.Irregular decls d site k =
+    UsesBreak use_rules.Irregular decls (Some d.group) site.uses k
+SiteBreaks names.TooManyConstructors decls d site k = slice_get site.carrying 244 ≡ Some k
+
+-- the rule of scope that it is
+abbrev pub rule_of : NameRule → Rule
+rule_of names.Twice = twice
+rule_of names.UnknownName = unknown_name
+rule_of names.Arity = arity
+rule_of names.UnboundVariable = unbound_variable
+rule_of names.Irregular = irregular
+rule_of names.TooManyConstructors = too_many_constructors
+
+-- what stands in declaration i breaks a rule at lexeme k
+abbrev pub BreaksAt : NameRule → List Decl → List Site → ℕ → ℕ → Type 0
+BreaksAt rule decls sites i k =
+    (d : Decl) × (site : Site) × (slice_get decls i ≡ Some d) × (slice_get sites i ≡ Some site)
+    × SiteBreaks rule decls d site k
+
+-- what stands in some declaration does
+abbrev pub SitesBreak : NameRule → List Decl → List Site → ℕ → Type 0
+SitesBreak rule decls sites k =
+    (i : ℕ) × (i < length decls) × BreaksAt rule decls sites i k
+
+-- the declared name at lexeme k breaks a rule
+abbrev pub NameBreaks : NameRule → List Placed → ℕ → Type 0
+NameBreaks names.Twice declared k = NamesTwice declared k
+NameBreaks rule declared k = ⊥
+
+-- what stands in the text of a type breaks a rule at lexeme k
+abbrev pub TypeBreaks : NameRule → List Decl → TypeSite → ℕ → Type 0
+TypeBreaks names.Twice decls site k =
+    (row : List Placed) × Contains site.rows row × IsSecond row k
+TypeBreaks names.UnknownName decls site k =
+    UsesBreak use_rules.UnknownName decls None site.uses k
+TypeBreaks names.Arity decls site k = UsesBreak use_rules.Arity decls None site.uses k
+TypeBreaks rule decls site k = ⊥

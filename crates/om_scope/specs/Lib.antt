@@ -1,0 +1,4 @@
+pub mod Breaks
+pub mod Least
+pub mod Names
+pub mod Sites

@@ -1,0 +1,77 @@
+-- What the code knows of a declaration's occurrences, and of which these are.
+use Rattle.std.specs.Prelude.{ℕ, ◌≡◌, ◌⊎◌, ◌↔◌, Bool, IsTrue, List, length, Contains}
+use Rattle.std.specs.Prelude.{Some, slice_get}
+use Rattle.std.specs.List.{filter_map}
+use Rattle.om_types.specs.Ty.{Ty}
+use Rattle.om_types.specs.declared.decl.Decl.{Decl}
+use Rattle.om_types.specs.Accepted.{IsVariable}
+use Rattle.om_types.specs.Occurrence.{Occurrence}
+use Rattle.om_types.specs.Occurrence.{Placed, PlacedItem, use_of, variable_at}
+use Rattle.om_types.specs.Occurrence.{bracket_of, DeclPlaces}
+use Rattle.om_types.specs.Scope.{HoldsVariable, written_tag, decls_of, declared_names}
+use Rattle.om_scope.specs.declared.site.Use.{Use}
+use Rattle.om_scope.specs.declared.site.Site.{Site}
+use Rattle.om_scope.specs.declared.site.TypeSite.{TypeSite}
+
+-- some argument holds a variable and is none
+abbrev pub Grow : List Ty → Type 0
+Grow arguments = (t : Ty) × Contains arguments t × HoldsVariable t × (¬ IsVariable t)
+
+-- a use with so many arguments
+pub record HasArguments (u : Use) (arguments : List Ty) : Type 0 where
+  pub counted : u.arguments ≡ length arguments
+  pub grow : IsTrue u.grows ↔ Grow arguments
+
+-- the tags that some bracket writes
+abbrev pub IsTagRow : List Occurrence → List Placed → Type 0
+IsTagRow occurrences row =
+    (items : List PlacedItem) × Contains occurrences (bracket_of items)
+    × (row ≡ filter_map written_tag items)
+
+-- names that have to differ: parameters, constructors, the fields of a record, the tags that a
+-- bracket writes
+abbrev pub IsRow : DeclPlaces → List Placed → Type 0
+IsRow d row =
+    (row ≡ d.parameters) ⊎ (row ≡ d.constructors) ⊎ Contains d.records row
+    ⊎ IsTagRow d.occurrences row
+
+-- the uses of names among occurrences
+pub record AreUses (uses : List Use) (occurrences : List Occurrence) : Type 0 where
+  pub occur :
+      (u : Use) → Contains uses u
+      → (arguments : List Ty) × HasArguments u arguments
+      × Contains occurrences (use_of u.place u.name arguments u.in_tag)
+  pub all :
+      (place : ℕ) (name : List ℕ) (arguments : List Ty) (in_tag : Bool)
+      → Contains occurrences (use_of place name arguments in_tag)
+      → (u : Use) × Contains uses u × HasArguments u arguments
+      × (u.place ≡ place) × (u.name ≡ name) × (u.in_tag ≡ in_tag)
+
+-- what the code knows of a declaration
+pub record IsSite (site : Site) (d : DeclPlaces) : Type 0 where
+  pub rows : (row : List Placed) → Contains site.rows row → IsRow d row
+  pub all_rows : (row : List Placed) → IsRow d row → Contains site.rows row
+  pub carrying : site.carrying ≡ d.carrying
+  pub used : AreUses site.uses d.occurrences
+  pub variables :
+      (place : ℕ) (name : List ℕ) → Contains site.variables (place, name)
+      → Contains d.occurrences (variable_at place name)
+  pub all_variables :
+      (place : ℕ) (name : List ℕ) → Contains d.occurrences (variable_at place name)
+      → Contains site.variables (place, name)
+
+-- what the code knows of the text of a type
+pub record IsTypeSite (site : TypeSite) (occurrences : List Occurrence) : Type 0 where
+  pub rows : (row : List Placed) → Contains site.rows row → IsTagRow occurrences row
+  pub all_rows : (row : List Placed) → IsTagRow occurrences row → Contains site.rows row
+  pub used : AreUses site.uses occurrences
+
+-- what the code knows of a file
+pub record AreSites (decls : List Decl) (names : List Placed) (sites : List Site)
+    (all : List DeclPlaces) : Type 0 where
+  pub declares : decls ≡ decls_of all
+  pub declared : names ≡ declared_names all
+  pub counted : length sites ≡ length all
+  pub stand :
+      (i : ℕ) (site : Site) (d : DeclPlaces) → slice_get sites i ≡ Some site
+      → slice_get all i ≡ Some d → IsSite site d

@@ -1,0 +1,95 @@
+//! What names mean.
+
+ghost use Rattle.std.specs.Prelude.{◌≡◌, IfOk, length, option_map, option_copied};
+ghost use Rattle.std.specs.Str.{bytes_eq};
+ghost use Rattle.om_types.specs.Declarations.{declaration_of, predeclared, predeclared_arity};
+ghost use Rattle.om_scope.specs.Breaks.{names_of_decls};
+ghost use Rattle.om_scope.specs.Names.{number_of, ArePlaces};
+
+use crate::table::{Table, add, empty, find};
+use om_model::Memory;
+use om_types::decl::Decl;
+use std::alloc::Global;
+
+/// The first place of each declared name.
+pub fn table_of<'a>(alloc: Global, decls: &'a [Decl]) -> Result<Table<'a>, Memory>
+    ensures { IfOk result (λ t. ArePlaces (names_of_decls decls.now) (length decls.now) (number_of t)) }
+{
+    let mut table = empty(alloc);
+    for i in 0..decls.len() {
+        let decl = &decls[i];
+        let _ = add(&mut table, decl.name.as_slice(), i)?;
+    }
+    Ok(table)
+}
+
+/// The declaration of a name.
+pub fn declared<'a>(decls: &'a [Decl], table: &Table<'_>, name: &[u8]) -> Option<&'a Decl>
+    requires { ArePlaces (names_of_decls decls.now) (length decls.now) (number_of table.now) }
+    ensures { option_copied result ≡ declaration_of decls.now name.now }
+{
+    match find(table, name) {
+        Some(j) => Some(&decls[j]),
+        None => None,
+    }
+}
+
+/// Whether these are the same bytes.
+fn is(word: &[u8], name: &[u8]) -> bool
+    ensures { result ≡ bytes_eq word.now name.now }
+{
+    word == name
+}
+
+/// How many arguments a predeclared name takes.
+#[tactic(auto, unfolding(om_types::specs::Declarations::predeclared))]
+pub fn predeclared_arity(name: &[u8]) -> Option<usize>
+    ensures { result ≡ option_map predeclared_arity (predeclared name.now) }
+{
+    if is(b"int", name) {
+        return Some(0);
+    }
+    if is(b"char", name) {
+        return Some(0);
+    }
+    if is(b"bool", name) {
+        return Some(0);
+    }
+    if is(b"unit", name) {
+        return Some(0);
+    }
+    if is(b"string", name) {
+        return Some(0);
+    }
+    if is(b"bytes", name) {
+        return Some(0);
+    }
+    if is(b"float", name) {
+        return Some(0);
+    }
+    if is(b"int32", name) {
+        return Some(0);
+    }
+    if is(b"int64", name) {
+        return Some(0);
+    }
+    if is(b"nativeint", name) {
+        return Some(0);
+    }
+    if is(b"floatarray", name) {
+        return Some(0);
+    }
+    if is(b"list", name) {
+        return Some(1);
+    }
+    if is(b"option", name) {
+        return Some(1);
+    }
+    if is(b"array", name) {
+        return Some(1);
+    }
+    if is(b"ref", name) {
+        return Some(1);
+    }
+    None
+}

@@ -1,0 +1,33 @@
+//! Names of types.
+
+ghost use Rattle.std.specs.Prelude.{IfOk};
+ghost use Rattle.om_scope.specs.Breaks.{IsPredeclaredAt, NamesTwice};
+ghost use Rattle.om_scope.specs.Least.{IsLeast};
+
+use crate::declared::predeclared_arity;
+use crate::least::{place_if, sooner};
+use crate::seconds::least_second;
+use crate::site::Placed;
+use om_model::Memory;
+use std::alloc::Global;
+
+/// The least place of a name that is predeclared.
+fn least_predeclared(names: &[Placed]) -> Option<usize>
+    ensures { IsLeast (IsPredeclaredAt names.now) result }
+{
+    let mut best = None;
+    for i in 0..names.len() {
+        let placed = &names[i];
+        let known = predeclared_arity(placed.name()).is_some();
+        best = sooner(best, place_if(known, placed.place()));
+    }
+    best
+}
+
+/// The least place of a name that is declared earlier too, or predeclared.
+pub fn least_name_twice(alloc: Global, names: &[Placed]) -> Result<Option<usize>, Memory>
+    ensures { IfOk result (IsLeast (NamesTwice names.now)) }
+{
+    let second = least_second(alloc, names)?;
+    Ok(sooner(second, least_predeclared(names)))
+}

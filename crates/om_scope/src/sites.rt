@@ -1,0 +1,143 @@
+//! Rules on names, over all declarations of a text.
+
+ghost use Rattle.std.specs.Prelude.{◌≡◌, ℕ, List, IfOk, length, slice_get};
+ghost use Rattle.om_types.specs.Occurrence.{DeclPlaces, Occurrence};
+ghost use Rattle.om_types.specs.Scope.{BreaksInFile, BreaksInType, NamesBreak, twice};
+ghost use Rattle.om_scope.specs.Breaks.{names_of_decls, SiteBreaks, SitesBreak, NameBreaks, TypeBreaks, rule_of};
+ghost use Rattle.om_scope.specs.Least.{IsLeast};
+ghost use Rattle.om_scope.specs.Names.{number_of, ArePlaces};
+ghost use Rattle.om_scope.specs.Sites.{AreSites, IsTypeSite};
+
+use crate::declared::table_of;
+use crate::least::sooner;
+use crate::names::least_name_twice;
+use crate::rule::{NameRule, UseRule};
+use crate::seconds::least_second_of_rows;
+use crate::site::{Placed, Site, TypeSite};
+use crate::table::Table;
+use crate::uses::least_use;
+use crate::variables::least_unbound;
+use om_model::Memory;
+use om_types::decl::Decl;
+use std::alloc::Global;
+
+/// The place of this number.
+fn nth(places: &[usize], n: usize) -> Option<usize>
+    ensures { result ≡ slice_get places.now n }
+{
+    places.get(n).copied()
+}
+
+/// The least place in a declaration at which the rule is broken.
+fn least_in_site(
+    alloc: Global,
+    rule: NameRule,
+    decls: &[Decl],
+    table: &Table<'_>,
+    decl: &Decl,
+    site: &Site,
+) -> Result<Option<usize>, Memory>
+    requires { ArePlaces (names_of_decls decls.now) (length decls.now) (number_of table.now) }
+    ensures { IfOk result (IsLeast (SiteBreaks rule decls.now decl.now site.now)) }
+{
+    let uses = site.uses.as_slice();
+    let group = Some(decl.group);
+    match rule {
+        NameRule::Twice => least_second_of_rows(alloc, site.rows.as_slice()),
+        NameRule::UnknownName => Ok(least_use(UseRule::UnknownName, decls, table, group, uses)),
+        NameRule::Arity => Ok(least_use(UseRule::Arity, decls, table, group, uses)),
+        NameRule::UnboundVariable => least_unbound(
+            alloc,
+            decl.parameters.as_slice(),
+            site.variables.as_slice(),
+        ),
+        NameRule::Irregular => Ok(least_use(UseRule::Irregular, decls, table, group, uses)),
+        NameRule::TooManyConstructors => Ok(nth(site.carrying.as_slice(), 244)),
+    }
+}
+
+/// The least place in the text of a type at which the rule is broken.
+pub fn least_in_type(
+    alloc: Global,
+    rule: NameRule,
+    decls: &[Decl],
+    table: &Table<'_>,
+    site: &TypeSite,
+) -> Result<Option<usize>, Memory>
+    requires { ArePlaces (names_of_decls decls.now) (length decls.now) (number_of table.now) }
+    ensures { IfOk result (IsLeast (TypeBreaks rule decls.now site.now)) }
+{
+    let uses = site.uses.as_slice();
+    match rule {
+        NameRule::Twice => least_second_of_rows(alloc, site.rows.as_slice()),
+        NameRule::UnknownName => Ok(least_use(UseRule::UnknownName, decls, table, None, uses)),
+        NameRule::Arity => Ok(least_use(UseRule::Arity, decls, table, None, uses)),
+        NameRule::UnboundVariable | NameRule::Irregular | NameRule::TooManyConstructors => Ok(None),
+    }
+}
+
+/// The least place in all declarations at which the rule is broken.
+pub fn least_in_sites(
+    alloc: Global,
+    rule: NameRule,
+    decls: &[Decl],
+    sites: &[Site],
+) -> Result<Option<usize>, Memory>
+    requires { length decls.now ≡ length sites.now }
+    ensures { IfOk result (IsLeast (SitesBreak rule decls.now sites.now)) }
+{
+    let table = table_of(alloc, decls)?;
+    let mut best = None;
+    for i in 0..decls.len() {
+        let found = least_in_site(alloc, rule, decls, &table, &decls[i], &sites[i])?;
+        best = sooner(best, found);
+    }
+    Ok(best)
+}
+
+/// The least place of a declared name that breaks the rule.
+pub fn least_in_names(
+    alloc: Global,
+    rule: NameRule,
+    names: &[Placed],
+) -> Result<Option<usize>, Memory>
+    ensures { IfOk result (IsLeast (NameBreaks rule names.now)) }
+{
+    match rule {
+        NameRule::Twice => least_name_twice(alloc, names),
+        _ => Ok(None),
+    }
+}
+
+/// The least lexeme at which a file breaks the rule.
+pub fn least_break(
+    alloc: Global,
+    rule: NameRule,
+    decls: &[Decl],
+    names: &[Placed],
+    sites: &[Site],
+) -> Result<Option<usize>, Memory>
+    ghost all: { List DeclPlaces }
+    requires sites { AreSites decls.now names.now sites.now all }
+    requires distinct { rule ≡ NameRule.Irregular → (k : ℕ) → ¬ NamesBreak all twice k }
+    ensures { IfOk result (IsLeast (BreaksInFile all (rule_of rule))) }
+{
+    let in_names = least_in_names(alloc, rule, names)?;
+    let in_sites = least_in_sites(alloc, rule, decls, sites)?;
+    Ok(sooner(in_names, in_sites))
+}
+
+/// The least lexeme at which the text of a type breaks the rule.
+pub fn least_break_in_type(
+    alloc: Global,
+    rule: NameRule,
+    decls: &[Decl],
+    site: &TypeSite,
+) -> Result<Option<usize>, Memory>
+    ghost occurrences: { List Occurrence }
+    requires { IsTypeSite site.now occurrences }
+    ensures { IfOk result (IsLeast (BreaksInType decls.now occurrences (rule_of rule))) }
+{
+    let table = table_of(alloc, decls)?;
+    least_in_type(alloc, rule, decls, &table, site)
+}

@@ -1,0 +1,42 @@
+//! Variables that are no parameters.
+
+ghost use Rattle.std.specs.Prelude.{IfOk, length};
+ghost use Rattle.om_scope.specs.Breaks.{VariablesBreak};
+ghost use Rattle.om_scope.specs.Least.{IsLeast};
+ghost use Rattle.om_scope.specs.Names.{number_of, ArePlaces};
+
+use crate::least::{place_if, sooner};
+use crate::site::Placed;
+use crate::table::{Table, add, empty, find};
+use om_model::Memory;
+use om_model::list::List;
+use std::alloc::Global;
+
+/// The first place of each parameter.
+fn table_of<'a>(alloc: Global, parameters: &'a [List<u8>]) -> Result<Table<'a>, Memory>
+    ensures { IfOk result (λ t. ArePlaces parameters.now (length parameters.now) (number_of t)) }
+{
+    let mut table = empty(alloc);
+    for i in 0..parameters.len() {
+        let _ = add(&mut table, parameters[i].as_slice(), i)?;
+    }
+    Ok(table)
+}
+
+/// The least place of a variable that is no parameter.
+pub fn least_unbound(
+    alloc: Global,
+    parameters: &[List<u8>],
+    variables: &[Placed],
+) -> Result<Option<usize>, Memory>
+    ensures { IfOk result (IsLeast (VariablesBreak parameters.now variables.now)) }
+{
+    let table = table_of(alloc, parameters)?;
+    let mut best = None;
+    for i in 0..variables.len() {
+        let variable = &variables[i];
+        let unbound = find(&table, variable.name()).is_none();
+        best = sooner(best, place_if(unbound, variable.place()));
+    }
+    Ok(best)
+}
