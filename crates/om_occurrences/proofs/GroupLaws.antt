@@ -1,0 +1,154 @@
+-- Files are counted: group by group.
+use Rattle.std.proofs.Common.{ℕ, suc, ◌+◌, ◌≡◌, ◌∙◌, Bool, true, false, List, [], ◌∷◌, ◌++◌, length, drop}
+use Rattle.std.proofs.Common.{refl, sym, ap, arith, append_assoc, length-append}
+use Rattle.std.specs.Prelude.{map}
+use Rattle.std.proofs.lemmas.List.{drop_at, append-nil, map-append, drop-drop, length-map}
+use Rattle.om_lex.specs.declared.lexeme.Keyword.TheVariants as keywords
+use Rattle.om_lex.specs.declared.lexeme.Symbol.TheVariants as symbols
+use Rattle.om_grammar.specs.Grammar.{each_after, word, mark_if, DeclTree, GroupTree, FileTree, decl_kinds}
+use Rattle.om_grammar.specs.Grammar.{group_kinds, file_kinds}
+use Rattle.om_types.specs.declared.decl.Decl.{Decl}
+use Rattle.om_types.specs.Occurrence.{DeclPlaces}
+use Rattle.om_types.specs.Scope.{decls_of}
+use Rattle.om_parse.specs.Written.{declaration_of_tree, declarations_after}
+use Rattle.om_occurrences.specs.Counted.{marks}
+use Rattle.om_occurrences.specs.CountedFile.{along, count_all, decl_count, counted_places, counted_file}
+use Rattle.om_occurrences.specs.CountedFile.{without_inclusions}
+use Rattle.om_occurrences.specs.InFile.{spread, decl_places, decl_size, group_places, places_after}
+use Rattle.om_occurrences.specs.Laws.{FilesAreCounted}
+use Rattle.om_occurrences.proofs.StandLemmas.{IsSilent, marks_append, marks_before}
+use Rattle.om_occurrences.proofs.FileLaws.{IsCounted, row_counted, row_seen}
+use Rattle.om_occurrences.proofs.DeclLaws.{decl_counted, decl_seen}
+
+an_and : IsSilent (word keywords.And)
+an_and j = refl
+
+semicolons_if : (ended : Bool) → IsSilent (mark_if ended symbols.DoubleSemicolon)
+semicolons_if true j = refl
+semicolons_if false j = refl
+
+abbrev place_of : List ℕ → Decl → List DeclPlaces
+place_of ms d = counted_places ms d ∷ []
+
+abbrev places_at : ℕ → ℕ → DeclTree → List DeclPlaces
+places_at group j d = decl_places group j d ∷ []
+
+decls_counted :
+    (group : ℕ) → IsCounted decl_kinds (declaration_of_tree group) decl_count place_of (places_at group)
+    without_inclusions
+decls_counted group = record {
+  counted = decl_counted group;
+  seen = λ k d rest. ap (λ p. p ∷ []) (decl_seen group k d rest);
+}
+
+-- ---- groups
+
+group_marks :
+    (k : ℕ) (g : GroupTree) → marks k (group_kinds g)
+    ≡ marks (k + 1) (decl_kinds g.first ++ each_after (word keywords.And) decl_kinds g.more)
+group_marks k g =
+    let row = decl_kinds g.first ++ each_after (word keywords.And) decl_kinds g.more in
+    let one : suc k ≡ k + 1 = omega arith in
+    marks_before k (word keywords.Type ++ row) (mark_if g.ended symbols.DoubleSemicolon) (semicolons_if g.ended)
+    ∙ ap (λ n. marks n row) one
+
+abbrev group_decls : ℕ → GroupTree → List Decl
+group_decls group g = map (declaration_of_tree group) (g.first ∷ g.more)
+
+group_counted :
+    (group k : ℕ) (g : GroupTree)
+    → length (marks k (group_kinds g)) ≡ count_all decl_count (group_decls group g)
+group_counted group k g = ap length (group_marks k g)
+    ∙ row_counted decl_kinds (declaration_of_tree group) decl_count place_of (places_at group) without_inclusions
+    (decls_counted group) (word keywords.And) an_and refl (k + 1) g.first g.more
+
+group_seen :
+    (group k : ℕ) (g : GroupTree) (rest : List ℕ)
+    → along decl_count place_of (marks k (group_kinds g) ++ rest) (group_decls group g)
+    ≡ map without_inclusions (group_places group k g)
+group_seen group k g rest =
+    ap (λ ms. along decl_count place_of (ms ++ rest) (group_decls group g)) (group_marks k g)
+    ∙ row_seen decl_kinds (declaration_of_tree group) decl_count place_of (places_at group) without_inclusions
+    (decls_counted group) (word keywords.And) an_and refl (k + 1) g.first g.more rest
+
+-- ---- files
+
+along_append :
+    {X Y : Type 0} (count : X → ℕ) (of : List ℕ → X → List Y) (ms : List ℕ) (xs ys : List X)
+    → along count of ms (xs ++ ys)
+    ≡ along count of ms xs ++ along count of (drop (count_all count xs) ms) ys
+along_append count of ms [] ys = refl
+along_append count of ms (x ∷ xs) ys =
+    ap (λ l. of ms x ++ l) (along_append count of (drop (count x) ms) xs ys)
+    ∙ ap (λ l. of ms x ++ (along count of (drop (count x) ms) xs ++ along count of l ys))
+    (drop-drop (count_all count xs) (count x) ms)
+    ∙ sym (append_assoc (of ms x) (along count of (drop (count x) ms) xs)
+    (along count of (drop (count x + count_all count xs) ms) ys))
+
+-- the declarations of groups, after so many
+abbrev decls_after : ℕ → FileTree → List Decl
+decls_after n [] = []
+decls_after n (g ∷ groups) = group_decls n g ++ decls_after (n + length (g.first ∷ g.more)) groups
+
+decls_are :
+    (before : List Decl) (groups : FileTree)
+    → declarations_after before groups ≡ before ++ decls_after (length before) groups
+decls_are before [] = sym (append-nil before)
+decls_are before (g ∷ groups) =
+    let n = length before in
+    let new = group_decls n g in
+    let e : length (before ++ new) ≡ n + length (g.first ∷ g.more) =
+    length-append before new ∙ ap (λ m. n + m) (length-map (g.first ∷ g.more) (declaration_of_tree n)) in
+    decls_are (before ++ new) groups
+    ∙ ap (λ m. (before ++ new) ++ decls_after m groups) e
+    ∙ append_assoc before new (decls_after (n + length (g.first ∷ g.more)) groups)
+
+file_seen :
+    (n k : ℕ) (groups : FileTree) (rest : List ℕ)
+    → along decl_count place_of (marks k (file_kinds groups) ++ rest) (decls_after n groups)
+    ≡ map without_inclusions (places_after n k groups)
+file_seen n k [] rest = refl
+file_seen n k (g ∷ groups) rest =
+    let m = n + length (g.first ∷ g.more) in
+    let j = k + length (group_kinds g) in
+    let more = marks j (file_kinds groups) ++ rest in
+    let ms = marks k (group_kinds g) ++ more in
+    ap (λ l. along decl_count place_of (l ++ rest) (decls_after n (g ∷ groups)))
+    (marks_append k (group_kinds g) (file_kinds groups))
+    ∙ ap (λ l. along decl_count place_of l (decls_after n (g ∷ groups)))
+    (append_assoc (marks k (group_kinds g)) (marks j (file_kinds groups)) rest)
+    ∙ along_append decl_count place_of ms (group_decls n g) (decls_after m groups)
+    ∙ ap (λ l. l ++ along decl_count place_of (drop (count_all decl_count (group_decls n g)) ms) (decls_after m groups))
+    (group_seen n k g more)
+    ∙ ap (λ l. map without_inclusions (group_places n k g) ++ along decl_count place_of l (decls_after m groups))
+    (drop_at (marks k (group_kinds g)) more (count_all decl_count (group_decls n g)) (group_counted n k g))
+    ∙ ap (λ l. map without_inclusions (group_places n k g) ++ l) (file_seen m j groups rest)
+    ∙ sym (map-append without_inclusions (group_places n k g) (places_after m j groups))
+
+-- ---- the declarations themselves
+
+spread_decls :
+    (group k : ℕ) (ds : List DeclTree)
+    → decls_of (spread decl_size (places_at group) k ds) ≡ map (declaration_of_tree group) ds
+spread_decls group k [] = refl
+spread_decls group k (d ∷ ds) =
+    ap (λ l. declaration_of_tree group d ∷ l) (spread_decls group (k + 1 + decl_size d) ds)
+
+places_decls : (n k : ℕ) (groups : FileTree) → decls_of (places_after n k groups) ≡ decls_after n groups
+places_decls n k [] = refl
+places_decls n k (g ∷ groups) =
+    let m = n + length (g.first ∷ g.more) in
+    let j = k + length (group_kinds g) in
+    map-append (λ (d : DeclPlaces). d.decl) (group_places n k g) (places_after m j groups)
+    ∙ ap (λ l. (declaration_of_tree n g.first ∷ l) ++ decls_of (places_after m j groups))
+    (spread_decls n (k + 1 + decl_size g.first) g.more)
+    ∙ ap (λ l. group_decls n g ++ l) (places_decls m j groups)
+
+pub files_are_counted : FilesAreCounted
+files_are_counted = record {
+  declared = λ tree. places_decls 0 0 tree ∙ sym (decls_are [] tree);
+  counted = λ tree.
+      ap (λ ds. counted_file (marks 0 (file_kinds tree)) ds) (decls_are [] tree)
+      ∙ ap (λ ms. along decl_count place_of ms (decls_after 0 tree)) (sym (append-nil (marks 0 (file_kinds tree))))
+      ∙ file_seen 0 0 tree [];
+}

@@ -1,0 +1,7 @@
+pub mod StandLemmas
+pub mod TypeLaws
+pub mod FileLaws
+pub mod DeclLaws
+pub mod GroupLaws
+pub mod CarryLemmas
+pub mod MarkLemmas

@@ -1,0 +1,104 @@
+-- What stands where in a type, by the tree of the type itself: the n-th name, tag or variable of
+-- the type stands at the n-th such lexeme of its text.
+use Rattle.std.specs.Prelude.{ℕ, suc, ◌+◌, Bool, true, false, List, [], ◌∷◌, ◌++◌}
+use Rattle.std.specs.Prelude.{drop, filter, slice_index, if◌then◌else◌}
+use Rattle.om_lex.specs.declared.lexeme.LexemeKind.{LexemeKind}
+use Rattle.om_lex.specs.declared.lexeme.LexemeKind.TheVariants as kinds
+use Rattle.om_types.specs.Ty.{Ty, variable, named, tuple, bracket, part, tag, tag_of, including}
+use Rattle.om_types.specs.Ty.{parts}
+use Rattle.om_types.specs.Occurrence.{Occurrence, PlacedItem, use_of, variable_at, bracket_of}
+
+-- ---- lexemes
+
+-- a name, a tag or a variable
+abbrev pub is_marked : LexemeKind → Bool
+is_marked (kinds.Lower name) = true
+is_marked (kinds.Upper name) = true
+is_marked (kinds.Tag name) = true
+is_marked (kinds.Variable name) = true
+is_marked kind = false
+
+-- which of these are such, where the first is lexeme k
+abbrev pub marks : ℕ → List LexemeKind → List ℕ
+marks k [] = []
+marks k (kind ∷ more) = if is_marked kind then k ∷ marks (suc k) more else marks (suc k) more
+
+-- ---- types
+
+-- whether the type is a variable, or begins with a name that its parts are arguments of
+abbrev pub own_count : Ty → ℕ
+own_count (variable x) = 1
+own_count (named x) = 1
+own_count tuple = 0
+own_count bracket = 0
+own_count (part whole added) = own_count whole
+own_count (tag whole x) = own_count whole
+own_count (tag_of whole x argument) = own_count whole
+own_count (including whole included) = own_count whole
+
+-- how many names, tags and variables stand in the parts of a type
+abbrev pub inner_count : Ty → ℕ
+inner_count (variable x) = 0
+inner_count (named x) = 0
+inner_count tuple = 0
+inner_count bracket = 0
+inner_count (part whole added) = inner_count whole + (inner_count added + own_count added)
+inner_count (tag whole x) = inner_count whole + 1
+inner_count (tag_of whole x argument) =
+    inner_count whole + 1 + (inner_count argument + own_count argument)
+inner_count (including whole included) =
+    inner_count whole + (inner_count included + own_count included)
+
+-- The tags that a bracket writes; the first of its names, tags and variables stands at the first of
+-- these lexemes.
+abbrev pub tags : List ℕ → Ty → List PlacedItem
+tags ms (tag whole x) = tags ms whole ++ (slice_index ms (inner_count whole), tag bracket x) ∷ []
+tags ms (tag_of whole x argument) =
+    tags ms whole ++ (slice_index ms (inner_count whole), tag_of bracket x argument) ∷ []
+tags ms (including whole included) = tags ms whole
+tags ms t = []
+
+-- the variable, the name or the bracket that a type begins with
+abbrev pub begins : ℕ → Bool → List Ty → List PlacedItem → Ty → List Occurrence
+begins k in_tag arguments items (variable x) = variable_at k x ∷ []
+begins k in_tag arguments items (named x) = use_of k x arguments in_tag ∷ []
+begins k in_tag arguments items tuple = []
+begins k in_tag arguments items bracket = bracket_of items ∷ []
+begins k in_tag arguments items (part whole added) = begins k in_tag arguments items whole
+begins k in_tag arguments items (tag whole x) = begins k in_tag arguments items whole
+begins k in_tag arguments items (tag_of whole x argument) = begins k in_tag arguments items whole
+begins k in_tag arguments items (including whole included) = begins k in_tag arguments items whole
+
+-- it with its lexeme, which follows those of the parts
+abbrev pub own : List ℕ → Bool → Ty → List Occurrence
+own ms in_tag t = begins (slice_index ms (inner_count t)) in_tag (parts t) (tags ms t) t
+
+-- what stands in the parts
+abbrev pub inner : List ℕ → Bool → Ty → List Occurrence
+inner ms in_tag (part whole added) =
+    inner ms in_tag whole ++ (own (drop (inner_count whole) ms) in_tag added
+    ++ inner (drop (inner_count whole) ms) in_tag added)
+inner ms in_tag (tag whole x) = inner ms in_tag whole
+inner ms in_tag (tag_of whole x argument) =
+    inner ms in_tag whole ++ (own (drop (inner_count whole + 1) ms) true argument
+    ++ inner (drop (inner_count whole + 1) ms) true argument)
+inner ms in_tag (including whole included) =
+    inner ms in_tag whole ++ (own (drop (inner_count whole) ms) in_tag included
+    ++ inner (drop (inner_count whole) ms) in_tag included)
+inner ms in_tag t = []
+
+-- what stands in a type
+abbrev pub in_type : List ℕ → Bool → Ty → List Occurrence
+in_type ms in_tag t = own ms in_tag t ++ inner ms in_tag t
+
+-- ---- brackets without what they include
+
+abbrev pub is_written_tag : PlacedItem → Bool
+is_written_tag (k, tag whole x) = true
+is_written_tag (k, tag_of whole x argument) = true
+is_written_tag (k, t) = false
+
+abbrev pub with_tags_alone : Occurrence → Occurrence
+with_tags_alone (bracket_of items) = bracket_of (filter is_written_tag items)
+with_tags_alone (use_of k name arguments in_tag) = use_of k name arguments in_tag
+with_tags_alone (variable_at k name) = variable_at k name

@@ -1,0 +1,6 @@
+pub mod InText
+pub mod Counted
+pub mod InFile
+pub mod CountedFile
+pub mod Laws
+pub mod Carried
