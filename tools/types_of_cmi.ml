@@ -19,16 +19,39 @@ exception Wrong_words of string
 
 let wrong_words format = Printf.ksprintf (fun text -> raise (Wrong_words text)) format
 
+(* The rest of a text that begins with a prefix. *)
+let without prefix text =
+  let length = String.length prefix in
+  if String.starts_with ~prefix text then Some (String.sub text length (String.length text - length)) else None
+
 (* {1 The compiler's library} *)
 
-(* From 4.14 on `type_expr` and `row_desc` are abstract, and these are `Types.eq_type`, `get_desc`, `row_fields`,
-   `row_closed` and `row_field_repr`. *)
+(* From 4.14 on `type_expr` and `row_desc` are abstract, and the first five are `eq_type`, `get_desc`, `row_fields`,
+   `row_closed` and `row_field_repr` of `Types`. *)
 module Library = struct
   let same ty other = Btype.repr ty == Btype.repr other
   let shape ty = (Btype.repr ty).desc
   let tags row = (Btype.row_repr row).row_fields
   let is_closed row = (Btype.row_repr row).row_closed
   let presence field = Btype.row_field_repr field
+  let find_file name = Load_path.find_uncap name
+
+  (* Whether a declaration shows no representation of its own. *)
+  let is_abstract declaration =
+    match declaration.type_kind with Type_record _ | Type_variant _ | Type_open -> false | _ -> true
+
+  let one_line text =
+    let is_text line = line <> "" in
+    String.concat " " (List.filter is_text (List.map String.trim (String.split_on_char '\n' text)))
+
+  (* What the compiler says of an error of its own, after its place. Other exceptions go on. *)
+  let message error =
+    let rec after_place text =
+      match without "Error: " text with
+      | Some message -> message
+      | None -> if text = "" then "" else after_place (String.sub text 1 (String.length text - 1))
+    in
+    after_place (one_line (Format.asprintf "%a" Location.report_exception error))
 end
 
 (* {1 Declarations in omarshal's grammar} *)
@@ -74,10 +97,7 @@ let predeclared_types = base_types @ [ "list"; "option"; "array"; "ref" ]
 let keywords = [ "type"; "and"; "of"; "mutable" ]
 
 (* The module `Stdlib__Map` of the standard library is `Map` to its users. *)
-let module_name id =
-  let name = Ident.name id and prefix = "Stdlib__" in
-  let length = String.length prefix in
-  if String.starts_with ~prefix name then String.sub name length (String.length name - length) else name
+let module_name id = Option.value (without "Stdlib__" (Ident.name id)) ~default:(Ident.name id)
 
 let rec path_text = function
   | Path.Pident id -> module_name id
@@ -204,7 +224,7 @@ and unsealed_module { Typedtree.mod_desc; _ } ~otherwise =
 
 (* The types of the implementation of a module, as a module of the environment, if its `.cmt` is found. *)
 let read_implementation reader name =
-  match Cmt_format.read_cmt (Load_path.find_uncap (name ^ ".cmt")) with
+  match Cmt_format.read_cmt (Library.find_file (name ^ ".cmt")) with
   | { cmt_annots = Implementation structure; _ } as cmt ->
       if interface_digest cmt <> Some (Env.crc_of_unit name) then
         wrong_words "the .cmt of %s is of another interface than its .cmi" name;
@@ -258,11 +278,11 @@ let rec path_outside reader = function
 (* Whether an interface has a type only as another name of one that it hides. *)
 let rec renames_hidden ?(is_renamed = false) reader path =
   match find_shown reader path with
-  | Some { type_kind = Type_abstract; type_manifest = None; _ } -> is_renamed && not (is_predefined path)
-  | Some { type_kind = Type_abstract; type_manifest = Some manifest; _ } -> (
-      match Library.shape manifest with
-      | Tconstr (target, _, _) -> renames_hidden ~is_renamed:true reader (normalize reader target)
-      | _ -> false)
+  | Some declaration when Library.is_abstract declaration -> (
+      match Option.map Library.shape declaration.type_manifest with
+      | None -> is_renamed && not (is_predefined path)
+      | Some (Tconstr (target, _, _)) -> renames_hidden ~is_renamed:true reader (normalize reader target)
+      | Some _ -> false)
   | Some _ | None -> false
 
 (* The one path of a type, whatever aliases of modules were used to write it; that of its interface, if this has it. *)
@@ -277,7 +297,7 @@ let canonical reader path =
 let find_declaration reader path =
   match (Path.Map.find_opt path reader.by_hand, find_shown reader path) with
   | Some declaration, _ -> Some (By_hand, declaration)
-  | None, Some ({ type_kind = Type_abstract; type_manifest = None; _ } as hidden) when reader.looks_inside -> (
+  | None, Some ({ type_manifest = None; _ } as hidden) when reader.looks_inside && Library.is_abstract hidden -> (
       match Option.bind (path_inside reader path) (find_shown reader) with
       | Some declaration -> Some (Hidden, declaration)
       | None -> Some (Shown, hidden))
@@ -460,8 +480,8 @@ let read_body reader scope path declaration =
   | Type_record (labels, _), _ -> Record (List.map (read_field reader scope) labels)
   | Type_variant ([ constructor ], Variant_unboxed), _ -> read_unboxed reader scope constructor
   | Type_variant (constructors, _), _ -> read_variant reader scope constructors
-  | (Type_abstract | Type_open), Some manifest -> Abbreviation (read_type reader scope manifest)
-  | (Type_abstract | Type_open), None -> Abbreviation (refuse reader scope.way (hidden_kind path declaration))
+  | _, Some manifest -> Abbreviation (read_type reader scope manifest)
+  | _, None -> Abbreviation (refuse reader scope.way (hidden_kind path declaration))
 
 let read_declaration reader path way (origin, declaration) =
   let parameters = List.mapi (fun index _ -> parameter_name index) declaration.type_params in
@@ -756,23 +776,11 @@ let rec word_lines = function
 
 (* {1 The types that words name} *)
 
-let message_of_error error =
-  match Location.error_of_exn error with
-  | Some (`Ok report) -> Some (Format.asprintf "%t" report.Location.main.txt)
-  | Some `Already_displayed | None -> None
-
-let one_line text =
-  let is_text line = line <> "" in
-  String.concat " " (List.filter is_text (List.map String.trim (String.split_on_char '\n' text)))
-
 (* Runs `read`; what the compiler reports then is a fault of the word. *)
 let in_word word read =
   try read () with
   | Wrong_words _ as error -> raise error
-  | error -> (
-      match message_of_error error with
-      | Some message -> wrong_words "%s: %s" word (one_line message)
-      | None -> raise error)
+  | error -> wrong_words "%s: %s" word (Library.message error)
 
 let environment folders =
   Clflags.include_dirs := List.rev folders;
