@@ -1,14 +1,14 @@
 -- Tokens that are taken without the judge.
-use Rattle.std.proofs.Common.{ℕ, suc, ◌≡◌, ◌+◌, ◌-◌, ◌<◌, ◌≤◌, List, [], ◌∷◌, ◌++◌, length, take, drop, get_or, Option, Some, Ok, None, true, pos, refl, arith, ap, sym, ◌∙◌, subst, subst₂, ◌≢◌, ◌^◌}
+use Rattle.std.proofs.Common.{ℕ, suc, ◌≡◌, ◌+◌, ◌-◌, ◌<◌, ◌≤◌, List, [], ◌∷◌, ◌++◌, length, take, drop, get_or, Option, Some, Ok, None, true, arith, ap, ◌∙◌, subst, subst₂, ◌≢◌, ◌^◌}
 use Rattle.om_model.specs.Bytes.{AreBytes}
 use Rattle.om_model.specs.declared.code.CodeKind.{CodeKind}
 use Rattle.om_model.specs.declared.code.CodeKind.TheVariants as kinds
 use Rattle.om_model.specs.declared.code.Measure.{Measure}
 use Rattle.om_format.specs.Code.{kind_of}
-use Rattle.om_format.specs.Raw.{fixed_bytes, variable_bytes, block_measure, measure_after, raw_length}
+use Rattle.om_format.specs.Raw.{fixed_bytes, variable_bytes, measure_after, raw_length}
 use Rattle.om_format.specs.Step.{field_refusal}
 use Rattle.om_format.specs.Words.{of_object, fields}
-use Rattle.om_format.specs.Token.{Token, Spells, SpellsFrom, SpellsAfter, block_or_atom, integer}
+use Rattle.om_format.specs.Token.{Token, Spells, SpellsFrom, SpellsAfter}
 use Rattle.om_format.specs.Front.{context}
 use Rattle.om_read.specs.declared.totals.Totals.{Totals}
 use Rattle.om_read.specs.Totals.{AreTotals, PassesTo, Advances, context_of, moved, IsPlain}
@@ -62,18 +62,6 @@ module _ (header : List ℕ) (before : List (List ℕ)) (place next : Totals) (s
       let j = next_there place (context header before) bytes (Ok next) h.sums (passes_next place next bytes kind some k p) in
       let s = next_spelled header before place state bytes valid h j.0 j.1 in
       (s.0, spelled_after bytes kind s.0 some k s.1, IsToken-spelled s.0 (take (raw_length bytes) bytes) s.1, s.2)
-
-  pub block_taken : (tag size : ℕ) → kind_of (get_or bytes 0 0) ≡ Ok (kinds.SmallBlock tag size) → Advances place 1 (block_measure size) next true
-      → state' ≡ absorb_in state (block_or_atom tag size) → TakesOne header before bytes place state next state' (Ok 1)
-  block_taken tag size k a adds =
-      common_taken (kinds.SmallBlock tag size) 1 refl k (record { whole = omega arith; plain = tt; sound = refl; more = a.0; next_is = a.1 })
-      (λ t s. adds ∙ ap (absorb_in state) (sym s.1))
-
-  pub integer_taken : (value : ℕ) → kind_of (get_or bytes 0 0) ≡ Ok (kinds.SmallInt value) → Advances place 1 None next true
-      → state' ≡ absorb_in state (integer (pos value)) → TakesOne header before bytes place state next state' (Ok 1)
-  integer_taken value k a adds =
-      common_taken (kinds.SmallInt value) 1 refl k (record { whole = omega arith; plain = tt; sound = refl; more = a.0; next_is = a.1 })
-      (λ t s. adds ∙ ap (absorb_in state) (sym s.1))
 
 -- ---- one after another
 

@@ -6,8 +6,8 @@ ghost use Rattle.om_read.specs.Reading.{Builds, TakesOne};
 ghost use Rattle.om_read.specs.Pieces.{LeadsAs, TakesCommon};
 
 use crate::build::Builder;
-use crate::decode::{block_or_atom, decode};
-use crate::token::{block_measure_of, measure_at};
+use crate::decode::decode;
+use crate::token::measure_at;
 use crate::totals::Totals;
 use om_codes::code_kind;
 use om_model::Memory;
@@ -57,30 +57,27 @@ fn take_one(
     ensures { (header : List ℕ) (before : List (List ℕ)) → Builds header before totals.old builder.old →
         TakesOne header before bytes.now totals.old builder.old totals.new builder.new result }
 {
+    // The kinds that are named get code of their own.
     match code_kind(bytes[0]) {
         Ok(CodeKind::SmallBlock(tag, size)) => {
-            let size = u64::from(size);
-            if !totals.advance(1, block_measure_of(size)) {
-                return Ok(0);
-            }
-            block_or_atom(builder, tag, size)?;
-            Ok(1)
+            take_kind(
+                alloc,
+                totals,
+                builder,
+                CodeKind::SmallBlock(tag, size),
+                bytes,
+            )
         }
         Ok(CodeKind::SmallInt(value)) => {
-            if !totals.advance(1, None) {
-                return Ok(0);
-            }
-            builder.integer(i64::from(value));
-            Ok(1)
+            take_kind(alloc, totals, builder, CodeKind::SmallInt(value), bytes)
         }
-        // Each of these kinds gets code of its own.
+        Ok(CodeKind::SmallString(len)) => {
+            take_kind(alloc, totals, builder, CodeKind::SmallString(len), bytes)
+        }
         Ok(CodeKind::Int(1)) => take_kind(alloc, totals, builder, CodeKind::Int(1), bytes),
         Ok(CodeKind::Int(2)) => take_kind(alloc, totals, builder, CodeKind::Int(2), bytes),
         Ok(CodeKind::Int(4)) => take_kind(alloc, totals, builder, CodeKind::Int(4), bytes),
         Ok(CodeKind::Shared(1)) => take_kind(alloc, totals, builder, CodeKind::Shared(1), bytes),
-        Ok(CodeKind::SmallString(len)) => {
-            take_kind(alloc, totals, builder, CodeKind::SmallString(len), bytes)
-        }
         Ok(CodeKind::Double(true)) => {
             take_kind(alloc, totals, builder, CodeKind::Double(true), bytes)
         }

@@ -21,7 +21,7 @@ use std::alloc::Global;
 
 /// A block, or an atom where it has no fields.
 #[inline(always)]
-pub fn block_or_atom(builder: &mut Builder, tag: u8, size: u64) -> Result<(), Memory>
+fn block_or_atom(builder: &mut Builder, tag: u8, size: u64) -> Result<(), Memory>
     requires well { WellOpen builder.old.built }
     requires range { tag ≤ 243 }
     requires small { size < 2 ^ 53 }
