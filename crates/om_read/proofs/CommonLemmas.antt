@@ -1,5 +1,5 @@
 -- Tokens that are taken without the judge.
-use Rattle.std.proofs.Common.{ℕ, suc, ◌≡◌, ◌+◌, ◌-◌, ◌<◌, ◌≤◌, List, [], ◌∷◌, ◌++◌, length, take, drop, get_or, Option, Some, Ok, None, true, arith, ap, ◌∙◌, subst, subst₂, ◌≢◌, ◌^◌}
+use Rattle.std.proofs.Common.{ℕ, suc, ◌≡◌, ◌+◌, ◌-◌, ◌<◌, ◌≤◌, List, [], ◌∷◌, ◌++◌, length, take, drop, get_or, Option, Some, Ok, None, true, arith, ap, ◌∙◌, subst, subst₂, ◌≢◌}
 use Rattle.om_model.specs.Bytes.{AreBytes}
 use Rattle.om_model.specs.declared.code.CodeKind.{CodeKind}
 use Rattle.om_model.specs.declared.code.CodeKind.TheVariants as kinds
@@ -7,7 +7,6 @@ use Rattle.om_model.specs.declared.code.Measure.{Measure}
 use Rattle.om_format.specs.Code.{kind_of}
 use Rattle.om_format.specs.Raw.{fixed_bytes, variable_bytes, measure_after, raw_length}
 use Rattle.om_format.specs.Step.{field_refusal}
-use Rattle.om_format.specs.Words.{of_object, fields}
 use Rattle.om_format.specs.Token.{Token, Spells, SpellsFrom, SpellsAfter}
 use Rattle.om_format.specs.Front.{context}
 use Rattle.om_read.specs.declared.totals.Totals.{Totals}
@@ -96,7 +95,3 @@ passes_from place next code kind rest len measure l within plain sound m a =
       more = a.0;
       next_is = subst₂ (λ (k : ℕ) (o : Option Measure). AreTotals next (moved (context_of place) k o)) n m a.1;
     }
-
--- its object has few fields
-pub few_fields : (place next : Totals) (n : ℕ) (measure : Option Measure) → Advances place n measure next true → of_object fields measure < 2 ^ 53
-few_fields place next n measure a = omega (arith, a.1.pending, next.room, next.short)

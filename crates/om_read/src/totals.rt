@@ -1,6 +1,6 @@
 //! Where a token stands, and the steps that compare it with what came before.
 
-ghost use Rattle.std.specs.Prelude.{◌≡◌, ◌≤◌, ◌<◌, ◌+◌, ◌-◌, ◌*◌, ◌^◌, ◌++◌, ◌∷◌, [], length, take, slice_index, None, OnOk, IfOk, IfSome, ◌≢◌, false, nat_lt, List, Option, ℕ, ◌==◌, if◌then◌else◌};
+ghost use Rattle.std.specs.Prelude.{◌≡◌, ◌≤◌, ◌<◌, ◌+◌, ◌-◌, ◌*◌, ◌^◌, [], length, take, slice_index, None, OnOk, IfOk, IfSome, ◌≢◌, false, nat_lt, Option, ℕ, ◌==◌, if◌then◌else◌};
 ghost use Rattle.std.specs.Option.{ForSome};
 
 use crate::token::{

@@ -1,6 +1,6 @@
 //! The steps of a token (`intern.c`).
 
-ghost use Rattle.std.specs.Prelude.{◌≡◌, ◌≤◌, ◌<◌, ◌^◌, length, IfOk};
+ghost use Rattle.std.specs.Prelude.{◌≡◌, ◌<◌, ◌^◌, length, IfOk};
 ghost use Rattle.om_format.specs.Code.{IsKind, custom_of};
 ghost use Rattle.om_format.specs.Raw.{measure_after};
 ghost use Rattle.om_format.specs.Step.{place, left_after, overlong, code_refusal, integer_refusal, shared_refusal, field_refusal, native_steps, variable_steps, words32_refusal, words64_refusal, end_steps, entry_steps, closing_steps, steps_after, token_steps};
