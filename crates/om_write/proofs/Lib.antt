@@ -2,6 +2,7 @@ pub mod BoundLemmas
 pub mod CompatLemmas
 pub mod ForestLemmas
 pub mod FrameLemmas
+pub mod LawLemmas
 pub mod LeftLemmas
 pub mod NextLemmas
 pub mod SizeLemmas

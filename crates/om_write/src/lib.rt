@@ -2,6 +2,7 @@
 #![tactic(auto)]
 
 mod compat;
+pub mod laws;
 mod measure;
 mod spell;
 #[cfg(test)]
