@@ -1,7 +1,9 @@
 use crate::declared::table_of;
 use crate::rule::NameRule;
 use crate::site::{Placed, Site, TypeSite, Use};
-use crate::sites::{least_in_names, least_in_sites, least_in_type};
+use crate::sites::{
+    least_break, least_break_in_type, least_in_names, least_in_sites, least_in_type,
+};
 use om_model::list::List;
 use om_types::decl::{Body, Decl};
 use std::alloc::Global;
@@ -130,5 +132,27 @@ fn a_type_breaks_rules(rt: HostRuntime) -> Result<(), Fail> {
             place
         );
     }
+    Ok(())
+}
+
+#[test]
+fn an_empty_file_breaks_no_rule(rt: HostRuntime) -> Result<(), Fail> {
+    assert_eq!(rt;
+        least_break(rt.alloc(), NameRule::Twice, &[], &[], &[])?,
+        None
+    );
+    Ok(())
+}
+
+#[test]
+fn a_type_without_names_breaks_no_rule(rt: HostRuntime) -> Result<(), Fail> {
+    let site = TypeSite {
+        rows: List::new(rt.alloc()),
+        uses: List::new(rt.alloc()),
+    };
+    assert_eq!(rt;
+        least_break_in_type(rt.alloc(), NameRule::Arity, &[], &site)?,
+        None
+    );
     Ok(())
 }
