@@ -88,17 +88,6 @@ pub flush_failed : (old new : ByteState) (buffer : List ℕ) → PutsPart (chang
 flush_failed old new buffer part before text carries =
     part_more before new text [] (subst (PutsPart (change before new)) carries.whole (puts_part before old new carries.front buffer carries.puts part))
 
--- the buffer is lengthened
-pub buffered : (now : ByteState) (buffer piece : List ℕ) → AddsAll now now buffer (buffer ++ piece) piece
-buffered now buffer piece before text carries = record {
-  front = carries.front;
-  whole = sym (append_assoc carries.front buffer piece) ∙ ap (λ t. t ++ piece) carries.whole;
-  puts = carries.puts;
-}
-
-pub adds_nothing : (a : ByteState) (x : List ℕ) → AddsAll a a x x []
-adds_nothing a x before text carries = subst (Carries before a x) (sym (append-nil text)) carries
-
 -- one piece, and then another
 pub adds_both : (a b c : ByteState) (x y z p q : List ℕ) → AddsAll a b x y p → AddsAll b c y z q → AddsAll a c x z (p ++ q)
 adds_both a b c x y z p q first second before text carries =
@@ -136,11 +125,6 @@ text_more f xs i inside =
 
 text_split : (f : ℕ → List ℕ) (xs : List ℕ) (i : ℕ) → flat_map f (take i xs) ++ flat_map f (drop i xs) ≡ flat_map f xs
 text_split f xs i = sym (flat_map-append f (take i xs) (drop i xs)) ∙ ap (flat_map f) (take-append-drop i xs)
-
-pub content_more : (a b c : ByteState) (x y z : List ℕ) (f : ℕ → List ℕ) (xs : List ℕ) (i : ℕ) → i < length xs
-    → AddsAll a b x y (flat_map f (take i xs)) → AddsAll b c y z (f (get_or xs i 0)) → AddsAll a c x z (flat_map f (take (i + 1) xs))
-content_more a b c x y z f xs i inside first second =
-    subst (AddsAll a c x z) (sym (text_more f xs i inside)) (adds_both a b c x y z (flat_map f (take i xs)) (f (get_or xs i 0)) first second)
 
 pub content_failed : (a b c : ByteState) (x y : List ℕ) (f : ℕ → List ℕ) (xs : List ℕ) (i : ℕ) → i < length xs
     → AddsAll a b x y (flat_map f (take i xs)) → AddsPart b c y (f (get_or xs i 0)) → AddsPart a c x (flat_map f xs)

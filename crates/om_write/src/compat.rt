@@ -6,7 +6,7 @@ ghost use Rattle.om_format.specs.Compat.{is_large, large_header, token};
 ghost use Rattle.om_format.specs.Iso.{IsTreeOf};
 ghost use Rattle.om_format.specs.Token.{leaf};
 ghost use Rattle.om_format.specs.Tree.{Tree, tokens};
-ghost use Rattle.om_heap.specs.Heap.{IsHeap, object_at};
+ghost use Rattle.om_heap.specs.Heap.{object_at};
 ghost use Rattle.om_write.specs.Step.{token_in, IsHeld};
 ghost use Rattle.om_write.specs.Tells.{Tells};
 ghost use Rattle.om_write.specs.Walking.{IsWalk};

@@ -1,6 +1,6 @@
 //! What the header states of a value.
 
-ghost use Rattle.std.specs.Prelude.{◌≡◌, ◌<◌, ◌≤◌, ◌^◌, length};
+ghost use Rattle.std.specs.Prelude.{◌≡◌, ◌<◌, length};
 ghost use Rattle.om_format.specs.Iso.{IsTreeOf};
 ghost use Rattle.om_format.specs.Tree.{Tree, tokens};
 ghost use Rattle.om_format.specs.Token.{leaf};
