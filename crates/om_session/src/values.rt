@@ -83,7 +83,7 @@ impl Values {
         }
     }
 
-    /// Puts the line of the value that the reader has whole. A new reader waits for the next one.
+    /// Puts the line of the value that the reader has whole. A new reader waits for the next one, in the memory of this one.
     fn put_line<K: Sink>(&mut self, alloc: Global, ty: ListType, out: &mut K) -> Result<(), Halt>
         requires { (taken : List ℕ) × (said : List Said) × IsValueRead ty taken said self.old × (length taken < 2 ^ 64) }
         ensures { (taken : List ℕ) (said : List Said) → IsValueRead ty taken said self.old →
@@ -93,6 +93,7 @@ impl Values {
         let value = reader.finish();
         let line = verdict_line(alloc, &value.heap, value.root, ty)?;
         put_all(out, line.text.as_slice())?;
+        self.reader = Reader::over(alloc, WORD_LIMIT, value.heap);
         self.has_type &= line.has_type;
         self.count += 1;
         Ok(())

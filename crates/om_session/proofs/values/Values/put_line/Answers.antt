@@ -22,10 +22,9 @@ overflow_add-self g c = let room = room_for_one c.args.ty c.requires.0 c.require
 pub returns : goal.returns
 returns g c = λ taken said v.
     let leads : Leads word_limit v.whole c.replace-reader.result = subst (λ r. Leads word_limit v.whole r) (sym c.replace-reader.ensures.value) v.leads in
-    let next : Said = record { text = c.as_slice.result.now; well = c.in_ok-line.line.has_type } in
-    let fresh : Leads word_limit [] c.replace-reader.new.dest = subst (λ r. Leads word_limit [] r) (sym c.replace-reader.ensures.after) c.new.ensures.leads in (
+    let next : Said = record { text = c.as_slice.result.now; well = c.in_ok-line.line.has_type } in (
       next,
       value_put c.args.ty taken said c.args.self.now v c.finish-value.result (c.finish-value.ensures word_limit v.whole leads) next (rw (← c.as_slice.ensures) at c.in_ok-line.ensures)
-          c.replace-reader.new.dest fresh _ refl,
+          c.over.result c.over.ensures.leads _ refl,
       c.in_ok-put_all.ensures.puts,
     )
