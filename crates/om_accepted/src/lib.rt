@@ -1,0 +1,8 @@
+//! Declarations that break no rule of scope are well-formed. The functions do nothing: what each ensures is the law.
+#![tactic(auto)]
+
+mod laws;
+#[cfg(test)]
+mod tests;
+
+pub use laws::ranks_follow;
