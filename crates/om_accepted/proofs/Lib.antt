@@ -1,1 +1,4 @@
 pub mod RankLemmas
+pub mod NameLemmas
+pub mod BracketLemmas
+pub mod AcceptedLemmas

@@ -25,7 +25,7 @@ greatest f (name ∷ names) = max (f name) (greatest f names)
 
 -- ---- the declaration of a name, with what stands in it
 
-abbrev found : List DeclPlaces → List ℕ → Option DeclPlaces
+abbrev pub found : List DeclPlaces → List ℕ → Option DeclPlaces
 found all name = find (λ (d : DeclPlaces). bytes_eq d.decl.name name) all
 
 abbrev body_of : Option DeclPlaces → Option Ty
@@ -153,7 +153,7 @@ abbrev Repeats : List (List ℕ) → Type 0
 Repeats [] = ⊥
 Repeats (x ∷ xs) = Contains xs x ⊎ Repeats xs
 
-contains_or_not : (xs : List (List ℕ)) (x : List ℕ) → Contains xs x ⊎ (¬ Contains xs x)
+pub contains_or_not : (xs : List (List ℕ)) (x : List ℕ) → Contains xs x ⊎ (¬ Contains xs x)
 contains_or_not [] x = inr (Contains-none x)
 contains_or_not (z ∷ xs) x = at_first (true_or_not (bytes_eq z x)) (contains_or_not xs x) where
   at_first : IsTrue (bytes_eq z x) ⊎ (¬ IsTrue (bytes_eq z x)) → Contains xs x ⊎ (¬ Contains xs x) → Contains (z ∷ xs) x ⊎ (¬ Contains (z ∷ xs) x)
@@ -173,7 +173,7 @@ too_many (x ∷ xs) ys within more = ⊎_elim (λ again. inl again)
 
 -- ---- declarations and what stands in them
 
-found_named : (all : List DeclPlaces) (name : List ℕ) (d : DeclPlaces) → found all name ≡ Some d → Contains all d × (d.decl.name ≡ name)
+pub found_named : (all : List DeclPlaces) (name : List ℕ) (d : DeclPlaces) → found all name ≡ Some d → Contains all d × (d.decl.name ≡ name)
 found_named [] name d is = absurd (none-some d is)
 found_named (first ∷ rest) name d is = by_test (true_or_not (bytes_eq first.decl.name name)) (found_named rest name d) where
   by_test : IsTrue (bytes_eq first.decl.name name) ⊎ (¬ IsTrue (bytes_eq first.decl.name name))
@@ -187,7 +187,7 @@ found_named (first ∷ rest) name d is = by_test (true_or_not (bytes_eq first.de
       (Contains-later first rest d more.0, more.1)
 
 -- the declarations alone are found alike
-found_decl : (all : List DeclPlaces) (name : List ℕ) → declaration_of (decls_of all) name ≡ option_map (λ (d : DeclPlaces). d.decl) (found all name)
+pub found_decl : (all : List DeclPlaces) (name : List ℕ) → declaration_of (decls_of all) name ≡ option_map (λ (d : DeclPlaces). d.decl) (found all name)
 found_decl [] name = refl
 found_decl (first ∷ rest) name = at_test (bytes_eq first.decl.name name) (found_decl rest name) where
   at_test : (test : Bool) → declaration_of (decls_of rest) name ≡ option_map (λ (d : DeclPlaces). d.decl) (found rest name)

@@ -1,1 +1,5 @@
 pub mod Ranked
+pub mod Told
+pub mod Names
+pub mod Brackets
+pub mod Accepted

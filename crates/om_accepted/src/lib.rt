@@ -5,4 +5,4 @@ mod laws;
 #[cfg(test)]
 mod tests;
 
-pub use laws::ranks_follow;
+pub use laws::{accepted_are_well_formed, brackets_follow, names_follow, ranks_follow};

@@ -1,7 +1,10 @@
 use super::*;
 
-// A law can be called.
+// Laws can be called.
 #[test]
-fn the_law_is_called() {
+fn laws_are_called() {
     ranks_follow();
+    names_follow();
+    brackets_follow();
+    accepted_are_well_formed();
 }

@@ -1,0 +1,291 @@
+-- The tags of a bracket come from its items, and the rules on brackets.
+use Rattle.std.proofs.Common.{ℕ, zero, suc, ◌≡◌, ◌≢◌, ◌≤◌, ◌∙◌, ◌⊎◌, ⊎_elim, inl, inr, Bool, true, List, [], ◌∷◌, ◌++◌, length, Some, None, refl, sym, ap, subst, arith}
+use Rattle.std.specs.Prelude.{slice_get, map, filter, not, Contains}
+use Rattle.std.specs.Str.{bytes_eq}
+use Rattle.std.proofs.lemmas.Option.{same_Some, none-some}
+use Rattle.std.proofs.lemmas.List.Elements.{Contains-append_left, Contains-append_right, Contains-append_cases}
+use Rattle.std.proofs.lemmas.Slice.Eq.{bytes_eq-Decides}
+use Rattle.om_model.proofs.Options.{true_or_not, Contains-first, Contains-none, slice_get-Contains}
+use Rattle.om_types.specs.declared.decl.Decl.{Decl}
+use Rattle.om_types.specs.declared.head.HeadOf.{HeadOf}
+use Rattle.om_types.specs.declared.head.HeadOf.TheVariants as heads
+use Rattle.om_types.specs.declared.head.TagOf.{TagOf}
+use Rattle.om_types.specs.Accepted.{AreVariants, IsHashed, HasSoundBrackets}
+use Rattle.om_types.specs.Declarations.{unfolded}
+use Rattle.om_types.specs.Head.{has_tag, with_tags, tags_in, bare_tag, carrying_tag, plain_head, head}
+use Rattle.om_types.specs.Occurrence.{Occurrence, PlacedItem, use_of, variable_at, bracket_of, DeclPlaces}
+use Rattle.om_types.specs.Scope.{not_variant, hash_clash, decls_of, tags_of_item}
+use Rattle.om_types.specs.Ty.{Ty, variable, named, tuple, bracket, part, tag, tag_of, including}
+use Rattle.om_types.specs.Ty.{parts}
+use Rattle.om_equal.proofs.TagLemmas.{Contains-filtered, filtered-Contains}
+use Rattle.om_accepted.specs.Ranked.{Keeps}
+use Rattle.om_accepted.specs.Told.{Thing, bracket_thing, HasParts, HasItems, IsProper, items_of, own_thing, begins_as, things_inside, things_in, thing_of, IsTold, AllIsTold}
+use Rattle.om_accepted.specs.Brackets.{HeadsArePlain, BracketsAreSound}
+
+-- ---- places in lists
+
+get_before : {X : Type 0} (xs ys : List X) (i : ℕ) (x : X) → slice_get xs i ≡ Some x → slice_get (xs ++ ys) i ≡ Some x
+get_before [] ys i x is = absurd (none-some x is)
+get_before (z ∷ xs) ys zero x is = is
+get_before (z ∷ xs) ys (suc i) x is = get_before xs ys i x is
+
+get_last : {X : Type 0} (xs : List X) (x : X) → slice_get (xs ++ x ∷ []) (length xs) ≡ Some x
+get_last [] x = refl
+get_last (z ∷ xs) x = get_last xs x
+
+-- ---- the tags that items bring
+
+kept-all : {X : Type 0} (p : X → Bool) (xs : List X) (x : X) → ((y : X) → p y ≡ true) → Contains xs x → Contains (filter p xs) x
+kept-all p xs x all among = Contains-filtered p xs x among (all x)
+
+filtered-of : {X : Type 0} (p : X → Bool) (xs : List X) (x : X) → Contains (filter p xs) x → Contains xs x
+filtered-of p xs x among = (filtered-Contains p xs x among).0
+
+module _ (decls : List Decl) (plain : HeadsArePlain decls) where
+  -- some item brings the tag
+  record Brought (items : List Ty) (one : TagOf Ty) : Type 0 where
+    place : ℕ
+    item : Ty
+    is : slice_get items place ≡ Some item
+    brings : Contains (tags_of_item decls item) one
+
+  more_items : (items : List Ty) (last : Ty) (one : TagOf Ty) → Brought items one → Brought (items ++ last ∷ []) one
+  more_items items last one b = record { place = b.place; item = b.item; is = get_before items (last ∷ []) b.place b.item b.is; brings = b.brings }
+
+  last_item : (items : List Ty) (last : Ty) (one : TagOf Ty) → Contains (tags_of_item decls last) one → Brought (items ++ last ∷ []) one
+  last_item items last one among = record { place = length items; item = last; is = get_last items last; brings = among }
+
+  -- the tags of a head with more of them
+  with_more :
+      (h : HeadOf Ty) (more : List (TagOf Ty)) (one : TagOf Ty) → Contains (tags_in (with_tags h more)) one → Contains (tags_in h) one ⊎ Contains more one
+  with_more (heads.Variants tags) more one among = ⊎_elim
+      (λ before. inl before)
+      (λ after. inr (filtered-of (λ (t : TagOf Ty). not (has_tag tags t.name)) more one after))
+      (Contains-append_cases tags (filter (λ (t : TagOf Ty). not (has_tag tags t.name)) more) one among)
+  with_more (heads.Variable name) more one among = absurd (Contains-none one among)
+  with_more (heads.Predeclared base ts) more one among = absurd (Contains-none one among)
+  with_more (heads.Datatype name ts) more one among = absurd (Contains-none one among)
+  with_more (heads.Tuple ts) more one among = absurd (Contains-none one among)
+  with_more heads.Absent more one among = absurd (Contains-none one among)
+
+  brought_plain : (t : Ty) → HasItems t → (one : TagOf Ty) → Contains (tags_in (plain_head (head decls) t)) one → Brought (items_of t) one
+  brought_plain (variable x) has one among = absurd has
+  brought_plain (named x) has one among = absurd has
+  brought_plain tuple has one among = absurd has
+  brought_plain bracket has one among = absurd (Contains-none one among)
+  brought_plain (part whole added) has one among = absurd has
+  brought_plain (tag whole x) has one among = ⊎_elim
+      (λ before. more_items (items_of whole) (tag bracket x) one (brought_plain whole has one before))
+      (λ last. last_item (items_of whole) (tag bracket x) one (subst (λ h. Contains (tags_in h) one) (sym (plain (tag bracket x) refl)) last))
+      (with_more (plain_head (head decls) whole) (bare_tag x ∷ []) one among)
+  brought_plain (tag_of whole x argument) has one among = ⊎_elim
+      (λ before. more_items (items_of whole) (tag_of bracket x argument) one (brought_plain whole has one before))
+      (λ last. last_item (items_of whole) (tag_of bracket x argument) one
+      (subst (λ h. Contains (tags_in h) one) (sym (plain (tag_of bracket x argument) refl)) last))
+      (with_more (plain_head (head decls) whole) (carrying_tag x argument ∷ []) one among)
+  brought_plain (including whole included) has one among = ⊎_elim
+      (λ before. more_items (items_of whole) (including bracket included) one (brought_plain whole has one before))
+      (λ last. last_item (items_of whole) (including bracket included) one
+      (subst (λ h. Contains (tags_in h) one) (sym (plain (including bracket included) refl)) (joined_alone last)))
+      (with_more (plain_head (head decls) whole) (tags_in (head decls included)) one among) where
+        joined_alone : Contains (tags_in (head decls included)) one → Contains (tags_in (with_tags (heads.Variants []) (tags_in (head decls included)))) one
+        joined_alone last = kept-all (λ (t : TagOf Ty). not (has_tag [] t.name)) (tags_in (head decls included)) one (λ t. refl) last
+
+  -- the same of the head
+  brought : (t : Ty) → HasItems t → (one : TagOf Ty) → unfolded decls t ≡ None → Contains (tags_in (head decls t)) one → Brought (items_of t) one
+  brought t has one none among = brought_plain t has one (subst (λ h. Contains (tags_in h) one) (plain t none) among)
+
+-- ---- items with their places
+
+placed_get :
+    (placed : List PlacedItem) (items : List Ty) → map (λ (item : PlacedItem). item.1) placed ≡ items → (i : ℕ) (t : Ty) → slice_get items i ≡ Some t
+    → (k : ℕ) × (slice_get placed i ≡ Some (k, t))
+placed_get placed items same i t is = in_map placed i t (ap (λ xs. slice_get xs i) same ∙ is) where
+  in_map : (placed : List PlacedItem) (i : ℕ) (t : Ty) → slice_get (map (λ (item : PlacedItem). item.1) placed) i ≡ Some t → (k : ℕ) × (slice_get placed i ≡ Some (k, t))
+  in_map [] i t is = absurd (none-some t is)
+  in_map (item ∷ placed) zero t is = (item.0, ap (λ u. Some (item.0, u)) (same_Some item.1 t is))
+  in_map (item ∷ placed) (suc i) t is = in_map placed i t is
+
+bracket_told : (occurrence : Occurrence) (items : List Ty) → thing_of occurrence ≡ bracket_thing items
+    → (placed : List PlacedItem) × (occurrence ≡ bracket_of placed) × (map (λ (item : PlacedItem). item.1) placed ≡ items)
+bracket_told (use_of k y us in_tag) items same = absurd (cc)
+bracket_told (variable_at k y) items same = absurd (cc)
+bracket_told (bracket_of placed) items same = (placed, refl, cc)
+
+variants_or_not : (h : HeadOf Ty) → AreVariants h ⊎ (¬ AreVariants h)
+variants_or_not (heads.Variants tags) = inl tt
+variants_or_not (heads.Variable name) = inr (λ is. is)
+variants_or_not (heads.Predeclared base ts) = inr (λ is. is)
+variants_or_not (heads.Datatype name ts) = inr (λ is. is)
+variants_or_not (heads.Tuple ts) = inr (λ is. is)
+variants_or_not heads.Absent = inr (λ is. is)
+
+in_order : (a b : ℕ) → (a ≤ b) ⊎ (b ≤ a)
+in_order zero b = inl (omega arith)
+in_order (suc a) zero = inr (omega arith)
+in_order (suc a) (suc b) = ⊎_elim (λ le. inl (omega (arith, le))) (λ ge. inr (omega (arith, ge))) (in_order a b)
+
+begins_bracket : (arguments items : List Ty) (t : Ty) → HasItems t → Contains (begins_as arguments items t) (bracket_thing items)
+begins_bracket arguments items (variable x) has = absurd has
+begins_bracket arguments items (named x) has = absurd has
+begins_bracket arguments items tuple has = absurd has
+begins_bracket arguments items bracket has = Contains-first (bracket_thing items) []
+begins_bracket arguments items (part whole added) has = absurd has
+begins_bracket arguments items (tag whole x) has = begins_bracket arguments items whole has
+begins_bracket arguments items (tag_of whole x argument) has = begins_bracket arguments items whole has
+begins_bracket arguments items (including whole included) has = begins_bracket arguments items whole has
+
+never_both : (t : Ty) → HasParts t → HasItems t → ⊥
+never_both (variable x) has items = has
+never_both (named x) has items = items
+never_both tuple has items = items
+never_both bracket has items = has
+never_both (part whole added) has items = items
+never_both (tag whole x) has items = has
+never_both (tag_of whole x argument) has items = has
+never_both (including whole included) has items = has
+
+-- ---- the rules
+
+module _ (all : List DeclPlaces) (plain : HeadsArePlain (decls_of all)) (variants : Keeps all not_variant) (hashes : Keeps all hash_clash)
+    (d : DeclPlaces) (declared : Contains all d) where
+  abbrev Told : List Thing → Type 0
+  Told things = (thing : Thing) → Contains things thing → IsTold d.occurrences thing
+
+  told_left : (first rest : List Thing) → Told (first ++ rest) → Told first
+  told_left first rest told thing among = told thing (Contains-append_left first rest thing among)
+
+  told_right : (first rest : List Thing) → Told (first ++ rest) → Told rest
+  told_right first rest told thing among = told thing (Contains-append_right first rest thing among)
+
+  -- the bracket that is told, of which the type is the first items
+  record Within (t : Ty) : Type 0 where
+    placed : List PlacedItem
+    occurs : Contains d.occurrences (bracket_of placed)
+    first : (i : ℕ) (u : Ty) → slice_get (items_of t) i ≡ Some u → (k : ℕ) × (slice_get placed i ≡ Some (k, u))
+
+  own_bracket : (t : Ty) → Told (own_thing t) → HasItems t → Within t
+  own_bracket t told has =
+      let o = told (bracket_thing (items_of t)) (begins_bracket (parts t) (items_of t) t has) in
+      let b = bracket_told o.0 (items_of t) o.2 in
+      record { placed = b.0; occurs = subst (λ e. Contains d.occurrences e) b.1 o.1; first = placed_get b.0 (items_of t) b.2 }
+
+  -- tags of one hash have one name
+  own_hashes : (t : Ty) → HasItems t → unfolded (decls_of all) t ≡ None → Within t → IsHashed (decls_of all) t
+  own_hashes t has none w one other among among' same =
+      let b = brought (decls_of all) plain t has one none among in
+      let c = brought (decls_of all) plain t has other none among' in
+      let p = w.first b.place b.item b.is in
+      let q = w.first c.place c.item c.is in
+      ⊎_elim
+      (λ equal. (bytes_eq-Decides one.name other.name).0 equal)
+      (λ unequal.
+      let differ : one.name ≢ other.name = λ e. unequal ((bytes_eq-Decides one.name other.name).1 e) in
+      ⊎_elim
+      (λ le. absurd (hashes q.0 (inr (
+        d,
+        declared,
+        (
+          w.placed,
+          w.occurs,
+          (
+            b.place,
+            c.place,
+            one,
+            other,
+            record { place = p.0; first = b.item; second = c.item; first_is = p.1; second_is = q.1; one_there = b.brings; other_there = c.brings },
+            le,
+            differ,
+            same,
+          ),
+        ),
+      ))))
+      (λ ge. absurd (hashes p.0 (inr (
+        d,
+        declared,
+        (
+          w.placed,
+          w.occurs,
+          (
+            c.place,
+            b.place,
+            other,
+            one,
+            record { place = q.0; first = c.item; second = b.item; first_is = q.1; second_is = p.1; one_there = c.brings; other_there = b.brings },
+            ge,
+            λ e. differ (sym e),
+            sym same,
+          ),
+        ),
+      ))))
+      (in_order b.place c.place))
+      (true_or_not (bytes_eq one.name other.name))
+
+  -- what a bracket includes is a polymorphic variant
+  includes : (whole included : Ty) → Within (including whole included) → AreVariants (head (decls_of all) included)
+  includes whole included w = ⊎_elim (λ is. is)
+      (λ other.
+      let p = w.first (length (items_of whole)) (including bracket included) (get_last (items_of whole) (including bracket included)) in
+      absurd (variants p.0 (inr (
+        d,
+        declared,
+        (
+          w.placed,
+          w.occurs,
+          (
+            included,
+            slice_get-Contains w.placed (length (items_of whole)) (p.0, including bracket included) p.1,
+            other,
+          ),
+        ),
+      ))))
+      (variants_or_not (head (decls_of all) included))
+
+  -- fewer items
+  shorter : (t whole last : Ty) → items_of t ≡ items_of whole ++ last ∷ [] → Within t → Within whole
+  shorter t whole last same w = record {
+    placed = w.placed;
+    occurs = w.occurs;
+    first = λ i u is. w.first i u (ap (λ items. slice_get items i) same ∙ get_before (items_of whole) (last ∷ []) i u is);
+  }
+
+  sound : (t : Ty) → IsProper t → (HasItems t → Within t) → Told (things_inside t) → HasSoundBrackets (decls_of all) t
+  sound (variable x) proper within told = tt
+  sound (named x) proper within told = tt
+  sound tuple proper within told = tt
+  sound bracket proper within told = tt
+  sound (part whole added) proper within told =
+      let later = told_right (things_inside whole) (own_thing added ++ things_inside added) told in (
+        sound whole proper.1 (λ items. absurd (never_both whole proper.0 items)) (told_left (things_inside whole) (own_thing added ++ things_inside added) told),
+        sound added proper.2 (own_bracket added (told_left (own_thing added) (things_inside added) later))
+            (told_right (own_thing added) (things_inside added) later),
+      )
+  sound (tag whole x) proper within told = (
+    sound whole proper.1 (λ items. shorter (tag whole x) whole (tag bracket x) refl (within proper.0)) told,
+    own_hashes (tag whole x) proper.0 refl (within proper.0),
+  )
+  sound (tag_of whole x argument) proper within told =
+      let later = told_right (things_inside whole) (own_thing argument ++ things_inside argument) told in (
+        sound whole proper.1 (λ items. shorter (tag_of whole x argument) whole (tag_of bracket x argument) refl (within proper.0))
+            (told_left (things_inside whole) (own_thing argument ++ things_inside argument) told),
+        sound argument proper.2 (own_bracket argument (told_left (own_thing argument) (things_inside argument) later))
+            (told_right (own_thing argument) (things_inside argument) later),
+        own_hashes (tag_of whole x argument) proper.0 refl (within proper.0),
+      )
+  sound (including whole included) proper within told =
+      let later = told_right (things_inside whole) (own_thing included ++ things_inside included) told in (
+        sound whole proper.1 (λ items. shorter (including whole included) whole (including bracket included) refl (within proper.0))
+            (told_left (things_inside whole) (own_thing included ++ things_inside included) told),
+        sound included proper.2 (own_bracket included (told_left (own_thing included) (things_inside included) later))
+            (told_right (own_thing included) (things_inside included) later),
+        includes whole included (within proper.0),
+        own_hashes (including whole included) proper.0 refl (within proper.0),
+      )
+
+pub brackets_follow_lem :
+    (all : List DeclPlaces) → AllIsTold all → HeadsArePlain (decls_of all) → Keeps all not_variant → Keeps all hash_clash → BracketsAreSound all
+brackets_follow_lem all told plain variants hashes d t among written proper =
+    let stands : (thing : Thing) → Contains (things_in t) thing → IsTold d.occurrences thing = λ thing there. told d t thing among written there in
+    sound all plain variants hashes d among t proper
+    (own_bracket all plain variants hashes d among t (told_left all plain variants hashes d among (own_thing t) (things_inside t) stands))
+    (told_right all plain variants hashes d among (own_thing t) (things_inside t) stands)

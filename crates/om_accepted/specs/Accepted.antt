@@ -1,0 +1,23 @@
+-- Declarations that break no rule of scope are well-formed.
+use Rattle.std.specs.Prelude.{◌≤◌, List, Contains}
+use Rattle.om_types.specs.Accepted.{IsType, types_of_body, AreWellFormed}
+use Rattle.om_types.specs.Occurrence.{DeclPlaces}
+use Rattle.om_types.specs.Scope.{decls_of, BreaksInFile, KeepsAll}
+use Rattle.om_types.specs.Ty.{Ty, depth}
+use Rattle.om_accepted.specs.Ranked.{UsesAreTold}
+use Rattle.om_accepted.specs.Told.{IsProper, AllIsTold}
+
+-- each type is written as the grammar has it, and at most 200 deep
+pub record IsWritten (t : Ty) : Type 0 where
+  pub proper : IsProper t
+  pub type : IsType t
+  pub shallow : depth t ≤ 200
+
+-- what stands in each declaration is told, and its types are written as the grammar has them
+pub record AreToldWhole (all : List DeclPlaces) : Type 0 where
+  pub things : AllIsTold all
+  pub uses : UsesAreTold all
+  pub written : (d : DeclPlaces) (t : Ty) → Contains all d → Contains (types_of_body d.decl.body) t → IsWritten t
+
+abbrev pub AcceptedAreWellFormed : Type 0
+AcceptedAreWellFormed = (all : List DeclPlaces) → AreToldWhole all → KeepsAll (BreaksInFile all) → AreWellFormed (decls_of all)
