@@ -1,6 +1,6 @@
 #!/bin/sh
 # Measures how long omarshal takes to read values that OCaml wrote, and how much memory, beside OCaml's `input_value` on
-# the same files. The argument is the program; with none it is the one that `rt run` or `rt ci` built.
+# the same files. The argument is the program; with none it is the one that `./omarshal` or `rt run` built.
 set -eu
 if ! command -v ocaml >/dev/null 2>&1; then
     echo "skipped: no ocaml"

@@ -69,7 +69,7 @@ judged() {
     echo "$declared: yes $(grep -c yes wanted.txt || true), no $(grep -c no wanted.txt || true)"
 }
 
-# Twelve bytes of magic stand before the first value of a .cmi, .cmx or .cmxa; a .cmo or .cma has its value at the place
+# Twelve bytes of magic come before the first value of a .cmi, .cmx or .cmxa; a .cmo or .cma has its value at the place
 # that the four bytes after the magic tell.
 after_magic() { tail -c +13 "$1"; }
 descriptor() {

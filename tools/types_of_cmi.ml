@@ -9,7 +9,7 @@
    aliases of modules, inclusions and applied functors are followed. A type is reached from the requested one by its
    parts. Those whose representation omarshal cannot state are refused, each with the way to it.
 
-   Written for OCaml 4.13, and tried there alone. What later libraries name otherwise stands in the module `Library`. *)
+   Written for OCaml 4.13, and tried there alone. What later libraries name otherwise is in the module `Library`. *)
 
 open Types
 
