@@ -3,19 +3,20 @@ use Rattle.std.proofs.Common.{ℕ, ◌≡◌, ◌∙◌, List, Option, Some, Non
 use Rattle.std.specs.Prelude.{Contains, option_map}
 use Rattle.std.proofs.lemmas.Option.{same_Some, none-some}
 use Rattle.om_types.specs.declared.decl.Decl.{Decl}
-use Rattle.om_types.specs.Accepted.{types_of_body, AreSound, AreWellFormed, VariablesAmong}
+use Rattle.om_types.specs.Accepted.{IsType, types_of_body, AreSound, AreWellFormed, VariablesAmong}
 use Rattle.om_types.specs.Declarations.{predeclared, declaration_of}
-use Rattle.om_types.specs.Occurrence.{DeclPlaces}
-use Rattle.om_types.specs.Scope.{twice, unknown_name, arity, unbound_variable, cyclic, not_variant, hash_clash, decls_of, BreaksInFile, KeepsAll}
+use Rattle.om_types.specs.Occurrence.{Occurrence, DeclPlaces}
+use Rattle.om_types.specs.Scope.{twice, unknown_name, arity, unbound_variable, cyclic, not_variant, hash_clash, decls_of, BreaksInFile, KeepsAll, BreaksInType}
 use Rattle.om_types.specs.Ty.{Ty}
 use Rattle.om_equal.proofs.NeedLemmas.{head_plain}
 use Rattle.om_equal.proofs.RankedLemmas.{are_ranked}
 use Rattle.om_accepted.specs.Brackets.{HeadsArePlain, BracketsAreSound}
 use Rattle.om_accepted.specs.Names.{NamesAreSound}
+use Rattle.om_accepted.specs.Told.{IsProper, TellsAll}
 use Rattle.om_accepted.specs.Accepted.{IsWritten, AreToldWhole}
 use Rattle.om_accepted.proofs.RankLemmas.{ranks_follow_lem, found, found_named, found_decl}
-use Rattle.om_accepted.proofs.NameLemmas.{names_follow_lem}
-use Rattle.om_accepted.proofs.BracketLemmas.{brackets_follow_lem}
+use Rattle.om_accepted.proofs.NameLemmas.{arguments_follow, names_follow_lem}
+use Rattle.om_accepted.proofs.BracketLemmas.{brackets_follow_in, brackets_follow_lem}
 
 module _ (all : List DeclPlaces) (told : AreToldWhole all) (keeps : KeepsAll (BreaksInFile all)) where
   -- a declaration with what stands in it
@@ -80,3 +81,14 @@ module _ (all : List DeclPlaces) (told : AreToldWhole all) (keeps : KeepsAll (Br
       by_found : (o : Option DeclPlaces) → ((d : DeclPlaces) → o ≡ Some d → d.decl.name ≡ name) → option_map (λ (d : DeclPlaces). d.decl) o ≡ Some decl → decl.name ≡ name
       by_found None there none = absurd (none-some decl none)
       by_found (Some d) there some = subst (λ (e : Decl). e.name ≡ name) (same_Some d.decl decl some) (there d (λ i. Some d))
+
+pub sound_type :
+    (decls : List Decl) (occurrences : List Occurrence) (t : Ty) → AreWellFormed decls → IsProper t → IsType t → TellsAll occurrences t
+    → KeepsAll (BreaksInType decls occurrences) → IsSoundType decls t
+sound_type decls occurrences t well proper type told keeps =
+    let plain : HeadsArePlain decls = λ u none. head_plain decls well.sound.rank (are_ranked decls well.sound) u none in
+    record {
+      written = type;
+      arguments = arguments_follow decls (λ group. Unit {0}) occurrences (keeps unknown_name) (keeps arity) t proper told;
+      brackets = brackets_follow_in decls plain (λ group. Unit {0}) occurrences (keeps not_variant) (keeps hash_clash) t proper told;
+    }

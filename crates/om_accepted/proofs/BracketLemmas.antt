@@ -14,12 +14,12 @@ use Rattle.om_types.specs.Accepted.{AreVariants, IsHashed, HasSoundBrackets}
 use Rattle.om_types.specs.Declarations.{unfolded}
 use Rattle.om_types.specs.Head.{has_tag, with_tags, tags_in, bare_tag, carrying_tag, plain_head, head}
 use Rattle.om_types.specs.Occurrence.{Occurrence, PlacedItem, use_of, variable_at, bracket_of, DeclPlaces}
-use Rattle.om_types.specs.Scope.{not_variant, hash_clash, decls_of, tags_of_item}
+use Rattle.om_types.specs.Scope.{not_variant, hash_clash, decls_of, tags_of_item, BreaksIn}
 use Rattle.om_types.specs.Ty.{Ty, variable, named, tuple, bracket, part, tag, tag_of, including}
 use Rattle.om_types.specs.Ty.{parts}
 use Rattle.om_equal.proofs.TagLemmas.{Contains-filtered, filtered-Contains}
 use Rattle.om_accepted.specs.Ranked.{Keeps}
-use Rattle.om_accepted.specs.Told.{Thing, bracket_thing, HasParts, HasItems, IsProper, items_of, own_thing, begins_as, things_inside, things_in, thing_of, IsTold, AllIsTold}
+use Rattle.om_accepted.specs.Told.{Thing, bracket_thing, HasParts, HasItems, IsProper, items_of, own_thing, begins_as, things_inside, things_in, thing_of, IsTold, AllIsTold, TellsAll}
 use Rattle.om_accepted.specs.Brackets.{HeadsArePlain, BracketsAreSound}
 
 -- ---- places in lists
@@ -147,10 +147,10 @@ never_both (including whole included) has items = has
 
 -- ---- the rules
 
-module _ (all : List DeclPlaces) (plain : HeadsArePlain (decls_of all)) (variants : Keeps all not_variant) (hashes : Keeps all hash_clash)
-    (d : DeclPlaces) (declared : Contains all d) where
+module _ (decls : List Decl) (plain : HeadsArePlain decls) (Seen : ℕ → Type 0) (occurrences : List Occurrence)
+    (variants : (k : ℕ) → ¬ BreaksIn decls Seen occurrences not_variant k) (hashes : (k : ℕ) → ¬ BreaksIn decls Seen occurrences hash_clash k) where
   abbrev Told : List Thing → Type 0
-  Told things = (thing : Thing) → Contains things thing → IsTold d.occurrences thing
+  Told things = (thing : Thing) → Contains things thing → IsTold occurrences thing
 
   told_left : (first rest : List Thing) → Told (first ++ rest) → Told first
   told_left first rest told thing among = told thing (Contains-append_left first rest thing among)
@@ -161,20 +161,20 @@ module _ (all : List DeclPlaces) (plain : HeadsArePlain (decls_of all)) (variant
   -- the bracket that is told, of which the type is the first items
   record Within (t : Ty) : Type 0 where
     placed : List PlacedItem
-    occurs : Contains d.occurrences (bracket_of placed)
+    occurs : Contains occurrences (bracket_of placed)
     first : (i : ℕ) (u : Ty) → slice_get (items_of t) i ≡ Some u → (k : ℕ) × (slice_get placed i ≡ Some (k, u))
 
   own_bracket : (t : Ty) → Told (own_thing t) → HasItems t → Within t
   own_bracket t told has =
       let o = told (bracket_thing (items_of t)) (begins_bracket (parts t) (items_of t) t has) in
       let b = bracket_told o.0 (items_of t) o.2 in
-      record { placed = b.0; occurs = subst (λ e. Contains d.occurrences e) b.1 o.1; first = placed_get b.0 (items_of t) b.2 }
+      record { placed = b.0; occurs = subst (λ e. Contains occurrences e) b.1 o.1; first = placed_get b.0 (items_of t) b.2 }
 
   -- tags of one hash have one name
-  own_hashes : (t : Ty) → HasItems t → unfolded (decls_of all) t ≡ None → Within t → IsHashed (decls_of all) t
+  own_hashes : (t : Ty) → HasItems t → unfolded decls t ≡ None → Within t → IsHashed decls t
   own_hashes t has none w one other among among' same =
-      let b = brought (decls_of all) plain t has one none among in
-      let c = brought (decls_of all) plain t has other none among' in
+      let b = brought decls plain t has one none among in
+      let c = brought decls plain t has other none among' in
       let p = w.first b.place b.item b.is in
       let q = w.first c.place c.item c.is in
       ⊎_elim
@@ -182,64 +182,52 @@ module _ (all : List DeclPlaces) (plain : HeadsArePlain (decls_of all)) (variant
       (λ unequal.
       let differ : one.name ≢ other.name = λ e. unequal ((bytes_eq-Decides one.name other.name).1 e) in
       ⊎_elim
-      (λ le. absurd (hashes q.0 (inr (
-        d,
-        declared,
+      (λ le. absurd (hashes q.0 (
+        w.placed,
+        w.occurs,
         (
-          w.placed,
-          w.occurs,
-          (
-            b.place,
-            c.place,
-            one,
-            other,
-            record { place = p.0; first = b.item; second = c.item; first_is = p.1; second_is = q.1; one_there = b.brings; other_there = c.brings },
-            le,
-            differ,
-            same,
-          ),
+          b.place,
+          c.place,
+          one,
+          other,
+          record { place = p.0; first = b.item; second = c.item; first_is = p.1; second_is = q.1; one_there = b.brings; other_there = c.brings },
+          le,
+          differ,
+          same,
         ),
-      ))))
-      (λ ge. absurd (hashes p.0 (inr (
-        d,
-        declared,
+      )))
+      (λ ge. absurd (hashes p.0 (
+        w.placed,
+        w.occurs,
         (
-          w.placed,
-          w.occurs,
-          (
-            c.place,
-            b.place,
-            other,
-            one,
-            record { place = q.0; first = c.item; second = b.item; first_is = q.1; second_is = p.1; one_there = c.brings; other_there = b.brings },
-            ge,
-            λ e. differ (sym e),
-            sym same,
-          ),
+          c.place,
+          b.place,
+          other,
+          one,
+          record { place = q.0; first = c.item; second = b.item; first_is = q.1; second_is = p.1; one_there = c.brings; other_there = b.brings },
+          ge,
+          λ e. differ (sym e),
+          sym same,
         ),
-      ))))
+      )))
       (in_order b.place c.place))
       (true_or_not (bytes_eq one.name other.name))
 
   -- what a bracket includes is a polymorphic variant
-  includes : (whole included : Ty) → Within (including whole included) → AreVariants (head (decls_of all) included)
+  includes : (whole included : Ty) → Within (including whole included) → AreVariants (head decls included)
   includes whole included w = ⊎_elim (λ is. is)
       (λ other.
       let p = w.first (length (items_of whole)) (including bracket included) (get_last (items_of whole) (including bracket included)) in
-      absurd (variants p.0 (inr (
-        d,
-        declared,
+      absurd (variants p.0 (
+        w.placed,
+        w.occurs,
         (
-          w.placed,
-          w.occurs,
-          (
-            included,
-            slice_get-Contains w.placed (length (items_of whole)) (p.0, including bracket included) p.1,
-            other,
-          ),
+          included,
+          slice_get-Contains w.placed (length (items_of whole)) (p.0, including bracket included) p.1,
+          other,
         ),
-      ))))
-      (variants_or_not (head (decls_of all) included))
+      )))
+      (variants_or_not (head decls included))
 
   -- fewer items
   shorter : (t whole last : Ty) → items_of t ≡ items_of whole ++ last ∷ [] → Within t → Within whole
@@ -249,7 +237,7 @@ module _ (all : List DeclPlaces) (plain : HeadsArePlain (decls_of all)) (variant
     first = λ i u is. w.first i u (ap (λ items. slice_get items i) same ∙ get_before (items_of whole) (last ∷ []) i u is);
   }
 
-  sound : (t : Ty) → IsProper t → (HasItems t → Within t) → Told (things_inside t) → HasSoundBrackets (decls_of all) t
+  sound : (t : Ty) → IsProper t → (HasItems t → Within t) → Told (things_inside t) → HasSoundBrackets decls t
   sound (variable x) proper within told = tt
   sound (named x) proper within told = tt
   sound tuple proper within told = tt
@@ -282,10 +270,12 @@ module _ (all : List DeclPlaces) (plain : HeadsArePlain (decls_of all)) (variant
         own_hashes (including whole included) proper.0 refl (within proper.0),
       )
 
+  pub brackets_follow_in : (t : Ty) → IsProper t → TellsAll occurrences t → HasSoundBrackets decls t
+  brackets_follow_in t proper told =
+      sound t proper (own_bracket t (told_left (own_thing t) (things_inside t) told)) (told_right (own_thing t) (things_inside t) told)
+
 pub brackets_follow_lem :
     (all : List DeclPlaces) → AllIsTold all → HeadsArePlain (decls_of all) → Keeps all not_variant → Keeps all hash_clash → BracketsAreSound all
 brackets_follow_lem all told plain variants hashes d t among written proper =
-    let stands : (thing : Thing) → Contains (things_in t) thing → IsTold d.occurrences thing = λ thing there. told d t thing among written there in
-    sound all plain variants hashes d among t proper
-    (own_bracket all plain variants hashes d among t (told_left all plain variants hashes d among (own_thing t) (things_inside t) stands))
-    (told_right all plain variants hashes d among (own_thing t) (things_inside t) stands)
+    brackets_follow_in (decls_of all) plain (λ group. group ≤ d.decl.group) d.occurrences (λ k breaks. variants k (inr (d, among, breaks)))
+    (λ k breaks. hashes k (inr (d, among, breaks))) t proper (told d t among written)

@@ -1,5 +1,5 @@
 -- What stands in a type, and the rules on names.
-use Rattle.std.proofs.Common.{ℕ, suc, ◌≡◌, ◌+◌, ◌∙◌, ◌⊎◌, ⊎_elim, inl, inr, Bool, List, [], ◌∷◌, ◌++◌, length, Some, None, refl, sym, ap, ap₂, subst, arith, length-append}
+use Rattle.std.proofs.Common.{ℕ, suc, ◌≡◌, ◌≤◌, ◌+◌, ◌∙◌, ◌⊎◌, ⊎_elim, inl, inr, Bool, List, [], ◌∷◌, ◌++◌, length, Some, None, refl, sym, ap, ap₂, subst, arith, length-append}
 use Rattle.std.specs.Prelude.{Contains, IsSome}
 use Rattle.std.proofs.lemmas.Option.{none-some}
 use Rattle.std.proofs.lemmas.List.Elements.{Contains-append_left, Contains-append_right}
@@ -9,11 +9,11 @@ use Rattle.om_types.specs.declared.decl.Decl.{Decl}
 use Rattle.om_types.specs.Accepted.{types_of_body, TakeArguments, VariablesAmong}
 use Rattle.om_types.specs.Declarations.{predeclared, declaration_of, predeclared_arity, arity_in, arity_of}
 use Rattle.om_types.specs.Occurrence.{Occurrence, use_of, variable_at, bracket_of, DeclPlaces}
-use Rattle.om_types.specs.Scope.{twice, unknown_name, arity, unbound_variable, decls_of}
+use Rattle.om_types.specs.Scope.{twice, unknown_name, arity, unbound_variable, decls_of, BreaksIn}
 use Rattle.om_types.specs.Ty.{Ty, variable, named, tuple, bracket, part, tag, tag_of, including}
 use Rattle.om_types.specs.Ty.{parts}
 use Rattle.om_accepted.specs.Ranked.{Keeps}
-use Rattle.om_accepted.specs.Told.{Thing, use_thing, variable_thing, HasParts, HasItems, IsProper, items_of, begins_as, own_thing, things_inside, things_in, thing_of, AllIsTold}
+use Rattle.om_accepted.specs.Told.{Thing, use_thing, variable_thing, HasParts, HasItems, IsProper, items_of, begins_as, own_thing, things_inside, things_in, thing_of, AllIsTold, TellsAll}
 use Rattle.om_accepted.specs.Names.{NamesAreSound}
 use Rattle.om_accepted.proofs.RankLemmas.{contains_or_not}
 
@@ -185,6 +185,35 @@ variable_told (use_of k y us in_tag) x same = absurd (cc)
 variable_told (variable_at k y) x same = let n : y ≡ x = cc in (k, ap (variable_at k) n)
 variable_told (bracket_of items) x same = absurd (cc)
 
+module _ (decls : List Decl) (Seen : ℕ → Type 0) (occurrences : List Occurrence)
+    (known : (k : ℕ) → ¬ BreaksIn decls Seen occurrences unknown_name k) (fits : (k : ℕ) → ¬ BreaksIn decls Seen occurrences arity k) where
+  -- a name that is used means something
+  meant : (k : ℕ) (x : List ℕ) (ts : List Ty) (in_tag : Bool) → Contains occurrences (use_of k x ts in_tag) → (n : ℕ) × (arity_of decls x ≡ Some n)
+  meant k x ts in_tag occurs = by_kind (none_or_some (predeclared x)) (none_or_some (declaration_of decls x)) where
+    by_kind : (predeclared x ≡ None) ⊎ ((b : Predeclared) × (predeclared x ≡ Some b))
+        → (declaration_of decls x ≡ None) ⊎ ((e : Decl) × (declaration_of decls x ≡ Some e)) → (n : ℕ) × (arity_of decls x ≡ Some n)
+    by_kind (inr b) declared = (predeclared_arity b.0, ap (λ o. arity_in o (declaration_of decls x)) b.1)
+    by_kind (inl new) (inr e) = (length e.0.parameters, ap₂ arity_in new e.1)
+    by_kind (inl new) (inl none) = absurd (known k (x, ts, in_tag, occurs, (new, λ decl is seen. none-some decl (sym none ∙ is))))
+
+  takes_its : (k : ℕ) (x : List ℕ) (ts : List Ty) (in_tag : Bool) → Contains occurrences (use_of k x ts in_tag) → arity_of decls x ≡ Some (length ts)
+  takes_its k x ts in_tag occurs =
+      let m = meant k x ts in_tag occurs in
+      ⊎_elim (λ same. m.1 ∙ ap Some same)
+      (λ other. absurd (fits k (x, ts, in_tag, occurs, (m.0, m.1, other))))
+      (same_or_not m.0 (length ts))
+
+  uses_fit : (t : Ty) → TellsAll occurrences t → UsesFit decls (things_in t)
+  uses_fit t told x ts stands =
+      let o = told (use_thing x ts) stands in
+      let u = use_told o.0 x ts o.2 in
+      takes_its u.place x ts u.in_tag (subst (λ e. Contains occurrences e) u.is o.1)
+
+  pub arguments_follow : (t : Ty) → IsProper t → TellsAll occurrences t → TakeArguments decls 0 t
+  arguments_follow t proper told =
+      let fit = uses_fit t told in
+      takes decls t 0 proper (own_takes decls t (fit_left decls (own_thing t) (things_inside t) fit)) (fit_right decls (own_thing t) (things_inside t) fit)
+
 module _ (all : List DeclPlaces) (told : AllIsTold all) (once : Keeps all twice) (known : Keeps all unknown_name) (fits : Keeps all arity)
     (bound : Keeps all unbound_variable) where
   new_name : (d : DeclPlaces) → Contains all d → predeclared d.decl.name ≡ None
@@ -196,35 +225,9 @@ module _ (all : List DeclPlaces) (told : AllIsTold all) (once : Keeps all twice)
       )))))
       (none_or_some (predeclared d.decl.name))
 
-  -- a name that is used means something
-  meant : (d : DeclPlaces) (k : ℕ) (x : List ℕ) (ts : List Ty) (in_tag : Bool) → Contains all d → Contains d.occurrences (use_of k x ts in_tag)
-      → (n : ℕ) × (arity_of (decls_of all) x ≡ Some n)
-  meant d k x ts in_tag among occurs = by_kind (none_or_some (predeclared x)) (none_or_some (declaration_of (decls_of all) x)) where
-    by_kind : (predeclared x ≡ None) ⊎ ((b : Predeclared) × (predeclared x ≡ Some b))
-        → (declaration_of (decls_of all) x ≡ None) ⊎ ((e : Decl) × (declaration_of (decls_of all) x ≡ Some e))
-        → (n : ℕ) × (arity_of (decls_of all) x ≡ Some n)
-    by_kind (inr b) declared = (predeclared_arity b.0, ap (λ o. arity_in o (declaration_of (decls_of all) x)) b.1)
-    by_kind (inl new) (inr e) = (length e.0.parameters, ap₂ arity_in new e.1)
-    by_kind (inl new) (inl none) =
-        absurd (known k (inr (d, among, (x, ts, in_tag, occurs, (new, λ decl is seen. none-some decl (sym none ∙ is))))))
-
-  takes_its : (d : DeclPlaces) (k : ℕ) (x : List ℕ) (ts : List Ty) (in_tag : Bool) → Contains all d → Contains d.occurrences (use_of k x ts in_tag)
-      → arity_of (decls_of all) x ≡ Some (length ts)
-  takes_its d k x ts in_tag among occurs =
-      let m = meant d k x ts in_tag among occurs in
-      ⊎_elim (λ same. m.1 ∙ ap Some same)
-      (λ other. absurd (fits k (inr (d, among, (x, ts, in_tag, occurs, (m.0, m.1, other))))))
-      (same_or_not m.0 (length ts))
-
-  uses_fit : (d : DeclPlaces) (t : Ty) → Contains all d → Contains (types_of_body d.decl.body) t → UsesFit (decls_of all) (things_in t)
-  uses_fit d t among written x ts stands =
-      let o = told d t (use_thing x ts) among written stands in
-      let u = use_told o.0 x ts o.2 in
-      takes_its d u.place x ts u.in_tag among (subst (λ e. Contains d.occurrences e) u.is o.1)
-
-  variables_fit : (d : DeclPlaces) (t : Ty) → Contains all d → Contains (types_of_body d.decl.body) t → VariablesFit d.decl.parameters (things_in t)
-  variables_fit d t among written x stands =
-      let o = told d t (variable_thing x) among written stands in
+  variables_fit : (d : DeclPlaces) (t : Ty) → Contains all d → TellsAll d.occurrences t → VariablesFit d.decl.parameters (things_in t)
+  variables_fit d t among tells x stands =
+      let o = tells (variable_thing x) stands in
       let u = variable_told o.0 x o.2 in
       ⊎_elim (λ parameter. parameter)
       (λ other. absurd (bound u.0 (inr (d, among, (x, subst (λ e. Contains d.occurrences e) u.1 o.1, other)))))
@@ -234,11 +237,10 @@ module _ (all : List DeclPlaces) (told : AllIsTold all) (once : Keeps all twice)
   names_follow_lem = record {
     new_names = new_name;
     arguments = λ d t among written proper.
-        let fit = uses_fit d t among written in
-        takes (decls_of all) t 0 proper (own_takes (decls_of all) t (fit_left (decls_of all) (own_thing t) (things_inside t) fit))
-        (fit_right (decls_of all) (own_thing t) (things_inside t) fit);
+        arguments_follow (decls_of all) (λ group. group ≤ d.decl.group) d.occurrences (λ k breaks. known k (inr (d, among, breaks)))
+        (λ k breaks. fits k (inr (d, among, breaks))) t proper (told d t among written);
     variables = λ d t among written proper.
-        let fit = variables_fit d t among written in
+        let fit = variables_fit d t among (told d t among written) in
         among_names d.decl.parameters t proper (own_among d.decl.parameters t (keep_left d.decl.parameters (own_thing t) (things_inside t) fit))
         (keep_right d.decl.parameters (own_thing t) (things_inside t) fit);
   }

@@ -1,11 +1,12 @@
--- Declarations that break no rule of scope are well-formed.
+-- Declarations and types that break no rule of scope are well-formed.
 use Rattle.std.specs.Prelude.{◌≤◌, List, Contains}
-use Rattle.om_types.specs.Accepted.{IsType, types_of_body, AreWellFormed}
-use Rattle.om_types.specs.Occurrence.{DeclPlaces}
+use Rattle.om_types.specs.declared.decl.Decl.{Decl}
+use Rattle.om_types.specs.Accepted.{IsType, types_of_body, AreWellFormed, IsSoundType}
+use Rattle.om_types.specs.Occurrence.{Occurrence, DeclPlaces}
 use Rattle.om_types.specs.Scope.{decls_of, BreaksInFile, KeepsAll}
 use Rattle.om_types.specs.Ty.{Ty, depth}
 use Rattle.om_accepted.specs.Ranked.{UsesAreTold}
-use Rattle.om_accepted.specs.Told.{IsProper, AllIsTold}
+use Rattle.om_accepted.specs.Told.{IsProper, TellsAll, AllIsTold}
 
 -- each type is written as the grammar has it, and at most 200 deep
 pub record IsWritten (t : Ty) : Type 0 where
@@ -21,3 +22,9 @@ pub record AreToldWhole (all : List DeclPlaces) : Type 0 where
 
 abbrev pub AcceptedAreWellFormed : Type 0
 AcceptedAreWellFormed = (all : List DeclPlaces) → AreToldWhole all → KeepsAll (BreaksInFile all) → AreWellFormed (decls_of all)
+
+-- the same of one type over declarations
+abbrev pub AcceptedTypesAreSound : Type 0
+AcceptedTypesAreSound =
+    (decls : List Decl) (occurrences : List Occurrence) (t : Ty) → AreWellFormed decls → IsProper t → IsType t → TellsAll occurrences t
+    → KeepsAll (BreaksInType decls occurrences) → IsSoundType decls t

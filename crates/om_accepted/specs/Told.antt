@@ -91,8 +91,11 @@ thing_of (bracket_of items) = bracket_thing (map (λ (item : PlacedItem). item.1
 abbrev pub IsTold : List Occurrence → Thing → Type 0
 IsTold occurrences thing = (occurrence : Occurrence) × Contains occurrences occurrence × (thing_of occurrence ≡ thing)
 
--- what stands in each type of each declaration is told
+-- what stands in the type is told
+abbrev pub TellsAll : List Occurrence → Ty → Type 0
+TellsAll occurrences t = (thing : Thing) → Contains (things_in t) thing → IsTold occurrences thing
+
+-- so it is in each type of each declaration
 abbrev pub AllIsTold : List DeclPlaces → Type 0
 AllIsTold all =
-    (d : DeclPlaces) (t : Ty) (thing : Thing) → Contains all d → Contains (types_of_body d.decl.body) t → Contains (things_in t) thing
-    → IsTold d.occurrences thing
+    (d : DeclPlaces) (t : Ty) → Contains all d → Contains (types_of_body d.decl.body) t → TellsAll d.occurrences t

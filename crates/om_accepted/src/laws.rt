@@ -1,6 +1,6 @@
 //! The laws, as contracts.
 
-ghost use Rattle.om_accepted.specs.Accepted.{AcceptedAreWellFormed};
+ghost use Rattle.om_accepted.specs.Accepted.{AcceptedAreWellFormed, AcceptedTypesAreSound};
 ghost use Rattle.om_accepted.specs.Brackets.{BracketsFollow};
 ghost use Rattle.om_accepted.specs.Names.{NamesFollow};
 ghost use Rattle.om_accepted.specs.Ranked.{RanksFollow};
@@ -23,4 +23,9 @@ pub fn brackets_follow()
 /// Declarations that break no rule are well-formed, where what stands in them is told.
 pub fn accepted_are_well_formed()
     ensures { AcceptedAreWellFormed }
+{}
+
+/// A type that breaks no rule over well-formed declarations is sound, where what stands in it is told.
+pub fn accepted_types_are_sound()
+    ensures { AcceptedTypesAreSound }
 {}

@@ -5,4 +5,6 @@ mod laws;
 #[cfg(test)]
 mod tests;
 
-pub use laws::{accepted_are_well_formed, brackets_follow, names_follow, ranks_follow};
+pub use laws::{
+    accepted_are_well_formed, accepted_types_are_sound, brackets_follow, names_follow, ranks_follow,
+};

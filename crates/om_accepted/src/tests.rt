@@ -7,4 +7,5 @@ fn laws_are_called() {
     names_follow();
     brackets_follow();
     accepted_are_well_formed();
+    accepted_types_are_sound();
 }
