@@ -3,7 +3,7 @@ use Rattle.std.proofs.Common.{ℕ, ◌≡◌, ◌∙◌, List, Option, Some, Non
 use Rattle.std.specs.Prelude.{Contains, option_map}
 use Rattle.std.proofs.lemmas.Option.{same_Some, none-some}
 use Rattle.om_types.specs.declared.decl.Decl.{Decl}
-use Rattle.om_types.specs.Accepted.{IsType, types_of_body, AreSound, AreWellFormed, VariablesAmong}
+use Rattle.om_types.specs.Accepted.{IsType, types_of_body, AreSound, IsSoundType, AreWellFormed, VariablesAmong}
 use Rattle.om_types.specs.Declarations.{predeclared, declaration_of}
 use Rattle.om_types.specs.Occurrence.{Occurrence, DeclPlaces}
 use Rattle.om_types.specs.Scope.{twice, unknown_name, arity, unbound_variable, cyclic, not_variant, hash_clash, decls_of, BreaksInFile, KeepsAll, BreaksInType}

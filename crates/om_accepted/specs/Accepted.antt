@@ -3,7 +3,7 @@ use Rattle.std.specs.Prelude.{◌≤◌, List, Contains}
 use Rattle.om_types.specs.declared.decl.Decl.{Decl}
 use Rattle.om_types.specs.Accepted.{IsType, types_of_body, AreWellFormed, IsSoundType}
 use Rattle.om_types.specs.Occurrence.{Occurrence, DeclPlaces}
-use Rattle.om_types.specs.Scope.{decls_of, BreaksInFile, KeepsAll}
+use Rattle.om_types.specs.Scope.{decls_of, BreaksInType, BreaksInFile, KeepsAll}
 use Rattle.om_types.specs.Ty.{Ty, depth}
 use Rattle.om_accepted.specs.Ranked.{UsesAreTold}
 use Rattle.om_accepted.specs.Told.{IsProper, TellsAll, AllIsTold}

@@ -246,7 +246,7 @@ body_even body = leads_length ((body_leads some_body body).leads)
 decl_even : (d : DeclTree) → length (decl_ends d) ≡ length (decl_kinds d)
 decl_even d = leads_length ((decl_leads some_group d).leads)
 
-file_even : (gs : FileTree) → length (file_ends gs) ≡ length (file_kinds gs)
+pub file_even : (gs : FileTree) → length (file_ends gs) ≡ length (file_kinds gs)
 file_even gs = leads_length ((file_leads gs).leads)
 
 group_even : (g : GroupTree) → length (group_ends g) ≡ length (group_kinds g)

@@ -1,0 +1,4 @@
+pub mod TypeLemmas
+pub mod OutsideLemmas
+pub mod DepthLemmas
+pub mod FileLemmas

@@ -1,0 +1,22 @@
+-- Text that breaks no rule of scope stands for well-formed declarations and types.
+use Rattle.std.specs.Prelude.{List, false}
+use Rattle.om_grammar.specs.Depths.{file_ends}
+use Rattle.om_grammar.specs.Grammar.{Kinds, Texpr, FileTree, file_kinds}
+use Rattle.om_grammar.specs.Refusals.{IsText}
+use Rattle.om_types.specs.declared.decl.Decl.{Decl}
+use Rattle.om_types.specs.Accepted.{AreWellFormed, IsSoundType}
+use Rattle.om_types.specs.Scope.{BreaksInFile, BreaksInType, KeepsAll}
+use Rattle.om_parse.specs.Written.{type_of_texpr, declarations_of}
+use Rattle.om_occurrences.specs.InFile.{file_places}
+use Rattle.om_occurrences.specs.InText.{in_texpr}
+
+abbrev pub FilesAreWellFormed : Type 0
+FilesAreWellFormed =
+    (lexemes : Kinds) (tree : FileTree) → IsText file_kinds file_ends lexemes tree → KeepsAll (BreaksInFile (file_places tree))
+    → AreWellFormed (declarations_of tree)
+
+-- of a type over such declarations
+abbrev pub TypesAreSound : Type 0
+TypesAreSound =
+    (decls : List Decl) (tree : Texpr) → AreWellFormed decls → KeepsAll (BreaksInType decls (in_texpr 0 false tree))
+    → IsSoundType decls (type_of_texpr tree)
