@@ -3,6 +3,7 @@ use Rattle.std.proofs.Common.{ℕ, suc, ◌+◌, ◌≡◌, ◌∙◌, Bool, tru
 use Rattle.std.proofs.Common.{refl, sym, ap, arith, append_assoc, length-append}
 use Rattle.std.specs.Prelude.{map, slice_index}
 use Rattle.std.proofs.lemmas.List.{drop_at, get_or_at}
+use Rattle.om_lex.specs.declared.lexeme.LexemeKind.TheVariants as kinds
 use Rattle.om_lex.specs.declared.lexeme.Keyword.TheVariants as keywords
 use Rattle.om_lex.specs.declared.lexeme.Symbol.TheVariants as symbols
 use Rattle.om_grammar.specs.Grammar.{Name, Kinds, each_after, texpr, app, mark, lower, word, mark_if, word_if}
@@ -18,24 +19,20 @@ use Rattle.om_types.specs.declared.decl.Decl.{Decl}
 use Rattle.om_types.specs.Occurrence.{Placed, Occurrence, DeclPlaces}
 use Rattle.om_parse.specs.Written.{type_of_app, type_of_texpr, parameters_of, field_of_tree, fields_of_tree}
 use Rattle.om_parse.specs.Written.{arguments_of_tree, constructor_of_tree, body_of_tree, declaration_of_tree}
-use Rattle.om_occurrences.specs.Counted.{marks, in_type, with_tags_alone}
+use Rattle.om_occurrences.specs.Counted.{after, marks, in_type}
 use Rattle.om_occurrences.specs.CountedFile.{along, count_all, type_count, placed, parameters_in, field_count}
 use Rattle.om_occurrences.specs.CountedFile.{names_of_fields, in_field, arguments_count, constructor_count}
 use Rattle.om_occurrences.specs.CountedFile.{record_in_arguments, in_arguments, carrying_in, of_constructors}
 use Rattle.om_occurrences.specs.CountedFile.{body_count, records_in, in_body, decl_count, counted_places}
-use Rattle.om_occurrences.specs.CountedFile.{without_inclusions}
 use Rattle.om_occurrences.specs.InText.{in_app}
 use Rattle.om_occurrences.specs.InFile.{spread, placed_parameters, in_fields, field_name}
 use Rattle.om_occurrences.specs.InFile.{field_occurrences, constr_name, carrying_if, carrying_constr}
 use Rattle.om_occurrences.specs.InFile.{arguments_record, constr_record, arguments_occurrences}
 use Rattle.om_occurrences.specs.InFile.{constr_occurrences, in_constrs, body_records, body_occurrences}
 use Rattle.om_occurrences.specs.InFile.{decl_places}
-use Rattle.om_occurrences.proofs.StandLemmas.{IsSilent, marks_append, marks_before, marks_after}
-use Rattle.om_occurrences.proofs.TypeLaws.{texpr_stands, app_stands}
-use Rattle.om_occurrences.proofs.FileLaws.{IsCounted, row_counted, row_seen}
-
-abbrev same : {X : Type 0} → X → X
-same x = x
+use Rattle.om_occurrences.proofs.StandLemmas.{IsSilent, IsClosed, closed_last, after_append, marks_append, marks_before, marks_after}
+use Rattle.om_occurrences.proofs.TypeLaws.{texpr_stands, app_stands, texpr_closed, app_closed}
+use Rattle.om_occurrences.proofs.FileLaws.{IsCounted, row_counted, row_seen, row_closed}
 
 map_same : {X : Type 0} (xs : List X) → map (λ (x : X). x) xs ≡ xs
 map_same [] = refl
@@ -44,51 +41,60 @@ map_same (x ∷ xs) = ap (λ l. x ∷ l) (map_same xs)
 -- ---- lexemes between things
 
 a_semicolon : IsSilent (mark symbols.Semicolon)
-a_semicolon j = refl
+a_semicolon j fresh = refl
 
 semicolon_if : (closed : Bool) → IsSilent (mark_if closed symbols.Semicolon)
-semicolon_if true j = refl
-semicolon_if false j = refl
+semicolon_if true j fresh = refl
+semicolon_if false j fresh = refl
 
 a_brace : IsSilent (mark symbols.CloseBrace)
-a_brace j = refl
+a_brace j fresh = refl
 
 a_star : IsSilent (mark symbols.Star)
-a_star j = refl
+a_star j fresh = refl
 
 a_comma : IsSilent (mark symbols.Comma)
-a_comma j = refl
+a_comma j fresh = refl
 
 a_bar : IsSilent (mark symbols.Bar)
-a_bar j = refl
+a_bar j fresh = refl
 
 bar_if : (bar : Bool) → IsSilent (mark_if bar symbols.Bar)
-bar_if true j = refl
-bar_if false j = refl
+bar_if true j fresh = refl
+bar_if false j fresh = refl
+
+behind_mutable : (mutable : Bool) → after false (word_if mutable keywords.Mutable) ≡ false
+behind_mutable true = refl
+behind_mutable false = refl
 
 a_closing : IsSilent (mark symbols.CloseParen)
-a_closing j = refl
+a_closing j fresh = refl
 
 mutable_if : (mutable : Bool) → IsSilent (word_if mutable keywords.Mutable)
-mutable_if true j = refl
-mutable_if false j = refl
+mutable_if true j fresh = refl
+mutable_if false j fresh = refl
 
 -- ---- fields
 
 field_marks :
     (k : ℕ) (f : FieldTree)
-    → marks k (field_kinds f) ≡ (k + length (word_if f.mutable keywords.Mutable))
-    ∷ marks (k + length (word_if f.mutable keywords.Mutable) + 2) (texpr f.type)
+    → marks k false (field_kinds f) ≡ (k + length (word_if f.mutable keywords.Mutable))
+    ∷ marks (k + length (word_if f.mutable keywords.Mutable) + 2) false (texpr f.type)
 field_marks k f =
     let front = word_if f.mutable keywords.Mutable in
     let j = k + length front in
     let two : suc (suc j) ≡ j + 2 = omega arith in
-    ap (λ l. marks k l) (append_assoc (front ++ lower f.name) (mark symbols.Colon) (texpr f.type)
+    ap (λ l. marks k false l) (append_assoc (front ++ lower f.name) (mark symbols.Colon) (texpr f.type)
     ∙ append_assoc front (lower f.name) (mark symbols.Colon ++ texpr f.type))
-    ∙ marks_after k front (lower f.name ++ (mark symbols.Colon ++ texpr f.type)) (mutable_if f.mutable)
-    ∙ ap (λ n. j ∷ marks n (texpr f.type)) two
+    ∙ marks_after k false front (lower f.name ++ (mark symbols.Colon ++ texpr f.type)) (mutable_if f.mutable)
+    ∙ ap (λ g. marks j g (lower f.name ++ (mark symbols.Colon ++ texpr f.type))) (behind_mutable f.mutable)
+    ∙ ap (λ n. j ∷ marks n false (texpr f.type)) two
 
-field_counted : (k : ℕ) (f : FieldTree) → length (marks k (field_kinds f)) ≡ field_count (field_of_tree f)
+field_closed : (f : FieldTree) → IsClosed (field_kinds f)
+field_closed f = closed_last (word_if f.mutable keywords.Mutable ++ lower f.name ++ mark symbols.Colon) (texpr f.type)
+    (texpr_closed f.type)
+
+field_counted : (k : ℕ) (f : FieldTree) → length (marks k false (field_kinds f)) ≡ field_count (field_of_tree f)
 field_counted k f =
     let j = k + length (word_if f.mutable keywords.Mutable) in
     let e : suc (type_count (type_of_texpr f.type)) ≡ 1 + type_count (type_of_texpr f.type) = omega arith in
@@ -97,14 +103,16 @@ field_counted k f =
 abbrev name_of_field : List ℕ → Field → List Placed
 name_of_field ms f = placed ms f.name ∷ []
 
-field_names : IsCounted field_kinds field_of_tree field_count name_of_field field_name (λ (p : Placed). p)
+field_names : IsCounted field_kinds field_of_tree field_count name_of_field field_name
 field_names = record {
+  closed = field_closed;
   counted = field_counted;
   seen = λ k f rest. ap (λ ms. name_of_field (ms ++ rest) (field_of_tree f)) (field_marks k f);
 }
 
-field_types : IsCounted field_kinds field_of_tree field_count in_field field_occurrences with_tags_alone
+field_types : IsCounted field_kinds field_of_tree field_count in_field field_occurrences
 field_types = record {
+  closed = field_closed;
   counted = field_counted;
   seen = λ k f rest. ap (λ ms. in_field (ms ++ rest) (field_of_tree f)) (field_marks k f)
       ∙ (texpr_stands (k + length (word_if f.mutable keywords.Mutable) + 2) false f.type).seen rest;
@@ -113,72 +121,72 @@ field_types = record {
 -- ---- records
 
 record_marks :
-    (k : ℕ) (r : RecordTree) → marks k (record_kinds r)
-    ≡ marks (k + 1) (field_kinds r.first ++ each_after (mark symbols.Semicolon) field_kinds r.more)
+    (k : ℕ) (r : RecordTree) → marks k false (record_kinds r)
+    ≡ marks (k + 1) false (field_kinds r.first ++ each_after (mark symbols.Semicolon) field_kinds r.more)
 record_marks k r =
     let row = field_kinds r.first ++ each_after (mark symbols.Semicolon) field_kinds r.more in
     let one : suc k ≡ k + 1 = omega arith in
-    marks_before k (mark symbols.OpenBrace ++ row ++ mark_if r.closed symbols.Semicolon) (mark symbols.CloseBrace) a_brace
-    ∙ marks_before k (mark symbols.OpenBrace ++ row) (mark_if r.closed symbols.Semicolon) (semicolon_if r.closed)
-    ∙ ap (λ n. marks n row) one
+    marks_before k false (mark symbols.OpenBrace ++ row ++ mark_if r.closed symbols.Semicolon) (mark symbols.CloseBrace) a_brace
+    ∙ marks_before k false (mark symbols.OpenBrace ++ row) (mark_if r.closed symbols.Semicolon) (semicolon_if r.closed)
+    ∙ ap (λ n. marks n false row) one
 
 record_counted :
-    (k : ℕ) (r : RecordTree) → length (marks k (record_kinds r)) ≡ count_all field_count (fields_of_tree r)
+    (k : ℕ) (r : RecordTree) → length (marks k false (record_kinds r)) ≡ count_all field_count (fields_of_tree r)
 record_counted k r = ap length (record_marks k r)
-    ∙ row_counted field_kinds field_of_tree field_count name_of_field field_name (λ (p : Placed). p) field_names
-    (mark symbols.Semicolon) a_semicolon refl (k + 1) r.first r.more
+    ∙ row_counted field_kinds field_of_tree field_count name_of_field field_name field_names
+    (kinds.Symbol symbols.Semicolon) a_semicolon (λ j f. refl) (k + 1) r.first r.more
 
 record_names :
     (k : ℕ) (r : RecordTree) (rest : List ℕ)
-    → names_of_fields (marks k (record_kinds r) ++ rest) (fields_of_tree r) ≡ in_fields field_name k r
+    → names_of_fields (marks k false (record_kinds r) ++ rest) (fields_of_tree r) ≡ in_fields field_name k r
 record_names k r rest = ap (λ ms. names_of_fields (ms ++ rest) (fields_of_tree r)) (record_marks k r)
-    ∙ row_seen field_kinds field_of_tree field_count name_of_field field_name (λ (p : Placed). p) field_names
-    (mark symbols.Semicolon) a_semicolon refl (k + 1) r.first r.more rest
-    ∙ map_same (in_fields field_name k r)
+    ∙ row_seen field_kinds field_of_tree field_count name_of_field field_name field_names
+    (kinds.Symbol symbols.Semicolon) a_semicolon (λ j f. refl) (k + 1) r.first r.more rest
 
 record_types :
     (k : ℕ) (r : RecordTree) (rest : List ℕ)
-    → along field_count in_field (marks k (record_kinds r) ++ rest) (fields_of_tree r)
-    ≡ map with_tags_alone (in_fields field_occurrences k r)
+    → along field_count in_field (marks k false (record_kinds r) ++ rest) (fields_of_tree r)
+    ≡ (in_fields field_occurrences k r)
 record_types k r rest = ap (λ ms. along field_count in_field (ms ++ rest) (fields_of_tree r)) (record_marks k r)
-    ∙ row_seen field_kinds field_of_tree field_count in_field field_occurrences with_tags_alone field_types
-    (mark symbols.Semicolon) a_semicolon refl (k + 1) r.first r.more rest
+    ∙ row_seen field_kinds field_of_tree field_count in_field field_occurrences field_types
+    (kinds.Symbol symbols.Semicolon) a_semicolon (λ j f. refl) (k + 1) r.first r.more rest
 
 -- ---- constructors
 
 listed_types :
-    IsCounted app type_of_app type_count (λ at t. in_type at false t) (λ j x. in_app j false x) with_tags_alone
+    IsCounted app type_of_app type_count (λ at t. in_type at false t) (λ j x. in_app j false x)
 listed_types = record {
+  closed = app_closed;
   counted = λ k a. (app_stands k false a).counted;
   seen = λ k a rest. (app_stands k false a).seen rest;
 }
 
 arguments_counted :
     (k : ℕ) (a : ArgumentsTree)
-    → length (marks (suc k) (arguments_kinds a)) ≡ arguments_count (arguments_of_tree a)
+    → length (marks (suc k) false (arguments_kinds a)) ≡ arguments_count (arguments_of_tree a)
 arguments_counted k trees.no_arguments = refl
 arguments_counted k (trees.inline r) = record_counted (suc (suc k)) r
 arguments_counted k (trees.listed a others) =
-    row_counted app type_of_app type_count (λ at t. in_type at false t) (λ j x. in_app j false x) with_tags_alone listed_types
-    (mark symbols.Star) a_star refl (suc (suc k)) a others
+    row_counted app type_of_app type_count (λ at t. in_type at false t) (λ j x. in_app j false x) listed_types
+    (kinds.Symbol symbols.Star) a_star (λ j x. refl) (suc (suc k)) a others
 
 arguments_types :
     (k : ℕ) (a : ArgumentsTree) (rest : List ℕ)
-    → in_arguments (marks (suc k) (arguments_kinds a) ++ rest) (arguments_of_tree a)
-    ≡ map with_tags_alone (arguments_occurrences (k + 2) a)
+    → in_arguments (marks (suc k) false (arguments_kinds a) ++ rest) (arguments_of_tree a)
+    ≡ (arguments_occurrences (k + 2) a)
 arguments_types k trees.no_arguments rest = refl
 arguments_types k (trees.inline r) rest =
     let two : suc (suc k) ≡ k + 2 = omega arith in
-    record_types (suc (suc k)) r rest ∙ ap (λ n. map with_tags_alone (in_fields field_occurrences n r)) two
+    record_types (suc (suc k)) r rest ∙ ap (λ n. (in_fields field_occurrences n r)) two
 arguments_types k (trees.listed a others) rest =
     let two : suc (suc k) ≡ k + 2 = omega arith in
-    row_seen app type_of_app type_count (λ at t. in_type at false t) (λ j x. in_app j false x) with_tags_alone listed_types
-    (mark symbols.Star) a_star refl (suc (suc k)) a others rest
-    ∙ ap (λ n. map with_tags_alone (arguments_occurrences n (trees.listed a others))) two
+    row_seen app type_of_app type_count (λ at t. in_type at false t) (λ j x. in_app j false x) listed_types
+    (kinds.Symbol symbols.Star) a_star (λ j x. refl) (suc (suc k)) a others rest
+    ∙ ap (λ n. (arguments_occurrences n (trees.listed a others))) two
 
 arguments_names :
     (k : ℕ) (a : ArgumentsTree) (rest : List ℕ)
-    → record_in_arguments (marks (suc k) (arguments_kinds a) ++ rest) (arguments_of_tree a)
+    → record_in_arguments (marks (suc k) false (arguments_kinds a) ++ rest) (arguments_of_tree a)
     ≡ arguments_record (k + 2) a
 arguments_names k trees.no_arguments rest = refl
 arguments_names k (trees.inline r) rest =
@@ -194,11 +202,23 @@ carried k (trees.inline r) rest = refl
 carried k (trees.listed a others) rest = refl
 
 constr_counted :
-    (k : ℕ) (c : ConstrTree) → length (marks k (constr_kinds c)) ≡ constructor_count (constructor_of_tree c)
+    (k : ℕ) (c : ConstrTree) → length (marks k false (constr_kinds c)) ≡ constructor_count (constructor_of_tree c)
 constr_counted k c =
     let n = arguments_count (arguments_of_tree c.arguments) in
     let e : suc n ≡ 1 + n = omega arith in
     ap suc (arguments_counted k c.arguments) ∙ e
+
+arguments_closed : (a : ArgumentsTree) → after false (arguments_kinds a) ≡ false
+arguments_closed trees.no_arguments = refl
+arguments_closed (trees.inline r) = closed_last (word keywords.Of ++ (mark symbols.OpenBrace ++ field_kinds r.first
+    ++ each_after (mark symbols.Semicolon) field_kinds r.more ++ mark_if r.closed symbols.Semicolon)) (mark symbols.CloseBrace)
+    (λ f. refl) false
+arguments_closed (trees.listed a others) =
+    row_closed app type_of_app type_count (λ at t. in_type at false t) (λ j x. in_app j false x) listed_types
+    (kinds.Symbol symbols.Star) a_star (λ j x. refl) a others false
+
+constr_closed : (c : ConstrTree) → IsClosed (constr_kinds c)
+constr_closed c fresh = arguments_closed c.arguments
 
 abbrev name_of_constructor : List ℕ → Constructor → List Placed
 name_of_constructor ms c = placed ms c.name ∷ []
@@ -213,27 +233,29 @@ abbrev types_of : List ℕ → Constructor → List Occurrence
 types_of ms c = in_arguments (drop 1 ms) c.arguments
 
 constr_names :
-    IsCounted constr_kinds constructor_of_tree constructor_count name_of_constructor constr_name (λ (p : Placed). p)
-constr_names = record { counted = constr_counted; seen = λ k c rest. refl }
+    IsCounted constr_kinds constructor_of_tree constructor_count name_of_constructor constr_name
+constr_names = record { closed = constr_closed; counted = constr_counted; seen = λ k c rest. refl }
 
 constr_carrying :
-    IsCounted constr_kinds constructor_of_tree constructor_count carrying_of carrying_constr (λ (n : ℕ). n)
+    IsCounted constr_kinds constructor_of_tree constructor_count carrying_of carrying_constr
 constr_carrying = record {
+  closed = constr_closed;
   counted = constr_counted;
-  seen = λ k c rest. carried k c.arguments (marks (suc k) (arguments_kinds c.arguments) ++ rest)
-      ∙ sym (map_same (carrying_if k c.arguments));
+  seen = λ k c rest. carried k c.arguments (marks (suc k) false (arguments_kinds c.arguments) ++ rest);
 }
 
 constr_records :
-    IsCounted constr_kinds constructor_of_tree constructor_count record_of constr_record (λ (row : List Placed). row)
+    IsCounted constr_kinds constructor_of_tree constructor_count record_of constr_record
 constr_records = record {
+  closed = constr_closed;
   counted = constr_counted;
-  seen = λ k c rest. arguments_names k c.arguments rest ∙ sym (map_same (constr_record k c));
+  seen = λ k c rest. arguments_names k c.arguments rest;
 }
 
 constr_types :
-    IsCounted constr_kinds constructor_of_tree constructor_count types_of constr_occurrences with_tags_alone
+    IsCounted constr_kinds constructor_of_tree constructor_count types_of constr_occurrences
 constr_types = record {
+  closed = constr_closed;
   counted = constr_counted;
   seen = λ k c rest. arguments_types k c.arguments rest;
 }
@@ -242,54 +264,55 @@ constr_types = record {
 
 variant_marks :
     (k : ℕ) (bar : Bool) (c : ConstrTree) (cs : List ConstrTree)
-    → marks k (body_kinds (variant_body bar c cs))
-    ≡ marks (k + length (mark_if bar symbols.Bar)) (constr_kinds c ++ each_after (mark symbols.Bar) constr_kinds cs)
-variant_marks k bar c cs =
-    let front = mark_if bar symbols.Bar in
-    ap (λ l. marks k l) (append_assoc front (constr_kinds c) (each_after (mark symbols.Bar) constr_kinds cs))
-    ∙ marks_after k front (constr_kinds c ++ each_after (mark symbols.Bar) constr_kinds cs) (bar_if bar)
+    → marks k false (body_kinds (variant_body bar c cs))
+    ≡ marks (k + length (mark_if bar symbols.Bar)) false (constr_kinds c ++ each_after (mark symbols.Bar) constr_kinds cs)
+variant_marks k true c cs =
+    let one : suc k ≡ k + 1 = omega arith in
+    ap (λ n. marks n false (constr_kinds c ++ each_after (mark symbols.Bar) constr_kinds cs)) one
+variant_marks k false c cs =
+    let none : k ≡ k + 0 = omega arith in
+    ap (λ n. marks n false (constr_kinds c ++ each_after (mark symbols.Bar) constr_kinds cs)) none
 
-body_counted : (k : ℕ) (b : BodyTree) → length (marks k (body_kinds b)) ≡ body_count (body_of_tree b)
+body_counted : (k : ℕ) (b : BodyTree) → length (marks k false (body_kinds b)) ≡ body_count (body_of_tree b)
 body_counted k (record_body r) = record_counted k r
 body_counted k (variant_body bar c cs) = ap length (variant_marks k bar c cs)
-    ∙ row_counted constr_kinds constructor_of_tree constructor_count name_of_constructor constr_name (λ (p : Placed). p) constr_names
-    (mark symbols.Bar) a_bar refl (k + length (mark_if bar symbols.Bar)) c cs
+    ∙ row_counted constr_kinds constructor_of_tree constructor_count name_of_constructor constr_name constr_names
+    (kinds.Symbol symbols.Bar) a_bar (λ j x. refl) (k + length (mark_if bar symbols.Bar)) c cs
 body_counted k (type_body t) = (texpr_stands k false t).counted
 
 -- a row of constructors
-module _ {Y Z : Type 0} (of : List ℕ → Constructor → List Y) (in' : ℕ → ConstrTree → List Z) (show : Z → Y)
-    (is : IsCounted constr_kinds constructor_of_tree constructor_count of in' show) where
+module _ {Y : Type 0} (of : List ℕ → Constructor → List Y) (in' : ℕ → ConstrTree → List Y)
+    (is : IsCounted constr_kinds constructor_of_tree constructor_count of in') where
   constrs_seen :
       (k : ℕ) (bar : Bool) (c : ConstrTree) (cs : List ConstrTree) (rest : List ℕ)
-      → along constructor_count of (marks k (body_kinds (variant_body bar c cs)) ++ rest) (map constructor_of_tree (c ∷ cs))
-      ≡ map show (in_constrs in' k (variant_body bar c cs))
+      → along constructor_count of (marks k false (body_kinds (variant_body bar c cs)) ++ rest) (map constructor_of_tree (c ∷ cs))
+      ≡ (in_constrs in' k (variant_body bar c cs))
   constrs_seen k bar c cs rest =
       ap (λ ms. along constructor_count of (ms ++ rest) (map constructor_of_tree (c ∷ cs))) (variant_marks k bar c cs)
-      ∙ row_seen constr_kinds constructor_of_tree constructor_count of in' show is (mark symbols.Bar) a_bar refl
+      ∙ row_seen constr_kinds constructor_of_tree constructor_count of in' is (kinds.Symbol symbols.Bar) a_bar (λ j x. refl)
       (k + length (mark_if bar symbols.Bar)) c cs rest
 
   body_constructors :
       (k : ℕ) (b : BodyTree) (rest : List ℕ)
-      → of_constructors of (marks k (body_kinds b) ++ rest) (body_of_tree b) ≡ map show (in_constrs in' k b)
+      → of_constructors of (marks k false (body_kinds b) ++ rest) (body_of_tree b) ≡ (in_constrs in' k b)
   body_constructors k (record_body r) rest = refl
   body_constructors k (variant_body bar c cs) rest = constrs_seen k bar c cs rest
   body_constructors k (type_body t) rest = refl
 
 body_rows :
     (k : ℕ) (b : BodyTree) (rest : List ℕ)
-    → records_in (marks k (body_kinds b) ++ rest) (body_of_tree b) ≡ body_records k b
+    → records_in (marks k false (body_kinds b) ++ rest) (body_of_tree b) ≡ body_records k b
 body_rows k (record_body r) rest = ap (λ l. l ∷ []) (record_names k r rest)
 body_rows k (variant_body bar c cs) rest =
-    constrs_seen record_of constr_record (λ (row : List Placed). row) constr_records k bar c cs rest
-    ∙ map_same (in_constrs constr_record k (variant_body bar c cs))
+    constrs_seen record_of constr_record constr_records k bar c cs rest
 body_rows k (type_body t) rest = refl
 
 body_types :
     (k : ℕ) (b : BodyTree) (rest : List ℕ)
-    → in_body (marks k (body_kinds b) ++ rest) (body_of_tree b) ≡ map with_tags_alone (body_occurrences k b)
+    → in_body (marks k false (body_kinds b) ++ rest) (body_of_tree b) ≡ (body_occurrences k b)
 body_types k (record_body r) rest = record_types k r rest
 body_types k (variant_body bar c cs) rest =
-    constrs_seen types_of constr_occurrences with_tags_alone constr_types k bar c cs rest
+    constrs_seen types_of constr_occurrences constr_types k bar c cs rest
 body_types k (type_body t) rest = (texpr_stands k false t).seen rest
 
 -- ---- parameters
@@ -301,72 +324,98 @@ abbrev parameter_at : ℕ → List ℕ → List Placed
 parameter_at j name = (j, name) ∷ []
 
 one_parameter :
-    IsCounted variable_kind (λ (x : List ℕ). x) (λ x. 1) parameter_in parameter_at (λ (p : Placed). p)
-one_parameter = record { counted = λ k x. refl; seen = λ k x rest. refl }
+    IsCounted variable_kind (λ (x : List ℕ). x) (λ x. 1) parameter_in parameter_at
+one_parameter = record { closed = λ x f. refl; counted = λ k x. refl; seen = λ k x rest. refl }
 
 listed_marks :
     (k : ℕ) (name : Name) (names : List Name)
-    → marks k (params_kinds (params name names))
-    ≡ marks (k + 1) (variable_kind name ++ each_after (mark symbols.Comma) variable_kind names)
+    → marks k false (params_kinds (params name names))
+    ≡ marks (k + 1) false (variable_kind name ++ each_after (mark symbols.Comma) variable_kind names)
 listed_marks k name names =
     let row = variable_kind name ++ each_after (mark symbols.Comma) variable_kind names in
     let one : suc k ≡ k + 1 = omega arith in
-    marks_before k (mark symbols.OpenParen ++ row) (mark symbols.CloseParen) a_closing ∙ ap (λ n. marks n row) one
+    marks_before k false (mark symbols.OpenParen ++ row) (mark symbols.CloseParen) a_closing ∙ ap (λ n. marks n false row) one
 
 all_ones : (names : List Name) → count_all (λ (x : Name). 1) names ≡ length names
 all_ones [] = refl
 all_ones (x ∷ xs) = let later = all_ones xs in let e : 1 + count_all (λ (y : Name). 1) xs ≡ suc (length xs) = omega arith in e
 
-params_counted : (k : ℕ) (p : Params) → length (marks k (params_kinds p)) ≡ length (parameters_of p)
+params_counted : (k : ℕ) (p : Params) → length (marks k false (params_kinds p)) ≡ length (parameters_of p)
 params_counted k no_params = refl
 params_counted k (param name) = refl
 params_counted k (params name names) = ap length (listed_marks k name names)
-    ∙ row_counted variable_kind (λ (x : List ℕ). x) (λ x. 1) parameter_in parameter_at (λ (p : Placed). p) one_parameter
-    (mark symbols.Comma) a_comma refl (k + 1) name names
+    ∙ row_counted variable_kind (λ (x : List ℕ). x) (λ x. 1) parameter_in parameter_at one_parameter
+    (kinds.Symbol symbols.Comma) a_comma (λ j x. refl) (k + 1) name names
     ∙ ap (λ l. count_all (λ (x : Name). 1) l) (map_same (name ∷ names)) ∙ all_ones (name ∷ names)
 
 params_seen :
     (k : ℕ) (p : Params) (rest : List ℕ)
-    → parameters_in (marks k (params_kinds p) ++ rest) (parameters_of p) ≡ placed_parameters k p
+    → parameters_in (marks k false (params_kinds p) ++ rest) (parameters_of p) ≡ placed_parameters k p
 params_seen k no_params rest = refl
 params_seen k (param name) rest = refl
 params_seen k (params name names) rest =
     let two : k + 1 + 1 ≡ k + 2 = omega arith in
     ap (λ ms. parameters_in (ms ++ rest) (name ∷ names)) (listed_marks k name names)
-    ∙ ap (λ l. parameters_in (marks (k + 1) (variable_kind name ++ each_after (mark symbols.Comma) variable_kind names) ++ rest) l)
+    ∙ ap (λ l. parameters_in (marks (k + 1) false (variable_kind name ++ each_after (mark symbols.Comma) variable_kind names) ++ rest) l)
     (sym (map_same (name ∷ names)))
-    ∙ row_seen variable_kind (λ (x : List ℕ). x) (λ x. 1) parameter_in parameter_at (λ (p : Placed). p) one_parameter
-    (mark symbols.Comma) a_comma refl (k + 1) name names rest
-    ∙ map_same (parameter_at (k + 1) name ++ spread (λ (x : Name). 1) parameter_at (k + 1 + 1) names)
+    ∙ row_seen variable_kind (λ (x : List ℕ). x) (λ x. 1) parameter_in parameter_at one_parameter
+    (kinds.Symbol symbols.Comma) a_comma (λ j x. refl) (k + 1) name names rest
     ∙ ap (λ n. (k + 1, name) ∷ spread (λ (x : Name). 1) parameter_at n names) two
 
 -- ---- declarations
 
+params_closed : (p : Params) → after false (params_kinds p) ≡ false
+params_closed no_params = refl
+params_closed (param name) = refl
+params_closed (params name names) =
+    closed_last (mark symbols.OpenParen ++ variable_kind name ++ each_after (mark symbols.Comma) variable_kind names)
+    (mark symbols.CloseParen) (λ f. refl) false
+
 decl_marks :
     (k : ℕ) (d : DeclTree)
-    → marks k (decl_kinds d)
-    ≡ marks k (params_kinds d.params) ++ (k + length (params_kinds d.params))
-    ∷ marks (k + length (params_kinds d.params) + 2) (body_kinds d.body)
+    → marks k false (decl_kinds d)
+    ≡ marks k false (params_kinds d.params) ++ (k + length (params_kinds d.params))
+    ∷ marks (k + length (params_kinds d.params) + 2) false (body_kinds d.body)
 decl_marks k d =
     let front = params_kinds d.params in
     let j = k + length front in
     let two : suc (suc j) ≡ j + 2 = omega arith in
-    ap (λ l. marks k l) (append_assoc (front ++ lower d.name) (mark symbols.Equals) (body_kinds d.body)
+    ap (λ l. marks k false l) (append_assoc (front ++ lower d.name) (mark symbols.Equals) (body_kinds d.body)
     ∙ append_assoc front (lower d.name) (mark symbols.Equals ++ body_kinds d.body))
-    ∙ marks_append k front (lower d.name ++ (mark symbols.Equals ++ body_kinds d.body))
-    ∙ ap (λ n. marks k front ++ j ∷ marks n (body_kinds d.body)) two
+    ∙ marks_append k false front (lower d.name ++ (mark symbols.Equals ++ body_kinds d.body))
+    ∙ ap (λ g. marks k false front ++ marks j g (lower d.name ++ (mark symbols.Equals ++ body_kinds d.body))) (params_closed d.params)
+    ∙ ap (λ n. marks k false front ++ j ∷ marks n false (body_kinds d.body)) two
+
+body_closed : (b : BodyTree) → after false (body_kinds b) ≡ false
+body_closed (record_body r) = closed_last (mark symbols.OpenBrace ++ field_kinds r.first
+    ++ each_after (mark symbols.Semicolon) field_kinds r.more ++ mark_if r.closed symbols.Semicolon) (mark symbols.CloseBrace)
+    (λ f. refl) false
+body_closed (variant_body true c cs) =
+    row_closed constr_kinds constructor_of_tree constructor_count name_of_constructor constr_name constr_names
+    (kinds.Symbol symbols.Bar) a_bar (λ j x. refl) c cs true
+body_closed (variant_body false c cs) =
+    row_closed constr_kinds constructor_of_tree constructor_count name_of_constructor constr_name constr_names
+    (kinds.Symbol symbols.Bar) a_bar (λ j x. refl) c cs false
+body_closed (type_body t) = texpr_closed t false
+
+pub decl_closed : (d : DeclTree) → IsClosed (decl_kinds d)
+decl_closed d fresh =
+    let front = params_kinds d.params ++ lower d.name ++ mark symbols.Equals in
+    after_append fresh front (body_kinds d.body)
+    ∙ ap (λ g. after g (body_kinds d.body)) (closed_last (params_kinds d.params ++ lower d.name) (mark symbols.Equals) (λ f. refl) fresh)
+    ∙ body_closed d.body
 
 pub decl_counted :
     (group k : ℕ) (d : DeclTree)
-    → length (marks k (decl_kinds d)) ≡ decl_count (declaration_of_tree group d)
+    → length (marks k false (decl_kinds d)) ≡ decl_count (declaration_of_tree group d)
 decl_counted group k d =
     let front = params_kinds d.params in
     let j = k + length front in
     let n = length (parameters_of d.params) in
     let m = body_count (body_of_tree d.body) in
     let e : n + suc m ≡ n + 1 + m = omega arith in
-    ap length (decl_marks k d) ∙ length-append (marks k front) (j ∷ marks (j + 2) (body_kinds d.body))
-    ∙ ap (λ l. l + suc (length (marks (j + 2) (body_kinds d.body)))) (params_counted k d.params)
+    ap length (decl_marks k d) ∙ length-append (marks k false front) (j ∷ marks (j + 2) false (body_kinds d.body))
+    ∙ ap (λ l. l + suc (length (marks (j + 2) false (body_kinds d.body)))) (params_counted k d.params)
     ∙ ap (λ l. n + suc l) (body_counted (j + 2) d.body) ∙ e
 
 abbrev made :
@@ -389,39 +438,38 @@ made_from d ms body = made d (slice_index ms (length d.parameters)) (parameters_
 
 pub decl_seen :
     (group k : ℕ) (d : DeclTree) (rest : List ℕ)
-    → counted_places (marks k (decl_kinds d) ++ rest) (declaration_of_tree group d)
-    ≡ without_inclusions (decl_places group k d)
+    → counted_places (marks k false (decl_kinds d) ++ rest) (declaration_of_tree group d)
+    ≡ decl_places group k d
 decl_seen group k d rest =
     let front = params_kinds d.params in
     let j = k + length front in
     let e = declaration_of_tree group d in
     let n = length e.parameters in
-    let inside = marks (j + 2) (body_kinds d.body) in
-    let after = inside ++ rest in
-    let ms = marks k front ++ (j ∷ after) in
-    let long : length (marks k front ++ j ∷ []) ≡ n + 1 =
-    length-append (marks k front) (j ∷ []) ∙ ap (λ l. l + 1) (params_counted k d.params) in
-    let body_is : drop (n + 1) ms ≡ after =
-    ap (λ l. drop (n + 1) l) (sym (append_assoc (marks k front) (j ∷ []) after))
-    ∙ drop_at (marks k front ++ j ∷ []) after (n + 1) long in
-    let rows = records_in after e.body in
-    let names = of_constructors name_of_constructor after e.body in
-    let with = of_constructors carrying_of after e.body in
-    let all = in_body after e.body in
+    let inside = marks (j + 2) false (body_kinds d.body) in
+    let rests = inside ++ rest in
+    let ms = marks k false front ++ (j ∷ rests) in
+    let long : length (marks k false front ++ j ∷ []) ≡ n + 1 =
+    length-append (marks k false front) (j ∷ []) ∙ ap (λ l. l + 1) (params_counted k d.params) in
+    let body_is : drop (n + 1) ms ≡ rests =
+    ap (λ l. drop (n + 1) l) (sym (append_assoc (marks k false front) (j ∷ []) rests))
+    ∙ drop_at (marks k false front ++ j ∷ []) rests (n + 1) long in
+    let rows = records_in rests e.body in
+    let names = of_constructors name_of_constructor rests e.body in
+    let with = of_constructors carrying_of rests e.body in
+    let all = in_body rests e.body in
     let parameters = placed_parameters k d.params in
     let records = body_records (j + 2) d.body in
     let constructors = in_constrs constr_name (j + 2) d.body in
     let carrying = in_constrs carrying_constr (j + 2) d.body in
     ap (λ l. made_from e (l ++ rest) (drop (n + 1) (l ++ rest))) (decl_marks k d)
-    ∙ ap (λ l. made_from e l (drop (n + 1) l)) (append_assoc (marks k front) (j ∷ inside) rest)
+    ∙ ap (λ l. made_from e l (drop (n + 1) l)) (append_assoc (marks k false front) (j ∷ inside) rest)
     ∙ ap (λ l. made_from e ms l) body_is
     ∙ ap (λ place. made e place (parameters_in ms e.parameters) rows names with all)
-    (get_or_at (marks k front) j after 0 n (params_counted k d.params))
-    ∙ ap (λ l. made e j l rows names with all) (params_seen k d.params (j ∷ after))
+    (get_or_at (marks k false front) j rests 0 n (params_counted k d.params))
+    ∙ ap (λ l. made e j l rows names with all) (params_seen k d.params (j ∷ rests))
     ∙ ap (λ l. made e j parameters l names with all) (body_rows (j + 2) d.body rest)
     ∙ ap (λ l. made e j parameters records l with all)
-    (body_constructors name_of_constructor constr_name (λ (p : Placed). p) constr_names (j + 2) d.body rest
-    ∙ map_same constructors)
+    (body_constructors name_of_constructor constr_name constr_names (j + 2) d.body rest)
     ∙ ap (λ l. made e j parameters records constructors l all)
-    (body_constructors carrying_of carrying_constr (λ (m : ℕ). m) constr_carrying (j + 2) d.body rest ∙ map_same carrying)
+    (body_constructors carrying_of carrying_constr constr_carrying (j + 2) d.body rest)
     ∙ ap (λ l. made e j parameters records constructors carrying l) (body_types (j + 2) d.body rest)

@@ -3,6 +3,7 @@ use Rattle.std.proofs.Common.{ℕ, suc, ◌+◌, ◌≡◌, ◌∙◌, Bool, tru
 use Rattle.std.proofs.Common.{refl, sym, ap, arith, append_assoc, length-append}
 use Rattle.std.specs.Prelude.{map}
 use Rattle.std.proofs.lemmas.List.{drop_at, append-nil, map-append, drop-drop, length-map}
+use Rattle.om_lex.specs.declared.lexeme.LexemeKind.TheVariants as kinds
 use Rattle.om_lex.specs.declared.lexeme.Keyword.TheVariants as keywords
 use Rattle.om_lex.specs.declared.lexeme.Symbol.TheVariants as symbols
 use Rattle.om_grammar.specs.Grammar.{each_after, word, mark_if, DeclTree, GroupTree, FileTree, decl_kinds}
@@ -11,21 +12,24 @@ use Rattle.om_types.specs.declared.decl.Decl.{Decl}
 use Rattle.om_types.specs.Occurrence.{DeclPlaces}
 use Rattle.om_types.specs.Scope.{decls_of}
 use Rattle.om_parse.specs.Written.{declaration_of_tree, declarations_after}
-use Rattle.om_occurrences.specs.Counted.{marks}
+use Rattle.om_occurrences.specs.Counted.{after, marks}
 use Rattle.om_occurrences.specs.CountedFile.{along, count_all, decl_count, counted_places, counted_file}
-use Rattle.om_occurrences.specs.CountedFile.{without_inclusions}
 use Rattle.om_occurrences.specs.InFile.{spread, decl_places, decl_size, group_places, places_after}
 use Rattle.om_occurrences.specs.Laws.{FilesAreCounted}
-use Rattle.om_occurrences.proofs.StandLemmas.{IsSilent, marks_append, marks_before}
-use Rattle.om_occurrences.proofs.FileLaws.{IsCounted, row_counted, row_seen}
-use Rattle.om_occurrences.proofs.DeclLaws.{decl_counted, decl_seen}
+use Rattle.om_occurrences.proofs.StandLemmas.{IsSilent, after_append, marks_append, marks_before}
+use Rattle.om_occurrences.proofs.FileLaws.{IsCounted, row_counted, row_seen, row_closed}
+use Rattle.om_occurrences.proofs.DeclLaws.{decl_closed, decl_counted, decl_seen}
 
 an_and : IsSilent (word keywords.And)
-an_and j = refl
+an_and j fresh = refl
 
 semicolons_if : (ended : Bool) → IsSilent (mark_if ended symbols.DoubleSemicolon)
-semicolons_if true j = refl
-semicolons_if false j = refl
+semicolons_if true j fresh = refl
+semicolons_if false j fresh = refl
+
+behind_semicolons : (ended : Bool) → after false (mark_if ended symbols.DoubleSemicolon) ≡ false
+behind_semicolons true = refl
+behind_semicolons false = refl
 
 abbrev place_of : List ℕ → Decl → List DeclPlaces
 place_of ms d = counted_places ms d ∷ []
@@ -35,8 +39,8 @@ places_at group j d = decl_places group j d ∷ []
 
 decls_counted :
     (group : ℕ) → IsCounted decl_kinds (declaration_of_tree group) decl_count place_of (places_at group)
-    without_inclusions
 decls_counted group = record {
+  closed = decl_closed;
   counted = decl_counted group;
   seen = λ k d rest. ap (λ p. p ∷ []) (decl_seen group k d rest);
 }
@@ -44,32 +48,41 @@ decls_counted group = record {
 -- ---- groups
 
 group_marks :
-    (k : ℕ) (g : GroupTree) → marks k (group_kinds g)
-    ≡ marks (k + 1) (decl_kinds g.first ++ each_after (word keywords.And) decl_kinds g.more)
+    (k : ℕ) (g : GroupTree) → marks k false (group_kinds g)
+    ≡ marks (k + 1) false (decl_kinds g.first ++ each_after (word keywords.And) decl_kinds g.more)
 group_marks k g =
     let row = decl_kinds g.first ++ each_after (word keywords.And) decl_kinds g.more in
     let one : suc k ≡ k + 1 = omega arith in
-    marks_before k (word keywords.Type ++ row) (mark_if g.ended symbols.DoubleSemicolon) (semicolons_if g.ended)
-    ∙ ap (λ n. marks n row) one
+    marks_before k false (word keywords.Type ++ row) (mark_if g.ended symbols.DoubleSemicolon) (semicolons_if g.ended)
+    ∙ ap (λ n. marks n false row) one
+
+group_closed : (g : GroupTree) → after false (group_kinds g) ≡ false
+group_closed g =
+    let row = decl_kinds g.first ++ each_after (word keywords.And) decl_kinds g.more in
+    after_append false (word keywords.Type ++ row) (mark_if g.ended symbols.DoubleSemicolon)
+    ∙ ap (λ f. after f (mark_if g.ended symbols.DoubleSemicolon))
+    (row_closed decl_kinds (declaration_of_tree 0) decl_count place_of (places_at 0) (decls_counted 0)
+    (kinds.Keyword keywords.And) an_and (λ j x. refl) g.first g.more false)
+    ∙ behind_semicolons g.ended
 
 abbrev group_decls : ℕ → GroupTree → List Decl
 group_decls group g = map (declaration_of_tree group) (g.first ∷ g.more)
 
 group_counted :
     (group k : ℕ) (g : GroupTree)
-    → length (marks k (group_kinds g)) ≡ count_all decl_count (group_decls group g)
+    → length (marks k false (group_kinds g)) ≡ count_all decl_count (group_decls group g)
 group_counted group k g = ap length (group_marks k g)
-    ∙ row_counted decl_kinds (declaration_of_tree group) decl_count place_of (places_at group) without_inclusions
-    (decls_counted group) (word keywords.And) an_and refl (k + 1) g.first g.more
+    ∙ row_counted decl_kinds (declaration_of_tree group) decl_count place_of (places_at group)
+    (decls_counted group) (kinds.Keyword keywords.And) an_and (λ j x. refl) (k + 1) g.first g.more
 
 group_seen :
     (group k : ℕ) (g : GroupTree) (rest : List ℕ)
-    → along decl_count place_of (marks k (group_kinds g) ++ rest) (group_decls group g)
-    ≡ map without_inclusions (group_places group k g)
+    → along decl_count place_of (marks k false (group_kinds g) ++ rest) (group_decls group g)
+    ≡ (group_places group k g)
 group_seen group k g rest =
     ap (λ ms. along decl_count place_of (ms ++ rest) (group_decls group g)) (group_marks k g)
-    ∙ row_seen decl_kinds (declaration_of_tree group) decl_count place_of (places_at group) without_inclusions
-    (decls_counted group) (word keywords.And) an_and refl (k + 1) g.first g.more rest
+    ∙ row_seen decl_kinds (declaration_of_tree group) decl_count place_of (places_at group)
+    (decls_counted group) (kinds.Keyword keywords.And) an_and (λ j x. refl) (k + 1) g.first g.more rest
 
 -- ---- files
 
@@ -105,25 +118,25 @@ decls_are before (g ∷ groups) =
 
 file_seen :
     (n k : ℕ) (groups : FileTree) (rest : List ℕ)
-    → along decl_count place_of (marks k (file_kinds groups) ++ rest) (decls_after n groups)
-    ≡ map without_inclusions (places_after n k groups)
+    → along decl_count place_of (marks k false (file_kinds groups) ++ rest) (decls_after n groups)
+    ≡ (places_after n k groups)
 file_seen n k [] rest = refl
 file_seen n k (g ∷ groups) rest =
     let m = n + length (g.first ∷ g.more) in
     let j = k + length (group_kinds g) in
-    let more = marks j (file_kinds groups) ++ rest in
-    let ms = marks k (group_kinds g) ++ more in
+    let more = marks j false (file_kinds groups) ++ rest in
+    let ms = marks k false (group_kinds g) ++ more in
     ap (λ l. along decl_count place_of (l ++ rest) (decls_after n (g ∷ groups)))
-    (marks_append k (group_kinds g) (file_kinds groups))
+    (marks_append k false (group_kinds g) (file_kinds groups)
+    ∙ ap (λ f. marks k false (group_kinds g) ++ marks j f (file_kinds groups)) (group_closed g))
     ∙ ap (λ l. along decl_count place_of l (decls_after n (g ∷ groups)))
-    (append_assoc (marks k (group_kinds g)) (marks j (file_kinds groups)) rest)
+    (append_assoc (marks k false (group_kinds g)) (marks j false (file_kinds groups)) rest)
     ∙ along_append decl_count place_of ms (group_decls n g) (decls_after m groups)
     ∙ ap (λ l. l ++ along decl_count place_of (drop (count_all decl_count (group_decls n g)) ms) (decls_after m groups))
     (group_seen n k g more)
-    ∙ ap (λ l. map without_inclusions (group_places n k g) ++ along decl_count place_of l (decls_after m groups))
-    (drop_at (marks k (group_kinds g)) more (count_all decl_count (group_decls n g)) (group_counted n k g))
-    ∙ ap (λ l. map without_inclusions (group_places n k g) ++ l) (file_seen m j groups rest)
-    ∙ sym (map-append without_inclusions (group_places n k g) (places_after m j groups))
+    ∙ ap (λ l. (group_places n k g) ++ along decl_count place_of l (decls_after m groups))
+    (drop_at (marks k false (group_kinds g)) more (count_all decl_count (group_decls n g)) (group_counted n k g))
+    ∙ ap (λ l. (group_places n k g) ++ l) (file_seen m j groups rest)
 
 -- ---- the declarations themselves
 
@@ -148,7 +161,7 @@ pub files_are_counted : FilesAreCounted
 files_are_counted = record {
   declared = λ tree. places_decls 0 0 tree ∙ sym (decls_are [] tree);
   counted = λ tree.
-      ap (λ ds. counted_file (marks 0 (file_kinds tree)) ds) (decls_are [] tree)
-      ∙ ap (λ ms. along decl_count place_of ms (decls_after 0 tree)) (sym (append-nil (marks 0 (file_kinds tree))))
+      ap (λ ds. counted_file (marks 0 false (file_kinds tree)) ds) (decls_are [] tree)
+      ∙ ap (λ ms. along decl_count place_of ms (decls_after 0 tree)) (sym (append-nil (marks 0 false (file_kinds tree))))
       ∙ file_seen 0 0 tree [];
 }

@@ -3,5 +3,4 @@ pub mod TypeLaws
 pub mod FileLaws
 pub mod DeclLaws
 pub mod GroupLaws
-pub mod CarryLemmas
 pub mod MarkLemmas

@@ -1,9 +1,11 @@
--- What stands where in a type, by the tree of the type itself: the n-th name, tag or variable of
--- the type stands at the n-th such lexeme of its text.
+-- What stands where in a type, by the tree of the type itself: the n-th name, tag, variable or
+-- included type of the type stands at the n-th mark of its text.
 use Rattle.std.specs.Prelude.{ℕ, suc, ◌+◌, Bool, true, false, List, [], ◌∷◌, ◌++◌}
-use Rattle.std.specs.Prelude.{drop, filter, slice_index, if◌then◌else◌}
+use Rattle.std.specs.Prelude.{◌&&◌, drop, slice_index, if◌then◌else◌}
 use Rattle.om_lex.specs.declared.lexeme.LexemeKind.{LexemeKind}
 use Rattle.om_lex.specs.declared.lexeme.LexemeKind.TheVariants as kinds
+use Rattle.om_lex.specs.declared.lexeme.Symbol.TheVariants as symbols
+use Rattle.om_grammar.specs.Grammar.{Kinds}
 use Rattle.om_types.specs.Ty.{Ty, variable, named, tuple, bracket, part, tag, tag_of, including}
 use Rattle.om_types.specs.Ty.{parts}
 use Rattle.om_types.specs.Occurrence.{Occurrence, PlacedItem, use_of, variable_at, bracket_of}
@@ -18,10 +20,35 @@ is_marked (kinds.Tag name) = true
 is_marked (kinds.Variable name) = true
 is_marked kind = false
 
--- which of these are such, where the first is lexeme k
-abbrev pub marks : ℕ → List LexemeKind → List ℕ
-marks k [] = []
-marks k (kind ∷ more) = if is_marked kind then k ∷ marks (suc k) more else marks (suc k) more
+-- an item of a bracket may begin behind it
+abbrev pub opens_item : LexemeKind → Bool
+opens_item (kinds.Symbol symbols.OpenBracket) = true
+opens_item (kinds.Symbol symbols.Bar) = true
+opens_item kind = false
+
+-- an item that is a type may begin with it
+abbrev pub begins_type : LexemeKind → Bool
+begins_type (kinds.Lower name) = true
+begins_type (kinds.Variable name) = true
+begins_type (kinds.Symbol symbols.OpenParen) = true
+begins_type (kinds.Symbol symbols.OpenBracket) = true
+begins_type kind = false
+
+-- whether an item may begin behind these
+abbrev pub after : Bool → Kinds → Bool
+after fresh [] = fresh
+after fresh (kind ∷ more) = after (opens_item kind) more
+
+abbrev pub one_if : Bool → ℕ → List ℕ
+one_if test k = if test then k ∷ [] else []
+
+-- The marks of these lexemes, the first of which is lexeme k: each name, tag and variable, and before
+-- them the first lexeme of each included type. Fresh says whether an item may begin with the first.
+abbrev pub marks : ℕ → Bool → Kinds → List ℕ
+marks k fresh [] = []
+marks k fresh (kind ∷ more) =
+    one_if (begins_type kind && fresh) k
+    ++ (one_if (is_marked kind) k ++ marks (suc k) (opens_item kind) more)
 
 -- ---- types
 
@@ -36,7 +63,7 @@ own_count (tag whole x) = own_count whole
 own_count (tag_of whole x argument) = own_count whole
 own_count (including whole included) = own_count whole
 
--- how many names, tags and variables stand in the parts of a type
+-- how many marks the parts of a type have
 abbrev pub inner_count : Ty → ℕ
 inner_count (variable x) = 0
 inner_count (named x) = 0
@@ -47,16 +74,17 @@ inner_count (tag whole x) = inner_count whole + 1
 inner_count (tag_of whole x argument) =
     inner_count whole + 1 + (inner_count argument + own_count argument)
 inner_count (including whole included) =
-    inner_count whole + (inner_count included + own_count included)
+    inner_count whole + 1 + (inner_count included + own_count included)
 
--- The tags that a bracket writes; the first of its names, tags and variables stands at the first of
--- these lexemes.
-abbrev pub tags : List ℕ → Ty → List PlacedItem
-tags ms (tag whole x) = tags ms whole ++ (slice_index ms (inner_count whole), tag bracket x) ∷ []
-tags ms (tag_of whole x argument) =
-    tags ms whole ++ (slice_index ms (inner_count whole), tag_of bracket x argument) ∷ []
-tags ms (including whole included) = tags ms whole
-tags ms t = []
+-- The items of a bracket, each with its first lexeme; the first of the bracket's marks stands at the
+-- first of these lexemes.
+abbrev pub items_in : List ℕ → Ty → List PlacedItem
+items_in ms (tag whole x) = items_in ms whole ++ (slice_index ms (inner_count whole), tag bracket x) ∷ []
+items_in ms (tag_of whole x argument) =
+    items_in ms whole ++ (slice_index ms (inner_count whole), tag_of bracket x argument) ∷ []
+items_in ms (including whole included) =
+    items_in ms whole ++ (slice_index ms (inner_count whole), including bracket included) ∷ []
+items_in ms t = []
 
 -- the variable, the name or the bracket that a type begins with
 abbrev pub begins : ℕ → Bool → List Ty → List PlacedItem → Ty → List Occurrence
@@ -71,7 +99,7 @@ begins k in_tag arguments items (including whole included) = begins k in_tag arg
 
 -- it with its lexeme, which follows those of the parts
 abbrev pub own : List ℕ → Bool → Ty → List Occurrence
-own ms in_tag t = begins (slice_index ms (inner_count t)) in_tag (parts t) (tags ms t) t
+own ms in_tag t = begins (slice_index ms (inner_count t)) in_tag (parts t) (items_in ms t) t
 
 -- what stands in the parts
 abbrev pub inner : List ℕ → Bool → Ty → List Occurrence
@@ -83,22 +111,10 @@ inner ms in_tag (tag_of whole x argument) =
     inner ms in_tag whole ++ (own (drop (inner_count whole + 1) ms) true argument
     ++ inner (drop (inner_count whole + 1) ms) true argument)
 inner ms in_tag (including whole included) =
-    inner ms in_tag whole ++ (own (drop (inner_count whole) ms) in_tag included
-    ++ inner (drop (inner_count whole) ms) in_tag included)
+    inner ms in_tag whole ++ (own (drop (inner_count whole + 1) ms) in_tag included
+    ++ inner (drop (inner_count whole + 1) ms) in_tag included)
 inner ms in_tag t = []
 
 -- what stands in a type
 abbrev pub in_type : List ℕ → Bool → Ty → List Occurrence
 in_type ms in_tag t = own ms in_tag t ++ inner ms in_tag t
-
--- ---- brackets without what they include
-
-abbrev pub is_written_tag : PlacedItem → Bool
-is_written_tag (k, tag whole x) = true
-is_written_tag (k, tag_of whole x argument) = true
-is_written_tag (k, t) = false
-
-abbrev pub with_tags_alone : Occurrence → Occurrence
-with_tags_alone (bracket_of items) = bracket_of (filter is_written_tag items)
-with_tags_alone (use_of k name arguments in_tag) = use_of k name arguments in_tag
-with_tags_alone (variable_at k name) = variable_at k name

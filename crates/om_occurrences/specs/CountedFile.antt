@@ -1,6 +1,6 @@
--- What stands where in declarations, by the declarations themselves: the n-th name, tag or variable
--- of the declarations stands at the n-th such lexeme of the text.
-use Rattle.std.specs.Prelude.{ℕ, ◌+◌, List, [], ◌∷◌, ◌++◌, length, false, map, drop, slice_index}
+-- What stands where in declarations, by the declarations themselves: the n-th name, tag,
+-- variable or included type of the declarations stands at the n-th mark of the text.
+use Rattle.std.specs.Prelude.{ℕ, ◌+◌, List, [], ◌∷◌, ◌++◌, length, false, drop, slice_index}
 use Rattle.om_types.specs.declared.decl.Field.{Field}
 use Rattle.om_types.specs.declared.decl.Arguments.{Arguments}
 use Rattle.om_types.specs.declared.decl.Arguments.TheVariants as arguments
@@ -10,7 +10,7 @@ use Rattle.om_types.specs.declared.decl.Body.TheVariants as bodies
 use Rattle.om_types.specs.declared.decl.Decl.{Decl}
 use Rattle.om_types.specs.Ty.{Ty}
 use Rattle.om_types.specs.Occurrence.{Placed, Occurrence, DeclPlaces}
-use Rattle.om_occurrences.specs.Counted.{own_count, inner_count, in_type, with_tags_alone}
+use Rattle.om_occurrences.specs.Counted.{own_count, inner_count, in_type}
 
 -- of each of these, where each takes as many lexemes as are counted
 abbrev pub along : {X Y : Type 0} → (X → ℕ) → (List ℕ → X → List Y) → List ℕ → List X → List Y
@@ -96,7 +96,7 @@ in_body ms (bodies.Variant all) =
 abbrev pub decl_count : Decl → ℕ
 decl_count d = length d.parameters + 1 + body_count d.body
 
--- a declaration; the first of its names, tags and variables stands at the first of these lexemes
+-- a declaration; the first of its marks stands at the first of these lexemes
 abbrev pub counted_places : List ℕ → Decl → DeclPlaces
 counted_places ms d =
     let body = drop (length d.parameters + 1) ms in
@@ -112,7 +112,3 @@ counted_places ms d =
 
 abbrev pub counted_file : List ℕ → List Decl → List DeclPlaces
 counted_file ms decls = along decl_count (λ at d. counted_places at d ∷ []) ms decls
-
--- the same but for the places of included types in brackets
-abbrev pub without_inclusions : DeclPlaces → DeclPlaces
-without_inclusions d = record d { occurrences = map with_tags_alone d.occurrences }

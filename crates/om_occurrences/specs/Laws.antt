@@ -1,26 +1,23 @@
 -- Both ways of placing agree.
-use Rattle.std.specs.Prelude.{ℕ, ◌≡◌, Bool, map}
+use Rattle.std.specs.Prelude.{ℕ, ◌≡◌, Bool, false}
 use Rattle.om_grammar.specs.Grammar.{Texpr, texpr, FileTree, file_kinds}
 use Rattle.om_types.specs.Scope.{decls_of}
 use Rattle.om_parse.specs.Written.{type_of_texpr, declarations_of}
 use Rattle.om_occurrences.specs.InText.{in_texpr}
 use Rattle.om_occurrences.specs.InFile.{file_places}
-use Rattle.om_occurrences.specs.CountedFile.{counted_file, without_inclusions}
-use Rattle.om_occurrences.specs.Counted.{marks, in_type, with_tags_alone}
+use Rattle.om_occurrences.specs.CountedFile.{counted_file}
+use Rattle.om_occurrences.specs.Counted.{marks, in_type}
 
--- What stands in a type by its own tree is what stands in its text, but for the places of included
--- types in brackets.
+-- what stands in a type by its own tree is what stands in its text
 abbrev pub TypesAreCounted : Type 0
 TypesAreCounted =
     (k : ℕ) (in_tag : Bool) (t : Texpr)
-    → in_type (marks k (texpr t)) in_tag (type_of_texpr t)
-    ≡ map with_tags_alone (in_texpr k in_tag t)
+    → in_type (marks k false (texpr t)) in_tag (type_of_texpr t) ≡ in_texpr k in_tag t
 
--- What stands in declarations by themselves is what stands in their text, but for these places; the
--- declarations are those that the text stands for.
+-- What stands in declarations by themselves is what stands in their text; the declarations are those
+-- that the text stands for.
 pub record FilesAreCounted : Type 0 where
   pub declared : (tree : FileTree) → decls_of (file_places tree) ≡ declarations_of tree
   pub counted :
       (tree : FileTree)
-      → counted_file (marks 0 (file_kinds tree)) (declarations_of tree)
-      ≡ map without_inclusions (file_places tree)
+      → counted_file (marks 0 false (file_kinds tree)) (declarations_of tree) ≡ file_places tree

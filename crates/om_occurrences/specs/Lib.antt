@@ -3,4 +3,3 @@ pub mod Counted
 pub mod InFile
 pub mod CountedFile
 pub mod Laws
-pub mod Carried

@@ -1,9 +1,8 @@
-//! Occurrences by their numbers among all names, tags and variables.
+//! Occurrences by their numbers among the marks.
 
-ghost use Rattle.om_occurrences.specs.Carried.{TypeSitesCarryOver, SitesCarryOver};
 ghost use Rattle.om_occurrences.specs.Laws.{TypesAreCounted, FilesAreCounted};
 
-/// A type, as a tree of its own, tells where each name, tag and variable of its text stands among these. The function
+/// A type, as a tree of its own, tells which mark of its text each name, tag, variable and included type is. The function
 /// does nothing.
 pub fn types_are_counted()
     ensures { TypesAreCounted }
@@ -12,10 +11,4 @@ pub fn types_are_counted()
 /// And so do declarations. The function does nothing.
 pub fn files_are_counted()
     ensures { FilesAreCounted }
-{}
-
-/// What code knows of occurrences by counting, it knows of those of the text. The function does nothing.
-pub fn sites_carry_over()
-    ensures types { TypeSitesCarryOver }
-    ensures files { SitesCarryOver }
 {}

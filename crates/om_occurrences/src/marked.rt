@@ -1,10 +1,10 @@
-//! The lexemes that are names, tags or variables.
+//! The marks of lexemes: names, tags and variables, and where the types begin that brackets include.
 
-ghost use Rattle.std.specs.Prelude.{◌≡◌, ◌++◌, ◌∷◌, [], IfOk, OnOk, if◌then◌else◌};
+ghost use Rattle.std.specs.Prelude.{◌≡◌, ◌&&◌, ◌++◌, false, IfOk, OnOk};
 ghost use Rattle.om_parse.specs.Parsed.{kinds_of};
-ghost use Rattle.om_occurrences.specs.Counted.{is_marked, marks};
+ghost use Rattle.om_occurrences.specs.Counted.{is_marked, opens_item, begins_type, one_if, marks};
 
-use om_lex::lexeme::{Lexeme, LexemeKind};
+use om_lex::lexeme::{Lexeme, LexemeKind, Symbol};
 use om_model::Memory;
 use std::alloc::Global;
 
@@ -21,9 +21,31 @@ fn is_marked(kind: &LexemeKind) -> bool
     }
 }
 
+/// Whether an item of a bracket may begin behind it.
+fn opens_item(kind: &LexemeKind) -> bool
+    ensures { result ≡ opens_item kind.now }
+{
+    match kind {
+        LexemeKind::Symbol(Symbol::OpenBracket | Symbol::Bar) => true,
+        _ => false,
+    }
+}
+
+/// Whether an included type begins with it, where an item may begin.
+fn includes(kind: &LexemeKind, fresh: bool) -> bool
+    ensures { result ≡ (begins_type kind.now && fresh) }
+{
+    match kind {
+        LexemeKind::Lower(_)
+        | LexemeKind::Variable(_)
+        | LexemeKind::Symbol(Symbol::OpenParen | Symbol::OpenBracket) => fresh,
+        _ => false,
+    }
+}
+
 /// Adds the number where a test says so.
 fn push_if(test: bool, marked: &mut Vec<usize>, number: usize) -> Result<(), Memory>
-    ensures { OnOk result (marked.new.items ≡ marked.old.items ++ (if test then number ∷ [] else [])) }
+    ensures { OnOk result (marked.new.items ≡ marked.old.items ++ one_if test number) }
 {
     if test {
         marked.push(number)?;
@@ -31,14 +53,18 @@ fn push_if(test: bool, marked: &mut Vec<usize>, number: usize) -> Result<(), Mem
     Ok(())
 }
 
-/// The numbers of the lexemes that are names, tags or variables.
+/// The numbers of the lexemes that are names, tags or variables, and before these the number of the first lexeme of
+/// each type that a bracket includes.
 pub fn marks(alloc: Global, lexemes: &[Lexeme]) -> Result<Vec<usize>, Memory>
-    ensures { IfOk result (λ v. v.items ≡ marks 0 (kinds_of lexemes.now)) }
+    ensures { IfOk result (λ v. v.items ≡ marks 0 false (kinds_of lexemes.now)) }
 {
     let mut marked = Vec::new(alloc);
+    let mut fresh = false;
     for i in 0..lexemes.len() {
         let lexeme = &lexemes[i];
+        push_if(includes(&lexeme.kind, fresh), &mut marked, i)?;
         push_if(is_marked(&lexeme.kind), &mut marked, i)?;
+        fresh = opens_item(&lexeme.kind);
     }
     Ok(marked)
 }

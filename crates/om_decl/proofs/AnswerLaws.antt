@@ -1,0 +1,115 @@
+-- A text has one answer at most: it has one outcome of the lexer, its lexemes one reading, and of
+-- the rules that are broken one comes first, at one place.
+use Rattle.std.proofs.Common.{ℕ, ◌≡◌, ◌∙◌, ⊎_elim, List, [], ◌∷◌, length, refl, sym, ap, subst, slice_index_or}
+use Rattle.std.specs.Prelude.{Result, Ok, Err}
+use Rattle.std.proofs.lemmas.Bool.{cases_order}
+use Rattle.om_lex.specs.declared.lexeme.Lexeme.{Lexeme}
+use Rattle.om_lex.specs.declared.lexeme.LexFault.{LexFault}
+use Rattle.om_lex.proofs.PartLaws.{has_one_outcome}
+use Rattle.om_types.specs.Scope.{Rule, turn, IsFirst, KeepsAll}
+use Rattle.om_types.specs.Scope as rules
+use Rattle.om_grammar.specs.Grammar.{Kinds}
+use Rattle.om_grammar.specs.Refusals.{Reading, text_read, syntax_at, too_deep_at, IsReading}
+use Rattle.om_grammar.specs.Laws.{HasOneReading}
+use Rattle.om_parse.specs.Parsed.{kinds_of, byte_of}
+use Rattle.om_decl.specs.Answer.{Answer, accepted, no_lexemes, no_text, too_deep, broken}
+use Rattle.om_decl.specs.Answer.{IsJudged, IsRead, IsLexed, HasOneAnswer}
+
+-- ---- rules have turns of their own
+
+abbrev all_rules : List Rule
+all_rules = rules.twice ∷ rules.unknown_name ∷ rules.arity ∷ rules.unbound_variable ∷ rules.cyclic
+    ∷ rules.irregular ∷ rules.too_many_constructors ∷ rules.not_variant ∷ rules.tag_clash ∷ rules.hash_clash
+    ∷ rules.float_in_group ∷ []
+
+abbrev rule_at : ℕ → Rule
+rule_at n = slice_index_or all_rules n rules.twice
+
+rule_of_turn : (rule : Rule) → rule_at (turn rule) ≡ rule
+rule_of_turn rules.twice = refl
+rule_of_turn rules.unknown_name = refl
+rule_of_turn rules.arity = refl
+rule_of_turn rules.unbound_variable = refl
+rule_of_turn rules.cyclic = refl
+rule_of_turn rules.irregular = refl
+rule_of_turn rules.too_many_constructors = refl
+rule_of_turn rules.not_variant = refl
+rule_of_turn rules.tag_clash = refl
+rule_of_turn rules.hash_clash = refl
+rule_of_turn rules.float_in_group = refl
+
+module _ (Breaks : Rule → ℕ → Type 0) where
+  one_first_rule : (one other : Rule) (j k : ℕ) → IsFirst Breaks one j → IsFirst Breaks other k → one ≡ other
+  one_first_rule one other j k first second = ⊎_elim
+      (λ same. sym (rule_of_turn one) ∙ ap rule_at same ∙ rule_of_turn other)
+      (λ unequal. ⊎_elim
+      (λ less. absurd (second.earlier one j less first.broken))
+      (λ greater. absurd (first.earlier other k greater second.broken)) unequal)
+      (cases_order (turn one) (turn other))
+
+  one_first_place : (rule : Rule) (j k : ℕ) → IsFirst Breaks rule j → IsFirst Breaks rule k → j ≡ k
+  one_first_place rule j k first second = ⊎_elim
+      (λ same. same)
+      (λ unequal. ⊎_elim
+      (λ less. absurd (second.least j less first.broken))
+      (λ greater. absurd (first.least k greater second.broken)) unequal)
+      (cases_order j k)
+
+-- ---- stage by stage
+
+module _ {Tree : Type 0} (spelled : Tree → Kinds) (ends : Tree → List ℕ) (Breaks : Tree → Rule → ℕ → Type 0) where
+  one_broken :
+      (lexemes : List Lexeme) (end : ℕ) (tree : Tree) (one other : Rule) (j k : ℕ)
+      → IsJudged spelled ends Breaks lexemes end tree (broken one j)
+      → IsJudged spelled ends Breaks lexemes end tree (broken other k)
+      → ◌≡◌ {A = Answer Tree} (broken one j) (broken other k)
+  one_broken lexemes end tree one other j k (a, first, at) (b, second, there) =
+      let rule = one_first_rule (Breaks tree) one other a b first second in
+      let same = subst (λ r. IsFirst (Breaks tree) r b) (sym rule) second in
+      let place = sym at ∙ ap (byte_of lexemes end) (one_first_place (Breaks tree) one a b first same) ∙ there in
+      ap (λ r. broken r j) rule ∙ ap (broken other) place
+
+  one_judged :
+      (lexemes : List Lexeme) (end : ℕ) (tree : Tree) (one other : Answer Tree)
+      → IsJudged spelled ends Breaks lexemes end tree one
+      → IsJudged spelled ends Breaks lexemes end tree other → one ≡ other
+  one_judged lexemes end tree (accepted t) (accepted u) one other = ap accepted (sym one.0 ∙ other.0)
+  one_judged lexemes end tree (accepted t) (no_lexemes f) one other = absurd other
+  one_judged lexemes end tree (accepted t) (no_text k) one other = absurd other
+  one_judged lexemes end tree (accepted t) (too_deep k) one other = absurd other
+  one_judged lexemes end tree (accepted t) (broken rule k) one other = absurd (one.1 rule other.0 other.1.broken)
+  one_judged lexemes end tree (no_lexemes f) answer one other = absurd one
+  one_judged lexemes end tree (no_text k) answer one other = absurd one
+  one_judged lexemes end tree (too_deep k) answer one other = absurd one
+  one_judged lexemes end tree (broken rule k) (accepted t) one other = absurd (other.1 rule one.0 one.1.broken)
+  one_judged lexemes end tree (broken rule k) (no_lexemes f) one other = absurd other
+  one_judged lexemes end tree (broken rule k) (no_text j) one other = absurd other
+  one_judged lexemes end tree (broken rule k) (too_deep j) one other = absurd other
+  one_judged lexemes end tree (broken rule j) (broken more k) one other = one_broken lexemes end tree rule more j k one other
+
+  one_read :
+      (lexemes : List Lexeme) (end : ℕ) (reading : Reading Tree) (one other : Answer Tree)
+      → IsRead spelled ends Breaks lexemes end reading one
+      → IsRead spelled ends Breaks lexemes end reading other → one ≡ other
+  one_read lexemes end (text_read tree) one other first second = one_judged lexemes end tree one other first second
+  one_read lexemes end (syntax_at k) one other first second = sym first ∙ second
+  one_read lexemes end (too_deep_at k) one other first second = sym first ∙ second
+
+  module _ (readings : HasOneReading spelled ends) where
+    one_reading_of : (lexemes : Kinds) (r s : Reading Tree) → IsReading spelled ends lexemes r → IsReading spelled ends lexemes s → s ≡ r
+    one_reading_of lexemes r s one other = let first = readings lexemes in first.2 s other ∙ sym (first.2 r one)
+
+    one_lexed :
+        (end : ℕ) (outcome : Result (List Lexeme) LexFault) (one other : Answer Tree)
+        → IsLexed spelled ends Breaks end outcome one
+        → IsLexed spelled ends Breaks end outcome other → one ≡ other
+    one_lexed end (Ok lexemes) one other (r, read, first) (s, more, second) =
+        let same = one_reading_of (kinds_of lexemes) r s read more in
+        one_read lexemes end r one other first (subst (λ x. IsRead spelled ends Breaks lexemes end x other) same second)
+    one_lexed end (Err fault) one other first second = sym first ∙ second
+
+    pub one_answer : HasOneAnswer spelled ends Breaks
+    one_answer text one other (o, first, lexed) (p, second, more) =
+        let only = has_one_outcome text in
+        let same = only.2 p second ∙ sym (only.2 o first) in
+        one_lexed (length text) o one other lexed (subst (λ x. IsLexed spelled ends Breaks (length text) x other) same more)

@@ -1,0 +1,66 @@
+-- What a text of declarations, or of a type, is: a tree of its grammar that breaks no rule of scope,
+-- or a fault. Lexer, grammar and rules are asked one after the other.
+use Rattle.std.specs.Prelude.{ℕ, ◌≡◌, List, length, Result, Ok, Err, false}
+use Rattle.om_lex.specs.declared.lexeme.Lexeme.{Lexeme}
+use Rattle.om_lex.specs.declared.lexeme.LexFault.{LexFault}
+use Rattle.om_lex.specs.LexText.{Outcome}
+use Rattle.om_types.specs.declared.decl.Decl.{Decl}
+use Rattle.om_types.specs.Scope.{Rule, IsFirst, KeepsAll, BreaksInFile, BreaksInType}
+use Rattle.om_grammar.specs.Grammar.{Kinds, Texpr, texpr, FileTree, file_kinds}
+use Rattle.om_grammar.specs.Depths.{texpr_ends, file_ends}
+use Rattle.om_grammar.specs.Refusals.{Reading, text_read, syntax_at, too_deep_at, IsReading}
+use Rattle.om_parse.specs.Parsed.{kinds_of, byte_of}
+use Rattle.om_occurrences.specs.InFile.{file_places}
+use Rattle.om_occurrences.specs.InText.{in_texpr}
+
+-- a tree that is accepted, or a fault with its place, a number of bytes
+pub data Answer (Tree : Type 0) : Type 0 where
+  accepted : Tree → Answer Tree
+  no_lexemes : LexFault → Answer Tree
+  no_text : ℕ → Answer Tree
+  too_deep : ℕ → Answer Tree
+  broken : Rule → ℕ → Answer Tree
+
+module _ {Tree : Type 0} (spelled : Tree → Kinds) (ends : Tree → List ℕ)
+    (Breaks : Tree → Rule → ℕ → Type 0) where
+  -- what the rules of scope say of a tree of these lexemes, in a text of so many bytes
+  abbrev pub IsJudged : List Lexeme → ℕ → Tree → Answer Tree → Type 0
+  IsJudged lexemes end tree (accepted other) = (tree ≡ other) × KeepsAll (Breaks tree)
+  IsJudged lexemes end tree (no_lexemes fault) = ⊥
+  IsJudged lexemes end tree (no_text place) = ⊥
+  IsJudged lexemes end tree (too_deep place) = ⊥
+  IsJudged lexemes end tree (broken rule place) =
+      (k : ℕ) × IsFirst (Breaks tree) rule k × (byte_of lexemes end k ≡ place)
+
+  -- what follows of the grammar's reading
+  abbrev pub IsRead : List Lexeme → ℕ → Reading Tree → Answer Tree → Type 0
+  IsRead lexemes end (text_read tree) answer = IsJudged lexemes end tree answer
+  IsRead lexemes end (syntax_at k) answer = no_text (byte_of lexemes end k) ≡ answer
+  IsRead lexemes end (too_deep_at k) answer = too_deep (byte_of lexemes end k) ≡ answer
+
+  -- what follows of the lexer's outcome
+  abbrev pub IsLexed : ℕ → Result (List Lexeme) LexFault → Answer Tree → Type 0
+  IsLexed end (Ok lexemes) answer =
+      (reading : Reading Tree) × IsReading spelled ends (kinds_of lexemes) reading
+      × IsRead lexemes end reading answer
+  IsLexed end (Err fault) answer = no_lexemes fault ≡ answer
+
+  -- the answer to a text
+  abbrev pub IsAnswer : List ℕ → Answer Tree → Type 0
+  IsAnswer text answer =
+      (outcome : Result (List Lexeme) LexFault) × Outcome text outcome
+      × IsLexed (length text) outcome answer
+
+  -- a text has one answer at most
+  abbrev pub HasOneAnswer : Type 0
+  HasOneAnswer =
+      (text : List ℕ) (one other : Answer Tree) → IsAnswer text one → IsAnswer text other
+      → one ≡ other
+
+-- the answer to a text of declarations
+abbrev pub IsFileAnswer : List ℕ → Answer FileTree → Type 0
+IsFileAnswer = IsAnswer file_kinds file_ends (λ tree. BreaksInFile (file_places tree))
+
+-- the answer to the text of a type over declarations
+abbrev pub IsTypeAnswer : List Decl → List ℕ → Answer Texpr → Type 0
+IsTypeAnswer decls = IsAnswer texpr texpr_ends (λ tree. BreaksInType decls (in_texpr 0 false tree))
