@@ -13,7 +13,7 @@ use Rattle.om_grammar.specs.Refusals.{Reading, text_read, syntax_at, too_deep_at
 use Rattle.om_grammar.specs.Laws.{HasOneReading}
 use Rattle.om_parse.specs.Parsed.{kinds_of, byte_of}
 use Rattle.om_decl.specs.Answer.{Answer, accepted, no_lexemes, no_text, too_deep, broken}
-use Rattle.om_decl.specs.Answer.{IsJudged, IsRead, IsLexed, HasOneAnswer}
+use Rattle.om_decl.specs.Answer.{IsJudged, IsRead, IsLexed, IsAnswer, HasOneAnswer}
 
 -- ---- rules have turns of their own
 
@@ -108,7 +108,7 @@ module _ {Tree : Type 0} (spelled : Tree → Kinds) (ends : Tree → List ℕ) (
         one_read lexemes end r one other first (subst (λ x. IsRead spelled ends Breaks lexemes end x other) same second)
     one_lexed end (Err fault) one other first second = sym first ∙ second
 
-    pub one_answer : HasOneAnswer spelled ends Breaks
+    pub one_answer : HasOneAnswer (IsAnswer spelled ends Breaks)
     one_answer text one other (o, first, lexed) (p, second, more) =
         let only = has_one_outcome text in
         let same = only.2 p second ∙ sym (only.2 o first) in

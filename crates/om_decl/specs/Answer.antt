@@ -51,12 +51,6 @@ module _ {Tree : Type 0} (spelled : Tree → Kinds) (ends : Tree → List ℕ)
       (outcome : Result (List Lexeme) LexFault) × Outcome text outcome
       × IsLexed (length text) outcome answer
 
-  -- a text has one answer at most
-  abbrev pub HasOneAnswer : Type 0
-  HasOneAnswer =
-      (text : List ℕ) (one other : Answer Tree) → IsAnswer text one → IsAnswer text other
-      → one ≡ other
-
 -- the answer to a text of declarations
 abbrev pub IsFileAnswer : List ℕ → Answer FileTree → Type 0
 IsFileAnswer = IsAnswer file_kinds file_ends (λ tree. BreaksInFile (file_places tree))
@@ -64,3 +58,8 @@ IsFileAnswer = IsAnswer file_kinds file_ends (λ tree. BreaksInFile (file_places
 -- the answer to the text of a type over declarations
 abbrev pub IsTypeAnswer : List Decl → List ℕ → Answer Texpr → Type 0
 IsTypeAnswer decls = IsAnswer texpr texpr_ends (λ tree. BreaksInType decls (in_texpr 0 false tree))
+
+-- a text has one answer at most
+abbrev pub HasOneAnswer : {Tree : Type 0} → (List ℕ → Answer Tree → Type 0) → Type 0
+HasOneAnswer {Tree} Is =
+    (text : List ℕ) (one other : Answer Tree) → Is text one → Is text other → one ≡ other
