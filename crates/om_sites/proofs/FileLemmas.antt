@@ -1,0 +1,128 @@
+-- The sites of declarations, one after another.
+use Rattle.std.proofs.Common.{ℕ, zero, suc, ◌+◌, ◌<◌, ◌≤◌, ◌≡◌, ◌∙◌, List, [], ◌∷◌, ◌++◌, Some, length, drop, get_or, false}
+use Rattle.std.proofs.Common.{refl, sym, ap, subst, arith, append_assoc}
+use Rattle.std.specs.Prelude.{slice_get, slice_index}
+use Rattle.std.proofs.lemmas.List.{append-nil, get_or-drop, drop_all}
+use Rattle.std.proofs.lemmas.Option.{same_Some, none-some}
+use Rattle.om_lex.specs.declared.lexeme.Lexeme.{Lexeme}
+use Rattle.om_grammar.specs.Grammar.{Texpr, texpr, FileTree, file_kinds}
+use Rattle.om_parse.specs.Parsed.{kinds_of}
+use Rattle.om_parse.specs.Written.{type_of_texpr, declarations_of}
+use Rattle.om_types.specs.Ty.{Ty}
+use Rattle.om_types.specs.declared.decl.Decl.{Decl}
+use Rattle.om_types.specs.Occurrence.{Placed, DeclPlaces}
+use Rattle.om_scope.specs.declared.site.Site.{Site}
+use Rattle.om_scope.specs.declared.site.TypeSite.{TypeSite}
+use Rattle.om_scope.specs.Sites.{IsSite, AreSites, IsTypeSite}
+use Rattle.om_occurrences.specs.Counted.{marks, in_type}
+use Rattle.om_occurrences.specs.CountedFile.{placed, decl_count, counted_places, counted_file}
+use Rattle.om_occurrences.specs.InFile.{file_places}
+use Rattle.om_occurrences.specs.InText.{in_texpr}
+use Rattle.om_occurrences.proofs.TypeLaws.{types_are_counted}
+use Rattle.om_occurrences.proofs.GroupLaws.{files_are_counted}
+use Rattle.om_sites.proofs.LoopLemmas.{left_is}
+
+AreSites-none : AreSites [] [] [] []
+AreSites-none = record {
+  declares = refl;
+  declared = refl;
+  counted = refl;
+  stand = λ i site d site_is d_is. absurd (none-some site site_is);
+}
+
+AreSites-cons :
+    (decls : List Decl) (names : List Placed) (sites : List Site) (all : List DeclPlaces) (site : Site)
+    (d : DeclPlaces) → IsSite site d → AreSites decls names sites all
+    → AreSites (d.decl ∷ decls) ((d.place, d.decl.name) ∷ names) (site ∷ sites) (d ∷ all)
+AreSites-cons decls names sites all site d is are = record {
+  declares = ap (λ l. d.decl ∷ l) are.declares;
+  declared = ap (λ l. (d.place, d.decl.name) ∷ l) are.declared;
+  counted = ap suc are.counted;
+  stand = stand;
+} where
+  stand :
+      (i : ℕ) (s : Site) (e : DeclPlaces) → slice_get (site ∷ sites) i ≡ Some s → slice_get (d ∷ all) i ≡ Some e
+      → IsSite s e
+  stand zero s e s_is e_is =
+      subst (λ x. IsSite x e) (same_Some site s s_is) (subst (IsSite site) (same_Some d e e_is) is)
+  stand (suc i) s e s_is e_is = are.stand i s e s_is e_is
+
+-- with sites of what is left, those so far are the sites of all
+pub record FileFollows (ms : List ℕ) (decls : List Decl) (names : List Placed) (sites : List Site)
+    (rest : List ℕ) (left : List Decl) : Type 0 where
+  pub are :
+      (more : List Placed) (others : List Site) → AreSites left more others (counted_file rest left)
+      → AreSites decls (names ++ more) (sites ++ others) (counted_file ms decls)
+
+pub FileFollows-first : (ms : List ℕ) (decls : List Decl) → FileFollows ms decls [] [] ms decls
+FileFollows-first ms decls = record { are = λ more others h. h }
+
+pub FileFollows-next :
+    (ms : List ℕ) (decls : List Decl) (names names' : List Placed) (sites sites' : List Site) (site : Site)
+    (rest rest' : List ℕ) (d : Decl) (left : List Decl)
+    → FileFollows ms decls names sites rest (d ∷ left) → IsSite site (counted_places rest d)
+    → names' ≡ names ++ placed (drop (length d.parameters) rest) d.name ∷ [] → sites' ≡ sites ++ site ∷ []
+    → rest' ≡ drop (decl_count d) rest → FileFollows ms decls names' sites' rest' left
+FileFollows-next ms decls names names' sites sites' site rest rest' d left follows is names_are sites_are rest_is =
+    let all = counted_file ms decls in
+    let name : Placed = (slice_index rest (length d.parameters), d.name) in
+    let none : length d.parameters + 0 ≡ length d.parameters = omega arith in
+    let name_is : placed (drop (length d.parameters) rest) d.name ≡ name =
+    ap (λ (k : ℕ). (k, d.name)) (get_or-drop (length d.parameters) rest 0 0 ∙ ap (slice_index rest) none) in
+    let named : names' ≡ names ++ name ∷ [] = names_are ∙ ap (λ (p : Placed). names ++ p ∷ []) name_is in
+    subst (λ l. FileFollows ms decls names' sites' l left) (sym rest_is) (record {
+      are = λ more others h.
+          subst (λ n. AreSites decls n (sites' ++ others) all)
+          (sym (ap (λ l. l ++ more) named ∙ append_assoc names (name ∷ []) more))
+          (subst (λ s. AreSites decls (names ++ (name ∷ more)) s all)
+          (sym (ap (λ l. l ++ others) sites_are ∙ append_assoc sites (site ∷ []) others))
+          (follows.are (name ∷ more) (site ∷ others)
+          (AreSites-cons left more others (counted_file (drop (decl_count d) rest) left) site (counted_places rest d) is h)));
+    })
+
+pub FileFollows-last :
+    (ms : List ℕ) (decls : List Decl) (names : List Placed) (sites : List Site) (rest : List ℕ)
+    → FileFollows ms decls names sites rest [] → AreSites decls names sites (counted_file ms decls)
+FileFollows-last ms decls names sites rest follows =
+    let all = counted_file ms decls in
+    subst (λ n. AreSites decls n sites all) (append-nil names)
+    (subst (λ s. AreSites decls (names ++ []) s all) (append-nil sites) (follows.are [] [] AreSites-none))
+
+pub FileFollows-step :
+    (ms : List ℕ) (decls : List Decl) (names names' : List Placed) (sites sites' : List Site) (site : Site)
+    (rest rest' : List ℕ) (d : Decl) (i : ℕ) → i < length decls → d ≡ get_or decls i d
+    → FileFollows ms decls names sites rest (drop i decls) → IsSite site (counted_places rest d)
+    → names' ≡ names ++ placed (drop (length d.parameters) rest) d.name ∷ [] → sites' ≡ sites ++ site ∷ []
+    → rest' ≡ drop (decl_count d) rest → FileFollows ms decls names' sites' rest' (drop (i + 1) decls)
+FileFollows-step ms decls names names' sites sites' site rest rest' d i below read follows is names_are sites_are rest_is =
+    FileFollows-next ms decls names names' sites sites' site rest rest' d (drop (i + 1) decls)
+    (subst (FileFollows ms decls names sites rest) (left_is decls i d below read) follows) is names_are sites_are rest_is
+
+pub FileFollows-end :
+    (ms : List ℕ) (decls : List Decl) (names : List Placed) (sites : List Site) (rest : List ℕ) (i : ℕ)
+    → length decls ≤ i → FileFollows ms decls names sites rest (drop i decls)
+    → AreSites decls names sites (counted_file ms decls)
+FileFollows-end ms decls names sites rest i past follows = FileFollows-last ms decls names sites rest
+    (subst (FileFollows ms decls names sites rest) (drop_all i decls past) follows)
+
+-- ---- the text whose tree is known
+
+pub file_text :
+    (lexemes : List Lexeme) (decls : List Decl) (places : List ℕ) (names : List Placed) (sites : List Site)
+    (tree : FileTree) → file_kinds tree ≡ kinds_of lexemes → decls ≡ declarations_of tree
+    → places ≡ marks 0 false (kinds_of lexemes) → AreSites decls names sites (counted_file places decls)
+    → AreSites decls names sites (file_places tree)
+file_text lexemes decls places names sites tree spelled stand marked are =
+    subst (λ ds. AreSites ds names sites (file_places tree)) (sym stand)
+    (subst (AreSites (declarations_of tree) names sites) (files_are_counted.counted tree)
+    (subst (λ ds. AreSites ds names sites (counted_file (marks 0 false (file_kinds tree)) ds)) stand
+    (subst (λ ms. AreSites decls names sites (counted_file ms decls)) (marked ∙ ap (marks 0 false) (sym spelled)) are)))
+
+pub type_text :
+    (lexemes : List Lexeme) (t : Ty) (places : List ℕ) (site : TypeSite) (tree : Texpr)
+    → texpr tree ≡ kinds_of lexemes → t ≡ type_of_texpr tree → places ≡ marks 0 false (kinds_of lexemes)
+    → IsTypeSite site (in_type places false t) → IsTypeSite site (in_texpr 0 false tree)
+type_text lexemes t places site tree spelled stands marked is =
+    subst (IsTypeSite site) (types_are_counted 0 false tree)
+    (subst (λ u. IsTypeSite site (in_type (marks 0 false (texpr tree)) false u)) stands
+    (subst (λ ms. IsTypeSite site (in_type ms false t)) (marked ∙ ap (marks 0 false) (sym spelled)) is))

@@ -1,0 +1,128 @@
+-- Loops over what stands one after another: what is still to be added.
+use Rattle.std.proofs.Common.{ℕ, ◌+◌, ◌<◌, ◌≤◌, ◌≡◌, ◌∙◌, List, [], ◌∷◌, ◌++◌, length, drop, get_or}
+use Rattle.std.proofs.Common.{refl, sym, ap, subst, append_assoc}
+use Rattle.std.proofs.lemmas.List.{append-nil, drop-drop, drop_more, drop_all}
+use Rattle.om_types.specs.Occurrence.{Placed, Occurrence}
+use Rattle.om_scope.specs.declared.site.Site.{Site}
+use Rattle.om_occurrences.specs.CountedFile.{along, count_all}
+use Rattle.om_sites.specs.Adds.{Adds}
+use Rattle.om_sites.proofs.AddsLemmas.{Adds-none, Adds-then}
+
+-- what is left begins with the element at hand
+pub left_is :
+    {X : Type 0} (xs : List X) (i : ℕ) (x : X) → i < length xs → x ≡ get_or xs i x
+    → drop i xs ≡ x ∷ drop (i + 1) xs
+left_is xs i x below read = drop_more xs i x below ∙ ap (λ y. y ∷ drop (i + 1) xs) (sym read)
+
+-- nothing of each is nothing
+pub along_none :
+    {X Y : Type 0} (count : X → ℕ) (ms : List ℕ) (xs : List X) → along {X = X} {Y = Y} count (λ at x. []) ms xs ≡ []
+along_none count ms [] = refl
+along_none count ms (x ∷ xs) = along_none count (drop (count x) ms) xs
+
+-- From the site at hand, what is left leads to where all leads from the start; and the places that
+-- are left are those behind all.
+pub record Follows {X : Type 0} (count : X → ℕ) (rows : List ℕ → X → List (List Placed))
+    (carrying : List ℕ → X → List ℕ) (seen : List ℕ → X → List Occurrence) (start : Site) (ms : List ℕ)
+    (all : List X) (site : Site) (rest : List ℕ) (left : List X) : Type 0 where
+  pub adds :
+      (last : Site)
+      → Adds site last (along count rows rest left) (along count carrying rest left) (along count seen rest left)
+      → Adds start last (along count rows ms all) (along count carrying ms all) (along count seen ms all)
+  pub rest_is : drop (count_all count left) rest ≡ drop (count_all count all) ms
+
+-- the row of names, and what is left
+pub record RowFollows {X : Type 0} (count : X → ℕ) (name : List ℕ → X → List Placed) (ms : List ℕ)
+    (all : List X) (row : List Placed) (rest : List ℕ) (left : List X) : Type 0 where
+  pub row_is : row ++ along count name rest left ≡ along count name ms all
+
+pub RowFollows-first :
+    {X : Type 0} (count : X → ℕ) (name : List ℕ → X → List Placed) (ms : List ℕ) (all : List X)
+    → RowFollows count name ms all [] ms all
+RowFollows-first count name ms all = record { row_is = refl }
+
+pub RowFollows-next :
+    {X : Type 0} (count : X → ℕ) (name : List ℕ → X → List Placed) (ms : List ℕ) (all : List X)
+    (row row' : List Placed) (rest rest' : List ℕ) (x : X) (left : List X)
+    → RowFollows count name ms all row rest (x ∷ left) → row' ≡ row ++ name rest x → rest' ≡ drop (count x) rest
+    → RowFollows count name ms all row' rest' left
+RowFollows-next count name ms all row row' rest rest' x left follows row_is rest_is = record {
+  row_is = ap (λ l. l ++ along count name rest' left) row_is
+      ∙ ap (λ l. (row ++ name rest x) ++ along count name l left) rest_is
+      ∙ append_assoc row (name rest x) (along count name (drop (count x) rest) left)
+      ∙ follows.row_is;
+}
+
+pub RowFollows-last :
+    {X : Type 0} (count : X → ℕ) (name : List ℕ → X → List Placed) (ms : List ℕ) (all : List X)
+    (row : List Placed) (rest : List ℕ) → RowFollows count name ms all row rest [] → row ≡ along count name ms all
+RowFollows-last count name ms all row rest follows = sym (append-nil row) ∙ follows.row_is
+
+pub RowFollows-step :
+    {X : Type 0} (count : X → ℕ) (name : List ℕ → X → List Placed) (ms : List ℕ) (all : List X)
+    (row row' : List Placed) (rest rest' : List ℕ) (x : X) (i : ℕ) → i < length all → x ≡ get_or all i x
+    → RowFollows count name ms all row rest (drop i all) → row' ≡ row ++ name rest x → rest' ≡ drop (count x) rest
+    → RowFollows count name ms all row' rest' (drop (i + 1) all)
+RowFollows-step count name ms all row row' rest rest' x i below read follows row_is rest_is =
+    RowFollows-next count name ms all row row' rest rest' x (drop (i + 1) all)
+    (subst (RowFollows count name ms all row rest) (left_is all i x below read) follows) row_is rest_is
+
+pub RowFollows-end :
+    {X : Type 0} (count : X → ℕ) (name : List ℕ → X → List Placed) (ms : List ℕ) (all : List X)
+    (row : List Placed) (rest : List ℕ) (i : ℕ) → length all ≤ i
+    → RowFollows count name ms all row rest (drop i all) → row ≡ along count name ms all
+RowFollows-end count name ms all row rest i past follows = RowFollows-last count name ms all row rest
+    (subst (RowFollows count name ms all row rest) (drop_all i all past) follows)
+
+module _ {X : Type 0} (count : X → ℕ) (rows : List ℕ → X → List (List Placed))
+    (carrying : List ℕ → X → List ℕ) (seen : List ℕ → X → List Occurrence) (start : Site) (ms : List ℕ)
+    (all : List X) where
+  pub Follows-first : Follows count rows carrying seen start ms all start ms all
+  Follows-first = record { adds = λ last h. h; rest_is = refl }
+
+  pub Follows-next :
+      (site site' : Site) (rest rest' : List ℕ) (x : X) (left : List X)
+      → Follows count rows carrying seen start ms all site rest (x ∷ left)
+      → Adds site site' (rows rest x) (carrying rest x) (seen rest x) → rest' ≡ drop (count x) rest
+      → Follows count rows carrying seen start ms all site' rest' left
+  Follows-next site site' rest rest' x left follows step is =
+      let next = drop (count x) rest in
+      subst (λ l. Follows count rows carrying seen start ms all site' l left) (sym is) (record {
+        adds = λ last h. follows.adds last (Adds-then site site' last
+            (rows rest x) (along count rows next left) (carrying rest x) (along count carrying next left)
+            (seen rest x) (along count seen next left) step h);
+        rest_is = drop-drop (count_all count left) (count x) rest ∙ follows.rest_is;
+      })
+
+  pub Follows-last :
+      (site : Site) (rest : List ℕ) → Follows count rows carrying seen start ms all site rest []
+      → Adds start site (along count rows ms all) (along count carrying ms all) (along count seen ms all)
+  Follows-last site rest follows = follows.adds site (Adds-none site)
+
+  pub Follows-step :
+      (site site' : Site) (rest rest' : List ℕ) (x : X) (i : ℕ) → i < length all → x ≡ get_or all i x
+      → Follows count rows carrying seen start ms all site rest (drop i all)
+      → Adds site site' (rows rest x) (carrying rest x) (seen rest x) → rest' ≡ drop (count x) rest
+      → Follows count rows carrying seen start ms all site' rest' (drop (i + 1) all)
+  Follows-step site site' rest rest' x i below read follows step is =
+      Follows-next site site' rest rest' x (drop (i + 1) all)
+      (subst (Follows count rows carrying seen start ms all site rest) (left_is all i x below read) follows) step is
+
+  pub Follows-end :
+      (site : Site) (rest : List ℕ) (i : ℕ) → length all ≤ i
+      → Follows count rows carrying seen start ms all site rest (drop i all)
+      → Adds start site (along count rows ms all) (along count carrying ms all) (along count seen ms all)
+  Follows-end site rest i past follows = Follows-last site rest
+      (subst (Follows count rows carrying seen start ms all site rest) (drop_all i all past) follows)
+
+-- the same where no row and no lexeme of a constructor is added
+pub Follows-plain :
+    {X : Type 0} (count : X → ℕ) (seen : List ℕ → X → List Occurrence) (start : Site) (ms : List ℕ)
+    (all : List X) (site : Site) (rest : List ℕ) (i : ℕ) → length all ≤ i
+    → Follows count (λ at x. []) (λ at x. []) seen start ms all site rest (drop i all)
+    → Adds start site [] [] (along count seen ms all)
+Follows-plain count seen start ms all site rest i past follows =
+    subst (λ rows. Adds start site rows [] (along count seen ms all)) (along_none count ms all)
+    (subst (λ carrying. Adds start site (along count (λ at x. []) ms all) carrying (along count seen ms all))
+    (along_none count ms all)
+    (Follows-end count (λ at x. []) (λ at x. []) seen start ms all site rest i past follows))

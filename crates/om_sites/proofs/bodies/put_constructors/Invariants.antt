@@ -1,0 +1,15 @@
+use Rattle.std.proofs.Common.{drop}
+use Rattle.om_occurrences.specs.CountedFile.{constructor_count}
+use Rattle.om_sites.specs.Bodies.{name_of_constructor, records_of, carrying_of, occurrences_of}
+use Rattle.om_sites.proofs.LoopLemmas.{Follows, RowFollows}
+use Rattle.om_sites.proofs.bodies.put_constructors.Given as goal
+
+abbrev pub invariant-loop-constructor : goal.invariant-loop-constructor
+invariant-loop-constructor l = record {
+  row :
+      RowFollows constructor_count name_of_constructor l.marks l.constructors
+      l.row l.rest (drop l.constructor-index l.constructors);
+  site :
+      Follows constructor_count records_of carrying_of occurrences_of l.initial.site l.marks l.constructors
+      l.site l.rest (drop l.constructor-index l.constructors);
+}

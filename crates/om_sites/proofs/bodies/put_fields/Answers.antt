@@ -1,0 +1,39 @@
+use Rattle.std.proofs.Common.{◌≡◌, ◌∙◌, ◌++◌, ◌∷◌, List, ℕ, [], false, drop, ap, subst}
+use Rattle.std.proofs.lemmas.List.{drop-drop}
+use Rattle.om_types.specs.declared.decl.Field.{Field}
+use Rattle.om_types.specs.Occurrence.{Placed}
+use Rattle.om_occurrences.specs.Counted.{in_type}
+use Rattle.om_occurrences.specs.CountedFile.{along, field_count, in_field, placed, type_count}
+use Rattle.om_sites.specs.Adds.{Adds}
+use Rattle.om_sites.proofs.AddsLemmas.{then_row}
+use Rattle.om_sites.proofs.LoopLemmas.{Follows-step, Follows-plain, RowFollows-step, RowFollows-end}
+use Rattle.om_sites.proofs.bodies.put_fields.Goals as goal
+
+pub loop-field-preserved : goal.loop-field-preserved
+loop-field-preserved c =
+    let f = c.field-item.result in
+    let rest = c.loop-field.rest.now in
+    let left : c.in_ok-rest.rest.now ≡ drop (field_count f) rest = c.in_ok-rest.ensures.rest
+    ∙ ap (drop (type_count f.ty)) c.skip.ensures ∙ drop-drop (type_count f.ty) 1 rest in
+    record {
+      row = RowFollows-step field_count (λ at (f : Field). placed at f.name ∷ []) c.args.marks.now c.args.fields.now
+          c.loop-field.row c.push.new.self rest c.in_ok-rest.rest.now f c.loop-field.field-index c.loop-field-test.true
+          c.field-item.is c.loop-field.invariant.row
+          (c.in_ok-push.ensures.ok ∙ ap (λ (p : Placed). c.loop-field.row ++ p ∷ []) c.in_ok-placed.ensures) left;
+      site = Follows-step field_count (λ at x. []) (λ at x. []) in_field c.args.site.now c.args.marks.now
+          c.args.fields.now c.loop-field.site c.put_type.new.site rest c.in_ok-rest.rest.now f c.loop-field.field-index
+          c.loop-field-test.true c.field-item.is c.loop-field.invariant.site
+          (subst (λ (ms : List ℕ). Adds c.loop-field.site c.put_type.new.site [] [] (in_type ms false f.ty))
+          c.skip.ensures c.in_ok-rest.ensures.adds) left;
+    }
+
+pub returns-clause-adds : goal.returns-clause-adds
+returns-clause-adds c =
+    let seen = along field_count in_field c.args.marks.now c.args.fields.now in
+    subst (λ (row : List Placed). Adds c.args.site.now c.put_row.new.site (row ∷ []) [] seen)
+    (RowFollows-end field_count (λ at (f : Field). placed at f.name ∷ []) c.args.marks.now c.args.fields.now
+    c.loop-field.row c.loop-field.rest.now c.loop-field.field-index c.loop-field-test.false c.loop-field.invariant.row)
+    (then_row c.args.site.now c.loop-field.site c.put_row.new.site [] [] seen c.loop-field.row
+    (Follows-plain field_count in_field c.args.site.now c.args.marks.now c.args.fields.now c.loop-field.site
+    c.loop-field.rest.now c.loop-field.field-index c.loop-field-test.false c.loop-field.invariant.site)
+    c.in_ok-put_row.ensures)

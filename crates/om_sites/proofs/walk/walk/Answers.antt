@@ -1,0 +1,56 @@
+use Rattle.std.proofs.Common.{◌≡◌, ◌<◌, [], length, sym, ap, subst, arith}
+use Rattle.std.specs.Prelude.{vec_len}
+use Rattle.om_types.specs.Nodes.{types_of}
+use Rattle.om_sites.specs.Adds.{Adds}
+use Rattle.om_sites.specs.Walk.{task_own, stack_seen}
+use Rattle.om_sites.proofs.AddsLemmas.{Adds-none, Adds-then}
+use Rattle.om_sites.proofs.WalkLemmas.{popped_below, none_left, next_below, next_weight, next_seen}
+use Rattle.om_sites.proofs.walk.walk.Goals as goal
+
+pub put_own-requires-clause-task : goal.put_own-requires-clause-task
+put_own-requires-clause-task c =
+    popped_below (length c.args.nodes.now) c.loop-task.tasks.items c.pop.new.self.items c.in-Some.task
+    c.in-Some.ensures.items c.loop-task.invariant.below
+
+pub offset_bounds-nodes-task : goal.offset_bounds-nodes-task
+offset_bounds-nodes-task c =
+    let below : c.in-Some.task.node < length c.args.nodes.now =
+    popped_below (length c.args.nodes.now) c.loop-task.tasks.items c.pop.new.self.items c.in-Some.task
+    c.in-Some.ensures.items c.loop-task.invariant.below in
+    omega arith
+
+pub bounds-nodes-task : goal.bounds-nodes-task
+bounds-nodes-task c =
+    popped_below (length c.args.nodes.now) c.loop-task.tasks.items c.pop.new.self.items c.in-Some.task
+    c.in-Some.ensures.items c.loop-task.invariant.below
+
+pub loop-task-smaller : goal.loop-task-smaller
+loop-task-smaller c = next_weight c.args.nodes.now c.requires.ordered c.args.facts.now c.requires.facts c.in-Some.task c.index-nodes-task.result
+    c.index-nodes-task.is c.loop-task.tasks.items c.pop.new.self.items c.push_parts.new.tasks.items c.in-Some.ensures.items
+    c.in_ok-push_parts.ensures c.loop-task.invariant.below
+
+pub loop-task-preserved : goal.loop-task-preserved
+loop-task-preserved c =
+    let small : length c.args.marks.now < 18446744073709551616 = omega arith in
+    let types = types_of c.args.nodes.now in
+    record {
+      below = next_below c.args.nodes.now c.requires.ordered c.args.facts.now c.requires.facts c.in-Some.task c.index-nodes-task.result
+          c.index-nodes-task.is c.loop-task.tasks.items c.pop.new.self.items c.push_parts.new.tasks.items c.in-Some.ensures.items
+          c.in_ok-push_parts.ensures c.loop-task.invariant.below;
+      left = λ last h. c.loop-task.invariant.left last
+          (subst (Adds c.loop-task.site last [] []) (sym (next_seen c.args.nodes.now c.requires.ordered c.args.facts.now c.requires.facts c.in-Some.task c.index-nodes-task.result
+          c.index-nodes-task.is c.loop-task.tasks.items c.pop.new.self.items c.push_parts.new.tasks.items c.in-Some.ensures.items
+          c.in_ok-push_parts.ensures c.loop-task.invariant.below
+          c.args.marks.now small))
+          (Adds-then c.loop-task.site c.put_own.new.site last [] [] [] [] (task_own types c.args.marks.now c.in-Some.task)
+          (stack_seen types c.args.marks.now c.push_parts.new.tasks.items) c.in_ok-put_own.ensures h));
+    }
+
+pub returns : goal.returns
+returns c =
+    let empty : c.loop-task.tasks.items ≡ [] =
+    none_left c.loop-task.tasks.items c.pop.new.self.items (vec_len c.loop-task.tasks) c.in_default.ensures.items
+    c.in_default.ensures.rest c.in_default.ensures.cases.0 in
+    c.loop-task.invariant.left c.loop-task.site
+    (subst (Adds c.loop-task.site c.loop-task.site [] [])
+    (sym (ap (stack_seen (types_of c.args.nodes.now) c.args.marks.now) empty)) (Adds-none c.loop-task.site))

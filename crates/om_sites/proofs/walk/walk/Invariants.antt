@@ -1,0 +1,18 @@
+use Rattle.std.proofs.Common.{length, []}
+use Rattle.om_types.specs.Nodes.{types_of}
+use Rattle.om_scope.specs.declared.site.Site.{Site}
+use Rattle.om_sites.specs.Adds.{Adds}
+use Rattle.om_sites.specs.Walk.{task_seen, stack_seen, stack_weight, AreBelow}
+use Rattle.om_sites.proofs.walk.walk.Given as goal
+
+-- from the site at hand, the tasks lead to where the first one leads from the start
+abbrev pub invariant-loop-task : goal.invariant-loop-task
+invariant-loop-task l = record {
+  below : AreBelow (length l.nodes) l.tasks.items;
+  left :
+      (last : Site) → Adds l.site last [] [] (stack_seen (types_of l.nodes) l.marks l.tasks.items)
+      → Adds l.initial.site last [] [] (task_seen (types_of l.nodes) l.marks l.fn.top);
+}
+
+abbrev pub decreases-loop-task : goal.decreases-loop-task
+decreases-loop-task l = stack_weight (types_of l.nodes) l.tasks.items

@@ -1,0 +1,45 @@
+-- What the rules of scope read of occurrences, and what a site has more than another.
+use Rattle.std.specs.Prelude.{ℕ, ◌≡◌, ◌⊎◌, Option, Some, None, List, ◌++◌, length, Contains}
+use Rattle.std.specs.List.{filter_map}
+use Rattle.om_types.specs.Occurrence.{Placed, Occurrence, use_of, variable_at, bracket_of}
+use Rattle.om_types.specs.Scope.{written_tag}
+use Rattle.om_scope.specs.declared.site.Site.{Site}
+use Rattle.om_scope.specs.declared.site.Use.{Use}
+use Rattle.om_sites.specs.Facts.{some_grow}
+
+abbrev pub as_use : Occurrence → Option Use
+as_use (use_of k name arguments in_tag) = Some (record {
+  place = k;
+  name = name;
+  arguments = length arguments;
+  grows = some_grow arguments;
+  in_tag = in_tag;
+})
+as_use (variable_at k name) = None
+as_use (bracket_of items) = None
+
+abbrev pub as_variable : Occurrence → Option Placed
+as_variable (use_of k name arguments in_tag) = None
+as_variable (variable_at k name) = Some (k, name)
+as_variable (bracket_of items) = None
+
+-- the tags that a bracket writes
+abbrev pub as_row : Occurrence → Option (List Placed)
+as_row (use_of k name arguments in_tag) = None
+as_row (variable_at k name) = None
+as_row (bracket_of items) = Some (filter_map written_tag items)
+
+-- The new site has these rows more, these lexemes of constructors, and what the rules read of these
+-- occurrences. Rows are told as a set.
+pub record Adds (old new : Site) (rows : List (List Placed)) (carrying : List ℕ)
+    (all : List Occurrence) : Type 0 where
+  pub rows_are :
+      (row : List Placed) → Contains new.rows row
+      → Contains old.rows row ⊎ (Contains rows row ⊎ Contains (filter_map as_row all) row)
+  pub rows_there :
+      (row : List Placed)
+      → Contains old.rows row ⊎ (Contains rows row ⊎ Contains (filter_map as_row all) row)
+      → Contains new.rows row
+  pub carrying_is : new.carrying ≡ old.carrying ++ carrying
+  pub uses_are : new.uses ≡ old.uses ++ filter_map as_use all
+  pub variables_are : new.variables ≡ old.variables ++ filter_map as_variable all

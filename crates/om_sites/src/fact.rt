@@ -1,0 +1,151 @@
+//! What is known of each node of a type.
+
+ghost use Rattle.std.specs.Prelude.{◌≡◌, ◌&&◌, ◌||◌, not, length, IfOk};
+ghost use Rattle.om_types.specs.Nodes.{types_of, AreOrdered};
+ghost use Rattle.om_sites.specs.Facts.{nothing, fact_at, leaf, whole, total_of, facts_of, AreFacts};
+
+use om_model::Memory;
+use om_types::ty::Node;
+use std::alloc::Global;
+
+/// How many marks a node's type has, and what its parts hold.
+#[derive(Clone, Copy)]
+pub struct Facts {
+    /// How many stand in the parts, at most `usize::MAX`.
+    pub inner: usize,
+    /// 1 where the type is a variable or begins with a name, else 0.
+    pub own: usize,
+    /// How many arguments or components.
+    pub arguments: usize,
+    /// Whether some of these holds a variable and is none.
+    pub grows: bool,
+    /// Whether a variable stands in the type.
+    pub holds: bool,
+    /// Whether the type is a variable.
+    pub alone: bool,
+    /// The node of the variable, the name, the tuple or the bracket that the type begins with.
+    pub base: usize,
+}
+
+/// The facts of a node.
+pub fn fact_at(facts: &[Facts], n: usize) -> Facts
+    ensures { result ≡ fact_at facts.now n }
+{
+    match facts.get(n) {
+        Some(found) => *found,
+        None => Facts {
+            inner: 0,
+            own: 0,
+            arguments: 0,
+            grows: false,
+            holds: false,
+            alone: false,
+            base: 0,
+        },
+    }
+}
+
+/// Whether one of two holds.
+fn either(first: bool, second: bool) -> bool
+    ensures { result ≡ (first || second) }
+{
+    first || second
+}
+
+/// Whether the first holds alone.
+fn but_not(first: bool, second: bool) -> bool
+    ensures { result ≡ (first && not second) }
+{
+    first && !second
+}
+
+/// The facts of a node that names no other.
+fn leaf(own: usize, alone: bool, base: usize) -> Facts
+    ensures { result ≡ leaf own alone base }
+{
+    Facts {
+        inner: 0,
+        own,
+        arguments: 0,
+        grows: false,
+        holds: alone,
+        alone,
+        base,
+    }
+}
+
+/// The facts of a node with a part more than another.
+fn whole(f: Facts, inner: usize, arguments: usize, grows: bool, holds: bool) -> Facts
+    ensures { result ≡ whole f inner arguments grows holds }
+{
+    Facts {
+        inner,
+        own: f.own,
+        arguments,
+        grows,
+        holds,
+        alone: false,
+        base: f.base,
+    }
+}
+
+/// How many marks a type has.
+pub fn total(g: Facts) -> usize
+    ensures { result ≡ total_of g }
+{
+    g.inner.saturating_add(g.own)
+}
+
+/// The facts of the next node.
+fn facts_of(facts: &[Facts], node: &Node) -> Facts
+    ensures { result ≡ facts_of facts.now node.now }
+{
+    match node {
+        Node::Variable(_) => leaf(1, true, facts.len()),
+        Node::Named(_) => leaf(1, false, facts.len()),
+        Node::Tuple | Node::Bracket => leaf(0, false, facts.len()),
+        Node::Part(w, a) => {
+            let f = fact_at(facts, *w);
+            let g = fact_at(facts, *a);
+            let grows = either(f.grows, but_not(g.holds, g.alone));
+            let inner = f.inner.saturating_add(total(g));
+            whole(
+                f,
+                inner,
+                f.arguments.saturating_add(1),
+                grows,
+                either(f.holds, g.holds),
+            )
+        }
+        Node::Tag(w, _) => {
+            let f = fact_at(facts, *w);
+            whole(f, f.inner.saturating_add(1), 0, false, f.holds)
+        }
+        Node::TagOf(w, _, a) => {
+            let f = fact_at(facts, *w);
+            let g = fact_at(facts, *a);
+            let inner = f.inner.saturating_add(1).saturating_add(total(g));
+            whole(f, inner, 0, false, either(f.holds, g.holds))
+        }
+        Node::Including(w, u) => {
+            let f = fact_at(facts, *w);
+            let g = fact_at(facts, *u);
+            let inner = f.inner.saturating_add(1).saturating_add(total(g));
+            whole(f, inner, 0, false, either(f.holds, g.holds))
+        }
+    }
+}
+
+/// The facts of all nodes.
+pub fn all_facts(alloc: Global, nodes: &[Node]) -> Result<Vec<Facts>, Memory>
+    requires { AreOrdered nodes.now }
+    ensures { IfOk result (λ v. AreFacts (types_of nodes.now) (length nodes.now) v.items) }
+{
+    let mut facts = Vec::new(alloc);
+    let count = nodes.len();
+    for i in 0..count {
+        let next = facts_of(facts.as_slice(), &nodes[i]);
+        facts.push(next)?;
+    }
+    Ok(facts)
+}

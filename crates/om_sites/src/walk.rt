@@ -1,0 +1,142 @@
+//! A walk along a type.
+
+ghost use Rattle.std.specs.Prelude.{◌≡◌, ◌<◌, ◌++◌, ◌∷◌, [], IfOk, OnOk, length, drop, false};
+ghost use Rattle.om_types.specs.Nodes.{types_of, AreOrdered};
+ghost use Rattle.om_occurrences.specs.Counted.{in_type};
+ghost use Rattle.om_occurrences.specs.CountedFile.{type_count};
+ghost use Rattle.om_sites.specs.Adds.{Adds};
+ghost use Rattle.om_sites.specs.Facts.{AreFacts};
+ghost use Rattle.om_sites.specs.Walk.{behind, tasks_of, task_seen};
+
+use crate::fact::{Facts, all_facts, fact_at, total};
+use crate::mark::skip;
+use crate::own::put_own;
+use om_model::Memory;
+use om_scope::Site;
+use om_types::ty::{Node, Ty};
+use std::alloc::Global;
+
+/// A node to go along: with the name that it begins with, or its parts alone.
+#[derive(Clone, Copy)]
+pub struct Task {
+    pub node: usize,
+    /// The number of its first mark.
+    pub first: usize,
+    pub in_tag: bool,
+    pub whole: bool,
+}
+
+/// Adds a part's task, and below it that of the whole that it is added to.
+fn push_both(tasks: &mut Vec<Task>, task: Task, w: usize, part: Task) -> Result<(), Memory>
+    ensures { OnOk result (tasks.new.items ≡ tasks.old.items ++ part ∷ record { node = w; first = task.first; in_tag = task.in_tag; whole = false } ∷ []) }
+{
+    tasks.push(part)?;
+    tasks.push(Task {
+        node: w,
+        first: task.first,
+        in_tag: task.in_tag,
+        whole: false,
+    })?;
+    Ok(())
+}
+
+/// The number of the first mark behind those of a node's parts.
+fn behind(facts: &[Facts], task: Task, w: usize) -> usize
+    ensures { result ≡ behind facts.now task w }
+{
+    task.first.saturating_add(fact_at(facts, w).inner)
+}
+
+/// Adds the tasks of a node's parts.
+fn push_parts(tasks: &mut Vec<Task>, facts: &[Facts], task: Task, node: &Node) -> Result<(), Memory>
+    ensures { OnOk result (tasks.new.items ≡ tasks.old.items ++ tasks_of facts.now task node.now) }
+{
+    match node {
+        Node::Part(w, a) => {
+            let part = Task {
+                node: *a,
+                first: behind(facts, task, *w),
+                in_tag: task.in_tag,
+                whole: true,
+            };
+            push_both(tasks, task, *w, part)
+        }
+        Node::Including(w, u) => {
+            let first = behind(facts, task, *w).saturating_add(1);
+            let part = Task {
+                node: *u,
+                first,
+                in_tag: task.in_tag,
+                whole: true,
+            };
+            push_both(tasks, task, *w, part)
+        }
+        Node::TagOf(w, _, a) => {
+            let part = Task {
+                node: *a,
+                first: behind(facts, task, *w).saturating_add(1),
+                in_tag: true,
+                whole: true,
+            };
+            push_both(tasks, task, *w, part)
+        }
+        Node::Tag(w, _) => {
+            let inner = Task {
+                node: *w,
+                first: task.first,
+                in_tag: task.in_tag,
+                whole: false,
+            };
+            Ok(tasks.push(inner)?)
+        }
+        _ => Ok(()),
+    }
+}
+
+/// Adds what stands in a task's type.
+fn walk(
+    alloc: Global,
+    site: &mut Site,
+    nodes: &[Node],
+    facts: &[Facts],
+    marks: &[usize],
+    top: Task,
+) -> Result<(), Memory>
+    requires ordered { AreOrdered nodes.now }
+    requires facts { AreFacts (types_of nodes.now) (length nodes.now) facts.now }
+    requires top { top.node < length nodes.now }
+    ensures { OnOk result (Adds site.old site.new [] [] (task_seen (types_of nodes.now) marks.now top)) }
+{
+    let mut tasks = Vec::new(alloc);
+    tasks.push(top)?;
+    while let Some(task) = tasks.pop() {
+        put_own(alloc, site, nodes, facts, marks, task)?;
+        push_parts(&mut tasks, facts, task, &nodes[task.node])?;
+    }
+    Ok(())
+}
+
+/// Adds what stands in a type, whose marks are the first of these. Gives those that are left.
+pub fn put_type<'a>(
+    alloc: Global,
+    site: &mut Site,
+    marks: &'a [usize],
+    ty: &Ty,
+) -> Result<&'a [usize], Memory>
+    ensures adds { OnOk result (Adds site.old site.new [] [] (in_type marks.now false ty.now)) }
+    ensures rest { IfOk result (λ rest. rest.now ≡ drop (type_count ty.now) marks.now) }
+{
+    let nodes = ty.nodes();
+    if nodes.is_empty() {
+        return Ok(marks);
+    }
+    let facts = all_facts(alloc, nodes)?;
+    let top = Task {
+        node: nodes.len() - 1,
+        first: 0,
+        in_tag: false,
+        whole: true,
+    };
+    walk(alloc, site, nodes, facts.as_slice(), marks, top)?;
+    Ok(skip(marks, total(fact_at(facts.as_slice(), top.node))))
+}
