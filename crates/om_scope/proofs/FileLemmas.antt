@@ -26,7 +26,7 @@ use Rattle.om_scope.specs.declared.rule.NameRule.TheVariants as names
 use Rattle.om_scope.specs.declared.rule.UseRule.{UseRule}
 use Rattle.om_scope.specs.declared.rule.UseRule.TheVariants as use_rules
 use Rattle.om_scope.specs.Breaks.{Later, OfGroup, IsOther, BreaksUse, UsesBreak}
-use Rattle.om_scope.specs.Breaks.{SiteBreaks, SitesBreak, NameBreaks, TypeBreaks, rule_of}
+use Rattle.om_scope.specs.Breaks.{names_of_decls, SiteBreaks, SitesBreak, NameBreaks, TypeBreaks, rule_of}
 use Rattle.om_scope.specs.Sites.{HasArguments, IsRow, IsSite, AreUses, IsTypeSite}
 use Rattle.om_scope.specs.Sites.{AreSites}
 use Rattle.om_scope.proofs.DeclaredLemmas.{find_first}
@@ -83,14 +83,14 @@ uses_break decls uses occurrences are rule Breaks group same k = (
 
 -- ---- the declaration of a name
 
-map_at :
+pub map_at :
     {X Y : Type 0} (f : X → Y) (xs : List X) (i : ℕ) (y : Y) → slice_get (map f xs) i ≡ Some y
     → (x : X) × (slice_get xs i ≡ Some x) × (f x ≡ y)
 map_at f [] i y at = absurd (none-some y at)
 map_at f (x ∷ xs) zero y at = (x, refl, same_Some (f x) y at)
 map_at f (x ∷ xs) (suc i) y at = map_at f xs i y at
 
-get_at : {X : Type 0} (xs : List X) (i : ℕ) → i < length xs → (x : X) × (slice_get xs i ≡ Some x)
+pub get_at : {X : Type 0} (xs : List X) (i : ℕ) → i < length xs → (x : X) × (slice_get xs i ≡ Some x)
 get_at [] i below = absurd (omega arith)
 get_at (x ∷ xs) zero below = (x, refl)
 get_at (x ∷ xs) (suc i) below = get_at xs i (omega arith)
@@ -132,6 +132,37 @@ of_group all name (Some x) group is here = let found = found_in all name x is in
   ap (λ (d : Decl). d.group) found.2 ∙ here,
 )
 
+pub decl_at :
+    (all : List DeclPlaces) (j : ℕ) (d : DeclPlaces) → slice_get all j ≡ Some d
+    → slice_get (decls_of all) j ≡ Some d.decl
+decl_at all j d at = slice_get-map (λ (x : DeclPlaces). x.decl) all j
+    ∙ ap (option_map (λ (x : DeclPlaces). x.decl)) at
+
+pub name_placed :
+    (all : List DeclPlaces) (j : ℕ) (d : DeclPlaces) → slice_get all j ≡ Some d
+    → slice_get (declared_names all) j ≡ Some (d.place, d.decl.name)
+name_placed all j d at = slice_get-map (λ (x : DeclPlaces). (x.place, x.decl.name)) all j
+    ∙ ap (option_map (λ (x : DeclPlaces). (x.place, x.decl.name))) at
+
+-- where names are distinct, no earlier declaration has the name of one
+pub not_earlier :
+    (all : List DeclPlaces) → ((k : ℕ) → ¬ NamesBreak all twice k) → (name : List ℕ) (j : ℕ)
+    (e : DeclPlaces) → slice_get all j ≡ Some e → e.decl.name ≡ name → (i : ℕ) → i < j
+    → slice_get (names_of_decls (decls_of all)) i ≢ Some name
+not_earlier all distinct name j e at named i before same =
+    let decl = map_at (λ (d : Decl). d.name) (decls_of all) i name same in
+    let f = map_at (λ (x : DeclPlaces). x.decl) all i decl.0 decl.1 in
+    distinct e.place (inl (record {
+      earlier = i;
+      later = j;
+      place = f.0.place;
+      name = name;
+      before = before;
+      first = name_placed all i f.0 f.1
+          ∙ ap (λ x. Some (f.0.place, x)) (ap (λ (d : Decl). d.name) f.2 ∙ decl.2);
+      second = name_placed all j e at ∙ ap (λ x. Some (e.place, x)) named;
+    }))
+
 -- where names are distinct, a declaration is what its name means
 first_named :
     (all : List DeclPlaces) → ((k : ℕ) → ¬ NamesBreak all twice k) → (name : List ℕ)
@@ -140,25 +171,8 @@ first_named :
 first_named all distinct name e among named =
     let j = among.0 in
     let at : slice_get all j ≡ Some e = slice_get-get_or all j e among.1 ∙ ap Some among.2 in
-    find_first (decls_of all) name j e.decl
-    (slice_get-map (λ (x : DeclPlaces). x.decl) all j ∙ ap (option_map (λ (x : DeclPlaces). x.decl)) at) named
-    (λ i before same. let decl = map_at (λ (d : Decl). d.name) (decls_of all) i name same in
-    let f = map_at (λ (x : DeclPlaces). x.decl) all i decl.0 decl.1 in
-    distinct e.place (inl (record {
-      earlier = i;
-      later = j;
-      place = f.0.place;
-      name = name;
-      before = before;
-      first = placed_name all i f.0 name f.1 (ap (λ (d : Decl). d.name) f.2 ∙ decl.2);
-      second = placed_name all j e name at named;
-    }))) where
-      placed_name :
-          (xs : List DeclPlaces) (i : ℕ) (d : DeclPlaces) (x : List ℕ) → slice_get xs i ≡ Some d
-          → d.decl.name ≡ x → slice_get (declared_names xs) i ≡ Some (d.place, x)
-      placed_name xs i d x at is =
-          slice_get-map (λ (y : DeclPlaces). (y.place, y.decl.name)) xs i
-          ∙ ap (option_map (λ (y : DeclPlaces). (y.place, y.decl.name))) at ∙ ap (λ z. Some (d.place, z)) is
+    find_first (decls_of all) name j e.decl (decl_at all j e at) named
+    (not_earlier all distinct name j e at named)
 
 -- ---- one declaration, of those of the file
 
@@ -259,18 +273,16 @@ module _ (all : List DeclPlaces) (rule : NameRule)
         let within : j < length all = some.1.1 in
         let site = get_at sites j (omega arith) in (
           j,
-          slice_get_within (decls_of all) j d.decl (decl_at j d d_at),
+          slice_get_within (decls_of all) j d.decl (decl_at all j d d_at),
           (
             d.decl,
             site.0,
-            decl_at j d d_at,
+            decl_at all j d d_at,
             site.1,
             (site_breaks all d site.0 (stand j site.0 d site.1 d_at) rule distinct k).1 some.2,
           ),
         ),
-  ) where
-    decl_at : (j : ℕ) (d : DeclPlaces) → slice_get all j ≡ Some d → slice_get (decls_of all) j ≡ Some d.decl
-    decl_at j d at = slice_get-map (λ (x : DeclPlaces). x.decl) all j ∙ ap (option_map (λ (x : DeclPlaces). x.decl)) at
+  )
 
 names_break :
     (all : List DeclPlaces) (rule : NameRule) (k : ℕ)

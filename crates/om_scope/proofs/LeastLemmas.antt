@@ -44,18 +44,24 @@ least_if Q false place to from = λ k here. absurd (false≢true (from here.1))
 abbrev pub Before : (ℕ → ℕ → Type 0) → ℕ → ℕ → Type 0
 Before At i k = (j : ℕ) × (j < i) × At j k
 
+pub before_more :
+    (At : ℕ → ℕ → Type 0) (i k : ℕ) → (Before At i k ⊎ At i k) ↔ Before At (i + 1) k
+before_more At i k = (
+  ⊎_elim (λ some. (some.0, (let less : some.0 < i = some.1 in omega arith), some.2))
+      (λ last. (i, omega arith, last)),
+  λ some. let less : some.0 < i + 1 = some.1 in ⊎_elim
+      (λ before. inl (some.0, before, some.2))
+      (λ last. let same : some.0 ≡ i = omega arith in inr (subst (λ j. At j k) same some.2))
+      (cases_lt some.0 i),
+)
+
 pub least_more :
     (At : ℕ → ℕ → Type 0) (i : ℕ) (best found : Option ℕ) → IsLeast (Before At i) best
     → IsLeast (At i) found → IsLeast (Before At (i + 1)) (sooner best found)
 least_more At i best found so_far here =
     least_same (λ k. Before At i k ⊎ At i k) (Before At (i + 1)) (sooner best found)
     (least_of_either (Before At i) (At i) best found so_far here)
-    (λ k. ⊎_elim (λ some. (some.0, (let less : some.0 < i = some.1 in omega arith), some.2))
-    (λ last. (i, omega arith, last)))
-    (λ k some. let less : some.0 < i + 1 = some.1 in ⊎_elim
-    (λ before. inl (some.0, before, some.2))
-    (λ last. let same : some.0 ≡ i = omega arith in inr (subst (λ j. At j k) same some.2))
-    (cases_lt some.0 i))
+    (λ k. (before_more At i k).0) (λ k. (before_more At i k).1)
 
 module _ {X : Type 0} (xs : List X) (Holds : X → ℕ → Type 0) where
   -- the item of this number
@@ -69,13 +75,18 @@ module _ {X : Type 0} (xs : List X) (Holds : X → ℕ → Type 0) where
       (λ k holds. (x, is, holds))
       (λ k some. subst (λ y. Holds y k) (same_Some some.0 x (sym some.1 ∙ is)) some.2)
 
+  pub before_end : (k : ℕ) → Before AtItem (length xs) k ↔ ((x : X) × Contains xs x × Holds x k)
+  before_end k = (
+    λ some. (some.2.0, (some.0, some.1, get_or_from_slice_get xs some.0 some.2.0 some.2.0 some.2.1), some.2.2),
+    λ some. (some.1.0, some.1.1, (some.0, slice_get-get_or xs some.1.0 some.0 some.1.1 ∙ ap Some some.1.2, some.2)),
+  )
+
   pub least_of_items :
       (best : Option ℕ) → IsLeast (Before AtItem (length xs)) best
       → IsLeast (λ k. (x : X) × Contains xs x × Holds x k) best
   least_of_items best least =
       least_same (Before AtItem (length xs)) (λ k. (x : X) × Contains xs x × Holds x k) best least
-      (λ k some. (some.2.0, (some.0, some.1, get_or_from_slice_get xs some.0 some.2.0 some.2.0 some.2.1), some.2.2))
-      (λ k some. (some.1.0, some.1.1, (some.0, slice_get-get_or xs some.1.0 some.0 some.1.1 ∙ ap Some some.1.2, some.2)))
+      (λ k. (before_end k).0) (λ k. (before_end k).1)
 
   -- the next turn of a loop over the items
   pub more_items :

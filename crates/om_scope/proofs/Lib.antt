@@ -4,3 +4,8 @@ pub mod SecondLemmas
 pub mod DeclaredLemmas
 pub mod SiteLemmas
 pub mod FileLemmas
+pub mod GraphLemmas
+pub mod RankLemmas
+pub mod SearchLemmas
+pub mod StepLemmas
+pub mod CyclicLemmas

@@ -1,4 +1,9 @@
 pub mod Breaks
+pub mod Cyclic
+pub mod Graph
 pub mod Least
 pub mod Names
+pub mod Ranks
+pub mod Search
 pub mod Sites
+pub mod Steps

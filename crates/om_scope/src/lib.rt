@@ -1,17 +1,23 @@
 //! The rules of scope on names, over what stands where in a text of declarations.
 #![tactic(auto)]
 
+mod cyclic;
 mod declared;
+mod graph;
 mod least;
 mod names;
+mod ranks;
 mod rule;
+mod search;
 mod seconds;
 mod site;
 mod sites;
+mod steps;
 mod table;
 mod uses;
 mod variables;
 
+pub use cyclic::least_cyclic;
 pub use rule::{NameRule, UseRule};
 pub use site::{Placed, Site, TypeSite, Use};
 pub use sites::{least_break, least_break_in_type};

@@ -1,0 +1,27 @@
+-- A search along the edges from one node.
+use Rattle.std.specs.Prelude.{ℕ, ◌<◌, ◌≡◌, ◌⊎◌, Bool, true, false, List, length, Some, slice_get}
+use Rattle.std.specs.Prelude.{Contains, sum_by, if◌then◌else◌}
+use Rattle.om_scope.specs.Graph.{Graph, IsEdge, Reaches}
+
+abbrev pub IsSeen : List Bool → ℕ → Type 0
+IsSeen seen i = slice_get seen i ≡ Some true
+
+abbrev pub IsUnseen : List Bool → ℕ → Type 0
+IsUnseen seen i = slice_get seen i ≡ Some false
+
+-- how many nodes are not seen
+abbrev pub unseen_count : List Bool → ℕ
+unseen_count seen = sum_by (λ s. if s then 0 else 1) seen
+
+-- no successor of the node is unseen
+abbrev pub IsExpanded : Graph → List Bool → ℕ → Type 0
+IsExpanded graph seen i = (j : ℕ) → IsEdge graph i j → ¬ IsUnseen seen j
+
+-- What is seen can be reached from the first node. That one and those seen wait, or are expanded.
+pub record IsSearch (graph : Graph) (start : ℕ) (seen : List Bool) (waiting : List ℕ) : Type 0 where
+  pub counted : length seen ≡ length graph
+  pub reached : (i : ℕ) → IsSeen seen i → Reaches graph start i
+  pub within : (i : ℕ) → Contains waiting i → i < length graph
+  pub from_start : (i : ℕ) → Contains waiting i → (i ≡ start) ⊎ Reaches graph start i
+  pub pending :
+      (i : ℕ) → (i ≡ start) ⊎ IsSeen seen i → Contains waiting i ⊎ IsExpanded graph seen i

@@ -1,0 +1,85 @@
+//! Abbreviations that come back to themselves.
+
+ghost use Rattle.std.specs.Prelude.{ℕ, ◌≡◌, ◌<◌, ◌↔◌, IfOk, IsTrue, List, length};
+ghost use Rattle.om_types.specs.Occurrence.{DeclPlaces};
+ghost use Rattle.om_types.specs.Scope.{BreaksInFile, NamesBreak, cyclic, twice};
+ghost use Rattle.om_scope.specs.Cyclic.{ComesBefore, IsCyclicName};
+ghost use Rattle.om_scope.specs.Graph.{IsOnCycle};
+ghost use Rattle.om_scope.specs.Least.{IsLeast};
+ghost use Rattle.om_scope.specs.Ranks.{AreRanks};
+ghost use Rattle.om_scope.specs.Sites.{AreSites};
+
+use crate::least::{place_if, sooner};
+use crate::ranks::{Mark, is_ranked, ranks};
+use crate::search::is_on_cycle;
+use crate::site::{Placed, Site};
+use crate::steps::step_graph;
+use om_model::Memory;
+use om_model::list::List;
+use om_types::decl::Decl;
+use std::alloc::Global;
+
+/// Whether a place comes before this one, where there is one.
+fn comes_before(place: usize, best: Option<usize>) -> bool
+    ensures { IsTrue result ↔ ComesBefore place best }
+{
+    match best {
+        None => true,
+        Some(best) => place < best,
+    }
+}
+
+/// Whether a node lies on a cycle. One that has a rank does not.
+fn comes_back(
+    alloc: Global,
+    graph: &[List<usize>],
+    marks: &[Mark],
+    node: usize,
+) -> Result<bool, Memory>
+    requires node { node < length graph.now }
+    requires ranks { AreRanks graph.now marks.now }
+    ensures { IfOk result (λ back. IsTrue back ↔ IsOnCycle graph.now node) }
+{
+    if is_ranked(marks, node) {
+        Ok(false)
+    } else {
+        is_on_cycle(alloc, graph, node)
+    }
+}
+
+/// The least place of a name whose node lies on a cycle. After the first one is found, only names before it are tried.
+fn least_cyclic_name(
+    alloc: Global,
+    graph: &[List<usize>],
+    names: &[Placed],
+) -> Result<Option<usize>, Memory>
+    requires { length graph.now ≡ length names.now }
+    ensures { IfOk result (IsLeast (IsCyclicName graph.now names.now)) }
+{
+    let marks = ranks(alloc, graph)?;
+    let mut best = None;
+    for i in 0..names.len() {
+        let place = names[i].place();
+        if comes_before(place, best) {
+            let back = comes_back(alloc, graph, marks.as_slice(), i)?;
+            best = sooner(best, place_if(back, place));
+        }
+    }
+    Ok(best)
+}
+
+/// The least lexeme of the name of an abbreviation that comes back to itself.
+pub fn least_cyclic(
+    alloc: Global,
+    decls: &[Decl],
+    names: &[Placed],
+    sites: &[Site],
+) -> Result<Option<usize>, Memory>
+    ghost all: { List DeclPlaces }
+    requires sites { AreSites decls.now names.now sites.now all }
+    requires distinct { (k : ℕ) → ¬ NamesBreak all twice k }
+    ensures { IfOk result (IsLeast (BreaksInFile all cyclic)) }
+{
+    let graph = step_graph(alloc, decls, sites)?;
+    least_cyclic_name(alloc, graph.as_slice(), names)
+}

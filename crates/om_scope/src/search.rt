@@ -1,0 +1,55 @@
+//! Whether a node of a graph lies on a cycle.
+
+ghost use Rattle.std.specs.Prelude.{ℕ, ◌≡◌, ◌+◌, ◌<◌, ◌↔◌, ◌∷◌, IfOk, OnOk, IsTrue, length, vec_len};
+ghost use Rattle.om_scope.specs.Graph.{IsOnCycle};
+ghost use Rattle.om_scope.specs.Search.{IsSearch, IsUnseen, unseen_count};
+
+use crate::graph::successors;
+use om_model::Memory;
+use om_model::list::List;
+use std::alloc::Global;
+
+/// Whether a node is not seen.
+fn is_unseen(seen: &[bool], node: usize) -> bool
+    ensures { IsTrue result ↔ IsUnseen seen.now node }
+{
+    match seen.get(node) {
+        Some(seen) => !*seen,
+        None => false,
+    }
+}
+
+/// Sees the successors of a node, and puts those on the stack that are seen first.
+fn expand(
+    graph: &[List<usize>],
+    node: usize,
+    seen: &mut [bool],
+    stack: &mut Vec<usize>,
+) -> Result<(), Memory>
+    requires { node < length graph.now }
+    ensures search { OnOk result ((start : ℕ) → IsSearch graph.now start seen.old (node ∷ stack.old.items) → IsSearch graph.now start seen.new stack.new.items) }
+    ensures counted { OnOk result (unseen_count seen.new + vec_len stack.new ≡ unseen_count seen.old + vec_len stack.old) }
+{
+    let nodes = successors(graph, node);
+    for i in 0..nodes.len() {
+        let next = nodes[i];
+        if is_unseen(seen, next) {
+            seen[next] = true;
+            stack.push(next)?;
+        }
+    }
+    Ok(())
+}
+
+/// Whether edges lead from a node back to it.
+pub fn is_on_cycle(alloc: Global, graph: &[List<usize>], node: usize) -> Result<bool, Memory>
+    requires { node < length graph.now }
+    ensures { IfOk result (λ back. IsTrue back ↔ IsOnCycle graph.now node) }
+{
+    let mut seen = vec![in alloc; false; graph.len()]?;
+    let mut stack = vec![in alloc; node]?;
+    while let Some(next) = stack.pop() {
+        expand(graph, next, &mut seen, &mut stack)?;
+    }
+    Ok(seen[node])
+}
