@@ -38,10 +38,13 @@ rule_of_turn rules.tag_clash = refl
 rule_of_turn rules.hash_clash = refl
 rule_of_turn rules.float_in_group = refl
 
+pub same_turn : (one other : Rule) → turn one ≡ turn other → one ≡ other
+same_turn one other same = sym (rule_of_turn one) ∙ ap rule_at same ∙ rule_of_turn other
+
 module _ (Breaks : Rule → ℕ → Type 0) where
   one_first_rule : (one other : Rule) (j k : ℕ) → IsFirst Breaks one j → IsFirst Breaks other k → one ≡ other
   one_first_rule one other j k first second = ⊎_elim
-      (λ same. sym (rule_of_turn one) ∙ ap rule_at same ∙ rule_of_turn other)
+      (λ same. same_turn one other same)
       (λ unequal. ⊎_elim
       (λ less. absurd (second.earlier one j less first.broken))
       (λ greater. absurd (first.earlier other k greater second.broken)) unequal)

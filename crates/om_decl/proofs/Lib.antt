@@ -1,1 +1,3 @@
 pub mod AnswerLaws
+pub mod OrderLemmas
+pub mod ReadLemmas

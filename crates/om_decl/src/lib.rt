@@ -1,6 +1,13 @@
 //! Declarations and types from their texts.
 #![tactic(auto)]
 
+mod fault;
 pub mod laws;
+mod names;
+mod read;
+
+pub use fault::{DeclFault, NamesRule};
+pub use read::{Named, read_names};
+
 #[cfg(test)]
 mod tests;

@@ -1,0 +1,92 @@
+//! Why a text of declarations, or of a type, is refused.
+
+ghost use Rattle.std.specs.Prelude.{◌≡◌};
+ghost use Rattle.om_decl.specs.Fault.{lexed, parsed, broken_at};
+ghost use Rattle.om_decl.specs.declared.fault.DeclFault.TheVariants as faults;
+
+use om_lex::lexeme::{LexFault, Lexeme};
+use om_model::Memory;
+use om_parse::{Fault, byte_of};
+
+/// A rule of scope on names, in the order in which they are judged.
+#[derive(Clone, Copy, Debug, PartialEq, Eq)]
+pub enum NamesRule {
+    Twice,
+    UnknownName,
+    Arity,
+    UnboundVar,
+    Cyclic,
+    Irregular,
+    TooManyConstructors,
+}
+
+/// Why a text is refused, with the number of the byte at which the refused lexeme begins.
+#[derive(Clone, Copy, Debug, PartialEq, Eq)]
+pub enum DeclFault {
+    /// It has no lexemes.
+    Lex(LexFault),
+    /// The first lexeme, or the end, at which no text of the grammar goes on.
+    Syntax(usize),
+    /// The 201st open bracket, or the end of a type of depth above 200.
+    TooDeep(usize),
+    /// A type name, constructor, field, parameter or tag that stands earlier too; or a predeclared type's name.
+    Twice(usize),
+    /// A name that is neither predeclared nor declared in this group or an earlier one.
+    UnknownName(usize),
+    /// A name with another number of arguments than it takes.
+    Arity(usize),
+    /// A variable of a file that is no parameter.
+    UnboundVar(usize),
+    /// The declared name of an abbreviation that comes back to itself outside tag arguments.
+    Cyclic(usize),
+    /// A name used in its own group with an argument that holds a variable and is none.
+    Irregular(usize),
+    /// The 245th constructor with arguments of a declaration.
+    TooManyConstructors(usize),
+    /// Out of memory.
+    Memory,
+}
+
+impl From<Memory> for DeclFault {
+    ghost from_gives = { λ _ e. e ≡ faults.Memory };
+
+    fn from(_e: Memory) -> DeclFault {
+        DeclFault::Memory
+    }
+}
+
+/// The fault of a text that has no lexemes.
+pub fn lex_fault(fault: LexFault) -> DeclFault
+    ensures { result ≡ lexed fault }
+{
+    match fault {
+        LexFault::Memory => DeclFault::Memory,
+        _ => DeclFault::Lex(fault),
+    }
+}
+
+/// The fault of lexemes that the grammar refuses, in a text of so many bytes.
+pub fn parse_fault(fault: Fault, lexemes: &[Lexeme], end: usize) -> DeclFault
+    ensures { result ≡ parsed lexemes.now end fault }
+{
+    match fault {
+        Fault::Syntax(k) => DeclFault::Syntax(byte_of(lexemes, end, k)),
+        Fault::TooDeep(k) => DeclFault::TooDeep(byte_of(lexemes, end, k)),
+        Fault::Memory => DeclFault::Memory,
+    }
+}
+
+/// The fault of a rule that is broken at a byte.
+pub fn scope_fault(rule: NamesRule, place: usize) -> DeclFault
+    ensures { result ≡ broken_at rule place }
+{
+    match rule {
+        NamesRule::Twice => DeclFault::Twice(place),
+        NamesRule::UnknownName => DeclFault::UnknownName(place),
+        NamesRule::Arity => DeclFault::Arity(place),
+        NamesRule::UnboundVar => DeclFault::UnboundVar(place),
+        NamesRule::Cyclic => DeclFault::Cyclic(place),
+        NamesRule::Irregular => DeclFault::Irregular(place),
+        NamesRule::TooManyConstructors => DeclFault::TooManyConstructors(place),
+    }
+}
