@@ -13,6 +13,11 @@ pub least_same :
 least_same P Q None least to from = λ k holds. least k (from k holds)
 least_same P Q (Some k) least to from = (to k least.0, λ j before holds. least.1 j before (from j holds))
 
+-- where there is no least place, there is none
+pub least_none :
+    (P : ℕ → Type 0) (o : Option ℕ) → o ≡ None → IsLeast P o → (k : ℕ) → ¬ P k
+least_none P o is least = subst (IsLeast P) is least
+
 pub least_of_either :
     (P Q : ℕ → Type 0) (a b : Option ℕ) → IsLeast P a → IsLeast Q b
     → IsLeast (λ k. P k ⊎ Q k) (sooner a b)

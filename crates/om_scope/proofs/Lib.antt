@@ -9,3 +9,4 @@ pub mod RankLemmas
 pub mod SearchLemmas
 pub mod StepLemmas
 pub mod CyclicLemmas
+pub mod WrittenLemmas

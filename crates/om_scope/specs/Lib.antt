@@ -7,3 +7,4 @@ pub mod Ranks
 pub mod Search
 pub mod Sites
 pub mod Steps
+pub mod Written

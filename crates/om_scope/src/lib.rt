@@ -18,7 +18,7 @@ mod uses;
 mod variables;
 
 pub use cyclic::least_cyclic;
-pub use rule::{NameRule, UseRule};
+pub use rule::NameRule;
 pub use site::{Placed, Site, TypeSite, Use};
 pub use sites::{least_break, least_break_in_type};
 

@@ -1,18 +1,84 @@
-use crate::declared::table_of;
+ghost use Rattle.std.specs.Prelude.{◌≡◌, ◌↔◌, IsTrue};
+ghost use Rattle.om_scope.specs.Sites.{AreSites, IsTypeSite};
+ghost use Rattle.om_scope.specs.Written.{HaveArguments, IsWritable, file_of, occurrences_of};
+
+use crate::cyclic::least_cyclic;
 use crate::rule::NameRule;
 use crate::site::{Placed, Site, TypeSite, Use};
-use crate::sites::{
-    least_break, least_break_in_type, least_in_names, least_in_sites, least_in_type,
-};
+use crate::sites::{least_break, least_break_in_type};
 use om_model::list::List;
 use om_types::decl::{Body, Decl};
+use om_types::ty::{Node, Ty};
 use std::alloc::Global;
+use std::process::Abort;
 use std::test::Fail;
+
+// ---- what can be written
+
+// Whether these are the same bytes.
+fn are_same(one: &[u8], other: &[u8]) -> bool
+    ensures { IsTrue result ↔ (one.now ≡ other.now) }
+{
+    one == other
+}
+
+// Whether those uses that grow have arguments.
+fn have_arguments(uses: &[Use]) -> bool
+    ensures { IsTrue result → HaveArguments uses.now }
+{
+    for i in 0..uses.len() {
+        if uses[i].grows && uses[i].arguments == 0 {
+            return false;
+        }
+    }
+    true
+}
+
+// Whether a declaration can be written so.
+fn is_writable(decl: &Decl, name: &Placed, site: &Site) -> bool
+    ensures { IsTrue result → IsWritable decl.now name.now site.now }
+{
+    if !are_same(decl.name.as_slice(), name.name()) {
+        return false;
+    }
+    if site.rows.len() < 2 {
+        return false;
+    }
+    have_arguments(site.uses.as_slice())
+}
+
+// Whether these are the sites of a file.
+fn are_sites(decls: &[Decl], names: &[Placed], sites: &[Site]) -> bool
+    ensures { IsTrue result → AreSites decls.now names.now sites.now (file_of decls.now names.now sites.now) }
+{
+    if decls.len() != names.len() || decls.len() != sites.len() {
+        return false;
+    }
+    for i in 0..decls.len() {
+        if !is_writable(&decls[i], &names[i], &sites[i]) {
+            return false;
+        }
+    }
+    true
+}
+
+// Whether this is the site of a type.
+fn is_type_site(site: &TypeSite) -> bool
+    ensures { IsTrue result → IsTypeSite site.now (occurrences_of site.now) }
+{
+    have_arguments(site.uses.as_slice())
+}
+
+// ---- texts
+
+fn bytes(alloc: Global, name: &[u8]) -> Result<List<u8>, Fail> {
+    Ok(List::of(name.to_vec(alloc)?))
+}
 
 fn row(alloc: Global, names: &[(usize, &[u8])]) -> Result<List<Placed>, Fail> {
     let mut row = List::new(alloc);
     for (place, name) in names {
-        row.push(Placed::new(*place, List::of(name.to_vec(alloc)?)))?;
+        row.push(Placed::new(*place, bytes(alloc, name)?))?;
     }
     Ok(row)
 }
@@ -23,7 +89,7 @@ fn uses(alloc: Global, all: &[(usize, &[u8], usize, bool)]) -> Result<List<Use>,
     for (place, name, arguments, grows) in all {
         uses.push(Use {
             place: *place,
-            name: List::of(name.to_vec(alloc)?),
+            name: bytes(alloc, name)?,
             arguments: *arguments,
             grows: *grows,
             in_tag: false,
@@ -32,26 +98,50 @@ fn uses(alloc: Global, all: &[(usize, &[u8], usize, bool)]) -> Result<List<Use>,
     Ok(uses)
 }
 
-// The declaration of `t` with one parameter.
-fn declares_t(alloc: Global) -> Result<List<Decl>, Fail> {
-    let mut parameters = List::new(alloc);
-    parameters.push(List::of(b"a".to_vec(alloc)?))?;
-    let mut decls = List::new(alloc);
-    decls.push(Decl {
-        name: List::of(b"t".to_vec(alloc)?),
-        parameters,
-        body: Body::Record(List::new(alloc)),
-        group: 0,
-    })?;
-    Ok(decls)
+// What stands where in a file.
+#[derive(Drop)]
+struct Written {
+    decls: List<Decl>,
+    names: List<Placed>,
+    sites: List<Site>,
 }
 
-// What stands where in `type 'a t = N | C of 'b list t | N of u`, where lexemes are numbered from 0.
-fn site(alloc: Global) -> Result<Site, Fail> {
+fn nothing(alloc: Global) -> Written {
+    Written {
+        decls: List::new(alloc),
+        names: List::new(alloc),
+        sites: List::new(alloc),
+    }
+}
+
+// Adds a declaration.
+fn declare(
+    alloc: Global,
+    file: &mut Written,
+    place: usize,
+    name: &[u8],
+    group: usize,
+    parameters: List<List<u8>>,
+    body: Body,
+    site: Site,
+) -> Result<(), Fail> {
+    file.decls.push(Decl {
+        name: bytes(alloc, name)?,
+        parameters,
+        body,
+        group,
+    })?;
+    file.names.push(Placed::new(place, bytes(alloc, name)?))?;
+    file.sites.push(site)?;
+    Ok(())
+}
+
+// `type 'a t = N | C of 'b list t | M of u`, where lexemes are numbered from 0, with this name in place of `M`.
+fn example(alloc: Global, last: &[u8]) -> Result<Written, Fail> {
     let mut rows = List::new(alloc);
     rows.push(row(alloc, &[(1, b"a")])?)?;
-    rows.push(row(alloc, &[(4, b"N"), (6, b"C"), (12, b"N")])?)?;
-    Ok(Site {
+    rows.push(row(alloc, &[(4, b"N"), (6, b"C"), (12, last)])?)?;
+    let site = Site {
         rows,
         carrying: List::of([6, 12].to_vec(alloc)?),
         uses: uses(
@@ -63,19 +153,97 @@ fn site(alloc: Global) -> Result<Site, Fail> {
             ],
         )?,
         variables: row(alloc, &[(8, b"b")])?,
-    })
+    };
+    let mut parameters = List::new(alloc);
+    parameters.push(bytes(alloc, b"a")?)?;
+    let body = Body::Variant(List::new(alloc));
+    let mut file = nothing(alloc);
+    declare(alloc, &mut file, 2, b"t", 0, parameters, body, site)?;
+    Ok(file)
 }
 
-// By hand: the later `N`, the unknown `u`, the free `'b`, and `'b list t` in its own group.
+// A declaration without parameters, constructors or fields.
+fn declare_using(
+    alloc: Global,
+    file: &mut Written,
+    place: usize,
+    name: &[u8],
+    group: usize,
+    body: Body,
+    uses: List<Use>,
+) -> Result<(), Fail> {
+    let mut rows = List::new(alloc);
+    rows.push(List::new(alloc))?;
+    rows.push(List::new(alloc))?;
+    let site = Site {
+        rows,
+        carrying: List::new(alloc),
+        uses,
+        variables: List::new(alloc),
+    };
+    declare(
+        alloc,
+        file,
+        place,
+        name,
+        group,
+        List::new(alloc),
+        body,
+        site,
+    )
+}
+
+// ---- answers, where the sites are those of a file
+
+// The least lexeme that breaks the rule, or at which a name stands twice.
+fn least(
+    rt: &impl Abort,
+    alloc: Global,
+    rule: NameRule,
+    file: &Written,
+) -> Result<Option<usize>, Fail> {
+    let decls = file.decls.as_slice();
+    let names = file.names.as_slice();
+    let sites = file.sites.as_slice();
+    assert!(rt; are_sites(decls, names, sites));
+    match least_break(alloc, NameRule::Twice, decls, names, sites)? {
+        Some(place) => Ok(Some(place)),
+        None => Ok(least_break(alloc, rule, decls, names, sites)?),
+    }
+}
+
+// The least name on a cycle, or one that stands twice.
+fn least_in_ring(rt: &impl Abort, alloc: Global, file: &Written) -> Result<Option<usize>, Fail> {
+    let decls = file.decls.as_slice();
+    let names = file.names.as_slice();
+    let sites = file.sites.as_slice();
+    assert!(rt; are_sites(decls, names, sites));
+    match least_break(alloc, NameRule::Twice, decls, names, sites)? {
+        Some(place) => Ok(Some(place)),
+        None => Ok(least_cyclic(alloc, decls, names, sites)?),
+    }
+}
+
+fn least_in_type_site(
+    rt: &impl Abort,
+    alloc: Global,
+    rule: NameRule,
+    decls: &[Decl],
+    site: &TypeSite,
+) -> Result<Option<usize>, Fail> {
+    assert!(rt; is_type_site(site));
+    Ok(least_break_in_type(alloc, rule, decls, site)?)
+}
+
+// ---- rules
+
+// By hand: the unknown `u`, the free `'b`, and `'b list t` in its own group.
 #[test]
 fn a_file_breaks_rules(rt: HostRuntime) -> Result<(), Fail> {
     let alloc = rt.alloc();
-    let decls = declares_t(alloc)?;
-    let mut sites = List::new(alloc);
-    sites.push(site(alloc)?)?;
-    assert_eq!(rt; decls.len(), sites.len());
+    let file = example(alloc, b"M")?;
     let rules = [
-        (NameRule::Twice, Some(12)),
+        (NameRule::Twice, None),
         (NameRule::UnknownName, Some(14)),
         (NameRule::Arity, None),
         (NameRule::UnboundVariable, Some(8)),
@@ -83,11 +251,16 @@ fn a_file_breaks_rules(rt: HostRuntime) -> Result<(), Fail> {
         (NameRule::TooManyConstructors, None),
     ];
     for (rule, place) in rules {
-        assert_eq!(rt;
-            least_in_sites(alloc, rule, decls.as_slice(), sites.as_slice())?,
-            place
-        );
+        assert_eq!(rt; least(&rt, alloc, rule, &file)?, place);
     }
+    Ok(())
+}
+
+// By hand: the later `N`.
+#[test]
+fn constructors_are_distinct(rt: HostRuntime) -> Result<(), Fail> {
+    let file = example(rt.alloc(), b"N")?;
+    assert_eq!(rt; least(&rt, rt.alloc(), NameRule::Twice, &file)?, Some(12));
     Ok(())
 }
 
@@ -95,10 +268,39 @@ fn a_file_breaks_rules(rt: HostRuntime) -> Result<(), Fail> {
 #[test]
 fn type_names_are_distinct(rt: HostRuntime) -> Result<(), Fail> {
     let alloc = rt.alloc();
-    let names = row(alloc, &[(1, b"t"), (5, b"t"), (9, b"list")])?;
+    let mut file = nothing(alloc);
+    let names: [(usize, &[u8]); 3] = [(1, b"t"), (5, b"t"), (9, b"list")];
+    for (place, name) in names {
+        let body = Body::Record(List::new(alloc));
+        declare_using(alloc, &mut file, place, name, place, body, List::new(alloc))?;
+    }
+    assert_eq!(rt; least(&rt, alloc, NameRule::Twice, &file)?, Some(5));
+    Ok(())
+}
+
+// By hand: the last one of 245.
+#[test]
+fn constructors_are_counted(rt: HostRuntime) -> Result<(), Fail> {
+    let alloc = rt.alloc();
+    let mut carrying = List::new(alloc);
+    for i in 0..245usize {
+        carrying.push(3 + i * 4)?;
+    }
+    let mut rows = List::new(alloc);
+    rows.push(List::new(alloc))?;
+    rows.push(List::new(alloc))?;
+    let site = Site {
+        rows,
+        carrying,
+        uses: List::new(alloc),
+        variables: List::new(alloc),
+    };
+    let body = Body::Variant(List::new(alloc));
+    let mut file = nothing(alloc);
+    declare(alloc, &mut file, 1, b"t", 0, List::new(alloc), body, site)?;
     assert_eq!(rt;
-        least_in_names(alloc, NameRule::Twice, names.as_slice())?,
-        Some(5)
+        least(&rt, alloc, NameRule::TooManyConstructors, &file)?,
+        Some(979)
     );
     Ok(())
 }
@@ -107,8 +309,7 @@ fn type_names_are_distinct(rt: HostRuntime) -> Result<(), Fail> {
 #[test]
 fn a_type_breaks_rules(rt: HostRuntime) -> Result<(), Fail> {
     let alloc = rt.alloc();
-    let decls = declares_t(alloc)?;
-    let table = table_of(alloc, decls.as_slice())?;
+    let file = example(alloc, b"M")?;
     let mut rows = List::new(alloc);
     rows.push(row(alloc, &[(8, b"A"), (10, b"A")])?)?;
     let uses = uses(
@@ -128,31 +329,75 @@ fn a_type_breaks_rules(rt: HostRuntime) -> Result<(), Fail> {
     ];
     for (rule, place) in rules {
         assert_eq!(rt;
-            least_in_type(alloc, rule, decls.as_slice(), &table, &site)?,
+            least_in_type_site(&rt, alloc, rule, file.decls.as_slice(), &site)?,
             place
         );
     }
     Ok(())
 }
 
-#[test]
-fn an_empty_file_breaks_no_rule(rt: HostRuntime) -> Result<(), Fail> {
-    assert_eq!(rt;
-        least_break(rt.alloc(), NameRule::Twice, &[], &[], &[])?,
-        None
-    );
-    Ok(())
+// ---- cycles
+
+// Uses of names of one letter; a capital one stands in a tag's argument.
+fn letters(alloc: Global, names: &[u8]) -> Result<List<Use>, Fail> {
+    let mut uses = List::new(alloc);
+    for name in names {
+        uses.push(Use {
+            place: 0,
+            name: bytes(alloc, &[name.to_ascii_lowercase()])?,
+            arguments: 0,
+            grows: false,
+            in_tag: name.is_ascii_uppercase(),
+        })?;
+    }
+    Ok(uses)
+}
+
+// The file of these words: a name's letter, a group, `=` for an abbreviation or `:` for a record, and uses. The names
+// stand at lexemes 7, 8, and so on.
+fn file_of_words(alloc: Global, words: &str) -> Result<Written, Fail> {
+    let mut file = nothing(alloc);
+    for word in words.split(' ') {
+        let word = word.as_bytes();
+        if word.len() >= 3 {
+            let body = if word[2] == b'=' {
+                Body::Abbreviation(Ty::of(vec![in alloc; Node::Tuple]?))
+            } else {
+                Body::Record(List::new(alloc))
+            };
+            let place = file.names.len().saturating_add(7);
+            let uses = letters(alloc, &word[3..])?;
+            declare_using(
+                alloc,
+                &mut file,
+                place,
+                &word[..1],
+                usize::from(word[1]),
+                body,
+                uses,
+            )?;
+        }
+    }
+    Ok(file)
 }
 
 #[test]
-fn a_type_without_names_breaks_no_rule(rt: HostRuntime) -> Result<(), Fail> {
-    let site = TypeSite {
-        rows: List::new(rt.alloc()),
-        uses: List::new(rt.alloc()),
-    };
-    assert_eq!(rt;
-        least_break_in_type(rt.alloc(), NameRule::Arity, &[], &site)?,
-        None
-    );
+fn abbreviations_come_back(rt: HostRuntime) -> Result<(), Fail> {
+    let cases = [
+        ("an empty file", "", None),
+        ("no cycle", "t0=uvu u0=v v0=", None),
+        ("one alone", "t0=ut u0=", Some(7)),
+        ("two in a ring", "t0=u u0=t", Some(7)),
+        ("one that leads to a ring", "s0=t t0=u u0=t", Some(8)),
+        ("a ring through a tag's argument", "t0=u u0=T", None),
+        ("two groups", "t0=u u1=t", None),
+        ("a record between", "t0=u u0:t", None),
+        ("the first of two rings", "s0= t1=t u1=v v1=u", Some(8)),
+        ("a ring around another", "r0=s s0=t t0=ur u0=t", Some(7)),
+    ];
+    for (shows, words, place) in cases {
+        let file = file_of_words(rt.alloc(), words)?;
+        assert_eq!(rt; least_in_ring(&rt, rt.alloc(), &file)?, place, "{shows}");
+    }
     Ok(())
 }

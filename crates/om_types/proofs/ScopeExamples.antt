@@ -1,4 +1,5 @@
--- Rules of scope that are broken, in small files. Lexemes are numbered from 0.
+-- Rules of scope that are broken, in small files. Lexemes are numbered from 0; a name stands before
+-- its arguments, and a bracket before its items.
 use Rattle.std.proofs.Common.{ℕ, ◌≡◌, ⊎_elim, inr, List, [], ◌∷◌, length, true, false, Option}
 use Rattle.std.proofs.Common.{Some, None}
 use Rattle.std.proofs.Common.{refl, ap, subst, arith}
@@ -21,7 +22,7 @@ use Rattle.om_types.specs.Scope.{unknown_name, cyclic, irregular, not_variant, t
 use Rattle.om_types.specs.Scope.{hash_clash}
 use Rattle.om_types.specs.Scope.{float_in_group, IsStep, IsThrough, HasTags, BreaksInFile}
 use Rattle.om_types.specs.Scope.{BreaksInType}
-use Rattle.om_model.proofs.Options.{Contains-first, Contains-none, Contains-cases}
+use Rattle.om_model.proofs.Options.{Contains-first, Contains-later, Contains-none, Contains-cases}
 
 abbrev declares : List ℕ → List (List ℕ) → Body → ℕ → Decl
 declares name parameters body group =
@@ -47,7 +48,7 @@ abbrev list_of_t : Ty
 list_of_t = part (named (codes "list")) (named (codes "t"))
 
 abbrev uses : List Occurrence
-uses = use_of 3 (codes "t") [] false ∷ use_of 4 (codes "list") (named (codes "t") ∷ []) false ∷ []
+uses = use_of 4 (codes "list") (named (codes "t") ∷ []) false ∷ use_of 3 (codes "t") [] false ∷ []
 
 abbrev looped : DeclPlaces
 looped = places (declares (codes "t") [] (bodies.Abbreviation list_of_t) 0) 1 [] uses
@@ -61,8 +62,9 @@ step = record {
   other_abbreviates = refl;
   place = 3;
   arguments = [];
-  used = Contains-first (use_of 3 (codes "t") [] false)
-      (use_of 4 (codes "list") (named (codes "t") ∷ []) false ∷ []);
+  used = Contains-later (use_of 4 (codes "list") (named (codes "t") ∷ []) false)
+      (use_of 3 (codes "t") [] false ∷ []) (use_of 3 (codes "t") [] false)
+      (Contains-first (use_of 3 (codes "t") [] false) []);
 }
 
 -- Cyclic at the declared name
@@ -80,16 +82,22 @@ list_of_a = part (named (codes "list")) a
 abbrev own_use : Occurrence
 own_use = use_of 10 (codes "t") (list_of_a ∷ []) false
 
-abbrev growing : DeclPlaces
-growing = places
-    (declares (codes "t") (codes "a" ∷ [])
+abbrev inner : List Occurrence
+inner = use_of 9 (codes "list") (a ∷ []) false ∷ variable_at 8 (codes "a") ∷ []
+
+abbrev growing_decl : Decl
+growing_decl = declares (codes "t") (codes "a" ∷ [])
     (bodies.Variant (record { name = codes "N"; arguments = arguments.Constant }
     ∷ record {
       name = codes "C";
-      arguments = arguments.Listed
-          (part (named (codes "t")) list_of_a ∷ []);
-    } ∷ [])) 0)
-    2 ((1, codes "a") ∷ []) (own_use ∷ variable_at 8 (codes "a") ∷ [])
+      arguments = arguments.Listed (part (named (codes "t")) list_of_a ∷ []);
+    } ∷ [])) 0
+
+abbrev growing : DeclPlaces
+growing = record (places growing_decl 2 ((1, codes "a") ∷ []) (own_use ∷ inner)) {
+  constructors = (4, codes "N") ∷ (6, codes "C") ∷ [];
+  carrying = 6 ∷ [];
+}
 
 -- Irregular at the use of the name
 is_irregular : BreaksInFile (growing ∷ []) irregular 10
@@ -100,7 +108,7 @@ is_irregular = inr (
     codes "t",
     list_of_a ∷ [],
     false,
-    Contains-first own_use (variable_at 8 (codes "a") ∷ []),
+    Contains-first own_use inner,
     (
       growing,
       Contains-first growing [],
@@ -123,10 +131,16 @@ abbrev f_decl : Decl
 f_decl = declares (codes "f") [] (bodies.Abbreviation (named (codes "float"))) 0
 
 abbrev r_places : DeclPlaces
-r_places = places (declares (codes "r") [] (bodies.Record (x ∷ [])) 0) 1 [] []
+r_places = record (places (declares (codes "r") [] (bodies.Record (x ∷ [])) 0) 1 []
+    (use_of 6 (codes "f") [] false ∷ [])) {
+      records = ((4, codes "x") ∷ []) ∷ [];
+    }
+
+abbrev f_places : DeclPlaces
+f_places = places f_decl 9 [] (use_of 11 (codes "float") [] false ∷ [])
 
 abbrev both : List DeclPlaces
-both = r_places ∷ places f_decl 8 [] [] ∷ []
+both = r_places ∷ f_places ∷ []
 
 through : IsThrough (r_places.decl ∷ f_decl ∷ []) 0 (named (codes "f"))
 through = record {
@@ -157,7 +171,7 @@ is_float_in_group : BreaksInFile both float_in_group 1
 is_float_in_group =
     inr (
       r_places,
-      Contains-first r_places (places f_decl 8 [] [] ∷ []),
+      Contains-first r_places (f_places ∷ []),
       (refl, (all_expand, x, Contains-first x [], through)),
     )
 
@@ -219,12 +233,15 @@ is_hash_clash = (
 abbrev with_int : List PlacedItem
 with_int = (1, including bracket int) ∷ (3, tag bracket (codes "A")) ∷ []
 
+abbrev of_with_int : List Occurrence
+of_with_int = bracket_of with_int ∷ use_of 1 (codes "int") [] false ∷ []
+
 -- NotVariant at the included type
-is_not_variant : BreaksInType [] (bracket_of with_int ∷ []) not_variant 1
+is_not_variant : BreaksInType [] of_with_int not_variant 1
 unfolding head predeclared
 is_not_variant = (
   with_int,
-  Contains-first (bracket_of with_int) [],
+  Contains-first (bracket_of with_int) (use_of 1 (codes "int") [] false ∷ []),
   (
     int,
     Contains-first (1, including bracket int) ((3, tag bracket (codes "A")) ∷ []),
@@ -251,7 +268,23 @@ of_int = record { name = codes "A"; argument = Some int }
 abbrev of_string : TagOf Ty
 of_string = record { name = codes "A"; argument = Some (named (codes "string")) }
 
-tags_clash : HasTags (t_decl ∷ []) clashing 14 0 1 of_int of_string
+abbrev string_use : Occurrence
+string_use = use_of 16 (codes "string") [] true
+
+abbrev u_decl : Decl
+u_decl = declares (codes "u") []
+    (bodies.Abbreviation (tag_of (including bracket (named (codes "t"))) (codes "A")
+    (named (codes "string")))) 1
+
+abbrev t_places : DeclPlaces
+t_places = places t_decl 1 []
+    (bracket_of ((4, tag_of bracket (codes "A") int) ∷ []) ∷ use_of 6 (codes "int") [] true ∷ [])
+
+abbrev u_places : DeclPlaces
+u_places = places u_decl 9 []
+    (bracket_of clashing ∷ use_of 12 (codes "t") [] false ∷ string_use ∷ [])
+
+tags_clash : HasTags (t_decl ∷ u_decl ∷ []) clashing 14 0 1 of_int of_string
 unfolding head
 tags_clash = record {
   place = 12;
@@ -272,9 +305,13 @@ unfolding letters
 arguments_differ same = let e : 3 ≡ 6 = ap letters same in omega (arith, e)
 
 -- TagClash at the later item
-is_tag_clash : BreaksInType (t_decl ∷ []) (bracket_of clashing ∷ []) tag_clash 14
-is_tag_clash = (
-  clashing,
-  Contains-first (bracket_of clashing) [],
-  (0, 1, of_int, of_string, tags_clash, omega arith, refl, arguments_differ),
+is_tag_clash : BreaksInFile (t_places ∷ u_places ∷ []) tag_clash 14
+is_tag_clash = inr (
+  u_places,
+  Contains-later t_places (u_places ∷ []) u_places (Contains-first u_places []),
+  (
+    clashing,
+    Contains-first (bracket_of clashing) (use_of 12 (codes "t") [] false ∷ string_use ∷ []),
+    (0, 1, of_int, of_string, tags_clash, omega arith, refl, arguments_differ),
+  ),
 )
