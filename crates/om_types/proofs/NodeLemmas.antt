@@ -1,9 +1,10 @@
 -- The types of nodes, one after the other.
 use Rattle.std.proofs.Common.{ℕ, zero, suc, ◌+◌, ◌-◌, ◌<◌, ◌≡◌, ◌∙◌, ⊎_elim, List, [], ◌∷◌, ◌++◌}
-use Rattle.std.proofs.Common.{length, Some}
+use Rattle.std.proofs.Common.{length, Some, ◌≤◌, take, drop}
 use Rattle.std.proofs.Common.{refl, sym, ap, subst, arith}
 use Rattle.std.specs.Prelude.{fold, slice_get}
-use Rattle.std.proofs.lemmas.List.{append_assoc}
+use Rattle.std.proofs.lemmas.List.{append_assoc, take-append-drop, length-take, length-take-le}
+use Rattle.std.proofs.Math.Seq.{take-append_seam}
 use Rattle.std.proofs.lemmas.Option.{none-some, same_Some, slice_get_within}
 use Rattle.om_model.proofs.Options.{same_or_not}
 use Rattle.om_types.specs.Ty.{Ty, part, tag, tag_of, including}
@@ -60,7 +61,8 @@ grown_keeps types (node ∷ all) =
           more.0,
     )
 
-at_kept : (types added : List Ty) (i : ℕ) → i < length types → type_at (types ++ added) i ≡ type_at
+-- what is there stays at its number
+pub at_kept : (types added : List Ty) (i : ℕ) → i < length types → type_at (types ++ added) i ≡ type_at
     types i
 at_kept [] added i below = absurd (omega arith)
 at_kept (t ∷ types) added zero below = refl
@@ -71,7 +73,8 @@ at_end : (types : List Ty) (t : Ty) (more : List Ty) → slice_get (types ++ t �
 at_end [] t more = refl
 at_end (u ∷ types) t more = at_end types t more
 
-node_kept : (types added : List Ty) (node : Node) → IsBelow (length types) node
+-- and a node that names it stands for the same
+pub node_kept : (types added : List Ty) (node : Node) → IsBelow (length types) node
     → type_of_node (types ++ added) node ≡ type_of_node types node
 node_kept types added (nodes.Variable x) below = refl
 node_kept types added (nodes.Named n) below = refl
@@ -177,3 +180,32 @@ type_of-push all node =
       at_last : (types : List Ty) (t : Ty) → type_at (types ++ t ∷ []) (length types) ≡ t
       at_last [] t = refl
       at_last (u ∷ types) t = at_last types t
+
+-- ---- the first nodes
+
+-- the types of the first nodes are the first types
+pub types_of-take :
+    (n : ℕ) (all : List Node) → n ≤ length all → types_of (take n all) ≡ take n (types_of all)
+unfolding types_of
+types_of-take n all within =
+    let front = types_of (take n all) in
+    let kept = grown_keeps front (drop n all) in
+    let whole : types_of all ≡ front ++ kept.0 =
+    ap (grown []) (sym (take-append-drop n all)) ∙ grown_append [] (take n all) (drop n all)
+    ∙ kept.1 in
+    let many : length front ≡ n = types_of-length (take n all) ∙ length-take-le n all within in
+    sym (ap (take n) whole ∙ ap (λ k. take k (front ++ kept.0)) (sym many)
+    ∙ take-append_seam front kept.0)
+
+-- what is among the first elements
+pub from_front :
+    {A : Type 0} (n : ℕ) (xs : List A) (i : ℕ) (x : A) → slice_get (take n xs) i ≡ Some x
+    → slice_get xs i ≡ Some x
+from_front zero xs i x is = absurd (omega (arith, slice_get_within (take zero xs) i x is, length-take zero xs))
+from_front (suc n) [] i x is = is
+from_front (suc n) (y ∷ xs) zero x is = is
+from_front (suc n) (y ∷ xs) (suc i) x is = from_front n xs i x is
+
+-- the first nodes name earlier ones
+pub AreOrdered-take : (n : ℕ) (all : List Node) → AreOrdered all → AreOrdered (take n all)
+AreOrdered-take n all ordered i node is = ordered i node (from_front n all i node is)

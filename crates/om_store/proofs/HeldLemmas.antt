@@ -1,0 +1,102 @@
+-- What stands once in a set, and where.
+use Rattle.std.proofs.Common.{ℕ, ◌+◌, ◌<◌, ◌≡◌, ◌∙◌, ⊎_elim, ◌⊎◌, inl, inr, Bool, true, false, cond, List, [], ◌∷◌, ◌++◌, length, map, Option, Some, None, refl, sym, ap, subst, true≢false, arith}
+use Rattle.std.specs.Prelude.{slice_get, position, option_map, nat_eq}
+use Rattle.std.specs.Global.{Vec}
+use Rattle.std.specs.List.{IsDistinct, list_any}
+use Rattle.std.specs.Cmp.Lexicographic.{pointwise, bytes_decides}
+use Rattle.std.proofs.lemmas.List.{map-append}
+use Rattle.std.proofs.lemmas.List.Quantifiers.{position-Some}
+use Rattle.std.proofs.lemmas.Map.Keys.{apart_from_distinct}
+use Rattle.std.proofs.lemmas.Option.{none-some, same_Some, slice_get-map, slice_get_within, get_or_from_slice_get}
+use Rattle.om_model.proofs.Options.{none_or_some, same_or_not, slice_get_there}
+use Rattle.indexmap.specs.IndexSet.{insert_key}
+use Rattle.om_store.specs.Held.{AreDistinct, Adds}
+use Rattle.om_store.specs.Texts.{texts_of}
+
+-- ---- keys that are equal stand once
+
+module _ {K : Type 0} (eq : K → K → Bool) (ks : List K) (distinct : IsDistinct eq ks) where
+  apart :
+      (i j : ℕ) (a b : K) → slice_get ks i ≡ Some a → slice_get ks j ≡ Some b → eq a b ≡ true
+      → i < j → ⊥
+  apart i j a b at_i at_j same before =
+      let differ = apart_from_distinct eq ks i j a distinct before (slice_get_within ks j b at_j) in
+      let first = get_or_from_slice_get ks i a a at_i in
+      let second = get_or_from_slice_get ks j b a at_j in
+      true≢false (sym same ∙ sym (λ t. eq (first t) (second t)) ∙ differ)
+
+  pub one_place :
+      (i j : ℕ) (a b : K) → slice_get ks i ≡ Some a → slice_get ks j ≡ Some b → eq a b ≡ true
+      → eq b a ≡ true → i ≡ j
+  one_place i j a b at_i at_j same back =
+      let not_before : i < j → ⊥ = apart i j a b at_i at_j same in
+      let not_after : j < i → ⊥ = apart j i b a at_j at_i back in
+      omega (arith, not_before, not_after)
+
+  pub AreDistinct-keys : ((a : K) → eq a a ≡ true) → AreDistinct ks
+  AreDistinct-keys itself i j a at_i at_j = one_place i j a a at_i at_j (itself a) (itself a)
+
+-- an element of a list whose elements are all replaced
+pub get-mapped :
+    {A B : Type 0} (f : A → B) (xs : List A) (i : ℕ) (y : B) → slice_get (map f xs) i ≡ Some y
+    → (x : A) × (slice_get xs i ≡ Some x) × (f x ≡ y)
+get-mapped f xs i y is = ⊎_elim
+    (λ none. absurd (none-some y (sym (slice_get-map f xs i ∙ ap (option_map f) none) ∙ is)))
+    (λ some. (some.0, some.1, same_Some (f some.0) y (sym (slice_get-map f xs i ∙ ap (option_map f) some.1) ∙ is)))
+    (none_or_some (slice_get xs i))
+
+pub get-map :
+    {A B : Type 0} (f : A → B) (xs : List A) (i : ℕ) (x : A) → slice_get xs i ≡ Some x
+    → slice_get (map f xs) i ≡ Some (f x)
+get-map f xs i x is = slice_get-map f xs i ∙ ap (option_map f) is
+
+-- ---- texts
+
+-- texts of distinct vectors stand once
+pub AreDistinct-texts :
+    (eq : Vec ℕ → Vec ℕ → Bool) → ((a b : Vec ℕ) → a.items ≡ b.items → eq a b ≡ true)
+    → (ks : List (Vec ℕ)) → IsDistinct eq ks → AreDistinct (texts_of ks)
+AreDistinct-texts eq alike ks distinct i j x at_i at_j =
+    let a = get-mapped (λ (v : Vec ℕ). v.items) ks i x at_i in
+    let b = get-mapped (λ (v : Vec ℕ). v.items) ks j x at_j in
+    one_place eq ks distinct i j a.0 b.0 a.1 b.1 (alike a.0 b.0 (a.2 ∙ sym b.2)) (alike b.0 a.0 (b.2 ∙ sym a.2))
+
+pub alike_texts : (a b : Vec ℕ) → a.items ≡ b.items → pointwise nat_eq a.items b.items ≡ true
+alike_texts a b same = (bytes_decides a.items b.items).1 same
+
+-- the place of a text that is found
+pub text_found :
+    (name : List ℕ) (ks : List (Vec ℕ)) (i : ℕ)
+    → position (λ (k : Vec ℕ). pointwise nat_eq name k.items) ks ≡ Some i → i < length ks
+    → slice_get (texts_of ks) i ≡ Some name
+text_found name ks i found below =
+    let k = slice_get_there ks i below in
+    let passes = position-Some (λ (k : Vec ℕ). pointwise nat_eq name k.items) ks i k.0 found in
+    let here = get_or_from_slice_get ks i k.0 k.0 k.1 in
+    let same = (bytes_decides name (k.0).items).0 (sym (ap (λ (v : Vec ℕ). pointwise nat_eq name v.items) here) ∙ passes.1) in
+    get-map (λ (v : Vec ℕ). v.items) ks i k.0 k.1 ∙ ap Some (sym same)
+
+-- a set after a text is put into it
+pub text_added :
+    (eq : Vec ℕ → Vec ℕ → Bool) (old new : List (Vec ℕ)) (value k : Vec ℕ) (i : ℕ) (name : List ℕ)
+    → new ≡ insert_key eq old value → slice_get new i ≡ Some k
+    → pointwise nat_eq value.items k.items ≡ true → value.items ≡ name
+    → Adds (texts_of old) (texts_of new) name i
+text_added eq old new value k i name is stored same named =
+    record { grown = by (list_any (eq value) old) refl; there = there } where
+      there : slice_get (texts_of new) i ≡ Some name
+      there =
+          get-map (λ (v : Vec ℕ). v.items) new i k stored
+          ∙ ap Some (sym ((bytes_decides value.items k.items).0 same) ∙ named)
+
+      by :
+          (b : Bool) → list_any (eq value) old ≡ b
+          → (texts_of new ≡ texts_of old) ⊎ (texts_of new ≡ texts_of old ++ name ∷ [])
+      by true e = inl (ap texts_of (is ∙ ap (λ (b : Bool). cond b old (old ++ value ∷ [])) e))
+      by false e = inr (ap texts_of (is ∙ ap (λ (b : Bool). cond b old (old ++ value ∷ [])) e)
+          ∙ map-append (λ (v : Vec ℕ). v.items) old (value ∷ [])
+          ∙ ap (λ (t : List ℕ). texts_of old ++ t ∷ []) named)
+
+-- what is there needs no adding
+pub adds_nothing : {T : Type 0} (old : List T) (x : T) (i : ℕ) → slice_get old i ≡ Some x → Adds old old x i
+adds_nothing old x i there = record { grown = inl refl; there = there }

@@ -1,0 +1,3 @@
+pub mod HeldLemmas
+pub mod StoreLemmas
+pub mod DistinctLemmas

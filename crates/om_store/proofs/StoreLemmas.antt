@@ -1,0 +1,186 @@
+-- What a name more or a node more does to a store.
+use Rattle.std.proofs.Common.{ℕ, zero, suc, ◌+◌, ◌<◌, ◌≡◌, ◌∙◌, ⊎_elim, ◌⊎◌, inl, inr, List, [], ◌∷◌, ◌++◌, length, map, Option, Some, None, Result, Ok, Err, IfOk, OnErr, refl, sym, ap, subst, length-append, arith}
+use Rattle.std.specs.Prelude.{slice_get, slice_index_or}
+use Rattle.std.proofs.lemmas.List.{map-append, length-map, append-nil}
+use Rattle.std.proofs.lemmas.Option.{none-some, same_Some, slice_get_within, get_or_from_slice_get}
+use Rattle.om_types.specs.Ty.{Ty}
+use Rattle.om_types.specs.declared.ty.Node.{Node as Written}
+use Rattle.om_types.specs.declared.ty.Node.TheVariants as written
+use Rattle.om_types.specs.Nodes.{type_at, type_of_node, types_of, IsBelow, AreOrdered}
+use Rattle.om_types.proofs.NodeLemmas.{types_of-push, types_of-length, types_of-at, node_kept, AreOrdered-push}
+use Rattle.om_store.specs.declared.node.Node.{Node}
+use Rattle.om_store.specs.declared.node.Node.TheVariants as nodes
+use Rattle.om_store.specs.Held.{AreDistinct, Adds, Holds}
+use Rattle.om_store.specs.View.{name_at, spelled, types_in, IsNamedBelow, IsStore}
+use Rattle.om_store.proofs.HeldLemmas.{get-map, get-mapped}
+
+pub types_in-none : types_in [] [] ≡ []
+unfolding types_of
+types_in-none = refl
+
+pub types_in-length : (names : List (List ℕ)) (all : List Node) → length (types_in names all) ≡ length all
+types_in-length names all = types_of-length (map (spelled names) all) ∙ length-map all (spelled names)
+
+-- ---- a name more
+
+name_kept : (names added : List (List ℕ)) (n : ℕ) → n < length names → name_at (names ++ added) n ≡ name_at names n
+name_kept [] added n below = absurd (omega arith)
+name_kept (name ∷ names) added zero below = refl
+name_kept (name ∷ names) added (suc n) below = name_kept names added n (omega arith)
+
+spelled_kept :
+    (names added : List (List ℕ)) (node : Node) → IsNamedBelow (length names) node
+    → spelled (names ++ added) node ≡ spelled names node
+spelled_kept names added (nodes.Variable n) below = ap written.Variable (name_kept names added n below)
+spelled_kept names added (nodes.Named n) below = ap written.Named (name_kept names added n below)
+spelled_kept names added nodes.Tuple below = refl
+spelled_kept names added nodes.Bracket below = refl
+spelled_kept names added (nodes.Part whole part) below = refl
+spelled_kept names added (nodes.Tag whole n) below = ap (written.Tag whole) (name_kept names added n below)
+spelled_kept names added (nodes.TagOf whole n argument) below =
+    ap (λ x. written.TagOf whole x argument) (name_kept names added n below)
+spelled_kept names added (nodes.Including whole included) below = refl
+
+named_more : (n m : ℕ) → n < suc m → (node : Node) → IsNamedBelow n node → IsNamedBelow m node
+named_more n m more (nodes.Variable k) below = omega arith
+named_more n m more (nodes.Named k) below = omega arith
+named_more n m more nodes.Tuple below = tt
+named_more n m more nodes.Bracket below = tt
+named_more n m more (nodes.Part whole part) below = tt
+named_more n m more (nodes.Tag whole k) below = omega arith
+named_more n m more (nodes.TagOf whole k argument) below = omega arith
+named_more n m more (nodes.Including whole included) below = tt
+
+map_same :
+    {A B : Type 0} (f g : A → B) (xs : List A)
+    → ((i : ℕ) (x : A) → slice_get xs i ≡ Some x → f x ≡ g x) → map f xs ≡ map g xs
+map_same f g [] same = refl
+map_same f g (x ∷ xs) same =
+    ap (λ y. y ∷ map f xs) (same 0 x refl) ∙ ap (λ ys. g x ∷ ys) (map_same f g xs (λ i. same (suc i)))
+
+-- new names are old ones with some at their end
+module _ (names new added : List (List ℕ)) (all : List Node) (kept : new ≡ names ++ added) (store : IsStore names all) where
+  spelled_same : map (spelled new) all ≡ map (spelled names) all
+  spelled_same =
+      ap (λ (ns : List (List ℕ)). map (spelled ns) all) kept
+      ∙ map_same (spelled (names ++ added)) (spelled names) all (λ i node is. spelled_kept names added node (store.named i node is))
+
+  pub types_in-names : types_in new all ≡ types_in names all
+  types_in-names = ap types_of spelled_same
+
+  pub store_names : AreDistinct new → IsStore new all
+  store_names distinct = record {
+    ordered = subst AreOrdered (sym spelled_same) store.ordered;
+    named = λ i node is. named_more (length names) (length new) (omega (arith, ap length kept, length-append names added)) node (store.named i node is);
+    own_names = distinct;
+    own_nodes = store.own_nodes;
+  }
+
+-- what was added: nothing, or this
+pub added_by : {T : Type 0} (old new : List T) (x : T) (i : ℕ) → Adds old new x i → (added : List T) × (new ≡ old ++ added)
+added_by old new x i adds = ⊎_elim
+    (λ same. ([], same ∙ sym (append-nil old)))
+    (λ more. (x ∷ [], more))
+    adds.grown
+
+-- ---- a node more
+
+module _ (names : List (List ℕ)) (all new : List Node) (node : Node) (i : ℕ) (store : IsStore names all)
+    (adds : Adds all new node i) (distinct : AreDistinct new) (known : IsNamedBelow (length names) node)
+    (below : IsBelow (length (types_in names all)) (spelled names node)) where
+  grown_map : (new ≡ all ++ node ∷ []) → map (spelled names) new ≡ map (spelled names) all ++ spelled names node ∷ []
+  grown_map more = ap (map (spelled names)) more ∙ map-append (spelled names) all (node ∷ [])
+
+  ordered_new : AreOrdered (map (spelled names) new)
+  ordered_new = ⊎_elim
+      (λ same. subst (λ ns. AreOrdered (map (spelled names) ns)) (sym same) store.ordered)
+      (λ more. subst AreOrdered (sym (grown_map more))
+      (AreOrdered-push (map (spelled names) all) (spelled names node) store.ordered
+      (subst (λ n. IsBelow n (spelled names node)) (types_of-length (map (spelled names) all)) below)))
+      adds.grown
+
+  named_new : (k : ℕ) (other : Node) → slice_get new k ≡ Some other → IsNamedBelow (length names) other
+  named_new k other is = ⊎_elim
+      (λ same. store.named k other (sym (ap (λ ns. slice_get ns k) same) ∙ is))
+      (λ more. at_push all k (sym (ap (λ ns. slice_get ns k) more) ∙ is) (λ at. store.named k other at))
+      adds.grown where
+        at_push :
+            (ns : List Node) (j : ℕ) → slice_get (ns ++ node ∷ []) j ≡ Some other
+            → (slice_get ns j ≡ Some other → IsNamedBelow (length names) other)
+            → IsNamedBelow (length names) other
+        at_push [] zero at before = subst (IsNamedBelow (length names)) (same_Some node other at) known
+        at_push [] (suc j) at before = absurd (none-some other at)
+        at_push (n ∷ ns) zero at before = before at
+        at_push (n ∷ ns) (suc j) at before = at_push ns j at before
+
+  pub store_node : IsStore names new
+  store_node = record {
+    ordered = ordered_new;
+    named = named_new;
+    own_names = store.own_names;
+    own_nodes = distinct;
+  }
+
+  types_new : (added : List Ty) × (types_in names new ≡ types_in names all ++ added)
+  types_new = ⊎_elim
+      (λ same. ([], ap (types_in names) same ∙ sym (append-nil (types_in names all))))
+      (λ more. (
+        type_of_node (types_in names all) (spelled names node) ∷ [],
+        ap types_of (grown_map more) ∙ types_of-push (map (spelled names) all) (spelled names node),
+      ))
+      adds.grown
+
+  pub holds_node : Holds (types_in names all) (types_in names new) (type_of_node (types_in names all) (spelled names node)) i
+  holds_node = record {
+    added = types_new.0;
+    kept = types_new.1;
+    there = types_of-at (map (spelled names) new) i (spelled names node) ordered_new (get-map (spelled names) new i node adds.there)
+        ∙ ap Some (ap (λ ts. type_of_node ts (spelled names node)) types_new.1
+        ∙ node_kept (types_in names all) types_new.0 (spelled names node) below);
+  }
+
+-- ---- after a call
+
+-- a call that adds a name, or fails and adds nothing
+module _ {E : Type 0} (names new : List (List ℕ)) (name : List ℕ) (r : Result ℕ E) (ok : IfOk r (Adds names new name)) (err : OnErr r (new ≡ names)) where
+  pub names_grown : (added : List (List ℕ)) × (new ≡ names ++ added)
+  names_grown = by r ok err where
+    by : (q : Result ℕ E) → IfOk q (Adds names new name) → OnErr q (new ≡ names) → (added : List (List ℕ)) × (new ≡ names ++ added)
+    by (Ok i) adds none = added_by names new name i adds
+    by (Err e) none same = ([], same ∙ sym (append-nil names))
+
+  pub name_below : IfOk r (λ n. n < length new)
+  name_below = by r ok where
+    by : (q : Result ℕ E) → IfOk q (Adds names new name) → IfOk q (λ n. n < length new)
+    by (Ok i) adds = slice_get_within new i name adds.there
+    by (Err e) none = tt
+
+  pub name_is : IfOk r (λ n. name_at new n ≡ name)
+  name_is = by r ok where
+    by : (q : Result ℕ E) → IfOk q (Adds names new name) → IfOk q (λ n. name_at new n ≡ name)
+    by (Ok i) adds = get_or_from_slice_get new i name [] adds.there
+    by (Err e) none = tt
+
+-- a call that adds a node, or fails and adds nothing
+module _ {E : Type 0} (names : List (List ℕ)) (all new : List Node) (node : Node) (r : Result ℕ E) (ok : IfOk r (Adds all new node)) (err : OnErr r (new ≡ all))
+    (store : IsStore names all) (distinct : AreDistinct new) (known : IsNamedBelow (length names) node)
+    (below : IsBelow (length (types_in names all)) (spelled names node)) where
+  pub store_after : IsStore names new
+  store_after = by r ok err where
+    by : (q : Result ℕ E) → IfOk q (Adds all new node) → OnErr q (new ≡ all) → IsStore names new
+    by (Ok i) adds none = store_node names all new node i store adds distinct known below
+    by (Err e) none same = subst (IsStore names) (sym same) store
+
+  pub holds_after : IfOk r (Holds (types_in names all) (types_in names new) (type_of_node (types_in names all) (spelled names node)))
+  holds_after = by r ok where
+    by : (q : Result ℕ E) → IfOk q (Adds all new node) → IfOk q (Holds (types_in names all) (types_in names new) (type_of_node (types_in names all) (spelled names node)))
+    by (Ok i) adds = holds_node names all new node i store adds distinct known below
+    by (Err e) none = tt
+
+-- the type of a number is that of its node
+pub node_at :
+    (names : List (List ℕ)) (all : List Node) (i : ℕ) (node : Node) → IsStore names all
+    → slice_get all i ≡ Some node
+    → slice_get (types_in names all) i ≡ Some (type_of_node (types_in names all) (spelled names node))
+node_at names all i node store is =
+    types_of-at (map (spelled names) all) i (spelled names node) store.ordered (get-map (spelled names) all i node is)

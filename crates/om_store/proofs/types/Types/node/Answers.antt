@@ -1,0 +1,22 @@
+use Rattle.std.proofs.Common.{ap, ◌∙◌, sym, subst, ◌≡◌, Some, arith, ◌<◌, length, slice_index_or}
+use Rattle.std.specs.Prelude.{slice_get}
+use Rattle.om_types.specs.Nodes.{type_of_node, IsBelow}
+use Rattle.om_store.specs.View.{types_in, spelled}
+use Rattle.om_store.proofs.StoreLemmas.{types_in-length, node_at}
+use Rattle.om_store.proofs.HeldLemmas.{get-map}
+use Rattle.om_store.proofs.types.Types.node.Goals as goal
+
+pub stored-requires : goal.stored-requires
+stored-requires c =
+    omega (arith, types_in-length c.self.inside.names c.self.inside.nodes.keys, ap length c.self.view_is, c.requires)
+
+pub spelling-requires : goal.spelling-requires
+spelling-requires c = c.self.invariant.named _ _ c.stored.ensures
+
+pub returns-clause-is : goal.returns-clause-is
+returns-clause-is c =
+    rw (c.spelling.ensures, ← c.self.view_is) (node_at _ _ _ _ c.self.invariant c.stored.ensures)
+
+pub returns-clause-below : goal.returns-clause-below
+returns-clause-below c =
+    rw c.spelling.ensures (c.self.invariant.ordered _ _ (get-map (spelled c.self.inside.names) c.self.inside.nodes.keys c.args.number c.stored.result c.stored.ensures))

@@ -1,0 +1,42 @@
+-- The types of nodes whose names are numbers.
+use Rattle.std.specs.Prelude.{ℕ, ◌<◌, ◌≡◌, List, [], map, length, slice_get, slice_index_or, Some}
+use Rattle.om_types.specs.Ty.{Ty}
+use Rattle.om_types.specs.declared.ty.Node.{Node as Written}
+use Rattle.om_types.specs.declared.ty.Node.TheVariants as written
+use Rattle.om_types.specs.Nodes.{types_of, AreOrdered}
+use Rattle.om_store.specs.declared.node.Node.{Node}
+use Rattle.om_store.specs.declared.node.Node.TheVariants as nodes
+use Rattle.om_store.specs.Held.{AreDistinct}
+
+abbrev pub name_at : List (List ℕ) → ℕ → List ℕ
+name_at names n = slice_index_or names n []
+
+-- the node with its name
+abbrev pub spelled : List (List ℕ) → Node → Written
+spelled names (nodes.Variable n) = written.Variable (name_at names n)
+spelled names (nodes.Named n) = written.Named (name_at names n)
+spelled names nodes.Tuple = written.Tuple
+spelled names nodes.Bracket = written.Bracket
+spelled names (nodes.Part whole added) = written.Part whole added
+spelled names (nodes.Tag whole n) = written.Tag whole (name_at names n)
+spelled names (nodes.TagOf whole n argument) = written.TagOf whole (name_at names n) argument
+spelled names (nodes.Including whole included) = written.Including whole included
+
+-- the type of each node
+abbrev pub types_in : List (List ℕ) → List Node → List Ty
+types_in names all = types_of (map (spelled names) all)
+
+-- its name, where it has one, is among the first n
+abbrev pub IsNamedBelow : ℕ → Node → Type 0
+IsNamedBelow n (nodes.Variable m) = m < n
+IsNamedBelow n (nodes.Named m) = m < n
+IsNamedBelow n (nodes.Tag whole m) = m < n
+IsNamedBelow n (nodes.TagOf whole m argument) = m < n
+IsNamedBelow n node = Unit {0}
+
+-- each node names earlier ones, each name is there, and nothing stands twice
+pub record IsStore (names : List (List ℕ)) (all : List Node) : Type 0 where
+  pub ordered : AreOrdered (map (spelled names) all)
+  pub named : (i : ℕ) (node : Node) → slice_get all i ≡ Some node → IsNamedBelow (length names) node
+  pub own_names : AreDistinct names
+  pub own_nodes : AreDistinct all

@@ -1,0 +1,12 @@
+//! Types by numbers: each type once, as a small node over the numbers of earlier types.
+#![tactic(auto)]
+
+mod names;
+mod node;
+mod types;
+
+pub use node::TypeNode;
+pub use types::Types;
+
+#[cfg(test)]
+mod tests;

@@ -1,0 +1,65 @@
+//! Names by numbers.
+
+ghost use Rattle.std.specs.Prelude.{◌≡◌, ◌<◌, [], Some, length, slice_get, IfOk, OnErr};
+ghost use Rattle.om_store.specs.Held.{Adds};
+
+use indexmap::IndexSet;
+use om_model::Memory;
+use std::alloc::Global;
+use std::marker::Model;
+
+/// Names, each once. Contracts see them as a list.
+#[derive(Drop)]
+pub struct Names {
+    texts: IndexSet<Vec<u8>>,
+}
+
+impl Model for Names {
+    ghost use Rattle.std.specs.Prelude.{ℕ, List};
+
+    ghost Value = { List (List ℕ) };
+
+    ghost use Rattle.om_store.specs.Texts.{texts_of};
+    ghost use Rattle.om_store.specs.Held.{AreDistinct};
+
+    ghost view = { λ n. texts_of n.texts.keys };
+
+    ghost invariant = { λ n. AreDistinct (texts_of n.texts.keys) };
+}
+
+impl Names {
+    ghost use Rattle.om_store.specs.Held.{AreDistinct};
+
+    /// No names.
+    pub fn new(alloc: Global) -> Names
+        ensures { result ≡ [] }
+    {
+        Names {
+            texts: IndexSet::new(alloc),
+        }
+    }
+
+    /// The number of a name, which is added where it is not there. After `Memory` nothing has changed.
+    pub fn number(&mut self, name: &[u8]) -> Result<usize, Memory>
+        ensures ok { IfOk result (Adds self.old self.new name.now) }
+        ensures err { OnErr result (self.new ≡ self.old) }
+        ensures distinct { AreDistinct self.new }
+    {
+        match self.texts.get_index_of(name) {
+            Some(number) => Ok(number),
+            None => {
+                let text = Vec::from_slice(*self.texts.allocator(), name)?;
+                let (number, _) = self.texts.insert_full(text)?;
+                Ok(number)
+            }
+        }
+    }
+
+    /// The name of a number.
+    pub fn name(&self, number: usize) -> &[u8]
+        requires { number < length self.now }
+        ensures { slice_get self.now number ≡ Some result.now }
+    {
+        self.texts.as_slice()[number].as_slice()
+    }
+}
