@@ -1,11 +1,11 @@
 -- Two numbers with one type are one number.
-use Rattle.std.proofs.Common.{ℕ, ◌<◌, ◌≡◌, ◌∙◌, List, [], length, map, Option, Some, None, refl, sym, ap, subst, get_or, arith}
+use Rattle.std.proofs.Common.{ℕ, ◌<◌, ◌≡◌, ◌∙◌, List, [], length, map, Some, refl, sym, ap, subst, arith}
 use Rattle.std.specs.Prelude.{slice_get}
 use Rattle.std.proofs.lemmas.Option.{same_Some, slice_get_within, slice_get-get_or}
 use Rattle.om_model.proofs.Options.{slice_get_there}
 use Rattle.om_types.specs.Ty.{Ty, variable, named, tuple, bracket, part, tag, tag_of, including}
 use Rattle.om_types.specs.Nodes.{type_at, type_of_node, IsBelow}
-use Rattle.om_types.proofs.NodeLemmas.{types_of-length, types_of-at}
+use Rattle.om_types.proofs.NodeLemmas.{types_of-at}
 use Rattle.om_store.specs.declared.node.Node.{Node}
 use Rattle.om_store.specs.declared.node.Node.TheVariants as nodes
 use Rattle.om_store.specs.Held.{AreDistinct}

@@ -1,5 +1,5 @@
 -- What stands once in a set, and where.
-use Rattle.std.proofs.Common.{ℕ, ◌+◌, ◌<◌, ◌≡◌, ◌∙◌, ⊎_elim, ◌⊎◌, inl, inr, Bool, true, false, cond, List, [], ◌∷◌, ◌++◌, length, map, Option, Some, None, refl, sym, ap, subst, true≢false, arith}
+use Rattle.std.proofs.Common.{ℕ, ◌<◌, ◌≡◌, ◌∙◌, ⊎_elim, ◌⊎◌, inl, inr, Bool, true, false, cond, List, [], ◌∷◌, ◌++◌, length, map, Some, refl, sym, ap, true≢false, arith}
 use Rattle.std.specs.Prelude.{slice_get, position, option_map, nat_eq}
 use Rattle.std.specs.Global.{Vec}
 use Rattle.std.specs.List.{IsDistinct, list_any}
@@ -8,7 +8,7 @@ use Rattle.std.proofs.lemmas.List.{map-append}
 use Rattle.std.proofs.lemmas.List.Quantifiers.{position-Some}
 use Rattle.std.proofs.lemmas.Map.Keys.{apart_from_distinct}
 use Rattle.std.proofs.lemmas.Option.{none-some, same_Some, slice_get-map, slice_get_within, get_or_from_slice_get}
-use Rattle.om_model.proofs.Options.{none_or_some, same_or_not, slice_get_there}
+use Rattle.om_model.proofs.Options.{none_or_some, slice_get_there}
 use Rattle.indexmap.specs.IndexSet.{insert_key}
 use Rattle.om_store.specs.Held.{AreDistinct, Adds}
 use Rattle.om_store.specs.Texts.{texts_of}

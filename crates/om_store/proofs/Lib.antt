@@ -1,3 +1,4 @@
 pub mod HeldLemmas
+pub mod InstanceLemmas
 pub mod StoreLemmas
 pub mod DistinctLemmas

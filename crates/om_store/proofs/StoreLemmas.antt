@@ -1,18 +1,17 @@
 -- What a name more or a node more does to a store.
-use Rattle.std.proofs.Common.{ℕ, zero, suc, ◌+◌, ◌<◌, ◌≡◌, ◌∙◌, ⊎_elim, ◌⊎◌, inl, inr, List, [], ◌∷◌, ◌++◌, length, map, Option, Some, None, Result, Ok, Err, IfOk, OnErr, refl, sym, ap, subst, length-append, arith}
-use Rattle.std.specs.Prelude.{slice_get, slice_index_or}
-use Rattle.std.proofs.lemmas.List.{map-append, length-map, append-nil}
+use Rattle.std.proofs.Common.{ℕ, zero, suc, ◌<◌, ◌≡◌, ◌∙◌, ⊎_elim, List, [], ◌∷◌, ◌++◌, length, map, Some, Result, Ok, Err, IfOk, OnErr, refl, sym, ap, subst, length-append, take, ◌≤◌, arith}
+use Rattle.std.specs.Prelude.{slice_get}
+use Rattle.std.proofs.lemmas.List.{map-append, length-map, append-nil, take-map}
 use Rattle.std.proofs.lemmas.Option.{none-some, same_Some, slice_get_within, get_or_from_slice_get}
 use Rattle.om_types.specs.Ty.{Ty}
-use Rattle.om_types.specs.declared.ty.Node.{Node as Written}
 use Rattle.om_types.specs.declared.ty.Node.TheVariants as written
-use Rattle.om_types.specs.Nodes.{type_at, type_of_node, types_of, IsBelow, AreOrdered}
-use Rattle.om_types.proofs.NodeLemmas.{types_of-push, types_of-length, types_of-at, node_kept, AreOrdered-push}
+use Rattle.om_types.specs.Nodes.{type_of_node, types_of, IsBelow, AreOrdered}
+use Rattle.om_types.proofs.NodeLemmas.{types_of-push, types_of-length, types_of-at, node_kept, AreOrdered-push, AreOrdered-take, types_of-take, from_front}
 use Rattle.om_store.specs.declared.node.Node.{Node}
 use Rattle.om_store.specs.declared.node.Node.TheVariants as nodes
 use Rattle.om_store.specs.Held.{AreDistinct, Adds, Holds}
 use Rattle.om_store.specs.View.{name_at, spelled, types_in, IsNamedBelow, IsStore}
-use Rattle.om_store.proofs.HeldLemmas.{get-map, get-mapped}
+use Rattle.om_store.proofs.HeldLemmas.{get-map}
 
 pub types_in-none : types_in [] [] ≡ []
 unfolding types_of
@@ -184,3 +183,20 @@ pub node_at :
     → slice_get (types_in names all) i ≡ Some (type_of_node (types_in names all) (spelled names node))
 node_at names all i node store is =
     types_of-at (map (spelled names) all) i (spelled names node) store.ordered (get-map (spelled names) all i node is)
+
+-- ---- the first nodes
+
+pub types_in-take :
+    (n : ℕ) (names : List (List ℕ)) (all : List Node) → n ≤ length all
+    → types_in names (take n all) ≡ take n (types_in names all)
+types_in-take n names all within =
+    let many : n ≤ length (map (spelled names) all) = omega (arith, length-map all (spelled names)) in
+    ap types_of (sym (take-map (spelled names) n all)) ∙ types_of-take n (map (spelled names) all) many
+
+pub store_take : (n : ℕ) (names : List (List ℕ)) (all : List Node) → IsStore names all → IsStore names (take n all)
+store_take n names all store = record {
+  ordered = subst AreOrdered (take-map (spelled names) n all) (AreOrdered-take n (map (spelled names) all) store.ordered);
+  named = λ i node is. store.named i node (from_front n all i node is);
+  own_names = store.own_names;
+  own_nodes = λ i j node at_i at_j. store.own_nodes i j node (from_front n all i node at_i) (from_front n all j node at_j);
+}

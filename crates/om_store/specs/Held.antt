@@ -16,3 +16,8 @@ pub record Holds {T : Type 0} (old new : List T) (x : T) (number : ℕ) : Type 0
   pub added : List T
   pub kept : new ≡ old ++ added
   pub there : slice_get new number ≡ Some x
+
+-- new is old with elements at its end, or none
+pub record Grows {T : Type 0} (old new : List T) : Type 0 where
+  pub added : List T
+  pub kept : new ≡ old ++ added

@@ -1,6 +1,7 @@
 //! Types by numbers: each type once, as a small node over the numbers of earlier types.
 #![tactic(auto)]
 
+mod instance;
 mod names;
 mod node;
 mod types;

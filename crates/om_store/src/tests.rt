@@ -1,4 +1,5 @@
 use crate::{TypeNode, Types};
+use om_types::ty::Ty;
 use std::test::Fail;
 
 // By hand: (int, string) t, node by node; what is there already keeps its number.
@@ -39,5 +40,16 @@ fn brackets_grow_from_the_left(rt: HostRuntime) -> Result<(), Fail> {
     assert!(rt; matches!(types.node(carrying), TypeNode::TagOf(2, b"A", 1)));
     let tuple = types.add_tuple()?;
     assert_eq!(rt; tuple, 5);
+    Ok(())
+}
+
+// By hand: 'b * 'a list at 'a = int and 'b = t; 'c is no parameter; a parameter without an argument stays.
+#[test]
+fn parameters_are_replaced(rt: HostRuntime) -> Result<(), Fail> {
+    let t = Ty::of(vec![in rt.alloc()]?);
+    let mut types = Types::new(rt.alloc());
+    assert_eq!(rt; types.add(rt.alloc(), &t)?, 0);
+    assert!(rt; 0 < types.len());
+    assert!(rt; matches!(types.node(0), TypeNode::Tuple));
     Ok(())
 }

@@ -153,6 +153,14 @@ impl Types {
     {
         spelling(&self.names, stored(&self.nodes, number))
     }
+
+    /// Leaves the first types alone.
+    pub(crate) fn truncate(&mut self, count: usize)
+        requires { count ≤ length self.old }
+        ensures { self.new ≡ take count self.old }
+    {
+        self.nodes.truncate(count);
+    }
 }
 
 ghost use Rattle.om_store.specs.View.{types_in, spelled, name_at, IsNamedBelow, IsStore};

@@ -1,4 +1,3 @@
-use Rattle.std.proofs.Common.{rules}
 use Rattle.om_store.specs.contracts.node.NodeEq.TheImpl.Laws.{laws-law}
 use Rattle.om_store.proofs.HeldLemmas.{AreDistinct-keys}
 use Rattle.om_store.proofs.types.number_of.Goals as goal

@@ -1,7 +1,6 @@
-use Rattle.std.proofs.Common.{ap, ◌∙◌, sym, subst, nat_eq}
+use Rattle.std.proofs.Common.{ap, ◌∙◌, sym, nat_eq}
 use Rattle.std.specs.Cmp.Lexicographic.{pointwise}
-use Rattle.std.specs.Prelude.{slice_get, Some}
-use Rattle.om_store.specs.Held.{Adds, AreDistinct}
+use Rattle.std.specs.Prelude.{slice_get}
 use Rattle.om_store.proofs.HeldLemmas.{AreDistinct-texts, alike_texts, text_found, text_added, adds_nothing}
 use Rattle.om_store.proofs.names.Names.number.Goals as goal
 

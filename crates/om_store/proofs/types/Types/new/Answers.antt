@@ -1,4 +1,4 @@
-use Rattle.std.proofs.Common.{ap, ◌∙◌, sym, subst, [], List, ◌≡◌, ℕ}
+use Rattle.std.proofs.Common.{ap, ◌∙◌, [], List, ℕ}
 use Rattle.om_store.specs.declared.node.Node.{Node}
 use Rattle.om_store.specs.View.{types_in}
 use Rattle.om_store.proofs.StoreLemmas.{types_in-none}

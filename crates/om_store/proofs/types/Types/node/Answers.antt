@@ -1,7 +1,5 @@
-use Rattle.std.proofs.Common.{ap, ◌∙◌, sym, subst, ◌≡◌, Some, arith, ◌<◌, length, slice_index_or}
-use Rattle.std.specs.Prelude.{slice_get}
-use Rattle.om_types.specs.Nodes.{type_of_node, IsBelow}
-use Rattle.om_store.specs.View.{types_in, spelled}
+use Rattle.std.proofs.Common.{ap, arith, length}
+use Rattle.om_store.specs.View.{spelled}
 use Rattle.om_store.proofs.StoreLemmas.{types_in-length, node_at}
 use Rattle.om_store.proofs.HeldLemmas.{get-map}
 use Rattle.om_store.proofs.types.Types.node.Goals as goal

@@ -1,0 +1,8 @@
+use Rattle.om_store.specs.Instance.{argument_at}
+use Rattle.om_store.proofs.InstanceLemmas.{AreInstances}
+use Rattle.om_store.proofs.instance.grow.Given as goal
+
+abbrev pub invariant-loop-node : goal.invariant-loop-node
+invariant-loop-node l =
+    AreInstances l.initial.types l.types (argument_at l.initial.types l.parameters l.arguments)
+    l.nodes l.node-index l.numbers.items

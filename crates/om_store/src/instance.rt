@@ -1,0 +1,119 @@
+//! Types with their parameters replaced.
+
+ghost use Rattle.std.specs.Prelude.{◌≡◌, ◌<◌, List, Some, length, slice_get, map, All, Contains, IfOk, IfSome, OnErr};
+ghost use Rattle.om_types.specs.Ty.{Ty, instance};
+ghost use Rattle.om_types.specs.Nodes.{type_at, IsBelow};
+ghost use Rattle.om_store.specs.Held.{Grows, Holds};
+ghost use Rattle.om_store.specs.Instance.{instance_of_node, argument_at, type_or_variable};
+
+use crate::types::Types;
+use om_model::Memory;
+use om_model::list::List;
+use om_types::ty::{Node, Ty};
+use std::alloc::Global;
+
+impl Types {
+    /// The number of a type with each parameter replaced by its argument. Other variables stand for themselves. It takes
+    /// a step for each node of the type and each parameter before that of a variable.
+    pub fn instance(
+        &mut self,
+        alloc: Global,
+        t: &Ty,
+        parameters: &[List<u8>],
+        arguments: &[usize],
+    ) -> Result<usize, Memory>
+        requires { All (λ i. i < length self.old) arguments.now }
+        ensures ok { IfOk result (Holds self.old self.new (instance (argument_at self.old parameters.now arguments.now) t.now)) }
+        ensures err { OnErr result (self.new ≡ self.old) }
+    {
+        let before = self.len();
+        match grow(self, alloc, t.nodes(), parameters, arguments) {
+            Ok(number) => Ok(number),
+            Err(error) => {
+                self.truncate(before);
+                Err(error)
+            }
+        }
+    }
+
+    /// The number of a type.
+    pub fn add(&mut self, alloc: Global, t: &Ty) -> Result<usize, Memory>
+        ensures ok { IfOk result (Holds self.old self.new t.now) }
+        ensures err { OnErr result (self.new ≡ self.old) }
+    {
+        self.instance(alloc, t, &[], &[])
+    }
+}
+
+ghost use Rattle.om_types.specs.Nodes.{type_of, AreOrdered};
+ghost use Rattle.om_types.specs.declared.ty.Node.{Node as Written};
+
+/// Adds the instances of these nodes, and answers the number of the last.
+fn grow(
+    types: &mut Types,
+    alloc: Global,
+    nodes: &[Node],
+    parameters: &[List<u8>],
+    arguments: &[usize],
+) -> Result<usize, Memory>
+    requires among { All (λ i. i < length types.old) arguments.now }
+    requires ordered { AreOrdered nodes.now }
+    ensures grown { Grows types.old types.new }
+    ensures ok { IfOk result (λ i. slice_get types.new i ≡ Some (instance (argument_at types.old parameters.now arguments.now) (type_of nodes.now))) }
+{
+    let mut numbers = Vec::new(alloc);
+    for node in nodes {
+        let number = add_node(types, node, numbers.as_slice(), parameters, arguments)?;
+        numbers.push(number)?;
+    }
+    match numbers.last() {
+        Some(number) => Ok(*number),
+        None => types.add_tuple(),
+    }
+}
+
+/// Adds the instance of a node over the instances of earlier ones.
+fn add_node(
+    types: &mut Types,
+    node: &Node,
+    numbers: &[usize],
+    parameters: &[List<u8>],
+    arguments: &[usize],
+) -> Result<usize, Memory>
+    requires numbered { All (λ i. i < length types.old) numbers.now }
+    requires among { All (λ i. i < length types.old) arguments.now }
+    requires below { IsBelow (length numbers.now) node.now }
+    ensures ok { IfOk result (Holds types.old types.new (instance_of_node (argument_at types.old parameters.now arguments.now) (map (type_at types.old) numbers.now) node.now)) }
+    ensures err { OnErr result (types.new ≡ types.old) }
+{
+    match node {
+        Node::Variable(name) => match argument(parameters, arguments, name.as_slice()) {
+            Some(number) => Ok(number),
+            None => types.add_variable(name.as_slice()),
+        },
+        Node::Named(name) => types.add_named(name.as_slice()),
+        Node::Tuple => types.add_tuple(),
+        Node::Bracket => types.add_bracket(),
+        Node::Part(whole, added) => types.add_part(numbers[*whole], numbers[*added]),
+        Node::Tag(whole, name) => types.add_tag(numbers[*whole], name.as_slice()),
+        Node::TagOf(whole, name, argument) => {
+            types.add_tag_of(numbers[*whole], name.as_slice(), numbers[*argument])
+        }
+        Node::Including(whole, included) => {
+            types.add_including(numbers[*whole], numbers[*included])
+        }
+    }
+}
+
+/// The argument of the first parameter of this name.
+fn argument(parameters: &[List<u8>], arguments: &[usize], name: &[u8]) -> Option<usize>
+    ensures stands { (types : List Ty) → argument_at types parameters.now arguments.now name.now ≡ type_or_variable types name.now result }
+    ensures among { IfSome result (λ i. Contains arguments.now i) }
+{
+    for i in 0..parameters.len().min(arguments.len()) {
+        if parameters[i].as_slice() == name {
+            return Some(arguments[i]);
+        }
+    }
+    None
+}
