@@ -8,7 +8,7 @@ ghost use Rattle.om_scope.specs.Names.{number_of, ArePlaces};
 
 use crate::table::{Table, add, empty, find};
 use om_model::Memory;
-use om_types::decl::Decl;
+use om_types::decl::{Decl, Predeclared};
 use std::alloc::Global;
 
 /// The first place of each declared name.
@@ -42,54 +42,74 @@ fn is(word: &[u8], name: &[u8]) -> bool
 }
 
 /// How many arguments a predeclared name takes.
-#[tactic(auto, unfolding(om_types::specs::Declarations::predeclared))]
 pub fn predeclared_arity(name: &[u8]) -> Option<usize>
     ensures { result ≡ option_map predeclared_arity (predeclared name.now) }
 {
+    match predeclared(name) {
+        Some(base) => Some(arity(base)),
+        None => None,
+    }
+}
+
+/// How many arguments a predeclared type takes.
+fn arity(base: Predeclared) -> usize
+    ensures { result ≡ predeclared_arity base }
+{
+    match base {
+        Predeclared::List | Predeclared::Option | Predeclared::Array | Predeclared::Ref => 1,
+        _ => 0,
+    }
+}
+
+/// The predeclared type of a name.
+#[tactic(auto, unfolding(om_types::specs::Declarations::predeclared))]
+pub fn predeclared(name: &[u8]) -> Option<Predeclared>
+    ensures { result ≡ predeclared name.now }
+{
     if is(b"int", name) {
-        return Some(0);
+        return Some(Predeclared::Int);
     }
     if is(b"char", name) {
-        return Some(0);
+        return Some(Predeclared::Char);
     }
     if is(b"bool", name) {
-        return Some(0);
+        return Some(Predeclared::Bool);
     }
     if is(b"unit", name) {
-        return Some(0);
+        return Some(Predeclared::Unit);
     }
     if is(b"string", name) {
-        return Some(0);
+        return Some(Predeclared::String);
     }
     if is(b"bytes", name) {
-        return Some(0);
+        return Some(Predeclared::Bytes);
     }
     if is(b"float", name) {
-        return Some(0);
+        return Some(Predeclared::Float);
     }
     if is(b"int32", name) {
-        return Some(0);
+        return Some(Predeclared::Int32);
     }
     if is(b"int64", name) {
-        return Some(0);
+        return Some(Predeclared::Int64);
     }
     if is(b"nativeint", name) {
-        return Some(0);
+        return Some(Predeclared::Nativeint);
     }
     if is(b"floatarray", name) {
-        return Some(0);
+        return Some(Predeclared::Floatarray);
     }
     if is(b"list", name) {
-        return Some(1);
+        return Some(Predeclared::List);
     }
     if is(b"option", name) {
-        return Some(1);
+        return Some(Predeclared::Option);
     }
     if is(b"array", name) {
-        return Some(1);
+        return Some(Predeclared::Array);
     }
     if is(b"ref", name) {
-        return Some(1);
+        return Some(Predeclared::Ref);
     }
     None
 }

@@ -2,7 +2,7 @@
 #![tactic(auto)]
 
 mod cyclic;
-mod declared;
+pub mod declared;
 mod graph;
 mod least;
 mod names;
@@ -13,7 +13,7 @@ mod seconds;
 mod site;
 mod sites;
 mod steps;
-mod table;
+pub mod table;
 mod uses;
 mod variables;
 

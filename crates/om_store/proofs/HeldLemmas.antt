@@ -4,13 +4,13 @@ use Rattle.std.specs.Prelude.{slice_get, position, option_map, nat_eq}
 use Rattle.std.specs.Global.{Vec}
 use Rattle.std.specs.List.{IsDistinct, list_any}
 use Rattle.std.specs.Cmp.Lexicographic.{pointwise, bytes_decides}
-use Rattle.std.proofs.lemmas.List.{map-append}
+use Rattle.std.proofs.lemmas.List.{map-append, append_assoc}
 use Rattle.std.proofs.lemmas.List.Quantifiers.{position-Some}
 use Rattle.std.proofs.lemmas.Map.Keys.{apart_from_distinct}
 use Rattle.std.proofs.lemmas.Option.{none-some, same_Some, slice_get-map, slice_get_within, get_or_from_slice_get}
 use Rattle.om_model.proofs.Options.{none_or_some, slice_get_there}
 use Rattle.indexmap.specs.IndexSet.{insert_key}
-use Rattle.om_store.specs.Held.{AreDistinct, Adds}
+use Rattle.om_store.specs.Held.{AreDistinct, Adds, Holds, Grows}
 use Rattle.om_store.specs.Texts.{texts_of}
 
 -- ---- keys that are equal stand once
@@ -100,3 +100,12 @@ text_added eq old new value k i name is stored same named =
 -- what is there needs no adding
 pub adds_nothing : {T : Type 0} (old : List T) (x : T) (i : ℕ) → slice_get old i ≡ Some x → Adds old old x i
 adds_nothing old x i there = record { grown = inl refl; there = there }
+
+-- what grew, and then was given an element, grew
+pub Grows-held :
+    {T : Type 0} (old now new : List T) (x : T) (i : ℕ) → Grows old now → Holds now new x i
+    → Grows old new
+Grows-held old now new x i grown held = record {
+  added = grown.added ++ held.added;
+  kept = held.kept ∙ ap (λ ts. ts ++ held.added) grown.kept ∙ append_assoc old grown.added held.added;
+}

@@ -7,7 +7,7 @@ use Rattle.std.proofs.Math.Seq.{take-length}
 use Rattle.std.proofs.lemmas.List.Elements.{All-nil, All-head, All-tail, All-push, All-weaker}
 use Rattle.std.proofs.lemmas.Option.{none-some, same_Some, slice_get_within, get_or_from_slice_get, slice_get-get_or}
 use Rattle.om_model.proofs.Options.{slice_get_there}
-use Rattle.om_store.proofs.HeldLemmas.{get-map}
+use Rattle.om_store.proofs.HeldLemmas.{get-map, Grows-held}
 use Rattle.om_types.specs.Ty.{Ty, variable, named, tuple, bracket, part, tag, tag_of, including, instance, argument_for}
 use Rattle.om_types.specs.declared.ty.Node.{Node}
 use Rattle.om_types.specs.declared.ty.Node.TheVariants as nodes
@@ -102,15 +102,9 @@ module _ (old types : List Ty) (value : List ℕ → Ty) (all : List Node) (k : 
         ∙ ap (λ ts. instance_of_node value ts node) so_far.are
         ∙ node_instance value (types_of (take k all)) node
 
-    pub grown_more : Grows old new
-    grown_more = record {
-      added = so_far.grown.added ++ held.added;
-      kept = held.kept ∙ ap (λ ts. ts ++ held.added) so_far.grown.kept ∙ append_assoc old so_far.grown.added held.added;
-    }
-
     pub AreInstances-more : AreInstances old new value all (suc k) (numbers ++ i ∷ [])
     AreInstances-more = record {
-      grown = grown_more;
+      grown = Grows-held old types new _ i so_far.grown held;
       below = All-push (λ j. j < length new) numbers i (below_kept types new held.added numbers held.kept so_far.below) (slice_get_within new i _ held.there);
       are = map-append (type_at new) numbers (i ∷ [])
           ∙ (λ j. (types_at-kept types new held.added numbers held.kept so_far.below ∙ so_far.are) j ++ there j ∷ [])
@@ -133,10 +127,7 @@ module _ (old types : List Ty) (parameters : List (List ℕ)) (arguments : List 
         (λ j. instance_of_node (argument_at-kept j) (map (type_at types) (same j)) node) held
 
     pub grown_next : Grows old new
-    grown_next = record {
-      added = so_far.grown.added ++ held.added;
-      kept = held.kept ∙ ap (λ ts. ts ++ held.added) so_far.grown.kept ∙ append_assoc old so_far.grown.added held.added;
-    }
+    grown_next = Grows-held old types new _ i so_far.grown held
 
     pub AreInstances-next :
         slice_get all k ≡ Some node

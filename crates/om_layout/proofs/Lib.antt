@@ -1,0 +1,3 @@
+pub mod SpineLemmas
+pub mod ReplacedLemmas
+pub mod PlainLemmas

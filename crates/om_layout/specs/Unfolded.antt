@@ -1,0 +1,25 @@
+-- Replacements at the head, by numbers.
+use Rattle.std.specs.Prelude.{ℕ, ◌≡◌, ◌<◌, List, length, Some, None}
+use Rattle.om_types.specs.declared.decl.Decl.{Decl}
+use Rattle.om_types.specs.Ty.{Ty}
+use Rattle.om_types.specs.Nodes.{type_at}
+use Rattle.om_types.specs.Declarations.{unfolded}
+use Rattle.om_types.specs.Head.{head}
+use Rattle.om_store.specs.Held.{Holds}
+
+-- the type has been replaced once, and the new one has this number
+pub record IsReplaced (decls : List Decl) (old new : List Ty) (t : Ty) (number : ℕ) : Type 0 where
+  pub next : Ty
+  pub is : unfolded decls t ≡ Some next
+  pub holds : Holds old new next number
+
+-- there is nothing to replace, and nothing was added
+pub record IsLeft (decls : List Decl) (old new : List Ty) (t : Ty) : Type 0 where
+  pub none : unfolded decls t ≡ None
+  pub same : new ≡ old
+
+-- The type with this number has the head of t, and no abbreviation at it.
+pub record HasHeadOf (decls : List Decl) (types : List Ty) (t : Ty) (number : ℕ) : Type 0 where
+  pub within : number < length types
+  pub head : head decls (type_at types number) ≡ head decls t
+  pub ended : unfolded decls (type_at types number) ≡ None

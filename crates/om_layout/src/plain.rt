@@ -1,0 +1,61 @@
+//! The head of a type without a bracket or an abbreviation at it.
+
+ghost use Rattle.std.specs.Prelude.{◌≡◌, ◌<◌, length, IfOk, MatchOption};
+ghost use Rattle.om_types.specs.Nodes.{type_at};
+ghost use Rattle.om_store.specs.Lent.{written_of};
+ghost use Rattle.om_layout.specs.Plain.{IsBracketed, IsPlainHead, head_of_root};
+
+use crate::spine::{parts, root};
+use om_model::Memory;
+use om_model::list::List;
+use om_scope::declared::predeclared;
+use om_store::{TypeNode, Types};
+use om_types::head::HeadOf;
+use std::alloc::Global;
+
+/// The head of a type as it is written, unless that is a bracket.
+pub fn plain(alloc: Global, types: &Types, number: usize) -> Result<Option<HeadOf<usize>>, Memory>
+    requires { number < length types.now }
+    ensures { IfOk result (λ h. MatchOption h (IsBracketed (type_at types.now number)) (IsPlainHead types.now (type_at types.now number))) }
+{
+    let found = parts(alloc, types, number)?;
+    of_root(alloc, types.node(root(types, number)), found)
+}
+
+/// The head of a type from its root and its parts.
+fn of_root(
+    alloc: Global,
+    root: TypeNode<'_>,
+    found: Vec<usize>,
+) -> Result<Option<HeadOf<usize>>, Memory>
+    ensures { IfOk result (λ h. h ≡ head_of_root (written_of root.entry) found.items) }
+{
+    match root {
+        TypeNode::Named(name) => match predeclared(name) {
+            Some(base) => Ok(Some(HeadOf::Predeclared(base, List::of(found)))),
+            None => Ok(Some(HeadOf::Datatype(copied(alloc, name)?, List::of(found)))),
+        },
+        TypeNode::Tuple => Ok(Some(HeadOf::Tuple(List::of(found)))),
+        TypeNode::Variable(name) => {
+            if found.is_empty() {
+                Ok(Some(HeadOf::Variable(copied(alloc, name)?)))
+            } else {
+                Ok(Some(HeadOf::Absent))
+            }
+        }
+        _ => {
+            if found.is_empty() {
+                Ok(None)
+            } else {
+                Ok(Some(HeadOf::Absent))
+            }
+        }
+    }
+}
+
+/// The same bytes.
+fn copied(alloc: Global, name: &[u8]) -> Result<List<u8>, Memory>
+    ensures { IfOk result (λ l. l ≡ name.now) }
+{
+    Ok(List::of(Vec::from_slice(alloc, name)?))
+}
