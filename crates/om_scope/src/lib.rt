@@ -18,6 +18,7 @@ mod uses;
 mod variables;
 
 pub use cyclic::least_cyclic;
+pub use least::{place_if, sooner};
 pub use rule::NameRule;
 pub use site::{Placed, Site, TypeSite, Use};
 pub use sites::{least_break, least_break_in_type};

@@ -1,0 +1,355 @@
+-- The items of a bracket one after another: what they brought, and the least place at which a rule
+-- is broken.
+use Rattle.std.proofs.Common.{ℕ, ℤ, ◌<◌, ◌≤◌, ◌+◌, ◌≡◌, ◌≢◌, ◌⊎◌, ⊎_elim, Bool, Option, Some}
+use Rattle.std.proofs.Common.{None}
+use Rattle.std.proofs.Common.{List, [], ◌++◌, length, get_or, refl, sym, ap, subst, arith, ◌∙◌}
+use Rattle.std.specs.Prelude.{slice_get, Contains, MatchOption, IsTrue, ◌↔◌, IfSome}
+use Rattle.std.specs.Borrow.{Bor}
+use Rattle.std.proofs.lemmas.Bool.{cases_lt}
+use Rattle.std.proofs.lemmas.List.Elements.{Contains-append_left, Contains-append_right}
+use Rattle.std.proofs.lemmas.List.Elements.{Contains-append_cases}
+use Rattle.std.proofs.lemmas.Option.{same_Some, slice_get_within, slice_get_read}
+use Rattle.om_types.specs.declared.head.TagOf.{TagOf}
+use Rattle.om_scope.specs.Least.{IsLeast, sooner, place_if}
+use Rattle.om_scope.proofs.LeastLemmas.{Before, least_same, least_if, least_more}
+use Rattle.om_brackets.specs.declared.item.Item.{Item}
+use Rattle.om_brackets.specs.declared.spellings.Collision.{Collision}
+use Rattle.om_brackets.specs.Collisions.{place_of, IsCollision, IsLeastCollision}
+use Rattle.om_brackets.specs.Items.{ClashesIn, CollideIn, CollidesIn, HaveOneHash}
+use Rattle.om_brackets.specs.Sightings.{Tells}
+use Rattle.om_brackets.specs.Tables.{ArgumentTable, arguments_at, HasArgument, AreArguments}
+use Rattle.om_brackets.specs.Tables.{SomeClashes, SpellingTable, spellings_at, HasSpelling}
+use Rattle.om_brackets.specs.Tables.{AreSpellings, AreColliding}
+
+-- ---- what the items brought
+
+module _ (items : List Item) where
+  -- one of the first n items brings this tag
+  abbrev pub Brought : ℕ → TagOf ℕ → Type 0
+  Brought n tag =
+      (m : ℕ) × (m < n) × (item : Item) × (slice_get items m ≡ Some item) × Contains item.tags tag
+
+  -- these are the tags that the first n items bring
+  pub record AreBrought (n : ℕ) (seen : List (TagOf ℕ)) : Type 0 where
+    pub there : (tag : TagOf ℕ) → Contains seen tag → Brought n tag
+    pub all : (tag : TagOf ℕ) → Brought n tag → Contains seen tag
+
+  pub none_brought : AreBrought 0 []
+  none_brought = record {
+    there = λ tag never. let below : never.0 < 0 = never.1 in absurd (omega arith);
+    all = λ tag never. let below : never.0 < 0 = never.1 in absurd (omega arith);
+  }
+
+  brought_later :
+      (n : ℕ) (item : Item) (seen : List (TagOf ℕ)) (tag : TagOf ℕ)
+      → slice_get items n ≡ Some item → AreBrought n seen
+      → Contains seen tag ⊎ Contains item.tags tag → Brought (n + 1) tag
+  brought_later n item seen tag is brought = ⊎_elim
+      (λ old. let b = brought.there tag old in
+      let below : b.0 < n = b.1 in (b.0, omega arith, b.2, b.3, b.4))
+      (λ new. (n, omega arith, item, is, new))
+
+  seen_later :
+      (n : ℕ) (item : Item) (seen : List (TagOf ℕ)) (tag : TagOf ℕ)
+      → slice_get items n ≡ Some item → AreBrought n seen → (b : Brought (n + 1) tag)
+      → (b.0 < n) ⊎ (n ≤ b.0) → Contains (seen ++ item.tags) tag
+  seen_later n item seen tag is brought b = ⊎_elim
+      (λ less. Contains-append_left seen item.tags tag (brought.all tag (b.0, less, b.2, b.3, b.4)))
+      (λ more. let below : b.0 < n + 1 = b.1 in
+      let e : b.0 ≡ n = omega arith in
+      Contains-append_right seen item.tags tag (subst (λ (x : Item). Contains x.tags tag)
+      (same_Some b.2 item (sym (subst (λ j. slice_get items j ≡ Some b.2) e b.3) ∙ is)) b.4))
+
+  pub brought_more :
+      (n : ℕ) (item : Item) (seen : List (TagOf ℕ)) → slice_get items n ≡ Some item
+      → AreBrought n seen → AreBrought (n + 1) (seen ++ item.tags)
+  brought_more n item seen is brought = record {
+    there = λ tag both. brought_later n item seen tag is brought
+        (Contains-append_cases seen item.tags tag both);
+    all = λ tag b. seen_later n item seen tag is brought b (cases_lt b.0 n);
+  }
+
+  -- ---- clashes
+
+  -- item j, at lexeme k, brings a tag that an earlier one brings with another argument
+  abbrev pub ClashAt : ℕ → ℕ → Type 0
+  ClashAt j k =
+      (item : Item) × (slice_get items j ≡ Some item) × (item.place ≡ k)
+      × (tag : TagOf ℕ) × Contains item.tags tag × (argument : Option ℕ)
+      × Brought j (record { name = tag.name; argument = argument }) × (argument ≢ tag.argument)
+
+  clash_at :
+      (j : ℕ) (item : Item) (seen : List (TagOf ℕ)) (test : Bool) → slice_get items j ≡ Some item
+      → AreBrought j seen → IsTrue test ↔ SomeClashes seen item.tags
+      → IsLeast (ClashAt j) (place_if test item.place)
+  clash_at j item seen test is brought says =
+      least_same (λ k. (item.place ≡ k) × SomeClashes seen item.tags) (ClashAt j)
+      (place_if test item.place)
+      (least_if (SomeClashes seen item.tags) test item.place says.0 says.1)
+      (λ k here. let clash = here.1 in (
+        item,
+        is,
+        here.0,
+        clash.0,
+        clash.1,
+        clash.2.0,
+        brought.there (record { name = clash.0.name; argument = clash.2.0 }) clash.2.1,
+        clash.2.2,
+      ))
+      (λ k at. let same : item ≡ at.0 = same_Some item at.0 (sym is ∙ at.1) in (
+        ap (λ (x : Item). x.place) same ∙ at.2,
+        (
+          at.3,
+          subst (λ (x : Item). Contains x.tags at.3) (sym same) at.4,
+          (at.5, brought.all (record { name = at.3.name; argument = at.5 }) at.6, at.7),
+        ),
+      ))
+
+  -- what holds after the first n items
+  pub record AreClashesBefore (n : ℕ) (table : ArgumentTable) (best : Option ℕ) : Type 0 where
+    pub seen : List (TagOf ℕ)
+    pub brought : AreBrought n seen
+    pub tells : AreArguments seen table
+    pub least : IsLeast (Before ClashAt n) best
+
+  pub no_clashes :
+      (table : ArgumentTable)
+      → ((q : Bor (List ℕ)) → arguments_at table q.now ≡ None) → AreClashesBefore 0 table None
+  no_clashes table empty = record {
+    seen = [];
+    brought = none_brought;
+    tells = λ name. subst (Tells (λ argument. argument) (HasArgument [] name))
+        (sym (empty (record { ref_ptr = (0, 0); now = name })))
+        (λ argument never. let below : never.0 < 0 = never.1 in absurd (omega arith));
+    least = λ k never. let below : never.0 < 0 = never.1 in absurd (omega arith);
+  }
+
+  pub more_clashes :
+      (n : ℕ) (item : Item) (table later : ArgumentTable) (best : Option ℕ) (test : Bool)
+      (found next : Option ℕ) → n < length items → item ≡ get_or items n item
+      → AreClashesBefore n table best
+      → ((seen : List (TagOf ℕ)) → AreArguments seen table → IsTrue test ↔ SomeClashes seen item.tags)
+      → ((seen : List (TagOf ℕ)) → AreArguments seen table → AreArguments (seen ++ item.tags) later)
+      → found ≡ place_if test item.place → next ≡ sooner best found
+      → AreClashesBefore (n + 1) later next
+  more_clashes n item table later best test found next below read before says added found_is is =
+      let at = slice_get_read items (length items) n item refl below read in
+      record {
+        seen = before.seen ++ item.tags;
+        brought = brought_more n item before.seen at before.brought;
+        tells = added before.seen before.tells;
+        least = subst (IsLeast (Before ClashAt (n + 1))) (sym is)
+            (least_more ClashAt n best found before.least (subst (IsLeast (ClashAt n)) (sym found_is)
+            (clash_at n item before.seen test at before.brought (says before.seen before.tells))));
+      }
+
+  clashes_of_items :
+      (best : Option ℕ) → IsLeast (Before ClashAt (length items)) best
+      → IsLeast (ClashesIn items) best
+  clashes_of_items best least =
+      least_same (Before ClashAt (length items)) (ClashesIn items) best least
+      (λ k some. let at = some.2 in
+      let b = at.6 in (
+        b.0,
+        some.0,
+        record { name = at.3.name; argument = at.5 },
+        at.3,
+        record {
+          first = b.2;
+          second = at.0;
+          first_is = b.3;
+          second_is = at.1;
+          placed = at.2;
+          one_there = b.4;
+          other_there = at.4;
+        },
+        b.1,
+        refl,
+        at.7,
+      ))
+      (λ k some. let c = some.4 in (
+        some.1,
+        slice_get_within items some.1 c.second c.second_is,
+        (
+          c.second,
+          c.second_is,
+          c.placed,
+          some.3,
+          c.other_there,
+          some.2.argument,
+          (
+            some.0,
+            some.5,
+            c.first,
+            c.first_is,
+            subst (λ n. Contains c.first.tags
+                (record { name = n; argument = some.2.argument })) some.6 c.one_there,
+          ),
+          some.7,
+        ),
+      ))
+
+  pub all_clashes :
+      (n : ℕ) (table : ArgumentTable) (best : Option ℕ) → n ≤ length items → length items ≤ n
+      → AreClashesBefore n table best → IsLeast (ClashesIn items) best
+  all_clashes n table best le ge before = let e : n ≡ length items = omega arith in
+      clashes_of_items best (subst (λ m. IsLeast (Before ClashAt m) best) e before.least)
+
+  -- ---- collisions
+
+  -- item j, at lexeme k, brings a tag of one name, and it or an earlier item a tag of the other one
+  abbrev pub CollisionAt : ℕ → ℕ → List ℕ → List ℕ → Type 0
+  CollisionAt j k one_name other_name =
+      (item : Item) × (slice_get items j ≡ Some item) × (item.place ≡ k)
+      × (one other : TagOf ℕ) × Brought (j + 1) one × Contains item.tags other
+      × HaveOneHash one other one_name other_name
+
+  abbrev pub SomeCollisionAt : ℕ → ℕ → Type 0
+  SomeCollisionAt j k = (one other : List ℕ) × CollisionAt j k one other
+
+  -- what was found at an item
+  abbrev pub Finds : List (TagOf ℕ) → Item → Option Collision → Type 0
+  Finds seen item found =
+      MatchOption found ((one other : List ℕ) → ¬ AreColliding seen item.tags one other)
+      (λ c. (c.place ≡ item.place) × AreColliding seen item.tags c.one.now c.other.now)
+
+  collision_at :
+      (j : ℕ) (item : Item) (seen : List (TagOf ℕ)) (found : Option Collision)
+      → slice_get items j ≡ Some item → AreBrought (j + 1) seen → Finds seen item found
+      → IsLeast (SomeCollisionAt j) (place_of found)
+  collision_at j item seen None is brought none = λ k at.
+      let a = at.2 in
+      let same : item ≡ a.0 = same_Some item a.0 (sym is ∙ a.1) in
+      none at.0 at.1 (a.3, a.4, brought.all a.3 a.5, subst (λ (x : Item). Contains x.tags a.4) (sym same) a.6, a.7)
+  collision_at j item seen (Some c) is brought finds = (
+    (
+      c.one.now,
+      c.other.now,
+      (
+        item,
+        is,
+        sym finds.0,
+        finds.1.0,
+        finds.1.1,
+        brought.there finds.1.0 finds.1.2,
+        finds.1.3,
+        finds.1.4,
+      ),
+    ),
+    λ k less at. let a = at.2 in
+        let same : item ≡ a.0 = same_Some item a.0 (sym is ∙ a.1) in
+        let e : c.place ≡ k = finds.0 ∙ ap (λ (x : Item). x.place) same ∙ a.2 in absurd (omega arith),
+  )
+
+  in_items :
+      (j k : ℕ) (one other : List ℕ) → CollisionAt j k one other → CollideIn items k one other
+  in_items j k one other at = let b = at.5 in
+      let below : b.0 < j + 1 = b.1 in (
+        b.0,
+        j,
+        at.3,
+        at.4,
+        record {
+          first = b.2;
+          second = at.0;
+          first_is = b.3;
+          second_is = at.1;
+          placed = at.2;
+          one_there = b.4;
+          other_there = at.6;
+        },
+        omega arith,
+        at.7,
+      )
+
+  names_at :
+      (j : ℕ) (item : Item) (seen : List (TagOf ℕ)) (found : Option Collision)
+      → slice_get items j ≡ Some item → AreBrought (j + 1) seen → Finds seen item found
+      → IfSome found (IsCollision items)
+  names_at j item seen None is brought finds = tt
+  names_at j item seen (Some c) is brought finds =
+      in_items j c.place c.one.now c.other.now (
+        item,
+        is,
+        sym finds.0,
+        finds.1.0,
+        finds.1.1,
+        brought.there finds.1.0 finds.1.2,
+        finds.1.3,
+        finds.1.4,
+      )
+
+  -- what holds after the first n items
+  pub record AreCollisionsBefore (n : ℕ) (table : SpellingTable) (best : Option Collision)
+      : Type 0 where
+    pub seen : List (TagOf ℕ)
+    pub brought : AreBrought n seen
+    pub tells : AreSpellings seen table
+    pub least : IsLeast (Before SomeCollisionAt n) (place_of best)
+    pub names : IfSome best (IsCollision items)
+
+  pub no_collisions :
+      (table : SpellingTable) → ((h : ℤ) → spellings_at table h ≡ None)
+      → AreCollisionsBefore 0 table None
+  no_collisions table empty = record {
+    seen = [];
+    brought = none_brought;
+    tells = λ h. subst (Tells (λ (text : Bor (List ℕ)). text.now) (HasSpelling [] h)) (sym (empty h))
+        (λ name never. let below : never.1.0 < 0 = never.1.1 in absurd (omega arith));
+    least = λ k never. let below : never.0 < 0 = never.1 in absurd (omega arith);
+    names = tt;
+  }
+
+  pub more_collisions :
+      (n : ℕ) (item : Item) (table later : SpellingTable) (best found next : Option Collision)
+      → n < length items → item ≡ get_or items n item → AreCollisionsBefore n table best
+      → ((seen : List (TagOf ℕ)) → AreSpellings seen table → AreSpellings (seen ++ item.tags) later)
+      → ((seen : List (TagOf ℕ)) → AreSpellings seen later → Finds seen item found)
+      → place_of next ≡ sooner (place_of best) (place_of found)
+      → (next ≡ best) ⊎ (next ≡ found) → AreCollisionsBefore (n + 1) later next
+  more_collisions n item table later best found next below read before added says is either =
+      let at = slice_get_read items (length items) n item refl below read in
+      let seen = before.seen ++ item.tags in
+      let brought = brought_more n item before.seen at before.brought in
+      let tells = added before.seen before.tells in
+      let finds = says seen tells in
+      record {
+        seen = seen;
+        brought = brought;
+        tells = tells;
+        least = subst (IsLeast (Before SomeCollisionAt (n + 1))) (sym is)
+            (least_more SomeCollisionAt n (place_of best) (place_of found) before.least
+            (collision_at n item seen found at brought finds));
+        names = ⊎_elim (λ e. subst (λ o. IfSome o (IsCollision items)) (sym e) before.names)
+            (λ e. subst (λ o. IfSome o (IsCollision items)) (sym e)
+            (names_at n item seen found at brought finds)) either;
+      }
+
+  pub all_collisions :
+      (n : ℕ) (table : SpellingTable) (best : Option Collision) → n ≤ length items
+      → length items ≤ n → AreCollisionsBefore n table best → IsLeastCollision items best
+  all_collisions n table best le ge before = let e : n ≡ length items = omega arith in
+      record {
+        least = least_same (Before SomeCollisionAt (length items)) (CollidesIn items) (place_of best)
+            (subst (λ m. IsLeast (Before SomeCollisionAt m) (place_of best)) e before.least)
+            (λ k some. (some.2.0, some.2.1, in_items some.0 k some.2.0 some.2.1 some.2.2))
+            (λ k some. let c = some.2.4 in (
+              some.2.1,
+              slice_get_within items some.2.1 c.second c.second_is,
+              (
+                some.0,
+                some.1,
+                (
+                  c.second,
+                  c.second_is,
+                  c.placed,
+                  some.2.2,
+                  some.2.3,
+                  (some.2.0, (let le : some.2.0 ≤ some.2.1 = some.2.5 in omega arith), c.first, c.first_is, c.one_there),
+                  c.other_there,
+                  some.2.6,
+                ),
+              ),
+            ));
+        names = before.names;
+      }

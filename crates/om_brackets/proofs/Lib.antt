@@ -1,0 +1,3 @@
+pub mod BracketLemmas
+pub mod SightingLemmas
+pub mod TableLemmas

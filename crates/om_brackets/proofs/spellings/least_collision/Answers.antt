@@ -1,0 +1,24 @@
+use Rattle.std.proofs.Common.{ℕ, List, ◌++◌, ◌≡◌, subst, arith}
+use Rattle.std.specs.Prelude.{MatchOption}
+use Rattle.om_types.specs.declared.head.TagOf.{TagOf}
+use Rattle.om_brackets.specs.Tables.{AreSpellings, AreColliding}
+use Rattle.om_brackets.proofs.BracketLemmas.{no_collisions, more_collisions, all_collisions}
+use Rattle.om_brackets.proofs.spellings.least_collision.Goals as goal
+
+pub loop-item-init : goal.loop-item-init
+loop-item-init c = no_collisions c.args.items.now c.empty-table.result c.empty-table.ensures
+
+pub loop-item-preserved : goal.loop-item-preserved
+loop-item-preserved c =
+    more_collisions c.args.items.now c.loop-item.item-index c.item-item.result c.loop-item.table c.add_spellings.new.table
+    c.loop-item.best c.find_collision.result c.nearer-best.result c.loop-item-test.true c.item-item.is c.loop-item.invariant
+    (subst (λ (tags : List (TagOf ℕ)). (seen : List (TagOf ℕ)) → AreSpellings seen c.loop-item.table → AreSpellings (seen ++ tags) c.add_spellings.new.table)
+    c.as_slice-tags.ensures c.in_ok-add_spellings.ensures)
+    (subst (λ (tags : List (TagOf ℕ)). (seen : List (TagOf ℕ)) → AreSpellings seen c.add_spellings.new.table
+    → MatchOption c.find_collision.result ((one other : List ℕ) → ¬ AreColliding seen tags one other)
+    (λ found. (found.place ≡ c.item-item.result.place) × AreColliding seen tags found.one.now found.other.now))
+    c.as_slice-tags.ensures c.find_collision.ensures)
+    c.nearer-best.ensures.place c.nearer-best.ensures.either
+
+pub returns : goal.returns
+returns c = all_collisions c.args.items.now c.loop-item.item-index c.loop-item.table c.loop-item.best (omega arith) (omega arith) c.loop-item.invariant

@@ -1,0 +1,39 @@
+-- The rules of scope on tags, over the tags that each item of a bracket brings.
+use Rattle.std.specs.Prelude.{ℕ, ◌<◌, ◌≤◌, ◌≡◌, ◌≢◌, List, Some, slice_get, Contains}
+use Rattle.om_polyvar.specs.TagHash.{tag_hash}
+use Rattle.om_types.specs.declared.head.TagOf.{TagOf}
+use Rattle.om_brackets.specs.declared.item.Item.{Item}
+
+-- Item i brings the tag one, and item j, which stands at lexeme k, the tag other.
+pub record Brings (items : List Item) (k i j : ℕ) (one other : TagOf ℕ) : Type 0 where
+  pub first : Item
+  pub second : Item
+  pub first_is : slice_get items i ≡ Some first
+  pub second_is : slice_get items j ≡ Some second
+  pub placed : second.place ≡ k
+  pub one_there : Contains first.tags one
+  pub other_there : Contains second.tags other
+
+-- an item at lexeme k brings a tag that an earlier item brings with another argument
+abbrev pub ClashesIn : List Item → ℕ → Type 0
+ClashesIn items k =
+    (i j : ℕ) × (one other : TagOf ℕ) × Brings items k i j one other
+    × (i < j) × (one.name ≡ other.name) × (one.argument ≢ other.argument)
+
+-- two tags of these names have one hash
+pub record HaveOneHash (one other : TagOf ℕ) (one_name other_name : List ℕ) : Type 0 where
+  pub one_named : one.name ≡ one_name
+  pub other_named : other.name ≡ other_name
+  pub unlike : one_name ≢ other_name
+  pub alike : tag_hash one_name ≡ tag_hash other_name
+
+-- An item at lexeme k brings the tag named other, and it or an earlier item the tag named one,
+-- which has the same hash.
+abbrev pub CollideIn : List Item → ℕ → List ℕ → List ℕ → Type 0
+CollideIn items k one_name other_name =
+    (i j : ℕ) × (one other : TagOf ℕ) × Brings items k i j one other
+    × (i ≤ j) × HaveOneHash one other one_name other_name
+
+-- two such tags are there
+abbrev pub CollidesIn : List Item → ℕ → Type 0
+CollidesIn items k = (one other : List ℕ) × CollideIn items k one other

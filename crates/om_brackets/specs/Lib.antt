@@ -1,0 +1,4 @@
+pub mod Collisions
+pub mod Items
+pub mod Sightings
+pub mod Tables

@@ -1,0 +1,63 @@
+-- Tables of what was seen of tags.
+use Rattle.std.specs.Prelude.{ℕ, ℤ, ◌≡◌, ◌≢◌, List, Option, Contains}
+use Rattle.std.specs.BTreeMap.{get_by}
+use Rattle.std.specs.Borrow.{Bor}
+use Rattle.std.specs.Cmp.Lexicographic.{slice_cmp}
+use Rattle.std.specs.Ordering.{nat_cmp, int_cmp}
+use Rattle.om_polyvar.specs.TagHash.{tag_hash}
+use Rattle.om_types.specs.declared.head.TagOf.{TagOf}
+use Rattle.om_brackets.specs.declared.sightings.Sighting.{Sighting}
+use Rattle.om_brackets.specs.declared.sightings.Sightings.{Sightings}
+use Rattle.om_brackets.specs.Items.{HaveOneHash}
+use Rattle.om_brackets.specs.Sightings.{Tells}
+
+-- ---- arguments, by the names of tags
+
+abbrev pub ArgumentTable : Type 0
+ArgumentTable = Sightings (Bor (List ℕ)) (Option ℕ)
+
+abbrev pub arguments_at : ArgumentTable → List ℕ → Option (Sighting (Option ℕ))
+arguments_at table name = get_by (λ k. slice_cmp nat_cmp name k.now) table.entries
+
+-- one of the tags has this name and this argument
+abbrev pub HasArgument : List (TagOf ℕ) → List ℕ → Option ℕ → Type 0
+HasArgument tags name argument = Contains tags (record { name = name; argument = argument })
+
+-- the table tells the arguments of these tags
+abbrev pub AreArguments : List (TagOf ℕ) → ArgumentTable → Type 0
+AreArguments tags table =
+    (name : List ℕ) → Tells (λ argument. argument) (HasArgument tags name) (arguments_at table name)
+
+-- one of these tags has this one's name and another argument
+abbrev pub ClashesWith : List (TagOf ℕ) → TagOf ℕ → Type 0
+ClashesWith tags tag =
+    (argument : Option ℕ) × HasArgument tags tag.name argument × (argument ≢ tag.argument)
+
+-- one of the first tags clashes with one of the second ones
+abbrev pub SomeClashes : List (TagOf ℕ) → List (TagOf ℕ) → Type 0
+SomeClashes first second = (tag : TagOf ℕ) × Contains second tag × ClashesWith first tag
+
+-- ---- names, by the hashes of tags
+
+abbrev pub SpellingTable : Type 0
+SpellingTable = Sightings ℤ (Bor (List ℕ))
+
+abbrev pub spellings_at : SpellingTable → ℤ → Option (Sighting (Bor (List ℕ)))
+spellings_at table hash = get_by (int_cmp hash) table.entries
+
+-- one of the tags has this hash and this name
+abbrev pub HasSpelling : List (TagOf ℕ) → ℤ → List ℕ → Type 0
+HasSpelling tags hash name =
+    (tag : TagOf ℕ) × Contains tags tag × (tag.name ≡ name) × (tag_hash name ≡ hash)
+
+-- the table tells the names of these tags
+abbrev pub AreSpellings : List (TagOf ℕ) → SpellingTable → Type 0
+AreSpellings tags table =
+    (hash : ℤ)
+    → Tells (λ (text : Bor (List ℕ)). text.now) (HasSpelling tags hash) (spellings_at table hash)
+
+-- one of the first tags and one of the second have these names and one hash
+abbrev pub AreColliding : List (TagOf ℕ) → List (TagOf ℕ) → List ℕ → List ℕ → Type 0
+AreColliding first second one_name other_name =
+    (one other : TagOf ℕ) × Contains first one × Contains second other
+    × HaveOneHash one other one_name other_name

@@ -1,0 +1,88 @@
+//! Tags that have one hash.
+
+ghost use Rattle.std.specs.Prelude.{ℕ, ◌≡◌, ◌++◌, ◌⊎◌, List, IfOk, OnOk, MatchOption};
+ghost use Rattle.om_types.specs.declared.head.TagOf.{TagOf as Tag};
+ghost use Rattle.om_scope.specs.Least.{sooner};
+ghost use Rattle.om_brackets.specs.Tables.{AreSpellings, AreColliding};
+
+use crate::item::Item;
+use crate::sightings::{Sightings, add, empty, other};
+use om_model::Memory;
+use om_polyvar::hash;
+use om_types::head::TagOf;
+use std::alloc::Global;
+
+/// Two names of tags that have one hash, and the first lexeme of the item that brings the other one.
+#[derive(Clone, Copy, Debug)]
+pub struct Collision<'a> {
+    pub place: usize,
+    pub one: &'a [u8],
+    pub other: &'a [u8],
+}
+
+ghost use Rattle.om_brackets.specs.Collisions.{place_of, IsLeastCollision};
+
+/// Adds the names of tags.
+fn add_spellings<'a>(
+    table: &mut Sightings<i64, &'a [u8]>,
+    tags: &'a [TagOf<usize>],
+) -> Result<(), Memory>
+    ensures { OnOk result ((seen : List (Tag ℕ)) → AreSpellings seen table.old → AreSpellings (seen ++ tags.now) table.new) }
+{
+    for tag in tags {
+        let name = tag.name.as_slice();
+        add(table, hash(name), name)?;
+    }
+    Ok(())
+}
+
+/// A tag's name whose hash was seen with another name, and that one.
+fn find_collision<'a>(
+    table: &Sightings<i64, &'a [u8]>,
+    tags: &'a [TagOf<usize>],
+    place: usize,
+) -> Option<Collision<'a>>
+    ensures { (seen : List (Tag ℕ)) → AreSpellings seen table.now → MatchOption result ((one other : List ℕ) → ¬ AreColliding seen tags.now one other) (λ c. (c.place ≡ place) × AreColliding seen tags.now c.one.now c.other.now) }
+{
+    for tag in tags {
+        let name = tag.name.as_slice();
+        if let Some(one) = other(table, hash(name), name) {
+            return Some(Collision {
+                place,
+                one,
+                other: name,
+            });
+        }
+    }
+    None
+}
+
+/// That of the lesser place.
+fn nearer<'a>(best: Option<Collision<'a>>, found: Option<Collision<'a>>) -> Option<Collision<'a>>
+    ensures place { place_of result ≡ sooner (place_of best.entry) (place_of found.entry) }
+    ensures either { (result ≡ best.entry) ⊎ (result ≡ found.entry) }
+{
+    match (best, found) {
+        (None, _) => found,
+        (Some(_), None) => best,
+        (Some(j), Some(k)) => { if k.place < j.place { found } else { best } }
+    }
+}
+
+/// The least place of an item that brings a tag whose hash another tag has, of an earlier item or its own, and the names
+/// of two such tags. Places may come in any order.
+pub fn least_collision<'a>(
+    alloc: Global,
+    items: &'a [Item],
+) -> Result<Option<Collision<'a>>, Memory>
+    ensures { IfOk result (IsLeastCollision items.now) }
+{
+    let mut table = empty(alloc);
+    let mut best = None;
+    for item in items {
+        let tags = item.tags.as_slice();
+        add_spellings(&mut table, tags)?;
+        best = nearer(best, find_collision(&table, tags, item.place));
+    }
+    Ok(best)
+}
