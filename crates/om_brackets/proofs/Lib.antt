@@ -1,3 +1,4 @@
 pub mod BracketLemmas
 pub mod SightingLemmas
 pub mod TableLemmas
+pub mod TreeLemmas

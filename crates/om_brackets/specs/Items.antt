@@ -21,7 +21,8 @@ ClashesIn items k =
     × (i < j) × (one.name ≡ other.name) × (one.argument ≢ other.argument)
 
 -- two tags of these names have one hash
-pub record HaveOneHash (one other : TagOf ℕ) (one_name other_name : List ℕ) : Type 0 where
+pub record HaveOneHash {T : Type 0} (one other : TagOf T) (one_name other_name : List ℕ)
+    : Type 0 where
   pub one_named : one.name ≡ one_name
   pub other_named : other.name ≡ other_name
   pub unlike : one_name ≢ other_name

@@ -5,6 +5,7 @@ ghost use Rattle.om_types.specs.declared.head.TagOf.{TagOf as Tag};
 ghost use Rattle.om_scope.specs.Least.{IsLeast};
 ghost use Rattle.om_brackets.specs.Items.{ClashesIn};
 ghost use Rattle.om_brackets.specs.Tables.{AreArguments, SomeClashes};
+ghost use Rattle.om_brackets.specs.Trees.{IsLeastClashOf};
 
 use crate::item::Item;
 use crate::sightings::{Sightings, add, empty, other};
@@ -41,7 +42,10 @@ fn clashes<'a>(table: &Sightings<&'a [u8], Option<usize>>, tags: &'a [TagOf<usiz
 /// The least place of an item that brings a tag which an earlier item brings with another argument. Places may come in
 /// any order.
 pub fn least_clash(alloc: Global, items: &[Item]) -> Result<Option<usize>, Memory>
-    ensures { IfOk result (IsLeast (ClashesIn items.now)) }
+    ensures least { IfOk result (IsLeast (ClashesIn items.now)) }
+
+    // Of whatever items these stand for, by the numbers of types.
+    ensures of_types { IfOk result (IsLeastClashOf items.now) }
 {
     let mut table = empty(alloc);
     let mut best = None;

@@ -21,6 +21,7 @@ pub struct Collision<'a> {
 }
 
 ghost use Rattle.om_brackets.specs.Collisions.{place_of, IsLeastCollision};
+ghost use Rattle.om_brackets.specs.Trees.{IsLeastHashOf};
 
 /// Adds the names of tags.
 fn add_spellings<'a>(
@@ -75,7 +76,10 @@ pub fn least_collision<'a>(
     alloc: Global,
     items: &'a [Item],
 ) -> Result<Option<Collision<'a>>, Memory>
-    ensures { IfOk result (IsLeastCollision items.now) }
+    ensures least { IfOk result (IsLeastCollision items.now) }
+
+    // Of whatever items these stand for, by the numbers of types.
+    ensures of_types { IfOk result (IsLeastHashOf items.now) }
 {
     let mut table = empty(alloc);
     let mut best = None;

@@ -5,10 +5,7 @@ use std::alloc::Global;
 use std::test::Fail;
 
 // Items by place and tags, each tag with its argument.
-fn items(
-    alloc: Global,
-    rows: &[(usize, &[(&[u8], Option<usize>)])],
-) -> Result<Vec<Item>, Fail> {
+fn items(alloc: Global, rows: &[(usize, &[(&[u8], Option<usize>)])]) -> Result<Vec<Item>, Fail> {
     let mut items = Vec::new(alloc);
     for (place, row) in rows {
         let mut tags = List::new(alloc);

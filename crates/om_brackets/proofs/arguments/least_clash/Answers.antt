@@ -3,6 +3,7 @@ use Rattle.std.specs.Prelude.{IsTrue, ◌↔◌}
 use Rattle.om_types.specs.declared.head.TagOf.{TagOf}
 use Rattle.om_brackets.specs.Tables.{AreArguments, SomeClashes}
 use Rattle.om_brackets.proofs.BracketLemmas.{no_clashes, more_clashes, all_clashes}
+use Rattle.om_brackets.proofs.TreeLemmas.{least_clash_of}
 use Rattle.om_brackets.proofs.arguments.least_clash.Goals as goal
 
 pub loop-item-init : goal.loop-item-init
@@ -19,4 +20,9 @@ loop-item-preserved c =
     c.place_if.ensures c.sooner-best.ensures
 
 pub returns : goal.returns
-returns c = all_clashes c.args.items.now c.loop-item.item-index c.loop-item.table c.loop-item.best (omega arith) (omega arith) c.loop-item.invariant
+returns c =
+    let least = all_clashes c.args.items.now c.loop-item.item-index c.loop-item.table c.loop-item.best (omega arith) (omega arith) c.loop-item.invariant in
+    record {
+      least = least;
+      of_types = λ types decls all are. least_clash_of types decls c.args.items.now all are c.loop-item.best least;
+    }

@@ -3,6 +3,7 @@ use Rattle.std.specs.Prelude.{MatchOption}
 use Rattle.om_types.specs.declared.head.TagOf.{TagOf}
 use Rattle.om_brackets.specs.Tables.{AreSpellings, AreColliding}
 use Rattle.om_brackets.proofs.BracketLemmas.{no_collisions, more_collisions, all_collisions}
+use Rattle.om_brackets.proofs.TreeLemmas.{least_place_of, least_names_of}
 use Rattle.om_brackets.proofs.spellings.least_collision.Goals as goal
 
 pub loop-item-init : goal.loop-item-init
@@ -21,4 +22,12 @@ loop-item-preserved c =
     c.nearer-best.ensures.place c.nearer-best.ensures.either
 
 pub returns : goal.returns
-returns c = all_collisions c.args.items.now c.loop-item.item-index c.loop-item.table c.loop-item.best (omega arith) (omega arith) c.loop-item.invariant
+returns c =
+    let least = all_collisions c.args.items.now c.loop-item.item-index c.loop-item.table c.loop-item.best (omega arith) (omega arith) c.loop-item.invariant in
+    record {
+      least = least;
+      of_types = record {
+        least = λ types decls all are. least_place_of types decls c.args.items.now all are c.loop-item.best least;
+        names = λ types decls all are. least_names_of types decls c.args.items.now all are c.loop-item.best least;
+      };
+    }

@@ -1,0 +1,54 @@
+-- The items of a bracket as it is written, and these items by the numbers of types.
+use Rattle.std.specs.Prelude.{ℕ, ◌≤◌, ◌≡◌, List, Option, Some, IfSome, map, slice_get}
+use Rattle.om_types.specs.declared.decl.Decl.{Decl}
+use Rattle.om_types.specs.declared.head.TagOf.{TagOf}
+use Rattle.om_types.specs.Ty.{Ty}
+use Rattle.om_types.specs.Occurrence.{PlacedItem}
+use Rattle.om_types.specs.Reached.{AreDistinct}
+use Rattle.om_types.specs.Scope.{tags_of_item, HasTags, ClashesAt, HashesAt}
+use Rattle.om_types.specs.Table.{tag_with_part}
+use Rattle.om_scope.specs.Least.{IsLeast}
+use Rattle.om_brackets.specs.declared.item.Item.{Item}
+use Rattle.om_brackets.specs.declared.spellings.Collision.{Collision}
+use Rattle.om_brackets.specs.Collisions.{place_of}
+use Rattle.om_brackets.specs.Items.{HaveOneHash}
+
+-- ---- items by numbers
+
+-- the place and the tags of an item, each argument as the type of its number
+abbrev pub typed_item : List Ty → Item → ℕ × List (TagOf (Option Ty))
+typed_item types item = (item.place, map (tag_with_part (slice_get types)) item.tags)
+
+-- the place of an item that is written, and the tags that it brings
+abbrev pub written_item : List Decl → PlacedItem → ℕ × List (TagOf (Option Ty))
+written_item decls item = (item.0, map (tag_with_part Some) (tags_of_item decls item.1))
+
+-- The items stand for those that are written: each has its place and its tags, with the numbers of
+-- their arguments among distinct types.
+pub record AreItems (types : List Ty) (decls : List Decl) (items : List Item) (all : List PlacedItem)
+    : Type 0 where
+  pub distinct : AreDistinct types
+  pub same : map (typed_item types) items ≡ map (written_item decls) all
+
+-- ---- what the rules are judged by
+
+-- two tags of these names have one hash, as HashesAt says of some names
+abbrev pub NamesHashAt : List Decl → List PlacedItem → ℕ → List ℕ → List ℕ → Type 0
+NamesHashAt decls items k one_name other_name =
+    (i j : ℕ) × (one other : TagOf Ty) × HasTags decls items k i j one other
+    × (i ≤ j) × HaveOneHash one other one_name other_name
+
+-- the least clash of whatever items these stand for
+abbrev pub IsLeastClashOf : List Item → Option ℕ → Type 0
+IsLeastClashOf items best =
+    (types : List Ty) (decls : List Decl) (all : List PlacedItem) → AreItems types decls items all
+    → IsLeast (ClashesAt decls all) best
+
+-- the least place of equal hashes in whatever items these stand for, and two names there
+pub record IsLeastHashOf (items : List Item) (found : Option Collision) : Type 0 where
+  pub least :
+      (types : List Ty) (decls : List Decl) (all : List PlacedItem) → AreItems types decls items all
+      → IsLeast (HashesAt decls all) (place_of found)
+  pub names :
+      (types : List Ty) (decls : List Decl) (all : List PlacedItem) → AreItems types decls items all
+      → IfSome found (λ c. NamesHashAt decls all c.place c.one.now c.other.now)
