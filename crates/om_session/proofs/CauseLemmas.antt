@@ -12,7 +12,7 @@ use Rattle.om_edge.specs.Files.{File, contents_of}
 use Rattle.om_edge.specs.Sink.{Puts, PutsPart}
 use Rattle.om_session.specs.Call.{Call}
 use Rattle.om_session.specs.Given.{IsFoundOf, TakesFrom, Fetched, IsMeasured, is_fault, has_read_fault}
-use Rattle.om_session.specs.Run.{IsSaidFirst, PutsLine, Completes, Breaks, Account, IsUsage, AsksForFile, CannotOpen, OnlyUsage, OnlyReadFault, OnlyWriteFault, OnlyOpenFault, OnlyTooLong, IfUsage, IsUnsaid, TellsWriteFault, TellsOpenFault, TellsReadFault, AsksFor, IsRefusedType, OnlyTypes, OnlyValue, IfMissing}
+use Rattle.om_session.specs.Run.{IsSaidFirst, PutsLine, Completes, Breaks, Account, IsUsage, AsksForFile, CannotOpen, OnlyUsage, OnlyReadFault, OnlyWriteFault, OnlyOpenFault, OnlyTooLong, IfUsage, IsUnsaid, TellsWriteFault, TellsOpenFault, TellsReadFault, AsksFor, IsRefusedType, OnlyTypes, OnlyValue, HoldBadValue, IfMissing}
 use Rattle.std.proofs.lemmas.Option.{IfSome_then}
 use Rattle.om_session.proofs.HeadlineLemmas.{no_stop, tail_after}
 use Rattle.om_session.proofs.PutLemmas.{rose_after}
@@ -34,6 +34,10 @@ longer bytes taken rest t long =
 
 risen : (a b : ℕ) → b ≡ a → a < b → ⊥
 risen a b same less = omega arith
+
+-- what is refused in the first bytes is refused in all
+pub refused_after : (limit : ℕ) (bytes more : List ℕ) (trees : List Tree) (refusal : ReadRefusal) → Stream bytes limit trees (refused refusal) → Stream (bytes ++ more) limit trees (refused refusal)
+refused_after limit bytes more trees refusal (rest, spelled, tail) = (rest ++ more, spell_after limit bytes rest more trees spelled, tail_after limit rest more refusal tail)
 
 -- the stages before the values are passed
 abbrev pub IsReady : {D T : Type 0} → Language D T → List (List ℕ) → Given → Type 0
@@ -62,10 +66,18 @@ pub record NoValue (limit : ℕ) (taken : Taken) : Type 0 where
   pub some : end ≢ clean
   pub ends : (taken.until ≡ at_end) ⊎ ((refusal : ReadRefusal) × (end ≡ refused refusal))
 
+-- all that was taken are values and a front of one more, which is empty at the input's end
+pub record NoRefusal (limit : ℕ) (taken : Taken) : Type 0 where
+  pub trees : List Tree
+  pub end : End
+  pub stream : Stream taken.bytes limit trees end
+  pub unrefused : (refusal : ReadRefusal) → end ≢ refused refusal
+  pub whole : taken.until ≡ at_end → end ≡ clean
+
 -- why a call ends with a status
 pub data Why {D T : Type 0} (language : Language D T) (words : List (List ℕ)) (call : Call) (given : Given) : Status → Type 0 where
-  all_well : IsReady language words given → given.input.until ≡ at_end → Why language words call given statuses.Well
-  some_no : IsReady language words given → given.input.until ≡ at_end → Why language words call given statuses.No
+  all_well : IsReady language words given → given.input.until ≡ at_end → (request : Request) → Asks words request → NoRefusal (limit_of request) given.input → Why language words call given statuses.Well
+  some_no : IsReady language words given → given.input.until ≡ at_end → (request : Request) → Asks words request → NoRefusal (limit_of request) given.input → Why language words call given statuses.No
   not_plain : IsUsage words → Why language words call given statuses.Usage
   not_there : (name : List ℕ) → AsksForFile words name → given.file name ≡ missing → Why language words call given statuses.OpenFault
   not_opened : (name : List ℕ) → AsksForFile words name → given.file name ≡ failed → Why language words call given statuses.OpenFault
@@ -74,7 +86,7 @@ pub data Why {D T : Type 0} (language : Language D T) (words : List (List ℕ)) 
   file_long : (name : List ℕ) (taken : Taken) → AsksForFile words name → given.file name ≡ opened taken → taken.until ≡ at_length → Why language words call given statuses.TooLong
   no_value : IsReady language words given → (request : Request) → Asks words request → NoValue (limit_of request) given.input → Why language words call given statuses.Value
   input_fault : given.input.until ≡ at_fault → Why language words call given statuses.ReadFault
-  input_long : IsReady language words given → given.input.until ≡ at_length → Why language words call given statuses.TooLong
+  input_long : IsReady language words given → given.input.until ≡ at_length → (request : Request) → Asks words request → NoRefusal (limit_of request) given.input → Why language words call given statuses.TooLong
   memory : IsSpent language words call given → Why language words call given statuses.Memory
   out_fault : (said : List Said) → IsSaidFirst language words given said → Breaks language words given said call → Why language words call given statuses.WriteFault
   err_fault : IsUnput language words call given → Why language words call given statuses.WriteFault
@@ -108,14 +120,16 @@ module _ {D T : Type 0} (language : Language D T) (words : List (List ℕ)) (cal
       let told : first ≡ s = cc in
       subst (λ s. Why language words call given (status_of s)) told (type_why f t (check f t, asks, refl) first reads)
 
-  well_why : IsReady language words given → given.input.until ≡ at_end → (b : Bool) → Why language words call given (if b then statuses.Well else statuses.No)
-  well_why ready e true = all_well ready e
-  well_why ready e false = some_no ready e
+  well_why : IsReady language words given → given.input.until ≡ at_end → (request : Request) → Asks words request → NoRefusal (limit_of request) given.input → (b : Bool)
+      → Why language words call given (if b then statuses.Well else statuses.No)
+  well_why ready e request asks held true = all_well ready e request asks held
+  well_why ready e request asks held false = some_no ready e request asks held
 
   closes_why : IsReady language words given → (request : Request) → Asks words request → (work : Work T) (said : List Said) (trees : List Tree) (u : InputEnd) (end : End) (last : Reply)
       → given.input.until ≡ u → Stream given.input.bytes (limit_of request) trees end → Closes language work trees u end last → Why language words call given (ending_of (replies said last)).status
   closes_why ready request asks (checks t) said trees at_end clean last e stream h =
-      subst (λ l. Why language words call given (ending_of (replies said l)).status) (sym h) (well_why ready e (well_said (said ++ nothing_said ∷ [])))
+      subst (λ l. Why language words call given (ending_of (replies said l)).status) (sym h)
+      (well_why ready e request asks (record { trees = trees; end = clean; stream = stream; unrefused = λ refusal e. cc e; whole = λ e. refl }) (well_said (said ++ nothing_said ∷ [])))
   closes_why ready request asks work said trees at_end (refused refusal) last e stream h =
       subst (λ l. Why language words call given (ending_of (replies said l)).status) (sym h)
       (no_value ready request asks (record { trees = trees; end = refused refusal; stream = stream; some = λ no_end. cc; ends = inl e }))
@@ -134,9 +148,11 @@ module _ {D T : Type 0} (language : Language D T) (words : List (List ℕ)) (cal
       subst (λ l. Why language words call given (ending_of (replies said l)).status) (sym h) (input_fault e)
   closes_why ready request asks work said trees at_length (refused refusal) last e stream h = absurd h
   closes_why ready request asks work said trees at_length clean last e stream h =
-      subst (λ l. Why language words call given (ending_of (replies said l)).status) (sym h) (input_long ready e)
+      subst (λ l. Why language words call given (ending_of (replies said l)).status) (sym h)
+      (input_long ready e request asks (record { trees = trees; end = clean; stream = stream; unrefused = λ refusal e. cc e; whole = λ e. refl }))
   closes_why ready request asks work said trees at_length (cut n) last e stream h =
-      subst (λ l. Why language words call given (ending_of (replies said l)).status) (sym h) (input_long ready e)
+      subst (λ l. Why language words call given (ending_of (replies said l)).status) (sym h)
+      (input_long ready e request asks (record { trees = trees; end = cut n; stream = stream; unrefused = λ refusal e. cc e; whole = λ ends. absurd (cc (sym ends ∙ e)) }))
 
   pub task_asks : (task : Task T) → Prepares language words given.file (Ok task) → (request : Request) × Asks words request × (task.limit ≡ limit_of request)
   task_asks task (Err stop, h, same) = absurd (cc same)
@@ -223,7 +239,7 @@ module _ {D T : Type 0} (language : Language D T) (words : List (List ℕ)) (cal
       → (name : List ℕ) × AsksForFile words name × IfSome call.files.before.map (λ all. IsSomeAnd (contents_of all name) (λ bytes. 2 ^ 48 ≤ length bytes))
   file_long_of name taken is found e =
       let f = subst (λ o. Fetched call.files name o) found (file_fetched name is) in
-      let long = subst (λ u. IsMeasured u (length taken.bytes)) e f.measured in (
+      let long = (subst (λ u. IsMeasured u (length taken.bytes)) e f.measured).0 in (
         name,
         is,
         IfSome_then call.files.before.map f.map (λ all h.
@@ -234,8 +250,8 @@ module _ {D T : Type 0} (language : Language D T) (words : List (List ℕ)) (cal
   long_of : Why language words call a.given statuses.TooLong
       → IfSome call.input.before.bytes (λ bytes. 2 ^ 48 ≤ length bytes)
       ⊎ ((name : List ℕ) × AsksForFile words name × IfSome call.files.before.map (λ all. IsSomeAnd (contents_of all name) (λ bytes. 2 ^ 48 ≤ length bytes)))
-  long_of (input_long ready e) =
-      let long = subst (λ u. IsMeasured u (length a.given.input.bytes)) e a.input.measured in
+  long_of (input_long ready e request asks held) =
+      let long = (subst (λ u. IsMeasured u (length a.given.input.bytes)) e a.input.measured).0 in
       inl (IfSome_then call.input.before.bytes a.input.told (λ bytes t. longer bytes a.given.input t.0 t.1 long))
   long_of (file_long name taken is found e) = inr (file_long_of name taken is found e)
 
@@ -387,19 +403,16 @@ module _ {D T : Type 0} (language : Language D T) (words : List (List ℕ)) (cal
         let all : bytes ≡ a.given.input.bytes = t.front ∙ (ap (λ r. a.given.input.bytes ++ r) (t.ends e) ∙ append-nil a.given.input.bytes) in
         subst (λ b. Stream b limit v.trees v.end) (sym all) v.stream
     go (inr (refusal, is)) =
-        let tail : IsTail limit v.stream.0 (refused refusal) = subst (λ end. IsTail limit v.stream.0 end) is v.stream.2 in
-        let after : Stream (a.given.input.bytes ++ rest) limit v.trees (refused refusal) =
-        (v.stream.0 ++ rest, spell_after limit a.given.input.bytes v.stream.0 rest v.trees v.stream.1, tail_after limit v.stream.0 rest refusal tail) in
-        subst (λ b. Stream b limit v.trees v.end) (sym t.front) (subst (λ end. Stream (a.given.input.bytes ++ rest) limit v.trees end) (sym is) after)
+        subst (λ b. Stream b limit v.trees v.end) (sym t.front) (subst (λ end. Stream (a.given.input.bytes ++ rest) limit v.trees end) (sym is)
+        (refused_after limit a.given.input.bytes rest v.trees refusal (subst (λ end. Stream a.given.input.bytes limit v.trees end) is v.stream)))
 
   value_of : Why language words call a.given statuses.Value
-      → (request : Request) × Asks words request × (input : List ℕ) × IfSome call.input.before.bytes (λ bytes. bytes ≡ input)
-      × (trees : List Tree) × (end : End) × Stream input (limit_of request) trees end × (end ≢ clean)
-  value_of (no_value ready request asks v) = let i = input_of call.input.before.bytes a.input.told in (request, asks, i.0, i.1, i.2, i.3, i.4, i.5) where
+      → (request : Request) × Asks words request × (input : List ℕ) × IfSome call.input.before.bytes (λ bytes. bytes ≡ input) × HoldBadValue (limit_of request) input
+  value_of (no_value ready request asks v) = let i = input_of call.input.before.bytes a.input.told in (request, asks, i.0, i.1, i.2) where
     input_of : (o : Option (List ℕ)) → IfSome o (λ bytes. (rest : List ℕ) × TakesFrom bytes a.given.input rest × (call.input.after.bytes ≡ Some rest))
-        → (input : List ℕ) × IfSome o (λ bytes. bytes ≡ input) × (trees : List Tree) × (end : End) × Stream input (limit_of request) trees end × (end ≢ clean)
-    input_of None told = (a.given.input.bytes, tt, v.trees, v.end, v.stream, v.some)
-    input_of (Some bytes) told = (bytes, refl, v.trees, v.end, whole_stream (limit_of request) bytes told.0 told.1 v, v.some)
+        → (input : List ℕ) × IfSome o (λ bytes. bytes ≡ input) × HoldBadValue (limit_of request) input
+    input_of None told = (a.given.input.bytes, tt, record { trees = v.trees; end = v.end; stream = v.stream; some = v.some })
+    input_of (Some bytes) told = (bytes, refl, record { trees = v.trees; end = v.end; stream = whole_stream (limit_of request) bytes told.0 told.1 v; some = v.some })
 
   pub only_value : OnlyValue words call
   only_value e = value_of (subst (λ s. Why language words call a.given s) e account_why)

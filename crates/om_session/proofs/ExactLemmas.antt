@@ -1,5 +1,8 @@
 -- Where a status has to come, from the account of a call.
-use Rattle.std.proofs.Common.{◌≡◌, ◌⊎◌, ℕ, ◌^◌, ◌<◌, ◌≤◌, List, [], ◌∷◌, length, Option, Some, None, IfSome, Result, Ok, Err, inl, inr, refl, sym, ap, ◌∙◌, subst, arith}
+use Rattle.std.proofs.Common.{◌≡◌, ◌⊎◌, ℕ, ◌+◌, ◌-◌, ◌^◌, ◌<◌, ◌≤◌, List, [], ◌∷◌, ◌++◌, length, take, drop, take_all, Option, Some, None, IfSome, Result, Ok, Err, inl, inr, refl, sym, ap, ◌∙◌, subst, arith}
+use Rattle.std.proofs.lemmas.List.{take-append-drop, take-append-le}
+use Rattle.std.proofs.lemmas.List.Elements.{All-take}
+use Rattle.std.proofs.Math.Seq.{take-append_seam, take-append-add}
 use Rattle.std.specs.Prelude.{IsSomeAnd, MatchResult}
 use Rattle.om_model.specs.declared.status.Status.{Status}
 use Rattle.om_model.specs.declared.status.Status.TheVariants as statuses
@@ -7,16 +10,17 @@ use Rattle.om_model.specs.Bytes.{AreBytes}
 use Rattle.om_model.specs.declared.refusal.ReadRefusal.{ReadRefusal}
 use Rattle.om_format.specs.Laws.{HasOneJudgement}
 use Rattle.om_format.specs.Stream.{End, clean, refused as refused_end, cut, Stream}
-use Rattle.om_outcome.specs.Outcome.{Taken, at_end, at_length, whole, Found, opened, missing, failed, unfetched, Stop, Request, check, Asks, limit_of, Said, Work, checks, Task, Language, ReadsTypeOf, Prepares, found_of}
+use Rattle.om_format.specs.Tree.{Tree}
+use Rattle.om_outcome.specs.Outcome.{Taken, InputEnd, at_end, at_fault, at_length, unasked, whole, Found, opened, missing, failed, unfetched, Stop, Request, check, Asks, limit_of, Said, Work, checks, Task, Language, ReadsTypeOf, Prepares, found_of}
 use Rattle.om_edge.specs.Files.{File, contents_of}
 use Rattle.om_edge.specs.State.{FilesState, Change}
 use Rattle.om_session.specs.Call.{Call}
 use Rattle.om_session.specs.Given.{TellsBytes, IsFoundOf, TakesFrom, Fetched, IsMeasured}
-use Rattle.om_session.specs.Run.{HoldNoStop, Account, IsUsage, AsksForFile, AsksFor, IsRefusedType, IsOutside, TellsFile, IfTypes, IfTooLong}
+use Rattle.om_session.specs.Run.{HoldNoStop, Account, IsUsage, AsksForFile, AsksFor, IsRefusedType, IsOutside, TellsFile, AreShort, HoldBadValue, IfTypes, IfTooLong, IfValue}
 use Rattle.om_session.proofs.HeadlineLemmas.{all_taken}
 use Rattle.om_session.proofs.CompleteLemmas.{IsLawful}
 use Rattle.om_session.proofs.StreamLemmas.{streams_once}
-use Rattle.om_session.proofs.CauseLemmas.{NoValue, whole_stream, task_asks, IsReady, Why, all_well, some_no, not_plain, not_there, not_opened, no_types, file_fault, file_long, no_value, input_fault, input_long, memory, out_fault, err_fault, account_why, file_fetched, contents_are, longer}
+use Rattle.om_session.proofs.CauseLemmas.{NoValue, NoRefusal, refused_after, task_asks, IsReady, Why, all_well, some_no, not_plain, not_there, not_opened, no_types, file_fault, file_long, no_value, input_fault, input_long, memory, out_fault, err_fault, account_why, file_fetched, contents_are, longer}
 
 -- ---- plain words have one FILE and one TYPE
 
@@ -69,10 +73,6 @@ module _ {D T : Type 0} (language : Language D T) where
       let here : AcceptsFile file f u = type_found file f u task (check f u) result r reads found same in
       subst (λ n. AcceptsFile file n type) once.0 (subst (λ t. AcceptsFile file f t) once.1 here)
 
-  pub prepared_asks : (words : List (List ℕ)) (file : List ℕ → Found) (task : Task T) → Prepares language words file (Ok task) → (name : List ℕ) × (type : List ℕ) × AsksFor words name type
-  prepared_asks words file task (Err s, h, same) = absurd (cc same)
-  prepared_asks words file task (Ok (check f u), asks, rest) = (f, u, (check f u, asks, refl))
-
 -- ---- what was taken of bytes that are told
 
 -- what was taken up to the end is all, and not too long
@@ -82,12 +82,32 @@ all_short bytes taken rest t e measured =
     let same : whole bytes ≡ taken = sym (all_taken bytes taken rest t e) in
     let size : length bytes ≡ length taken.bytes = ap (λ t. length t.bytes) same in omega arith
 
+-- some first bytes
+All-take-front : (front more : List ℕ) → AreBytes (front ++ more) → AreBytes front
+All-take-front front more h = subst AreBytes (take-append_seam front more) (All-take (λ b. b < 256) (length front) (front ++ more) h)
+
+-- more than the first list
+take_longer : (n : ℕ) (xs ys : List ℕ) → length xs ≤ n → take n (xs ++ ys) ≡ xs ++ take (n - length xs) ys
+take_longer n xs ys fits = let e : n ≡ length xs + (n - length xs) = omega (arith, fits) in ap (λ k. take k (xs ++ ys)) e ∙ take-append-add xs ys (n - length xs)
+
+-- no more bytes are taken
+at_most : (until : InputEnd) (n : ℕ) → IsMeasured until n → n ≤ 2 ^ 48 + 4095
+at_most at_end n h = omega (arith, h)
+at_most at_fault n h = omega (arith, h)
+at_most at_length n h = let few = h.1 in omega (arith, few)
+at_most unasked n h = omega (arith, h)
+
 -- what was found holds
 abbrev text_in : Found → List ℕ
 text_in (opened taken) = taken.bytes
 text_in missing = []
 text_in failed = []
 text_in unfetched = []
+
+-- what a map that has a file whole says of it
+found_text : (contents : Option (List ℕ)) (text : List ℕ) → found_of contents ≡ opened (whole text) → contents ≡ Some text
+found_text None text e = absurd (cc e)
+found_text (Some bytes) text e = ap (λ b. Some b) (ap text_in e)
 
 -- a file that is told was found so
 found_in : (map : Option (List File)) (name bytes : List ℕ) (taken : Taken) → IfSome map (λ all. IsFoundOf (contents_of all name) (opened taken)) → IsSomeAnd map (λ all. contents_of all name ≡ Some bytes)
@@ -109,7 +129,7 @@ module _ (files : Change FilesState) (name bytes : List ℕ) (told : TellsFile f
 
   -- one that was too long is so
   pub told_long : taken.until ≡ at_length → 2 ^ 48 ≤ length bytes
-  told_long e = longer bytes taken found_told.0 found_told.1 (subst (λ u. IsMeasured u (length taken.bytes)) e fetched.measured)
+  told_long e = longer bytes taken found_told.0 found_told.1 (subst (λ u. IsMeasured u (length taken.bytes)) e fetched.measured).0
 
 -- ---- the clauses
 
@@ -118,23 +138,24 @@ module _ {D T : Type 0} (language : Language D T) (lawful : IsLawful language) (
   Cause status = Why language words call a.given status
 
   -- a cause that is none of the outside's is that of this status
-  module _ (target : Status) (unended : IsReady language words a.given → a.given.input.until ≡ at_end → ⊥) (plain : ¬ IsUsage words)
+  module _ (target : Status) (plain : ¬ IsUsage words)
+      (unended : IsReady language words a.given → a.given.input.until ≡ at_end → (request : Request) → Asks words request → NoRefusal (limit_of request) a.given.input → ⊥)
       (types : (name type text : List ℕ) → AsksFor words name type → a.given.file name ≡ opened (whole text) → IsRefusedType language text type → statuses.Types ≡ target)
-      (unstopped : IsReady language words a.given → (request : Request) → Asks words request → NoValue (limit_of request) a.given.input → ⊥)
+      (value : IsReady language words a.given → (request : Request) → Asks words request → NoValue (limit_of request) a.given.input → statuses.Value ≡ target)
       (file : (name : List ℕ) (taken : Taken) → AsksForFile words name → a.given.file name ≡ opened taken → taken.until ≡ at_length → statuses.TooLong ≡ target)
-      (input : IsReady language words a.given → statuses.TooLong ≡ target) where
+      (input : IsReady language words a.given → a.given.input.until ≡ at_length → (request : Request) → Asks words request → NoRefusal (limit_of request) a.given.input → statuses.TooLong ≡ target) where
     cause_or_outside : (s : Status) → Cause s → (s ≡ target) ⊎ IsOutside s
-    cause_or_outside s (all_well ready e) = absurd (unended ready e)
-    cause_or_outside s (some_no ready e) = absurd (unended ready e)
+    cause_or_outside s (all_well ready e request asks held) = absurd (unended ready e request asks held)
+    cause_or_outside s (some_no ready e request asks held) = absurd (unended ready e request asks held)
     cause_or_outside s (not_plain none) = absurd (plain none)
     cause_or_outside s (not_there n f e) = inr (inr (inl refl))
     cause_or_outside s (not_opened n f e) = inr (inr (inl refl))
     cause_or_outside s (no_types n t x f e why) = inl (types n t x f e why)
     cause_or_outside s (file_fault n taken f e u) = inr (inl refl)
     cause_or_outside s (file_long n taken f e u) = inl (file n taken f e u)
-    cause_or_outside s (no_value ready request asks v) = absurd (unstopped ready request asks v)
+    cause_or_outside s (no_value ready request asks v) = inl (value ready request asks v)
     cause_or_outside s (input_fault e) = inr (inl refl)
-    cause_or_outside s (input_long ready e) = inl (input ready)
+    cause_or_outside s (input_long ready e request asks held) = inl (input ready e request asks held)
     cause_or_outside s (memory spent) = inr (inr (inr (inl refl)))
     cause_or_outside s (out_fault said first breaks) = inr (inr (inr (inr refl)))
     cause_or_outside s (err_fault unput) = inr (inr (inr (inr refl)))
@@ -162,9 +183,9 @@ module _ {D T : Type 0} (language : Language D T) (lawful : IsLawful language) (
 
       types_cause : (s : Status) → Cause s → (s ≡ statuses.Types) ⊎ IsOutside s
       types_cause =
-          cause_or_outside statuses.Types (λ ready e. not_ready ready) (λ none. none is.0 is.1) (λ n t x typed e why. refl) (λ ready request asks v. not_ready ready)
+          cause_or_outside statuses.Types (λ none. none is.0 is.1) (λ ready e request asks held. not_ready ready) (λ n t x typed e why. refl) (λ ready request asks v. absurd (not_ready ready))
           (λ n taken f e u. let long = told_long call.files name text told taken (fetched_as n f (opened taken) e) u in absurd (omega arith))
-          (λ ready. absurd (not_ready ready))
+          (λ ready e request asks held. absurd (not_ready ready))
 
     module _ (long : 2 ^ 48 ≤ length text) where
       unread : IsReady language words a.given → ⊥
@@ -172,22 +193,30 @@ module _ {D T : Type 0} (language : Language D T) (lawful : IsLawful language) (
 
       file_cause : (s : Status) → Cause s → (s ≡ statuses.TooLong) ⊎ IsOutside s
       file_cause =
-          cause_or_outside statuses.TooLong (λ ready e. unread ready) (λ none. none is.0 is.1)
+          cause_or_outside statuses.TooLong (λ none. none is.0 is.1) (λ ready e request asks held. unread ready)
           (λ n t x typed e why.
           let short = told_short call.files name text told (whole x) (fetched_as n (t, typed) (opened (whole x)) e) refl in absurd (omega arith))
-          (λ ready request asks v. unread ready) (λ n taken f e u. refl) (λ ready. refl)
+          (λ ready request asks v. absurd (unread ready)) (λ n taken f e u. refl) (λ ready e request asks held. refl)
 
   pub if_types : IfTypes language words call
   if_types name type text is told short refused = types_cause name type text is told short refused call.status (account_why language words call a)
 
   module _ (files : List File) (task : Task T) (bytes : List ℕ) (map : call.files.before.map ≡ Some files) (prepared : Prepares language words (λ name. found_of (contents_of files name)) (Ok task))
-      (told : call.input.before.bytes ≡ Some bytes) (long : 2 ^ 48 ≤ length bytes)
-      (law : HasOneJudgement) (are_bytes : AreBytes bytes) (said : List Said) (holds : HoldNoStop language task bytes said) where
-    -- what was taken of the input is not all
-    not_at_end : a.given.input.until ≡ at_end → ⊥
-    not_at_end e =
-        let taken : (rest : List ℕ) × TakesFrom bytes a.given.input rest × (call.input.after.bytes ≡ Some rest) = rw told at a.input.told in
-        let short = all_short bytes a.given.input taken.0 taken.1 e a.input.measured in omega arith
+      (told : call.input.before.bytes ≡ Some bytes) (law : HasOneJudgement) (are_bytes : AreBytes bytes) where
+    -- what was taken of the input is in front
+    taken_front : (rest : List ℕ) × TakesFrom bytes a.given.input rest × (call.input.after.bytes ≡ Some rest)
+    taken_front = rw told at a.input.told
+
+    plain : ¬ IsUsage words
+    plain none = let asked = task_asks language words call (record { file = λ name. found_of (contents_of files name); input = a.given.input }) task prepared in none asked.0 asked.1
+
+    -- the limit is that of the words
+    limit_is : (request : Request) → Asks words request → limit_of request ≡ task.limit
+    limit_is request asks =
+        let asked = task_asks language words call (record { file = λ name. found_of (contents_of files name); input = a.given.input }) task prepared in
+        one_limit request asked.0 ∙ sym asked.2 where
+          one_limit : (request other : Request) → limit_of request ≡ limit_of other
+          one_limit (check f t) (check g u) = refl
 
     -- a FILE that the map has as it was found is not refused
     map_accepts : (name type text : List ℕ) → AsksFor words name type → a.given.file name ≡ opened (whole text) → IsAccepted language text type
@@ -200,41 +229,100 @@ module _ {D T : Type 0} (language : Language D T) (lawful : IsLawful language) (
         let texts : here.text ≡ text = sym (ap text_in same) in
         subst (λ t. IsAccepted language t type) texts here.accepted
 
-    -- bytes that hold no stop are not refused
-    held_end : (end : End) × Stream bytes task.limit holds.trees end × ((refusal : ReadRefusal) → end ≡ refused_end refusal → ⊥)
-    held_end = from holds.front refl where
-      from : (front : List ℕ) → holds.front ≡ front → (end : End) × Stream bytes task.limit holds.trees end × ((refusal : ReadRefusal) → end ≡ refused_end refusal → ⊥)
-      from [] e = (clean, (holds.front, holds.first.spelled, e), λ refusal e. cc e)
-      from (b ∷ front) e =
-          let some : 0 < length holds.front = let size : length holds.front ≡ length (b ∷ front) = ap length e in omega (arith, size) in
-          (cut (length holds.front), (holds.front, holds.first.spelled, (some, refl, holds.is_front)), λ refusal e. cc e)
+    not_refused : (name type text : List ℕ) → AsksFor words name type → a.given.file name ≡ opened (whole text) → IsRefusedType language text type → ⊥
+    not_refused name type text is found why = accepted_or_refused language lawful text type (map_accepts name type text is found) why
 
-    one_limit : (request other : Request) → limit_of request ≡ limit_of other
-    one_limit (check f t) (check g u) = refl
+    -- some first bytes end in one way
+    ends_once : (front more : List ℕ) → bytes ≡ front ++ more → (trees others : List Tree) (end other : End) → Stream front task.limit trees end → Stream front task.limit others other → end ≡ other
+    ends_once front more same trees others end other one two =
+        (streams_once law task.limit front trees others end other (All-take-front front more (subst AreBytes same are_bytes)) one two).1
 
-    not_stopped : (request : Request) → NoValue (limit_of request) a.given.input → ⊥
-    not_stopped request v = go v.ends where
-      taken : (rest : List ℕ) × TakesFrom bytes a.given.input rest × (call.input.after.bytes ≡ Some rest)
-      taken = rw told at a.input.told
+    -- ---- too many bytes
 
-      go : (a.given.input.until ≡ at_end) ⊎ ((refusal : ReadRefusal) × (v.end ≡ refused_end refusal)) → ⊥
-      go (inl e) = not_at_end e
-      go (inr (refusal, is)) =
-          let asked = task_asks language words call (record { file = λ name. found_of (contents_of files name); input = a.given.input }) task prepared in
-          let limit : limit_of request ≡ task.limit = one_limit request asked.0 ∙ sym asked.2 in
-          let stream = whole_stream language words call a (limit_of request) bytes taken.0 taken.1 v in
-          let here : Stream bytes task.limit v.trees v.end = subst (λ limit. Stream bytes limit v.trees v.end) limit stream in
-          let once = streams_once law task.limit bytes holds.trees v.trees held_end.0 v.end are_bytes held_end.1 here in
-          held_end.2 refusal (once.1 ∙ is)
+    module _ (long : 2 ^ 48 ≤ length bytes) (said : List Said) (holds : HoldNoStop language task (take (2 ^ 48 + 4095) bytes) said) where
+      -- what was taken of the input is not all
+      not_at_end : a.given.input.until ≡ at_end → ⊥
+      not_at_end e = let short = all_short bytes a.given.input taken_front.0 taken_front.1 e a.input.measured in omega arith
 
-    input_cause : (s : Status) → Cause s → (s ≡ statuses.TooLong) ⊎ IsOutside s
-    input_cause =
-        let asked = prepared_asks language words (λ name. found_of (contents_of files name)) task prepared in
-        cause_or_outside statuses.TooLong (λ ready e. not_at_end e) (λ none. none asked.2.0 asked.2.1)
-        (λ n t x typed e why. absurd (accepted_or_refused language lawful x t (map_accepts n t x typed e) why)) (λ ready request asks v. not_stopped request v) (λ n taken f e u. refl) (λ ready. refl)
+      -- bytes that hold no stop are not refused
+      held_end : (end : End) × Stream (take (2 ^ 48 + 4095) bytes) task.limit holds.trees end × ((refusal : ReadRefusal) → end ≡ refused_end refusal → ⊥)
+      held_end = from holds.front refl where
+        from : (front : List ℕ) → holds.front ≡ front → (end : End) × Stream (take (2 ^ 48 + 4095) bytes) task.limit holds.trees end × ((refusal : ReadRefusal) → end ≡ refused_end refusal → ⊥)
+        from [] e = (clean, (holds.front, holds.first.spelled, e), λ refusal e. cc e)
+        from (b ∷ front) e =
+            let some : 0 < length holds.front = let size : length holds.front ≡ length (b ∷ front) = ap length e in omega (arith, size) in
+            (cut (length holds.front), (holds.front, holds.first.spelled, (some, refl, holds.is_front)), λ refusal e. cc e)
+
+      not_stopped : (request : Request) → Asks words request → NoValue (limit_of request) a.given.input → ⊥
+      not_stopped request asks v = go v.ends where
+        go : (a.given.input.until ≡ at_end) ⊎ ((refusal : ReadRefusal) × (v.end ≡ refused_end refusal)) → ⊥
+        go (inl e) = not_at_end e
+        go (inr (refusal, is)) =
+            let stream : Stream a.given.input.bytes task.limit v.trees (refused_end refusal) =
+            subst (λ limit. Stream a.given.input.bytes limit v.trees (refused_end refusal)) (limit_is request asks) (subst (λ end. Stream a.given.input.bytes (limit_of request) v.trees end) is v.stream) in
+            let rest = taken_front.0 in
+            let few : length a.given.input.bytes ≤ 2 ^ 48 + 4095 = at_most a.given.input.until (length a.given.input.bytes) a.input.measured in
+            let all : take (2 ^ 48 + 4095) bytes ≡ a.given.input.bytes ++ take (2 ^ 48 + 4095 - length a.given.input.bytes) rest =
+            ap (λ b. take (2 ^ 48 + 4095) b) taken_front.1.front ∙ take_longer (2 ^ 48 + 4095) a.given.input.bytes rest few in
+            let here : Stream (take (2 ^ 48 + 4095) bytes) task.limit v.trees (refused_end refusal) =
+            subst (λ b. Stream b task.limit v.trees (refused_end refusal)) (sym all)
+            (refused_after task.limit a.given.input.bytes (take (2 ^ 48 + 4095 - length a.given.input.bytes) rest) v.trees refusal stream) in
+            held_end.2 refusal (ends_once (take (2 ^ 48 + 4095) bytes) (drop (2 ^ 48 + 4095) bytes) (sym (take-append-drop (2 ^ 48 + 4095) bytes)) holds.trees v.trees held_end.0 (refused_end refusal) held_end.1 here)
+
+      input_cause : (s : Status) → Cause s → (s ≡ statuses.TooLong) ⊎ IsOutside s
+      input_cause =
+          cause_or_outside statuses.TooLong plain (λ ready e request asks held. not_at_end e) (λ n t x typed e why. absurd (not_refused n t x typed e why))
+          (λ ready request asks v. absurd (not_stopped request asks v)) (λ n taken f e u. refl) (λ ready e request asks held. refl)
+
+    -- ---- no value
+
+    module _ (short : AreShort files) (bad : HoldBadValue task.limit (take (2 ^ 48) bytes)) (in_all : (n : ℕ) → bad.end ≡ cut n → length bytes < 2 ^ 48) where
+      ended : a.given.input.until ≡ at_end → (request : Request) → Asks words request → NoRefusal (limit_of request) a.given.input → ⊥
+      ended e request asks held =
+          let few = all_short bytes a.given.input taken_front.0 taken_front.1 e a.input.measured in
+          let all : take (2 ^ 48) bytes ≡ a.given.input.bytes = take_all (2 ^ 48) bytes (omega (arith, few)) ∙ ap (λ t. t.bytes) (sym (all_taken bytes a.given.input taken_front.0 taken_front.1 e)) in
+          let stream : Stream (take (2 ^ 48) bytes) task.limit held.trees held.end =
+          subst (λ b. Stream b task.limit held.trees held.end) (sym all) (subst (λ limit. Stream a.given.input.bytes limit held.trees held.end) (limit_is request asks) held.stream) in
+          bad.some (ends_once (take (2 ^ 48) bytes) (drop (2 ^ 48) bytes) (sym (take-append-drop (2 ^ 48) bytes)) bad.trees held.trees bad.end held.end bad.stream stream ∙ held.whole e)
+
+      too_many : a.given.input.until ≡ at_length → (request : Request) → Asks words request → NoRefusal (limit_of request) a.given.input → ⊥
+      too_many e request asks held = go bad.end refl where
+        many : 2 ^ 48 ≤ length a.given.input.bytes
+        many = (subst (λ u. IsMeasured u (length a.given.input.bytes)) e a.input.measured).0
+
+        go : (end : End) → bad.end ≡ end → ⊥
+        go clean is = bad.some is
+        go (cut n) is = let long = longer bytes a.given.input taken_front.0 taken_front.1 many in let few = in_all n is in omega (arith, few, long)
+        go (refused_end refusal) is =
+            let first : take (2 ^ 48) bytes ≡ take (2 ^ 48) a.given.input.bytes = ap (λ b. take (2 ^ 48) b) taken_front.1.front ∙ take-append-le (2 ^ 48) a.given.input.bytes taken_front.0 many in
+            let front : Stream (take (2 ^ 48) a.given.input.bytes) task.limit bad.trees (refused_end refusal) =
+            subst (λ b. Stream b task.limit bad.trees (refused_end refusal)) first (subst (λ end. Stream (take (2 ^ 48) bytes) task.limit bad.trees end) is bad.stream) in
+            let all : Stream a.given.input.bytes task.limit bad.trees (refused_end refusal) =
+            subst (λ b. Stream b task.limit bad.trees (refused_end refusal)) (take-append-drop (2 ^ 48) a.given.input.bytes)
+            (refused_after task.limit (take (2 ^ 48) a.given.input.bytes) (drop (2 ^ 48) a.given.input.bytes) bad.trees refusal front) in
+            let stream : Stream a.given.input.bytes task.limit held.trees held.end = subst (λ limit. Stream a.given.input.bytes limit held.trees held.end) (limit_is request asks) held.stream in
+            held.unrefused refusal (ends_once a.given.input.bytes taken_front.0 taken_front.1.front held.trees bad.trees held.end (refused_end refusal) stream all)
+
+      -- FILE is not too long
+      file_short : (name : List ℕ) (taken : Taken) → AsksForFile words name → a.given.file name ≡ opened taken → taken.until ≡ at_length → ⊥
+      file_short name taken is found e =
+          let here : AcceptsFile language (λ name. found_of (contents_of files name)) name is.0 = prepared_accepts language words (λ name. found_of (contents_of files name)) task prepared name is.0 is.1 in
+          let contents : contents_of files name ≡ Some here.text = found_text (contents_of files name) here.text here.found in
+          let told_file : TellsFile call.files name here.text = rw map contents in
+          let fetched : Fetched call.files name (opened taken) = subst (λ o. Fetched call.files name o) found (file_fetched language words call a name is) in
+          let long = told_long call.files name here.text told_file taken fetched e in
+          let few = short name here.text contents in omega (arith, long, few)
+
+      value_cause : (s : Status) → Cause s → (s ≡ statuses.Value) ⊎ IsOutside s
+      value_cause =
+          cause_or_outside statuses.Value plain (λ ready e request asks held. ended e request asks held) (λ n t x typed e why. absurd (not_refused n t x typed e why))
+          (λ ready request asks v. refl) (λ n taken f e u. absurd (file_short n taken f e u)) (λ ready e request asks held. absurd (too_many e request asks held))
 
   pub if_too_long : HasOneJudgement → TellsBytes call.input → IfTooLong language words call
   if_too_long law tells = record {
     file = λ name bytes is told long. file_cause name is.0 bytes is.1 told long call.status (account_why language words call a);
-    input = λ files task bytes said map prepared told long holds. input_cause files task bytes map prepared told long law (rw told at tells) said holds call.status (account_why language words call a);
+    input = λ files task bytes said map prepared told long holds. input_cause files task bytes map prepared told law (rw told at tells) long said holds call.status (account_why language words call a);
   }
+
+  pub if_value : HasOneJudgement → TellsBytes call.input → IfValue language words call
+  if_value law tells files task bytes map short prepared told bad in_all = value_cause files task bytes map prepared told law (rw told at tells) short bad in_all call.status (account_why language words call a)

@@ -50,7 +50,7 @@ module _ (files : Change FilesState) (all : List File) (told : files.before.map 
   opened_whole taken f (Some bytes) some at_length e asked =
       let found : IsFoundOf (contents_of all name) (opened taken) = rw told at f.map in
       let t = subst (λ c. IsSomeAnd c (λ bytes. (rest : List ℕ) × TakesFrom bytes taken rest)) some found in
-      absurd (too_short bytes taken t.0 t.1 (short name bytes some) (subst (λ u. IsMeasured u (length taken.bytes)) e f.measured))
+      absurd (too_short bytes taken t.0 t.1 (short name bytes some) (subst (λ u. IsMeasured u (length taken.bytes)) e f.measured).0)
   opened_whole taken f (Some bytes) some unasked e asked = let no : unasked ≡ at_end = asked refl in absurd (cc no)
 
   -- what was found is what the map has, where something was read of it
@@ -117,7 +117,7 @@ module _ {D T : Type 0} (language : Language D T) (task : Task T) (source : Chan
   says_input : (u : InputEnd) → taken.until ≡ u → ValuesReply language task taken all → ValuesReply language task (whole input) all
   says_input at_end e said = subst (λ t. ValuesReply language task t all) (all_taken input taken taken_input.0 taken_input.1 e) said
   says_input at_fault e said = absurd (no_fault (rw e at took.cause).rose)
-  says_input at_length e said = absurd (too_short input taken taken_input.0 taken_input.1 short (subst (λ u. IsMeasured u (length taken.bytes)) e took.measured))
+  says_input at_length e said = absurd (too_short input taken taken_input.0 taken_input.1 short (subst (λ u. IsMeasured u (length taken.bytes)) e took.measured).0)
   says_input unasked e said =
       subst (λ b. ValuesReply language task (whole b) all) (sym taken_input.1.front)
       (reply_more language task taken.bytes taken_input.0 all (subst (λ u. ValuesReply language task (record { bytes = taken.bytes; until = u }) all) e said))

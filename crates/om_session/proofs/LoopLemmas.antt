@@ -131,9 +131,9 @@ module _ (t : ListType) (count : ℕ) (a b o p : ByteState) (values : Values) (s
       ends_input t s.bytes s.said (change o p) result (ends t s.bytes s.said s.reads) s.put,
     )
 
-    module _ (n : ℕ) (moved : TakesFront {E = E} b c (Ok n) buffer) (are_bytes : AreBytes (take n buffer)) (q : ByteState) (new : Values) where
+    module _ (short : count < 2 ^ 48) (piece : length buffer ≤ 4096) (n : ℕ) (moved : TakesFront {E = E} b c (Ok n) buffer) (are_bytes : AreBytes (take n buffer)) (q : ByteState) (new : Values) where
       more_taken : Gathers (change a c) (taken (s.bytes ++ take n buffer) unasked)
-      more_taken = took_more a b c s.bytes buffer s.gathers n moved are_bytes
+      more_taken = took_more a b c s.bytes buffer s.gathers n (few short) piece moved are_bytes
 
       pub values_more : n ≤ length buffer → ReadsPiece {U = Unit {0}} t s.bytes s.said (take n buffer) (change p q) new (Ok tt)
           → ValuesSoFar t (count + n) (change a c) (change o q) new

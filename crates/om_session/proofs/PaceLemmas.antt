@@ -1,79 +1,126 @@
--- Where the input failed or was too long, what was taken of it holds no stop, and what is said of its values is put.
-use Rattle.std.proofs.Common.{◌≡◌, ◌⊎◌, ℕ, ◌^◌, ◌≤◌, List, [], ◌++◌, length, Some, None, IfSome, Ok, Err, inl, inr, sym, ap, ◌∙◌, subst, append-nil}
-use Rattle.std.specs.Prelude.{IsSomeAnd}
+-- Where the input failed or was too long, what was taken of it holds no stop, and what is said of its values is put; where
+-- FILE did, nothing was taken and nothing is put.
+use Rattle.std.proofs.Common.{◌≡◌, ◌⊎◌, ℕ, Bool, true, false, List, [], ◌∷◌, ◌++◌, Some, inl, inr, refl, sym, ap, ◌∙◌, subst, append-nil}
+use Rattle.std.specs.Prelude.{if◌then◌else◌}
 use Rattle.om_model.specs.declared.status.Status.{Status}
 use Rattle.om_model.specs.declared.status.Status.TheVariants as statuses
-use Rattle.om_format.specs.Tree.{Tree}
-use Rattle.om_format.specs.Stream.{End, clean, refused, cut, IsTail}
-use Rattle.om_outcome.specs.Outcome.{InputEnd, at_end, at_fault, at_length, unasked, Stop, read_fault, too_long, stops, Reply, replies, texts_of, ending_of, Work, Language, StopsAt, Closes, fault_of, out_of_memory}
-use Rattle.om_edge.specs.Faults.{RoseOrLast}
-use Rattle.om_edge.specs.Files.{contents_of}
+use Rattle.om_outcome.specs.Outcome.{InputEnd, Taken, at_end, unasked, nothing, opened, Stop, usage, cannot_open, declarations, requested_type, value, read_fault, too_long, out_of_memory, status_of, stop_text, err_line, says, stops, Reply, replies, texts_of, all_well, ending_of, Language, fault_of}
 use Rattle.om_edge.specs.Sink.{Puts}
 use Rattle.om_session.specs.Call.{Call}
-use Rattle.om_session.specs.Run.{HoldNoStop, IsSaidFirst, Completes, Breaks, Account, AsksForFile, HasPutAll, IfInputFails}
-use Rattle.om_session.proofs.CauseLemmas.{Why, file_fault, file_long, input_fault, input_long, MayEnd, account_why, read_fault_of, file_long_of}
+use Rattle.om_session.specs.Given.{Gathers, Fetched}
+use Rattle.om_session.specs.Run.{HoldNoStop, IsSaidFirst, PutsLine, Completes, Breaks, Account, AsksForFile, TellsFault, FailsByInput, FailsByFile, IfInputFails}
+use Rattle.om_session.proofs.CauseLemmas.{IsReady, Why, file_fault, file_long, input_fault, input_long, account_why, file_fetched}
+use Rattle.om_session.proofs.CompleteLemmas.{IsLawful}
+use Rattle.om_session.proofs.ExactLemmas.{AcceptsFile, prepared_accepts}
 
-module _ {D T : Type 0} (language : Language D T) (words : List (List ℕ)) (call : Call) (a : Account language words call) where
-  closes_stops : (work : Work T) (trees : List Tree) (u : InputEnd) (end : End) (last : Reply) (stop : Stop) → fault_of u ≡ Some stop → Closes language work trees u end last → (s : Stop) × (last ≡ stops s)
-  closes_stops work trees at_end end last stop e h = absurd (cc e)
-  closes_stops work trees unasked end last stop e h = absurd (cc e)
-  closes_stops work trees at_fault clean last stop e h = (read_fault, h)
-  closes_stops work trees at_fault (cut n) last stop e h = (read_fault, h)
-  closes_stops work trees at_fault (refused refusal) last stop e h = absurd h
-  closes_stops work trees at_length clean last stop e h = (too_long, h)
-  closes_stops work trees at_length (cut n) last stop e h = (too_long, h)
-  closes_stops work trees at_length (refused refusal) last stop e h = absurd h
+-- ---- a stop by its status
 
-  module _ (fault : Stop) (is : fault_of a.given.input.until ≡ Some fault) where
-    last_stops : (last : Reply) → MayEnd language words a.given a.said last → (s : Stop) × (last ≡ stops s)
-    last_stops last (inr memory) = (out_of_memory, memory)
-    last_stops last (inl (Err stop, p, same)) = (stop, ap (λ all. all.last) same)
-    last_stops last (inl (Ok task, p, v)) = go v.last where
-      go : ((stop : Stop) × StopsAt language task.work task.limit v.trees v.rest stop × (fault_of a.given.input.until ≡ None) × (last ≡ stops stop))
-          ⊎ ((end : End) × IsTail task.limit v.rest end × ((stop : Stop) → StopsAt language task.work task.limit v.trees v.rest stop → ⊥) × Closes language task.work v.trees a.given.input.until end last)
-          → (s : Stop) × (last ≡ stops s)
-      go (inl (stop, at, free, same)) = (stop, same)
-      go (inr (end, tail, none, closes)) = closes_stops task.work v.trees a.given.input.until end last fault is closes
+read_fault_is : (stop : Stop) → status_of stop ≡ statuses.ReadFault → stop ≡ read_fault
+read_fault_is read_fault e = refl
+read_fault_is usage e = absurd (cc e)
+read_fault_is (cannot_open name) e = absurd (cc e)
+read_fault_is (declarations refusal) e = absurd (cc e)
+read_fault_is (requested_type refusal) e = absurd (cc e)
+read_fault_is (value number refusal) e = absurd (cc e)
+read_fault_is too_long e = absurd (cc e)
+read_fault_is out_of_memory e = absurd (cc e)
 
-    module _ (status : Status) (same : call.status ≡ status) (other : status ≡ statuses.WriteFault → ⊥) where
-      all_put : Completes language words a.given a.said call ⊎ Breaks language words a.given a.said call → Puts call.out (texts_of a.said)
-      all_put (inr b) = absurd (other (sym same ∙ b.status))
-      all_put (inl c) =
-          let last = last_stops c.last c.may_end in
-          subst (λ said. Puts call.out (texts_of said)) (append-nil a.said) (subst (λ l. Puts call.out (ending_of (replies a.said l)).out) last.1 c.out)
+too_long_is : (stop : Stop) → status_of stop ≡ statuses.TooLong → stop ≡ too_long
+too_long_is too_long e = refl
+too_long_is usage e = absurd (cc e)
+too_long_is (cannot_open name) e = absurd (cc e)
+too_long_is (declarations refusal) e = absurd (cc e)
+too_long_is (requested_type refusal) e = absurd (cc e)
+too_long_is (value number refusal) e = absurd (cc e)
+too_long_is read_fault e = absurd (cc e)
+too_long_is out_of_memory e = absurd (cc e)
 
-      put_all_of : IsSaidFirst language words a.given a.said → HasPutAll language words call
-      put_all_of (inl (none, said)) = let no : fault_of unasked ≡ Some fault = subst (λ t. fault_of t.until ≡ Some fault) none is in absurd (cc no)
-      put_all_of (inr (task, p, paced)) = at paced.asked where
-        at : (a.given.input.until ≡ unasked) ⊎ (paced.in_hand ≡ []) → HasPutAll language words call
-        at (inl e) = let no : fault_of unasked ≡ Some fault = subst (λ u. fault_of u ≡ Some fault) e is in absurd (cc no)
+-- the status of a run that does not stop
+ends_so : (P : Status → Type 0) (well : Bool) → P (if well then statuses.Well else statuses.No) → P statuses.Well ⊎ P statuses.No
+ends_so P true h = inl h
+ends_so P false h = inr h
+
+module _ {D T : Type 0} (language : Language D T) (lawful : IsLawful language) (words : List (List ℕ)) (call : Call) (a : Account language words call) where
+  module _ (status : Status) (stop : Stop) (same : call.status ≡ status) (only : (s : Stop) → status_of s ≡ status → s ≡ stop)
+      (well : statuses.Well ≡ status → ⊥) (no : statuses.No ≡ status → ⊥) (fault : statuses.WriteFault ≡ status → ⊥) where
+    last_is : (last : Reply) → (ending_of (replies a.said last)).status ≡ status → last ≡ stops stop
+    last_is (stops s) e = ap (λ s. stops s) (only s e)
+    last_is (says said) e = elim (ends_so (λ s. s ≡ status) (all_well (a.said ++ said ∷ [])) e) [ inl h ↦ absurd (well h) | inr h ↦ absurd (no h) ]
+
+    -- all that was said is put, and the line of the stop
+    is_put : Completes language words a.given a.said call ⊎ Breaks language words a.given a.said call → Puts call.out (texts_of a.said) × Puts call.err (err_line (stop_text stop))
+    is_put (inr b) = absurd (fault (sym b.status ∙ same))
+    is_put (inl c) = line c.line where
+      line : PutsLine call.err call.status (ending_of (replies a.said c.last)) → Puts call.out (texts_of a.said) × Puts call.err (err_line (stop_text stop))
+      line (inr (part, is)) = absurd (fault (sym is ∙ same))
+      line (inl (err, is)) =
+          let last = last_is c.last (sym is ∙ same) in (
+            subst (λ said. Puts call.out (texts_of said)) (append-nil a.said) (subst (λ l. Puts call.out (ending_of (replies a.said l)).out) last c.out),
+            subst (λ l. Puts call.err (ending_of (replies a.said l)).err) last err,
+          )
+
+    fault_told : (until : InputEnd) → fault_of until ≡ Some stop → status ≡ status_of stop → TellsFault until call
+    fault_told until is its = record { stop = stop; is_fault = is; status = same ∙ its; err = (is_put a.ends).1 }
+
+    module _ (its : status ≡ status_of stop) where
+      -- the input ended so
+      by_input : fault_of a.given.input.until ≡ Some stop → IsSaidFirst language words a.given a.said → FailsByInput language words call
+      by_input is (inl (none, said)) = let not : fault_of unasked ≡ Some stop = subst (λ t. fault_of t.until ≡ Some stop) none is in absurd (cc not)
+      by_input is (inr (task, p, paced)) = at paced.asked where
+        at : (a.given.input.until ≡ unasked) ⊎ (paced.in_hand ≡ []) → FailsByInput language words call
+        at (inl e) = let not : fault_of unasked ≡ Some stop = subst (λ u. fault_of u ≡ Some stop) e is in absurd (cc not)
         at (inr none) =
             let bytes : a.given.input.bytes ≡ paced.earlier = paced.bytes_are ∙ (ap (λ more. paced.earlier ++ more) none ∙ append-nil paced.earlier) in
             record {
               taken = a.given.input;
               gathers = a.input;
+              fails = fault_told a.given.input.until is its;
               file = a.given.file;
+              files = a.files;
               task = task;
               prepared = p;
               said = a.said;
               holds = subst (λ b. HoldNoStop language task b a.said) (sym bytes) paced.holds;
-              out = all_put a.ends;
+              out = (is_put a.ends).0;
             }
 
-      has_put_all : HasPutAll language words call
-      has_put_all = put_all_of a.first
+      -- FILE did, before a byte of the input was taken
+      module _ (name : List ℕ) (taken : Taken) (is_file : AsksForFile words name) (found : a.given.file name ≡ opened taken) (is : fault_of taken.until ≡ Some stop) where
+        not_ready : IsReady language words a.given → ⊥
+        not_ready (task, p) =
+            let here : AcceptsFile language a.given.file name is_file.0 = prepared_accepts language words a.given.file task p name is_file.0 is_file.1 in
+            let both : opened taken ≡ opened (record { bytes = here.text; until = at_end }) = sym found ∙ here.found in
+            let same_taken : taken ≡ record { bytes = here.text; until = at_end } = cc in
+            let not : fault_of at_end ≡ Some stop = subst (λ t. fault_of t.until ≡ Some stop) same_taken is in cc not
 
-  abbrev ByFile : Type 0
-  ByFile = RoseOrLast call.files.before.read_faults call.files.after.read_faults
-      ⊎ ((name : List ℕ) × AsksForFile words name × IfSome call.files.before.map (λ all. IsSomeAnd (contents_of all name) (λ bytes. 2 ^ 48 ≤ length bytes)))
+        untaken : IsSaidFirst language words a.given a.said → (a.given.input ≡ nothing) × (a.said ≡ [])
+        untaken (inl none) = none
+        untaken (inr (task, p, paced)) = absurd (not_ready (task, p))
 
-  fault_fails : call.status ≡ statuses.ReadFault → Why language words call a.given statuses.ReadFault → HasPutAll language words call ⊎ ByFile
-  fault_fails same (input_fault e) = inl (has_put_all read_fault (ap fault_of e) statuses.ReadFault same (λ e. cc e))
-  fault_fails same (file_fault name taken is found e) = inr (inl (read_fault_of language words call a name taken is found e))
+        by_file : FailsByFile words call
+        by_file =
+            let none = untaken a.first in
+            record {
+              name = name;
+              is_file = is_file;
+              taken = taken;
+              fetched = subst (λ o. Fetched call.files name o) found (file_fetched language words call a name is_file);
+              fails = fault_told taken.until is its;
+              untaken = subst (λ t. Gathers call.input t) none.0 a.input;
+              out = subst (λ said. Puts call.out (texts_of said)) none.1 (is_put a.ends).0;
+            }
 
-  length_fails : call.status ≡ statuses.TooLong → Why language words call a.given statuses.TooLong → HasPutAll language words call ⊎ ByFile
-  length_fails same (input_long ready e) = inl (has_put_all too_long (ap fault_of e) statuses.TooLong same (λ e. cc e))
-  length_fails same (file_long name taken is found e) = inr (inr (file_long_of language words call a name taken is found e))
+  fault_fails : call.status ≡ statuses.ReadFault → Why language words call a.given statuses.ReadFault → FailsByInput language words call ⊎ FailsByFile words call
+  fault_fails same (input_fault e) =
+      inl (by_input statuses.ReadFault read_fault same read_fault_is (λ e. cc e) (λ e. cc e) (λ e. cc e) refl (ap fault_of e) a.first)
+  fault_fails same (file_fault name taken is found e) =
+      inr (by_file statuses.ReadFault read_fault same read_fault_is (λ e. cc e) (λ e. cc e) (λ e. cc e) refl name taken is found (ap fault_of e))
+
+  length_fails : call.status ≡ statuses.TooLong → Why language words call a.given statuses.TooLong → FailsByInput language words call ⊎ FailsByFile words call
+  length_fails same (input_long ready e request asks held) =
+      inl (by_input statuses.TooLong too_long same too_long_is (λ e. cc e) (λ e. cc e) (λ e. cc e) refl (ap fault_of e) a.first)
+  length_fails same (file_long name taken is found e) =
+      inr (by_file statuses.TooLong too_long same too_long_is (λ e. cc e) (λ e. cc e) (λ e. cc e) refl name taken is found (ap fault_of e))
 
   pub if_input_fails : IfInputFails language words call
   if_input_fails (inl same) = fault_fails same (subst (λ s. Why language words call a.given s) same (account_why language words call a))

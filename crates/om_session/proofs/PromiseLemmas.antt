@@ -8,7 +8,7 @@ use Rattle.om_session.specs.Run.{Account, Promises}
 use Rattle.om_session.proofs.CauseLemmas.{only_usage, if_usage, only_types, only_value, only_read_fault, only_write_fault, only_open_fault, if_missing, only_too_long, tells_read_fault, tells_open_fault, tells_write_fault}
 use Rattle.om_session.proofs.CompleteLemmas.{IsLawful, complete}
 use Rattle.om_session.proofs.DecidedLemmas.{decided}
-use Rattle.om_session.proofs.ExactLemmas.{if_types, if_too_long}
+use Rattle.om_session.proofs.ExactLemmas.{if_types, if_too_long, if_value}
 use Rattle.om_session.proofs.PaceLemmas.{if_input_fails}
 use Rattle.om_session.proofs.FrontLemmas.{if_memory, if_write_fault}
 use Rattle.om_session.proofs.HeadlineLemmas.{headline}
@@ -27,13 +27,14 @@ module _ {D T : Type 0} (language : Language D T) (lawful : IsLawful language) (
     types_only = only_types language words call a;
     types_if = if_types language lawful words call a;
     value_only = only_value language words call a;
+    value_if = if_value language lawful words call a law tells;
     read_fault_only = only_read_fault language words call a;
     write_fault_only = only_write_fault language words call a;
     open_fault_only = only_open_fault language words call a;
     missing_if = if_missing language words call a;
     too_long_only = only_too_long language words call a;
     too_long_if = if_too_long language lawful words call a law tells;
-    input_fails_if = if_input_fails language words call a;
+    input_fails_if = if_input_fails language lawful words call a;
     memory_if = if_memory language total law words call a tells;
     write_fault_if = if_write_fault language total law words call a tells;
     tells_read_fault = tells_read_fault language words call a lawful;

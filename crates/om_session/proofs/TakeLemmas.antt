@@ -1,6 +1,6 @@
 -- What is taken in several calls.
-use Rattle.std.proofs.Common.{◌≡◌, ℕ, ◌<◌, ◌≤◌, ◌^◌, false, true, List, ◌++◌, length, take, drop, Option, Some, None, IfSome, Ok, Err, refl, sym, ap, ◌∙◌, append_assoc, arith}
-use Rattle.std.proofs.lemmas.List.{take-append-drop}
+use Rattle.std.proofs.Common.{◌≡◌, ℕ, ◌<◌, ◌≤◌, ◌^◌, false, true, List, ◌++◌, length, take, drop, Option, Some, None, IfSome, Ok, Err, refl, sym, ap, ◌∙◌, append_assoc, length-append, arith}
+use Rattle.std.proofs.lemmas.List.{take-append-drop, length-take}
 use Rattle.std.proofs.lemmas.List.Elements.{All-append}
 use Rattle.std.proofs.lemmas.Option.{IfSome_then}
 use Rattle.om_outcome.specs.Outcome.{InputEnd, Taken, nothing, at_end, at_fault, at_length, unasked}
@@ -21,16 +21,16 @@ nothing_told (Some bytes) = (bytes, record { front = refl; ends = λ e. cc e }, 
 pub took_nothing : (a : ByteState) → Gathers (change a a) nothing
 took_nothing a = record {
   told = nothing_told a.bytes;
-  measured = tt;
+  measured = omega arith;
   are_bytes = λ k d less. absurd (omega arith);
   cause = record { never_falls = omega arith; rose = tt; kept = refl; at_last = λ e. e };
 }
 
 module _ {E : Type 0} (a b c : ByteState) (bytes buffer : List ℕ) (before : Gathers (change a b) (taken bytes unasked)) where
   -- n more bytes were taken
-  pub took_more : (n : ℕ) → TakesFront {E = E} b c (Ok n) buffer → AreBytes (take n buffer)
+  pub took_more : (n : ℕ) → length bytes < 2 ^ 48 → length buffer ≤ 4096 → TakesFront {E = E} b c (Ok n) buffer → AreBytes (take n buffer)
       → Gathers (change a c) (taken (bytes ++ take n buffer) unasked)
-  took_more n moved are_bytes = record {
+  took_more n short piece moved are_bytes = record {
     told = IfSome_then a.bytes before.told (λ all t.
         let moves : Moves t.0 n buffer c.bytes = rw t.2 at moved.moved in (
           drop n t.0,
@@ -41,7 +41,9 @@ module _ {E : Type 0} (a b c : ByteState) (bytes buffer : List ℕ) (before : Ga
           },
           moves.rest,
         ));
-    measured = tt;
+    measured =
+        let all = length-append bytes (take n buffer) in
+        let few = length-take n buffer in omega (arith, all, few, short, piece);
     are_bytes = All-append (λ b. b < 256) bytes (take n buffer) before.are_bytes are_bytes;
     cause = cause_then a.faults b.faults c.faults false before.cause moved.cause;
   }
@@ -70,7 +72,7 @@ module _ {E : Type 0} (a b c : ByteState) (bytes buffer : List ℕ) (before : Ga
 pub took_length : (a b : ByteState) (bytes : List ℕ) → Gathers (change a b) (taken bytes unasked) → 2 ^ 48 ≤ length bytes → Gathers (change a b) (taken bytes at_length)
 took_length a b bytes before long = record {
   told = IfSome_then a.bytes before.told (λ all t. (t.0, record { front = t.1.front; ends = λ e. absurd (cc e) }, t.2));
-  measured = long;
+  measured = (long, before.measured);
   are_bytes = before.are_bytes;
   cause = before.cause;
 }

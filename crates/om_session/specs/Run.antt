@@ -1,13 +1,13 @@
 -- What is promised of a call of `run`. One account of the call carries all: what the outside gave, what is said of that,
 -- and how much of it was put. The others follow from it.
-use Rattle.std.specs.Prelude.{ℕ, ◌^◌, ◌<◌, ◌≤◌, ◌≡◌, ◌≢◌, ◌⊎◌, true, List, [], ◌∷◌, ◌++◌, length, Some, None, IsSomeAnd, IfSome, Ok, Err}
+use Rattle.std.specs.Prelude.{ℕ, ◌+◌, ◌^◌, ◌<◌, ◌≤◌, ◌≡◌, ◌≢◌, ◌⊎◌, true, List, [], ◌∷◌, ◌++◌, length, take, Some, None, IsSomeAnd, IfSome, Ok, Err}
 use Rattle.om_model.specs.declared.status.Status.{Status}
 use Rattle.om_model.specs.declared.status.Status.TheVariants.{Well, Usage, ReadFault, WriteFault, OpenFault, Memory, TooLong, Types, Value}
 use Rattle.std.specs.List.{AllByRecursion}
 use Rattle.om_format.specs.Tree.{Tree}
-use Rattle.om_format.specs.Stream.{SpellAll, End, clean, Stream}
+use Rattle.om_format.specs.Stream.{SpellAll, End, clean, cut, Stream}
 use Rattle.om_format.specs.Front.{IsFront}
-use Rattle.om_outcome.specs.Outcome.{Taken, unasked, nothing, Found, Given, Stop, Request, Language, Ending, ending_of, Said, says, stops, Reply, Replies, replies, all_said, texts_of, Work, checks, Task, Asks, typed_by, limit_of, Prepares, StopsAt, SayFirst, found_of, RunReplies, SaysOfFirst, Outcome, out_of_memory, stop_text, err_line}
+use Rattle.om_outcome.specs.Outcome.{InputEnd, Taken, unasked, nothing, Found, opened, fault_of, status_of, Given, Stop, Request, Language, Ending, ending_of, Said, says, stops, Reply, Replies, replies, all_said, texts_of, Work, checks, Task, Asks, typed_by, limit_of, Prepares, StopsAt, SayFirst, found_of, RunReplies, SaysOfFirst, Outcome, out_of_memory, stop_text, err_line}
 use Rattle.om_edge.specs.Faults.{RoseOrLast}
 use Rattle.om_edge.specs.Files.{File, contents_of}
 use Rattle.om_edge.specs.Sink.{Puts, PutsPart}
@@ -30,9 +30,9 @@ pub record HoldNoStop {D T : Type 0} (language : Language D T) (task : Task T) (
   pub is_front : IsFront task.limit front
   pub goes_on : (stop : Stop) → StopsAt language task.work task.limit trees front stop → ⊥
 
--- The input is taken in pieces of at most 4,096 bytes, and the next piece only where nothing stops the run in all before:
--- what was taken but for the bytes in hand, which are some of the last piece, holds no stop, and this is said of its
--- values. Where more was asked for, and a call failed or the input ended, nothing is in hand.
+-- The run takes no piece more once something stops it: what was taken but for some last bytes, 4,096 at most, holds no stop,
+-- and this is said of its values. Where more was asked for after them, since the input ended, failed or was too long, all
+-- that was taken holds none.
 pub record IsPaced {D T : Type 0} (language : Language D T) (task : Task T) (taken : Taken) (said : List Said) : Type 0 where
   pub earlier : List ℕ
   pub in_hand : List ℕ
@@ -84,12 +84,16 @@ pub record Account {D T : Type 0} (language : Language D T) (words : List (List 
 
 -- ---- the headline
 
+-- each file has fewer than 2^48 bytes
+abbrev pub AreShort : List File → Type 0
+AreShort files = (name bytes : List ℕ) → contents_of files name ≡ Some bytes → length bytes < 2 ^ 48
+
 -- the input and the files are told, they are short enough, and no call on them failed
 pub record IsWellRead (call : Call) (input : List ℕ) (files : List File) : Type 0 where
   pub input_told : call.input.before.bytes ≡ Some input
   pub files_told : call.files.before.map ≡ Some files
   pub input_short : length input < 2 ^ 48
-  pub files_short : (name bytes : List ℕ) → contents_of files name ≡ Some bytes → length bytes < 2 ^ 48
+  pub files_short : AreShort files
   pub takes : ¬ RoseOrLast call.input.before.faults call.input.after.faults
   pub opens : ¬ RoseOrLast call.files.before.open_faults call.files.after.open_faults
   pub reads : ¬ RoseOrLast call.files.before.read_faults call.files.after.read_faults
@@ -159,11 +163,26 @@ IfTypes language words call =
     (name type text : List ℕ) → AsksFor words name type → TellsFile call.files name text → length text < 2 ^ 48 → IsRefusedType language text type
     → (call.status ≡ Types) ⊎ IsOutside call.status
 
--- 4: only where bytes come after the values of the whole input
+-- bytes come after the values that are not one more: they are refused, or end within it
+pub record HoldBadValue (limit : ℕ) (bytes : List ℕ) : Type 0 where
+  pub trees : List Tree
+  pub end : End
+  pub stream : Stream bytes limit trees end
+  pub some : end ≢ clean
+
+-- 4: only where the whole input holds a bad value
 abbrev pub OnlyValue : List (List ℕ) → Call → Type 0
 OnlyValue words call = call.status ≡ Value
-    → (request : Request) × Asks words request × (input : List ℕ) × IfSome call.input.before.bytes (λ bytes. bytes ≡ input)
-    × (trees : List Tree) × (end : End) × Stream input (limit_of request) trees end × (end ≢ clean)
+    → (request : Request) × Asks words request × (input : List ℕ) × IfSome call.input.before.bytes (λ bytes. bytes ≡ input) × HoldBadValue (limit_of request) input
+
+-- and where the words, FILE and TYPE are accepted, FILE is short enough, and the first 2^48 bytes of the input, which is told,
+-- hold one, in all where it ends within it
+abbrev pub IfValue : {D T : Type 0} → Language D T → List (List ℕ) → Call → Type 0
+IfValue {D} {T} language words call =
+    (files : List File) (task : Task T) (bytes : List ℕ) → call.files.before.map ≡ Some files → AreShort files
+    → Prepares language words (λ name. found_of (contents_of files name)) (Ok task) → call.input.before.bytes ≡ Some bytes
+    → (bad : HoldBadValue task.limit (take (2 ^ 48) bytes)) → ((n : ℕ) → bad.end ≡ cut n → length bytes < 2 ^ 48)
+    → (call.status ≡ Value) ⊎ IsOutside call.status
 
 -- 6: only where the count of the input or the files' read faults rose, or is the last value
 abbrev pub OnlyReadFault : Call → Type 0
@@ -200,11 +219,11 @@ OnlyTooLong words call = call.status ≡ TooLong
     ⊎ ((name : List ℕ) × AsksForFile words name × IfSome call.files.before.map (λ all. IsSomeAnd (contents_of all name) (λ bytes. 2 ^ 48 ≤ length bytes)))
 
 -- and where FILE is told and has so many; or the words, FILE and TYPE are accepted, and the input is told and has so many,
--- with no stop in them
+-- with no stop in those that are taken of it at most
 pub record IfTooLong {D T : Type 0} (language : Language D T) (words : List (List ℕ)) (call : Call) : Type 0 where
   pub file : (name bytes : List ℕ) → AsksForFile words name → TellsFile call.files name bytes → 2 ^ 48 ≤ length bytes → (call.status ≡ TooLong) ⊎ IsOutside call.status
   pub input : (files : List File) (task : Task T) (bytes : List ℕ) (said : List Said) → call.files.before.map ≡ Some files → Prepares language words (λ name. found_of (contents_of files name)) (Ok task)
-      → call.input.before.bytes ≡ Some bytes → 2 ^ 48 ≤ length bytes → HoldNoStop language task bytes said → (call.status ≡ TooLong) ⊎ IsOutside call.status
+      → call.input.before.bytes ≡ Some bytes → 2 ^ 48 ≤ length bytes → HoldNoStop language task (take (2 ^ 48 + 4095) bytes) said → (call.status ≡ TooLong) ⊎ IsOutside call.status
 
 -- a failed call is not taken for one that went well: where a count rose, the status is 6, 7, 8 or 9
 pub record TellsWriteFault (call : Call) : Type 0 where
@@ -218,25 +237,42 @@ pub record TellsReadFault (call : Call) : Type 0 where
   pub input : call.input.before.faults < call.input.after.faults → (call.status ≡ ReadFault) ⊎ IsUnsaid call.status
   pub file : call.files.before.read_faults < call.files.after.read_faults → (call.status ≡ ReadFault) ⊎ IsUnsaid call.status
 
--- ---- where the input failed, or was too long
+-- ---- where the input or FILE failed, or was too long
 
--- what was taken of the input holds no stop, and out has what is said of its values
-pub record HasPutAll {D T : Type 0} (language : Language D T) (words : List (List ℕ)) (call : Call) : Type 0 where
+-- bytes ended at a fault, or were too many: the status tells it, and err has its line
+pub record TellsFault (until : InputEnd) (call : Call) : Type 0 where
+  pub stop : Stop
+  pub is_fault : fault_of until ≡ Some stop
+  pub status : call.status ≡ status_of stop
+  pub err : Puts call.err (err_line (stop_text stop))
+
+-- by the input: what was taken of it holds no stop, and out has what is said of its values
+pub record FailsByInput {D T : Type 0} (language : Language D T) (words : List (List ℕ)) (call : Call) : Type 0 where
   pub taken : Taken
   pub gathers : Gathers call.input taken
+  pub fails : TellsFault taken.until call
   pub file : List ℕ → Found
+  pub files : FetchesFor words call.files file
   pub task : Task T
   pub prepared : Prepares language words file (Ok task)
   pub said : List Said
   pub holds : HoldNoStop language task taken.bytes said
   pub out : Puts call.out (texts_of said)
 
--- 6 or 10: the input caused it, and then all is put; or a read of FILE failed, or FILE is too long
+-- by FILE: nothing was taken of the input, and out has nothing
+pub record FailsByFile (words : List (List ℕ)) (call : Call) : Type 0 where
+  pub name : List ℕ
+  pub is_file : AsksForFile words name
+  pub taken : Taken
+  pub fetched : Fetched call.files name (opened taken)
+  pub fails : TellsFault taken.until call
+  pub untaken : Gathers call.input nothing
+  pub out : Puts call.out []
+
+-- 6 or 10: the input caused it, or FILE
 abbrev pub IfInputFails : {D T : Type 0} → Language D T → List (List ℕ) → Call → Type 0
 IfInputFails language words call = (call.status ≡ ReadFault) ⊎ (call.status ≡ TooLong)
-    → HasPutAll language words call
-    ⊎ (RoseOrLast call.files.before.read_faults call.files.after.read_faults
-    ⊎ ((name : List ℕ) × AsksForFile words name × IfSome call.files.before.map (λ all. IsSomeAnd (contents_of all name) (λ bytes. 2 ^ 48 ≤ length bytes))))
+    → FailsByInput language words call ⊎ FailsByFile words call
 
 -- ---- where memory ran out, or out or err failed
 
@@ -317,8 +353,9 @@ pub record Promises {D T : Type 0} (language : Language D T) (words : List (List
   -- 3: what FILE holds is refused, or TYPE
   pub types_only : OnlyTypes language words call
   pub types_if : IfTypes language words call
-  -- 4: bytes come after the values of the whole input
+  -- 4: the input holds a value that is refused or cut
   pub value_only : OnlyValue words call
+  pub value_if : IfValue language words call
   -- 6: a call on the input failed, or a read of FILE
   pub read_fault_only : OnlyReadFault call
   -- 7: a call on out or err failed
@@ -329,7 +366,7 @@ pub record Promises {D T : Type 0} (language : Language D T) (words : List (List
   -- 10: the input or FILE has 2^48 bytes or more
   pub too_long_only : OnlyTooLong words call
   pub too_long_if : IfTooLong language words call
-  -- 6 or 10 by the input: what was taken holds no earlier stop, and out has what is said of its values
+  -- 6 or 10: by the input, where what was taken holds no earlier stop and out has what is said of its values; or by FILE
   pub input_fails_if : IfInputFails language words call
   -- 9: memory ran out, and out has a front of what an outcome puts
   pub memory_if : IfMemory language words call

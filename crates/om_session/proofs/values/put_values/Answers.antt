@@ -18,14 +18,14 @@ pub returns-in_err-read_piece : goal.returns-in_err-read_piece
 returns-in_err-read_piece g c =
     let s = c.loop-taken.invariant in
     let fits = c.in-Ok.ensures.within in
-    values_halt _ _ _ _ _ _ _ s (g.S.Source.state c.take.new.self) c.take.new.buf c.in-Ok.n c.in-Ok.ensures c.in_err-read_piece.ensures.are_bytes
+    values_halt _ _ _ _ _ _ _ s (g.S.Source.state c.take.new.self) c.take.new.buf (omega (arith, c.loop-taken-test.true)) (omega (arith, c.take.auto.buf)) c.in-Ok.n c.in-Ok.ensures c.in_err-read_piece.ensures.are_bytes
     (g.K.Sink.state c.read_piece.new.out) c.read_piece.new.self c.in_err-read_piece.field-0.0 c.from_residual.result c.from_residual.ensures.1
     (omega (arith, length-take c.in-Ok.n c.take.new.buf, fits, c.take.auto.buf)) (c.in_err-read_piece.ensures.reads s.bytes s.said s.reads)
 
 pub loop-taken-preserved : goal.loop-taken-preserved
 loop-taken-preserved g c =
     let s = c.loop-taken.invariant in
-    values_more _ _ _ _ _ _ _ s (g.S.Source.state c.take.new.self) c.take.new.buf c.in-Ok.n c.in-Ok.ensures c.in_ok-read_piece.ensures.are_bytes
+    values_more _ _ _ _ _ _ _ s (g.S.Source.state c.take.new.self) c.take.new.buf (omega (arith, c.loop-taken-test.true)) (omega (arith, c.take.auto.buf)) c.in-Ok.n c.in-Ok.ensures c.in_ok-read_piece.ensures.are_bytes
     (g.K.Sink.state c.read_piece.new.out) c.read_piece.new.self c.in-Ok.ensures.within (c.in_ok-read_piece.ensures.reads s.bytes s.said s.reads)
 
 pub returns : goal.returns
