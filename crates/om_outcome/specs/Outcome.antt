@@ -1,11 +1,12 @@
 -- What a run says: the stages in their order, then a text of each value, and a last reply. A command adds its plain words,
 -- the files that it opens, what it says of a value, what stops it there, and its last reply; the stages, the stops, their
 -- lines and their statuses stand here once.
-use Rattle.std.specs.Prelude.{ℕ, suc, ◌^◌, ◌≡◌, ◌≢◌, ◌⊎◌, Bool, true, ◌&&◌, if◌then◌else◌, List, [], ◌∷◌, ◌++◌, length, Option, Some, None, Result, Ok, Err, MatchResult, codes, decimal}
+use Rattle.std.specs.Prelude.{ℕ, suc, ◌^◌, ◌<◌, ◌≡◌, ◌≢◌, ◌↔◌, ◌⊎◌, Bool, true, false, IsTrue, ◌&&◌, if◌then◌else◌, List, [], ◌∷◌, ◌++◌, length, Option, Some, None, Result, Ok, Err, MatchResult, codes, decimal}
 use Rattle.om_model.specs.declared.status.Status.{Status}
 use Rattle.om_model.specs.declared.status.Status.TheVariants as statuses
 use Rattle.om_outcome.specs.RefusalText.{refusal_text, truncated_text}
-use Rattle.om_format.specs.Tree.{Tree}
+use Rattle.om_format.specs.Iso.{Iso}
+use Rattle.om_format.specs.Tree.{Tree, root, objects_of}
 use Rattle.om_format.specs.Stream.{SpellAll, End, clean, refused, cut, IsTail}
 
 -- ---- what the outside gives
@@ -46,6 +47,7 @@ pub record Given : Type 0 where
 
 pub data Stop : Type 0 where
   usage : Stop
+  not_two_values : Stop
   cannot_open : List ℕ → Stop
   declarations : List ℕ → Stop
   requested_type : List ℕ → Stop
@@ -56,6 +58,7 @@ pub data Stop : Type 0 where
 
 abbrev pub status_of : Stop → Status
 status_of usage = statuses.Usage
+status_of not_two_values = statuses.Usage
 status_of (cannot_open name) = statuses.OpenFault
 status_of (declarations refusal) = statuses.Types
 status_of (requested_type refusal) = statuses.Types
@@ -66,6 +69,7 @@ status_of out_of_memory = statuses.Memory
 
 abbrev pub stop_text : Stop → List ℕ
 stop_text usage = codes "usage"
+stop_text not_two_values = codes "not two values"
 stop_text (cannot_open name) = codes "cannot open " ++ name
 stop_text (declarations refusal) = codes "types: " ++ refusal
 stop_text (requested_type refusal) = codes "type: " ++ refusal
@@ -156,6 +160,7 @@ OrRefusal Reads stop (Err s) = (refusal : List ℕ) × Reads (Err refusal) × (s
 
 pub data Request : Type 0 where
   check : (file type : List ℕ) → Request
+  compare : Request
 
 -- FILE or another word after the command: it is not empty, and does not begin with `-`
 abbrev pub IsArgument : List ℕ → Type 0
@@ -165,14 +170,17 @@ IsArgument (first ∷ rest) = first ≢ 45
 -- plain words
 abbrev pub Asks : List (List ℕ) → Request → Type 0
 Asks words (check file type) = (words ≡ codes "check" ∷ file ∷ type ∷ []) × IsArgument file × IsArgument type
+Asks words compare = words ≡ codes "same" ∷ []
 
 -- FILE and TYPE, where the command has them
 abbrev pub typed_by : Request → Option (List ℕ × List ℕ)
 typed_by (check file type) = Some (file, type)
+typed_by compare = None
 
 -- the limit of words on 64 bits in a value
 abbrev pub limit_of : Request → ℕ
 limit_of (check file type) = 2 ^ 27
+limit_of compare = 2 ^ 27
 
 -- the first stage
 abbrev pub ReadsWords : List (List ℕ) → Result Request Stop → Type 0
@@ -215,11 +223,13 @@ ReadsTypeOf language file typed =
 -- what is done with each value, where the words, the files and the type are read
 pub data Work (T : Type 0) : Type 0 where
   checks : T → Work T
+  compares : Work T
 
--- FILE and TYPE of `check`
+-- FILE and TYPE of `check`; `same` has none
 abbrev pub FindsWork : {D T : Type 0} → Language D T → (List ℕ → Found) → Request → Result (Work T) Stop → Type 0
 FindsWork language file (check name type_text) result =
     Then (ReadsTypeOf language file (name, type_text)) (λ type found. found ≡ Ok (checks type)) result
+FindsWork language file compare result = result ≡ Ok compares
 
 -- ---- all stages before the values
 
@@ -239,10 +249,11 @@ Prepares language words file =
 
 -- ---- the values
 
--- what is said of value k
+-- what is said of value k; after a stop nothing is: `same` takes two, and says nothing of them before the input's end
 abbrev pub Says : {D T : Type 0} → Language D T → Work T → ℕ → Tree → Said → Type 0
 Says language (checks type) k tree said =
     (verdict : List ℕ) × language.LineOf type tree verdict said.well × (said.text ≡ line verdict)
+Says language compares k tree said = (k < 2) × (said ≡ nothing_said)
 
 -- what is said of the values, the first of which has number k
 abbrev pub AllSay : {D T : Type 0} → Language D T → Work T → ℕ → List Tree → List Said → Type 0
@@ -252,13 +263,25 @@ AllSay language work k (tree ∷ trees) [] = ⊥
 AllSay language work k (tree ∷ trees) (said ∷ more) =
     Says language work k tree said × AllSay language work (suc k) trees more
 
--- After these values the command stops at the bytes that come there, whatever they become.
+-- After these values the command stops at the bytes that come there, whatever they become: `same` at any after two values.
 abbrev pub StopsAt : {D T : Type 0} → Language D T → Work T → ℕ → List Tree → List ℕ → Stop → Type 0
 StopsAt language (checks type) limit trees rest stop = ⊥
+StopsAt language compares limit trees rest stop = (length trees ≡ 2) × (rest ≢ []) × (stop ≡ not_two_values)
+
+-- the values of the two trees are the same
+abbrev pub AreSame : Tree → Tree → Type 0
+AreSame first second = Iso (objects_of first 0) (root first 0) (objects_of second 0) (root second 0)
+
+-- the line on two values; nothing is wrong where they are the same
+abbrev pub comparison : Bool → Said
+comparison true = record { text = line (codes "same"); well = true }
+comparison false = record { text = line (codes "differ"); well = false }
 
 -- the command's last reply, once the input's end is found after all values
 abbrev pub Finishes : {D T : Type 0} → Language D T → Work T → List Tree → Reply → Type 0
 Finishes language (checks type) trees last = last ≡ says nothing_said
+Finishes language compares (first ∷ second ∷ []) last = (alike : Bool) × (IsTrue alike ↔ AreSame first second) × (last ≡ says (comparison alike))
+Finishes language compares trees last = last ≡ stops not_two_values
 
 -- The last reply after these values. Bytes that are refused stop the run where no call on the input failed, and no more
 -- than allowed were taken: it asks for no more then. Otherwise it asks on, so what happened to the input comes next.

@@ -1,19 +1,21 @@
 -- The account of a call, from what each stage gave.
-use Rattle.std.proofs.Common.{◌≡◌, ◌⊎◌, ℕ, List, [], IfSome, Ok, Err, inl, inr, refl, ◌∙◌, subst}
+use Rattle.std.proofs.Common.{◌≡◌, ◌⊎◌, ℕ, List, [], None, IfSome, Ok, Err, inl, inr, refl, sym, ◌∙◌, subst}
 use Rattle.om_model.specs.declared.status.Status.{Status}
 use Rattle.om_types.specs.declared.list_type.ListType.{ListType}
-use Rattle.om_outcome.specs.Outcome.{Found, unfetched, nothing, Given, Stop, usage, out_of_memory, stops as stops_reply, stopped, ending_of, Request, check, Asks, typed_by, ReadsTypeOf, Prepares, RunReplies, checks as works}
+use Rattle.om_outcome.specs.Outcome.{Found, unfetched, nothing, Given, Stop, usage, out_of_memory, stops as stops_reply, stopped, ending_of, Request, check, compare, Asks, typed_by, ReadsTypeOf, Prepares, RunReplies, checks as works, compares}
 use Rattle.om_edge.specs.State.{ByteState, FilesState, Change, change}
 use Rattle.om_session.specs.declared.stop.Stop.TheVariants as stops
 use Rattle.om_session.specs.declared.stop.Stop as codes
 use Rattle.om_session.specs.Call.{call}
-use Rattle.om_session.specs.Check.{ClosesValues, ChecksValues}
+use Rattle.om_session.specs.declared.values.Work.{Work}
+use Rattle.om_session.specs.declared.values.Work.TheVariants as code_works
+use Rattle.om_session.specs.Ends.{ClosesValues, TakesValues}
 use Rattle.om_session.specs.Given.{Fetched}
 use Rattle.om_session.specs.Lists.{lists}
 use Rattle.om_session.specs.Run.{FetchesFor, PutsLine, Completes, Breaks, Account, IsUsage}
 use Rattle.om_session.specs.Stops.{stop_of, Reports}
 use Rattle.om_session.specs.Types.{GivesType}
-use Rattle.om_session.specs.Values.{checks_of}
+use Rattle.om_session.specs.Values.{task_of}
 use Rattle.om_session.proofs.PutLemmas.{puts_nothing}
 use Rattle.om_session.proofs.TakeLemmas.{took_nothing}
 
@@ -50,6 +52,33 @@ module _ (words : List (List ℕ)) (file : List ℕ → Found) (input out : Byte
     which (inl same) = memory_account (subst (λ s. PutsLine err status (ending_of (stopped s))) (same ∙ memory) r.line)
     which (inr same) = memory_account (subst (λ s. PutsLine err status (ending_of (stopped s))) same r.line)
 
+-- ---- the values
+
+-- the work is done with the values
+values_account : (w : Work) (words : List (List ℕ)) (file : List ℕ → Found) (files : Change FilesState) → FetchesFor words files file → Prepares lists words file (Ok (task_of w))
+    → (input out err : Change ByteState) (status : Status) → TakesValues w input out err status → Account lists words (call input files out err status)
+values_account w words file files fetches prepared input out err status (taken, gathers, said, paced, closes) = record {
+  given = given;
+  input = gathers;
+  files = fetches;
+  said = said;
+  first = inr (task_of w, prepared, paced);
+  ends = ends closes;
+} where
+  given : Given
+  given = record { file = file; input = taken }
+
+  ends : ClosesValues w taken said out err status
+      → Completes lists words (record { file = file; input = taken }) said (call input files out err status) ⊎ Breaks lists words (record { file = file; input = taken }) said (call input files out err status)
+  ends (inl (last, inl reply, puts, line)) =
+      inl (record { last = last; may_end = inl (Ok (task_of w), prepared, reply); out = puts; line = line })
+  ends (inl (last, inr memory, puts, line)) =
+      inl (record { last = last; may_end = inr memory; out = puts; line = line })
+  ends (inr (next, inl (trees, rest, first), part, none, same)) =
+      inr (record { next = next; is_next = inl (task_of w, prepared, trees, rest, first); out = part; err = none; status = same })
+  ends (inr (next, inr reply, part, none, same)) =
+      inr (record { next = next; is_next = inr (Ok (task_of w), prepared, reply); out = part; err = none; status = same })
+
 -- ---- the words
 
 pub usage_account : (words : List (List ℕ)) → IsUsage words → (input out : ByteState) (files : FilesState) (err : Change ByteState) (status : Status)
@@ -64,11 +93,12 @@ module _ (words : List (List ℕ)) (file type_text : List ℕ) (asks : Asks word
       let first = asks.0 in let second = other.0 in
       let same : file ≡ f = cc in
       subst (λ name. Fetched files name found) same fetched
+  asked compare other = tt
 
   fetches : FetchesFor words files (λ name. found)
-  fetches = record { asked = asked; unasked = λ none. absurd (none (check file type_text) asks) }
+  fetches = record { asked = asked; unasked = λ none. let no : typed_by (check file type_text) ≡ None = none (check file type_text) asks in absurd (cc no) }
 
-  prepared_ok : (t : ListType) → ReadsTypeOf lists (λ name. found) (file, type_text) (Ok t) → Prepares lists words (λ name. found) (Ok (checks_of t))
+  prepared_ok : (t : ListType) → ReadsTypeOf lists (λ name. found) (file, type_text) (Ok t) → Prepares lists words (λ name. found) (Ok (task_of (code_works.Check t)))
   prepared_ok t reads = (Ok (check file type_text), asks, (Ok (works t), (Ok t, reads, refl), refl))
 
   prepared_err : (s : Stop) → ReadsTypeOf lists (λ name. found) (file, type_text) (Err s) → Prepares lists words (λ name. found) (Err s)
@@ -77,6 +107,7 @@ module _ (words : List (List ℕ)) (file type_text : List ℕ) (asks : Asks word
   gives_err : (stop : codes.Stop) → GivesType file type_text found (Err stop) → Prepares lists words (λ name. found) (Err (stop_of stop)) ⊎ (stop_of stop ≡ out_of_memory)
   gives_err stops.Memory h = inr refl
   gives_err stops.Usage h = inl (prepared_err _ h)
+  gives_err stops.NotTwoValues h = inl (prepared_err _ h)
   gives_err (stops.CannotOpen name) h = inl (prepared_err _ h)
   gives_err stops.Declarations h = inl (prepared_err _ h)
   gives_err stops.RequestedType h = inl (prepared_err _ h)
@@ -92,24 +123,17 @@ module _ (words : List (List ℕ)) (file type_text : List ℕ) (asks : Asks word
       stop_account words (λ name. found) input out files fetches err status (stop_of stop) (gives_err stop gives) r
 
   -- the values are checked at the type
-  pub values_account : (t : ListType) → GivesType file type_text found (Ok t) → (input out err : Change ByteState) (status : Status)
-      → ChecksValues t input out err status → Account lists words (call input files out err status)
-  values_account t gives input out err status (taken, gathers, said, paced, closes) = record {
-    given = given;
-    input = gathers;
-    files = fetches;
-    said = said;
-    first = inr (checks_of t, prepared_ok t gives, paced);
-    ends = ends closes;
-  } where
-    given : Given
-    given = record { file = λ name. found; input = taken }
+  pub check_account : (t : ListType) → GivesType file type_text found (Ok t) → (input out err : Change ByteState) (status : Status)
+      → TakesValues (code_works.Check t) input out err status → Account lists words (call input files out err status)
+  check_account t gives input out err status takes =
+      values_account (code_works.Check t) words (λ name. found) files fetches (prepared_ok t gives) input out err status takes
 
-    ends : ClosesValues t taken said out err status
-        → Completes lists words (record { file = λ name. found; input = taken }) said (call input files out err status) ⊎ Breaks lists words (record { file = λ name. found; input = taken }) said (call input files out err status)
-    ends (inl (last, inl reply, puts, line)) =
-        inl (record { last = last; may_end = inl (Ok (checks_of t), prepared_ok t gives, reply); out = puts; line = line })
-    ends (inl (last, inr memory, puts, line)) =
-        inl (record { last = last; may_end = inr memory; out = puts; line = line })
-    ends (inr (next, (trees, rest, first), part, none, same)) =
-        inr (record { next = next; is_next = inl (checks_of t, prepared_ok t gives, trees, rest, first); out = part; err = none; status = same })
+-- two values are compared
+pub compare_account : (words : List (List ℕ)) → Asks words compare → (files : FilesState) (input out err : Change ByteState) (status : Status)
+    → TakesValues code_works.Compare input out err status → Account lists words (call input (change files files) out err status)
+compare_account words asks files input out err status takes =
+    values_account code_works.Compare words (λ name. unfetched) (change files files) (record { asked = λ request other. asked request other; unasked = λ none. refl })
+    (Ok compare, asks, (Ok compares, refl, refl)) input out err status takes where
+      asked : (request : Request) → Asks words request → IfSome (typed_by request) (λ typed. Fetched (change files files) typed.0 unfetched)
+      asked compare other = tt
+      asked (check f t) other = let two = other.0 in absurd (cc (sym asks ∙ two))

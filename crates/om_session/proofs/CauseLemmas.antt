@@ -4,19 +4,20 @@ use Rattle.std.specs.Prelude.{IsSome, IsSomeAnd, MatchResult, if◌then◌else�
 use Rattle.om_model.specs.declared.status.Status.{Status}
 use Rattle.om_model.specs.declared.status.Status.TheVariants as statuses
 use Rattle.om_model.specs.declared.refusal.ReadRefusal.{ReadRefusal}
-use Rattle.om_format.specs.Stream.{End, clean, refused, cut, IsTail, Stream}
+use Rattle.om_format.specs.Stream.{SpellAll, End, clean, refused, cut, IsTail, Stream}
 use Rattle.om_format.specs.Tree.{Tree}
-use Rattle.om_outcome.specs.Outcome.{Taken, InputEnd, at_end, at_fault, at_length, unasked, whole, Found, opened, missing, failed, unfetched, Given, Stop, usage, declarations, read_fault, too_long, status_of, Said, nothing_said, stops, Reply, Replies, replies, texts_of, all_well as well_said, ending_of, stopped, Request, check, Work, checks, Task, Language, ReadsFile, ReadsTypeOf, Prepares, RunReplies, ValuesReply, StopsAt, out_of_memory, stop_text, err_line, Closes, fault_of, limit_of, Asks}
+use Rattle.om_outcome.specs.Outcome.{Taken, InputEnd, at_end, at_fault, at_length, unasked, whole, Found, opened, missing, failed, unfetched, Given, Stop, usage, declarations, read_fault, too_long, status_of, Said, nothing_said, stops, Reply, Replies, replies, texts_of, all_well as well_said, ending_of, stopped, Request, check, compare, Work, checks, compares, AllSay, SayFirst, Finishes, comparison, Task, Language, ReadsFile, ReadsTypeOf, Prepares, RunReplies, ValuesReply, StopsAt, out_of_memory, stop_text, err_line, Closes, fault_of, limit_of, Asks}
 use Rattle.om_edge.specs.Faults.{HasCause, RoseOrLast}
 use Rattle.om_edge.specs.Files.{File, contents_of}
 use Rattle.om_edge.specs.Sink.{Puts, PutsPart}
 use Rattle.om_session.specs.Call.{Call}
 use Rattle.om_session.specs.Given.{IsFoundOf, TakesFrom, Fetched, IsMeasured, is_fault, has_read_fault}
-use Rattle.om_session.specs.Run.{IsSaidFirst, PutsLine, Completes, Breaks, Account, IsUsage, AsksForFile, CannotOpen, OnlyUsage, OnlyReadFault, OnlyWriteFault, OnlyOpenFault, OnlyTooLong, IfUsage, IsUnsaid, TellsWriteFault, TellsOpenFault, TellsReadFault, AsksFor, IsRefusedType, OnlyTypes, OnlyValue, HoldBadValue, IfMissing}
+use Rattle.om_session.specs.Run.{IsSaidFirst, PutsLine, Completes, Breaks, Account, IsUsage, AsksForFile, CannotOpen, OnlyUsage, OnlyReadFault, OnlyWriteFault, OnlyOpenFault, OnlyTooLong, IfUsage, IsUnsaid, TellsWriteFault, TellsOpenFault, TellsReadFault, AsksFor, IsRefusedType, OnlyTypes, FetchesFor, AreNotTwo, OnlyValue, HoldBadValue, IfMissing}
 use Rattle.std.proofs.lemmas.Option.{IfSome_then}
-use Rattle.om_session.proofs.HeadlineLemmas.{no_stop, tail_after}
+use Rattle.om_session.proofs.HeadlineLemmas.{tail_after, tail_some, front_none, goes_on_more}
 use Rattle.om_session.proofs.PutLemmas.{rose_after}
-use Rattle.om_session.proofs.ValueLemmas.{spell_after}
+use Rattle.om_session.proofs.ValueLemmas.{spell_after, first_after, few_said}
+use Rattle.om_session.proofs.WordLemmas.{check_or_compare, no_file}
 use Rattle.om_session.proofs.CompleteLemmas.{IsLawful, prepares_once}
 
 some_and : {X : Type 0} (o : Option X) (P : X → Type 0) → IsSome o → IfSome o P → IsSomeAnd o P
@@ -39,6 +40,29 @@ risen a b same less = omega arith
 pub refused_after : (limit : ℕ) (bytes more : List ℕ) (trees : List Tree) (refusal : ReadRefusal) → Stream bytes limit trees (refused refusal) → Stream (bytes ++ more) limit trees (refused refusal)
 refused_after limit bytes more trees refusal (rest, spelled, tail) = (rest ++ more, spell_after limit bytes rest more trees spelled, tail_after limit rest more refusal tail)
 
+-- and it is refused after the same values
+pub bad_after : {D T : Type 0} (language : Language D T) (task : Task T) (bytes more : List ℕ) (bad : HoldBadValue language task bytes) (refusal : ReadRefusal) → bad.end ≡ refused refusal
+    → HoldBadValue language task (bytes ++ more)
+bad_after language task bytes more bad refusal is =
+    let tail : IsTail task.limit bad.rest (refused refusal) = subst (λ end. IsTail task.limit bad.rest end) is bad.tail in
+    record {
+      trees = bad.trees;
+      said = bad.said;
+      rest = bad.rest ++ more;
+      first = first_after language task bytes bad.trees bad.said bad.rest more bad.first;
+      end = refused refusal;
+      tail = tail_after task.limit bad.rest more refusal tail;
+      some = λ e. cc e;
+      goes_on = goes_on_more language task.work task.limit bad.trees bad.rest more (tail_some task.limit bad.rest refusal tail) bad.goes_on;
+    }
+
+-- the work of a request
+abbrev pub Suits : {T : Type 0} → Request → Work T → Type 0
+Suits (check f t) (checks type) = Unit {0}
+Suits (check f t) compares = ⊥
+Suits compare (checks type) = ⊥
+Suits compare compares = Unit {0}
+
 -- the stages before the values are passed
 abbrev pub IsReady : {D T : Type 0} → Language D T → List (List ℕ) → Given → Type 0
 IsReady {D} {T} language words given = (task : Task T) × Prepares language words given.file (Ok task)
@@ -59,34 +83,43 @@ IsUnput language words call given =
     × Puts call.out (ending_of (replies said last)).out × PutsPart call.err (ending_of (replies said last)).err
 
 -- bytes come after the values of what was taken, which was all, or they are refused
-pub record NoValue (limit : ℕ) (taken : Taken) : Type 0 where
-  pub trees : List Tree
-  pub end : End
-  pub stream : Stream taken.bytes limit trees end
-  pub some : end ≢ clean
-  pub ends : (taken.until ≡ at_end) ⊎ ((refusal : ReadRefusal) × (end ≡ refused refusal))
+pub record NoValue {D T : Type 0} (language : Language D T) (task : Task T) (taken : Taken) : Type 0 where
+  pub bad : HoldBadValue language task taken.bytes
+  pub ends : (taken.until ≡ at_end) ⊎ ((refusal : ReadRefusal) × (bad.end ≡ refused refusal))
 
--- all that was taken are values and a front of one more, which is empty at the input's end
-pub record NoRefusal (limit : ℕ) (taken : Taken) : Type 0 where
+-- all that was taken are values, of which something is said, and a front of one more, which is empty at the input's end
+pub record NoRefusal {D T : Type 0} (language : Language D T) (task : Task T) (taken : Taken) : Type 0 where
   pub trees : List Tree
   pub end : End
-  pub stream : Stream taken.bytes limit trees end
+  pub stream : Stream taken.bytes task.limit trees end
   pub unrefused : (refusal : ReadRefusal) → end ≢ refused refusal
+  pub goes_on : (stop : Stop) → StopsAt language task.work task.limit trees stream.0 stop → ⊥
   pub whole : taken.until ≡ at_end → end ≡ clean
+  pub few : task.work ≡ compares → length trees ≤ 2
+  pub both : taken.until ≡ at_end → task.work ≡ compares → length trees ≡ 2
+
+-- two values are compared, and a byte comes after two, or the input ends after fewer
+pub record NotTwo {T : Type 0} (task : Task T) (taken : Taken) : Type 0 where
+  pub is : task.work ≡ compares
+  pub trees : List Tree
+  pub rest : List ℕ
+  pub spelled : SpellAll task.limit taken.bytes trees rest
+  pub why : ((length trees ≡ 2) × (rest ≢ [])) ⊎ ((length trees < 2) × (rest ≡ []) × (taken.until ≡ at_end))
 
 -- why a call ends with a status
 pub data Why {D T : Type 0} (language : Language D T) (words : List (List ℕ)) (call : Call) (given : Given) : Status → Type 0 where
-  all_well : IsReady language words given → given.input.until ≡ at_end → (request : Request) → Asks words request → NoRefusal (limit_of request) given.input → Why language words call given statuses.Well
-  some_no : IsReady language words given → given.input.until ≡ at_end → (request : Request) → Asks words request → NoRefusal (limit_of request) given.input → Why language words call given statuses.No
+  all_well : (task : Task T) → Prepares language words given.file (Ok task) → given.input.until ≡ at_end → NoRefusal language task given.input → Why language words call given statuses.Well
+  some_no : (task : Task T) → Prepares language words given.file (Ok task) → given.input.until ≡ at_end → NoRefusal language task given.input → Why language words call given statuses.No
   not_plain : IsUsage words → Why language words call given statuses.Usage
+  not_two : (task : Task T) → Prepares language words given.file (Ok task) → NotTwo task given.input → Why language words call given statuses.Usage
   not_there : (name : List ℕ) → AsksForFile words name → given.file name ≡ missing → Why language words call given statuses.OpenFault
   not_opened : (name : List ℕ) → AsksForFile words name → given.file name ≡ failed → Why language words call given statuses.OpenFault
   no_types : (name type text : List ℕ) → AsksFor words name type → given.file name ≡ opened (whole text) → IsRefusedType language text type → Why language words call given statuses.Types
   file_fault : (name : List ℕ) (taken : Taken) → AsksForFile words name → given.file name ≡ opened taken → taken.until ≡ at_fault → Why language words call given statuses.ReadFault
   file_long : (name : List ℕ) (taken : Taken) → AsksForFile words name → given.file name ≡ opened taken → taken.until ≡ at_length → Why language words call given statuses.TooLong
-  no_value : IsReady language words given → (request : Request) → Asks words request → NoValue (limit_of request) given.input → Why language words call given statuses.Value
+  no_value : (task : Task T) → Prepares language words given.file (Ok task) → NoValue language task given.input → Why language words call given statuses.Value
   input_fault : given.input.until ≡ at_fault → Why language words call given statuses.ReadFault
-  input_long : IsReady language words given → given.input.until ≡ at_length → (request : Request) → Asks words request → NoRefusal (limit_of request) given.input → Why language words call given statuses.TooLong
+  input_long : (task : Task T) → Prepares language words given.file (Ok task) → given.input.until ≡ at_length → NoRefusal language task given.input → Why language words call given statuses.TooLong
   memory : IsSpent language words call given → Why language words call given statuses.Memory
   out_fault : (said : List Said) → IsSaidFirst language words given said → Breaks language words given said call → Why language words call given statuses.WriteFault
   err_fault : IsUnput language words call given → Why language words call given statuses.WriteFault
@@ -119,46 +152,106 @@ module _ {D T : Type 0} (language : Language D T) (words : List (List ℕ)) (cal
   prepares_why s (Ok (check f t), asks, (Err stop, (Err first, reads, e), same)) =
       let told : first ≡ s = cc in
       subst (λ s. Why language words call given (status_of s)) told (type_why f t (check f t, asks, refl) first reads)
+  prepares_why s (Ok compare, asks, (Ok work, found, same)) = absurd (cc same)
+  prepares_why s (Ok compare, asks, (Err stop, found, same)) = absurd (cc found)
 
-  well_why : IsReady language words given → given.input.until ≡ at_end → (request : Request) → Asks words request → NoRefusal (limit_of request) given.input → (b : Bool)
-      → Why language words call given (if b then statuses.Well else statuses.No)
-  well_why ready e request asks held true = all_well ready e request asks held
-  well_why ready e request asks held false = some_no ready e request asks held
+  module _ (task : Task T) (p : Prepares language words given.file (Ok task)) where
+    abbrev Because : List Said → Reply → Type 0
+    Because said last = Why language words call given (ending_of (replies said last)).status
 
-  closes_why : IsReady language words given → (request : Request) → Asks words request → (work : Work T) (said : List Said) (trees : List Tree) (u : InputEnd) (end : End) (last : Reply)
-      → given.input.until ≡ u → Stream given.input.bytes (limit_of request) trees end → Closes language work trees u end last → Why language words call given (ending_of (replies said last)).status
-  closes_why ready request asks (checks t) said trees at_end clean last e stream h =
-      subst (λ l. Why language words call given (ending_of (replies said l)).status) (sym h)
-      (well_why ready e request asks (record { trees = trees; end = clean; stream = stream; unrefused = λ refusal e. cc e; whole = λ e. refl }) (well_said (said ++ nothing_said ∷ [])))
-  closes_why ready request asks work said trees at_end (refused refusal) last e stream h =
-      subst (λ l. Why language words call given (ending_of (replies said l)).status) (sym h)
-      (no_value ready request asks (record { trees = trees; end = refused refusal; stream = stream; some = λ no_end. cc; ends = inl e }))
-  closes_why ready request asks work said trees at_end (cut n) last e stream h =
-      subst (λ l. Why language words call given (ending_of (replies said l)).status) (sym h)
-      (no_value ready request asks (record { trees = trees; end = cut n; stream = stream; some = λ no_end. cc; ends = inl e }))
-  closes_why ready request asks work said trees unasked (refused refusal) last e stream h =
-      subst (λ l. Why language words call given (ending_of (replies said l)).status) (sym h)
-      (no_value ready request asks (record { trees = trees; end = refused refusal; stream = stream; some = λ no_end. cc; ends = inr (refusal, refl) }))
-  closes_why ready request asks work said trees unasked clean last e stream h = absurd h
-  closes_why ready request asks work said trees unasked (cut n) last e stream h = absurd h
-  closes_why ready request asks work said trees at_fault (refused refusal) last e stream h = absurd h
-  closes_why ready request asks work said trees at_fault clean last e stream h =
-      subst (λ l. Why language words call given (ending_of (replies said l)).status) (sym h) (input_fault e)
-  closes_why ready request asks work said trees at_fault (cut n) last e stream h =
-      subst (λ l. Why language words call given (ending_of (replies said l)).status) (sym h) (input_fault e)
-  closes_why ready request asks work said trees at_length (refused refusal) last e stream h = absurd h
-  closes_why ready request asks work said trees at_length clean last e stream h =
-      subst (λ l. Why language words call given (ending_of (replies said l)).status) (sym h)
-      (input_long ready e request asks (record { trees = trees; end = clean; stream = stream; unrefused = λ refusal e. cc e; whole = λ e. refl }))
-  closes_why ready request asks work said trees at_length (cut n) last e stream h =
-      subst (λ l. Why language words call given (ending_of (replies said l)).status) (sym h)
-      (input_long ready e request asks (record { trees = trees; end = cut n; stream = stream; unrefused = λ refusal e. cc e; whole = λ ends. absurd (cc (sym ends ∙ e)) }))
+    well_why : given.input.until ≡ at_end → NoRefusal language task given.input → (b : Bool) → Why language words call given (if b then statuses.Well else statuses.No)
+    well_why e held true = all_well task p e held
+    well_why e held false = some_no task p e held
 
-  pub task_asks : (task : Task T) → Prepares language words given.file (Ok task) → (request : Request) × Asks words request × (task.limit ≡ limit_of request)
+    module _ (said : List Said) (trees : List Tree) (rest : List ℕ) (first : SayFirst language task given.input.bytes trees said rest)
+        (goes_on : (stop : Stop) → StopsAt language task.work task.limit trees rest stop → ⊥) where
+      few : task.work ≡ compares → length trees ≤ 2
+      few e = let n = few_said language 0 trees said (omega arith) (subst (λ w. AllSay language w 0 trees said) e first.all_say) in omega (arith, n)
+
+      not_refused : (end : End) → IsTail task.limit rest end → ((refusal : ReadRefusal) → end ≢ refused refusal) → (given.input.until ≡ at_end → end ≡ clean)
+          → (given.input.until ≡ at_end → task.work ≡ compares → length trees ≡ 2) → NoRefusal language task given.input
+      not_refused end tail unrefused whole both =
+          record { trees = trees; end = end; stream = (rest, first.spelled, tail); unrefused = unrefused; goes_on = goes_on; whole = whole; few = few; both = both }
+
+      abbrev bad : (end : End) → IsTail task.limit rest end → end ≢ clean → HoldBadValue language task given.input.bytes
+      bad end tail some = record { trees = trees; said = said; rest = rest; first = first; end = end; tail = tail; some = some; goes_on = goes_on }
+
+      -- the input ends after the values
+      ends_why : (work : Work T) → task.work ≡ work → given.input.until ≡ at_end → rest ≡ [] → (last : Reply) → Finishes language work trees last → Because said last
+      ends_why (checks t) is e none last h =
+          subst (λ l. Because said l) (sym h)
+          (well_why e (not_refused clean none (λ refusal e. cc e) (λ e. refl) (λ e k. absurd (cc (sym is ∙ k)))) (well_said (said ++ nothing_said ∷ [])))
+      ends_why compares is e none last h = counted trees refl h where
+        fewer : (all : List Tree) → trees ≡ all → length all < 2 → Why language words call given statuses.Usage
+        fewer all same less = not_two task p (record {
+          is = is;
+          trees = trees;
+          rest = rest;
+          spelled = first.spelled;
+          why = inr (let size : length trees ≡ length all = ap length same in omega (arith, size, less), none, e);
+        })
+
+        counted : (all : List Tree) → trees ≡ all → Finishes language compares all last → Because said last
+        counted [] same h = subst (λ l. Because said l) (sym h) (fewer [] same (omega arith))
+        counted (t ∷ []) same h = subst (λ l. Because said l) (sym h) (fewer (t ∷ []) same (omega arith))
+        counted (t ∷ u ∷ []) same (alike, decides, h) =
+            subst (λ l. Because said l) (sym h)
+            (well_why e (not_refused clean none (λ refusal e. cc e) (λ e. refl) (λ e k. ap length same)) (well_said (said ++ comparison alike ∷ [])))
+        counted (t ∷ u ∷ v ∷ more) same h =
+            let least = few is in
+            let size : length trees ≡ length (t ∷ u ∷ v ∷ more) = ap length same in absurd (omega (arith, least, size))
+
+      closes_why : (u : InputEnd) (end : End) (last : Reply) → given.input.until ≡ u → IsTail task.limit rest end → Closes language task.work trees u end last → Because said last
+      closes_why at_end clean last e tail h = ends_why task.work refl e tail last h
+      closes_why at_end (refused refusal) last e tail h =
+          subst (λ l. Because said l) (sym h)
+          (no_value task p (record { bad = bad (refused refusal) tail (λ no_end. cc); ends = inl e }))
+      closes_why at_end (cut n) last e tail h =
+          subst (λ l. Because said l) (sym h)
+          (no_value task p (record { bad = bad (cut n) tail (λ no_end. cc); ends = inl e }))
+      closes_why unasked (refused refusal) last e tail h =
+          subst (λ l. Because said l) (sym h)
+          (no_value task p (record { bad = bad (refused refusal) tail (λ no_end. cc); ends = inr (refusal, refl) }))
+      closes_why unasked clean last e tail h = absurd h
+      closes_why unasked (cut n) last e tail h = absurd h
+      closes_why at_fault (refused refusal) last e tail h = absurd h
+      closes_why at_fault clean last e tail h = subst (λ l. Because said l) (sym h) (input_fault e)
+      closes_why at_fault (cut n) last e tail h = subst (λ l. Because said l) (sym h) (input_fault e)
+      closes_why at_length (refused refusal) last e tail h = absurd h
+      closes_why at_length clean last e tail h =
+          subst (λ l. Because said l) (sym h)
+          (input_long task p e (not_refused clean tail (λ refusal e. cc e) (λ e. refl) (λ ends k. absurd (cc (sym ends ∙ e)))))
+      closes_why at_length (cut n) last e tail h =
+          subst (λ l. Because said l) (sym h)
+          (input_long task p e (not_refused (cut n) tail (λ refusal e. cc e) (λ ends. absurd (cc (sym ends ∙ e))) (λ ends k. absurd (cc (sym ends ∙ e)))))
+
+    -- a byte comes after two values
+    stops_why : (work : Work T) → task.work ≡ work → (said : List Said) (trees : List Tree) (rest : List ℕ) → SpellAll task.limit given.input.bytes trees rest → (stop : Stop)
+        → StopsAt language work task.limit trees rest stop → (last : Reply) → last ≡ stops stop → Because said last
+    stops_why (checks t) is said trees rest spelled stop at last same = absurd at
+    stops_why compares is said trees rest spelled stop (two, some, told) last same =
+        subst (λ l. Because said l) (sym (same ∙ ap (λ s. stops s) told)) (not_two task p (record { is = is; trees = trees; rest = rest; spelled = spelled; why = inl (two, some) }))
+
+  pub task_asks : (task : Task T) → Prepares language words given.file (Ok task) → (request : Request) × Asks words request × (task.limit ≡ limit_of request) × Suits request task.work
   task_asks task (Err stop, h, same) = absurd (cc same)
-  task_asks task (Ok request, asks, (Err stop, h, same)) = absurd (cc same)
-  task_asks task (Ok request, asks, (Ok work, h, same)) =
-      let told : task ≡ record { work = work; limit = limit_of request } = cc in (request, asks, ap (λ t. t.limit) told)
+  task_asks task (Ok (check f t), asks, (Err stop, h, same)) = absurd (cc same)
+  task_asks task (Ok (check f t), asks, (Ok work, (Err stop, reads, h), same)) = absurd (cc h)
+  task_asks task (Ok (check f t), asks, (Ok work, (Ok type, reads, h), same)) =
+      let told : task ≡ record { work = work; limit = limit_of (check f t) } = cc in
+      let is : work ≡ checks type = cc in
+      (check f t, asks, ap (λ t. t.limit) told, subst (λ w. Suits (check f t) w) (sym (ap (λ t. t.work) told ∙ is)) tt)
+  task_asks task (Ok compare, asks, (Err stop, h, same)) = absurd (cc same)
+  task_asks task (Ok compare, asks, (Ok work, h, same)) =
+      let told : task ≡ record { work = work; limit = limit_of compare } = cc in
+      let is : work ≡ compares = cc in
+      (compare, asks, ap (λ t. t.limit) told, subst (λ w. Suits compare w) (sym (ap (λ t. t.work) told ∙ is)) tt)
+
+  -- where values are compared, the words are those of `same`
+  pub compare_asked : (task : Task T) → Prepares language words given.file (Ok task) → task.work ≡ compares → Asks words compare × (task.limit ≡ limit_of compare)
+  compare_asked task p is = let asked = task_asks task p in at asked.0 asked.1 asked.2 (subst (λ w. Suits asked.0 w) is asked.3) where
+    at : (request : Request) → Asks words request → task.limit ≡ limit_of request → Suits {T = T} request compares → Asks words compare × (task.limit ≡ limit_of compare)
+    at (check f t) asks limit h = absurd h
+    at compare asks limit h = (asks, limit)
 
   says_why : (all : Replies) → RunReplies language words given all → Why language words call given (ending_of all).status
   says_why all (Err stop, p, same) = subst (λ e. Why language words call given (ending_of e).status) (sym same) (prepares_why stop p)
@@ -166,11 +259,8 @@ module _ {D T : Type 0} (language : Language D T) (words : List (List ℕ)) (cal
     go : ((stop : Stop) × StopsAt language task.work task.limit v.trees v.rest stop × (fault_of given.input.until ≡ None) × (all.last ≡ stops stop))
         ⊎ ((end : End) × IsTail task.limit v.rest end × ((stop : Stop) → StopsAt language task.work task.limit v.trees v.rest stop → ⊥) × Closes language task.work v.trees given.input.until end all.last)
         → Why language words call given (ending_of all).status
-    go (inl (stop, at, free, is)) = absurd (no_stop language task.work task.limit v.trees v.rest stop at)
-    go (inr (end, tail, none, closes)) =
-        let asked = task_asks task p in
-        closes_why (task, p) asked.0 asked.1 task.work all.said v.trees given.input.until end all.last refl
-        (subst (λ limit. Stream given.input.bytes limit v.trees end) asked.2 (v.rest, v.first.spelled, tail)) closes
+    go (inl (stop, at, free, is)) = stops_why task p task.work refl all.said v.trees v.rest v.first.spelled stop at all.last is
+    go (inr (end, tail, none, closes)) = closes_why task p all.said v.trees v.rest v.first none given.input.until end all.last refl tail closes
 
 module _ {D T : Type 0} (language : Language D T) (words : List (List ℕ)) (call : Call) (a : Account language words call) where
   pub account_why : Why language words call a.given call.status
@@ -194,12 +284,6 @@ module _ {D T : Type 0} (language : Language D T) (words : List (List ℕ)) (cal
   file_fetched name (type, (request, asks, typed)) = subst (λ o. IfSome o (λ t. Fetched call.files t.0 (a.given.file t.0))) typed (a.files.asked request asks)
 
   -- ---- the causes
-
-  usage_of : Why language words call a.given statuses.Usage → IsUsage words
-  usage_of (not_plain none) = none
-
-  pub only_usage : OnlyUsage words call
-  only_usage e = usage_of (subst (λ s. Why language words call a.given s) e account_why)
 
   write_of : Why language words call a.given statuses.WriteFault → RoseOrLast call.out.before.faults call.out.after.faults ⊎ RoseOrLast call.err.before.faults call.err.after.faults
   write_of (out_fault said first breaks) = inl (rose_after _ _ _ breaks.out.1.cause breaks.out.2.cause)
@@ -250,7 +334,7 @@ module _ {D T : Type 0} (language : Language D T) (words : List (List ℕ)) (cal
   long_of : Why language words call a.given statuses.TooLong
       → IfSome call.input.before.bytes (λ bytes. 2 ^ 48 ≤ length bytes)
       ⊎ ((name : List ℕ) × AsksForFile words name × IfSome call.files.before.map (λ all. IsSomeAnd (contents_of all name) (λ bytes. 2 ^ 48 ≤ length bytes)))
-  long_of (input_long ready e request asks held) =
+  long_of (input_long task p e held) =
       let long = (subst (λ u. IsMeasured u (length a.given.input.bytes)) e a.input.measured).0 in
       inl (IfSome_then call.input.before.bytes a.input.told (λ bytes t. longer bytes a.given.input t.0 t.1 long))
   long_of (file_long name taken is found e) = inr (file_long_of name taken is found e)
@@ -339,13 +423,15 @@ module _ {D T : Type 0} (language : Language D T) (words : List (List ℕ)) (cal
           let stop : read_fault ≡ s = cc in told s refl ∙ ap status_of (sym stop)
 
   opening_says : call.files.before.open_faults < call.files.after.open_faults → (all : Replies) → RunReplies language words a.given all → (ending_of all).status ≡ statuses.OpenFault
-  opening_says less all (prepared, (Err stop, none, rest), said) = absurd (risen _ _ (ap (λ f. f.open_faults) (a.files.unasked none.0)) less)
+  opening_says less all (prepared, (Err stop, none, rest), said) = absurd (risen _ _ (ap (λ f. f.open_faults) (a.files.unasked (λ request asks. absurd (none.0 request asks)))) less)
+  opening_says less all (prepared, (Ok compare, asks, more), said) = absurd (risen _ _ (ap (λ f. f.open_faults) (a.files.unasked (no_file words asks))) less)
   opening_says less all (prepared, (Ok (check f t), asks, (type, (found, (text, r, more), e), rest)), said) =
       opening_at f (a.files.asked (check f t) asks) all less (a.given.file f) refl text r
       (λ s same. stop_status all found type prepared (check f t) s (rw same at more) e rest said)
 
   reading_says : call.files.before.read_faults < call.files.after.read_faults → (all : Replies) → RunReplies language words a.given all → (ending_of all).status ≡ statuses.ReadFault
-  reading_says less all (prepared, (Err stop, none, rest), said) = absurd (risen _ _ (ap (λ f. f.read_faults) (a.files.unasked none.0)) less)
+  reading_says less all (prepared, (Err stop, none, rest), said) = absurd (risen _ _ (ap (λ f. f.read_faults) (a.files.unasked (λ request asks. absurd (none.0 request asks)))) less)
+  reading_says less all (prepared, (Ok compare, asks, more), said) = absurd (risen _ _ (ap (λ f. f.read_faults) (a.files.unasked (no_file words asks))) less)
   reading_says less all (prepared, (Ok (check f t), asks, (type, (found, (text, r, more), e), rest)), said) =
       reading_at f (a.files.asked (check f t) asks) all less (a.given.file f) refl text r
       (λ s same. stop_status all found type prepared (check f t) s (rw same at more) e rest said)
@@ -372,7 +458,7 @@ module _ {D T : Type 0} (language : Language D T) (words : List (List ℕ)) (cal
       go : ((stop : Stop) × StopsAt language task.work task.limit v.trees v.rest stop × (fault_of a.given.input.until ≡ None) × (all.last ≡ stops stop))
           ⊎ ((end : End) × IsTail task.limit v.rest end × ((stop : Stop) → StopsAt language task.work task.limit v.trees v.rest stop → ⊥) × Closes language task.work v.trees a.given.input.until end all.last)
           → (ending_of all).status ≡ statuses.ReadFault
-      go (inl (stop, at, free, is)) = absurd (no_stop language task.work task.limit v.trees v.rest stop at)
+      go (inl (stop, at, free, is)) = let none : fault_of at_fault ≡ None = subst (λ u. fault_of u ≡ None) e free in absurd (cc none)
       go (inr (end, tail, none, closes)) = fault end (subst (λ u. Closes language task.work v.trees u end all.last) e closes)
 
     pub tells_read_fault : TellsReadFault call
@@ -395,27 +481,67 @@ module _ {D T : Type 0} (language : Language D T) (words : List (List ℕ)) (cal
   pub only_types : OnlyTypes language words call
   only_types e = types_of (subst (λ s. Why language words call a.given s) e account_why)
 
-  -- what was taken goes on to all that was left
-  pub whole_stream : (limit : ℕ) (bytes : List ℕ) (rest : List ℕ) → TakesFrom bytes a.given.input rest → (v : NoValue limit a.given.input) → Stream bytes limit v.trees v.end
-  whole_stream limit bytes rest t v = go v.ends where
-    go : (a.given.input.until ≡ at_end) ⊎ ((refusal : ReadRefusal) × (v.end ≡ refused refusal)) → Stream bytes limit v.trees v.end
-    go (inl e) =
-        let all : bytes ≡ a.given.input.bytes = t.front ∙ (ap (λ r. a.given.input.bytes ++ r) (t.ends e) ∙ append-nil a.given.input.bytes) in
-        subst (λ b. Stream b limit v.trees v.end) (sym all) v.stream
-    go (inr (refusal, is)) =
-        subst (λ b. Stream b limit v.trees v.end) (sym t.front) (subst (λ end. Stream (a.given.input.bytes ++ rest) limit v.trees end) (sym is)
-        (refused_after limit a.given.input.bytes rest v.trees refusal (subst (λ end. Stream a.given.input.bytes limit v.trees end) is v.stream)))
+  -- what was taken is in front of what was told
+  module _ (bytes rest : List ℕ) (t : TakesFrom bytes a.given.input rest) where
+    pub all_of : a.given.input.until ≡ at_end → bytes ≡ a.given.input.bytes
+    all_of e = t.front ∙ (ap (λ r. a.given.input.bytes ++ r) (t.ends e) ∙ append-nil a.given.input.bytes)
+
+    -- a bad value of what was taken is one of all that was left
+    pub bad_of : (task : Task T) → NoValue language task a.given.input → HoldBadValue language task bytes
+    bad_of task v = go v.ends where
+      go : (a.given.input.until ≡ at_end) ⊎ ((refusal : ReadRefusal) × (v.bad.end ≡ refused refusal)) → HoldBadValue language task bytes
+      go (inl e) = subst (HoldBadValue language task) (sym (all_of e)) v.bad
+      go (inr (refusal, is)) = subst (HoldBadValue language task) (sym t.front) (bad_after language task a.given.input.bytes rest v.bad refusal is)
+
+    -- and so are two values that a byte follows, or fewer
+    pub not_two_of : (task : Task T) → NotTwo task a.given.input → AreNotTwo task.limit bytes
+    not_two_of task n = go n.why where
+      go : ((length n.trees ≡ 2) × (n.rest ≢ [])) ⊎ ((length n.trees < 2) × (n.rest ≡ []) × (a.given.input.until ≡ at_end)) → AreNotTwo task.limit bytes
+      go (inl (two, some)) =
+          subst (AreNotTwo task.limit) (sym t.front) (record {
+            trees = n.trees;
+            rest = n.rest ++ rest;
+            spelled = spell_after task.limit a.given.input.bytes n.rest rest n.trees n.spelled;
+            why = inl (two, λ e. some (front_none n.rest rest e));
+          })
+      go (inr (fewer, none, e)) = subst (AreNotTwo task.limit) (sym (all_of e)) (record { trees = n.trees; rest = n.rest; spelled = n.spelled; why = inr (fewer, none) })
+
+  -- the whole input, where it is told, and else what was taken of it
+  module _ (P : List ℕ → Type 0) (taken : P a.given.input.bytes) (left : (bytes rest : List ℕ) → TakesFrom bytes a.given.input rest → P bytes) where
+    input_of : (o : Option (List ℕ)) → IfSome o (λ bytes. (rest : List ℕ) × TakesFrom bytes a.given.input rest × (call.input.after.bytes ≡ Some rest))
+        → (input : List ℕ) × IfSome o (λ bytes. bytes ≡ input) × P input
+    input_of None told = (a.given.input.bytes, tt, taken)
+    input_of (Some bytes) told = (bytes, refl, left bytes told.0 told.1)
+
+    whole_input : (input : List ℕ) × IfSome call.input.before.bytes (λ bytes. bytes ≡ input) × P input
+    whole_input = input_of call.input.before.bytes a.input.told
 
   value_of : Why language words call a.given statuses.Value
-      → (request : Request) × Asks words request × (input : List ℕ) × IfSome call.input.before.bytes (λ bytes. bytes ≡ input) × HoldBadValue (limit_of request) input
-  value_of (no_value ready request asks v) = let i = input_of call.input.before.bytes a.input.told in (request, asks, i.0, i.1, i.2) where
-    input_of : (o : Option (List ℕ)) → IfSome o (λ bytes. (rest : List ℕ) × TakesFrom bytes a.given.input rest × (call.input.after.bytes ≡ Some rest))
-        → (input : List ℕ) × IfSome o (λ bytes. bytes ≡ input) × HoldBadValue (limit_of request) input
-    input_of None told = (a.given.input.bytes, tt, record { trees = v.trees; end = v.end; stream = v.stream; some = v.some })
-    input_of (Some bytes) told = (bytes, refl, record { trees = v.trees; end = v.end; stream = whole_stream (limit_of request) bytes told.0 told.1 v; some = v.some })
+      → (file : List ℕ → Found) × FetchesFor words call.files file × (task : Task T) × Prepares language words file (Ok task)
+      × (input : List ℕ) × IfSome call.input.before.bytes (λ bytes. bytes ≡ input) × HoldBadValue language task input
+  value_of (no_value task p v) =
+      let i = whole_input (HoldBadValue language task) v.bad (λ bytes rest t. bad_of bytes rest t task v) in
+      (a.given.file, a.files, task, p, i.0, i.1, i.2)
 
-  pub only_value : OnlyValue words call
+  pub only_value : OnlyValue language words call
   only_value e = value_of (subst (λ s. Why language words call a.given s) e account_why)
+
+  taken_not_two : (task : Task T) → NotTwo task a.given.input → AreNotTwo task.limit a.given.input.bytes
+  taken_not_two task n = go n.why where
+    go : ((length n.trees ≡ 2) × (n.rest ≢ [])) ⊎ ((length n.trees < 2) × (n.rest ≡ []) × (a.given.input.until ≡ at_end)) → AreNotTwo task.limit a.given.input.bytes
+    go (inl two) = record { trees = n.trees; rest = n.rest; spelled = n.spelled; why = inl two }
+    go (inr (fewer, none, e)) = record { trees = n.trees; rest = n.rest; spelled = n.spelled; why = inr (fewer, none) }
+
+  usage_of : Why language words call a.given statuses.Usage
+      → IsUsage words ⊎ (Asks words compare × (input : List ℕ) × IfSome call.input.before.bytes (λ bytes. bytes ≡ input) × AreNotTwo (limit_of compare) input)
+  usage_of (not_plain none) = inl none
+  usage_of (not_two task p n) =
+      let i = whole_input (AreNotTwo task.limit) (taken_not_two task n) (λ bytes rest t. not_two_of bytes rest t task n) in
+      let asked = compare_asked language words call a.given task p n.is in
+      inr (asked.0, i.0, i.1, subst (λ limit. AreNotTwo limit i.0) asked.1 i.2)
+
+  pub only_usage : OnlyUsage words call
+  only_usage e = usage_of (subst (λ s. Why language words call a.given s) e account_why)
 
   -- where the map does not have FILE, it cannot be opened
   missing_at : (f : List ℕ) → Fetched call.files f (a.given.file f) → IsSomeAnd call.files.before.map (λ all. contents_of all f ≡ None) → (all : Replies)
@@ -436,6 +562,8 @@ module _ {D T : Type 0} (language : Language D T) (words : List (List ℕ)) (cal
   missing_says : (name : List ℕ) → AsksForFile words name → IsSomeAnd call.files.before.map (λ all. contents_of all name ≡ None)
       → (all : Replies) → RunReplies language words a.given all → (ending_of all).status ≡ statuses.OpenFault
   missing_says name (type, (request, other, typed)) none all (prepared, (Err stop, h, rest), said) = absurd (h.0 request other)
+  missing_says name (type, (compare, other, typed)) none all (prepared, (Ok request, asks, more), said) = absurd (cc typed)
+  missing_says name (type, (check g u, other, typed)) none all (prepared, (Ok compare, asks, more), said) = absurd (check_or_compare words g u other asks)
   missing_says name (type, (check g u, other, typed)) none all (prepared, (Ok (check f t), asks, (found_type, (found, (text, r, more), e), rest)), said) =
       let one = asks.0 in let two = other.0 in
       let same : g ≡ f = cc in

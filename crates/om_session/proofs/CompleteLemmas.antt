@@ -1,7 +1,7 @@
 -- Where all is well, a run ends well.
 use Rattle.std.proofs.Common.{◌≡◌, ◌≢◌, ◌⊎◌, ℕ, zero, suc, get_or, ◌+◌, ◌*◌, Bool, true, false, List, [], ◌∷◌, ◌++◌, length, replicate, None, Result, Ok, Err, inl, inr, refl, sym, ap, ◌∙◌, subst, length-append, arith}
 use Rattle.std.specs.Prelude.{codes, flat_map, MatchResult, ◌&&◌, if◌then◌else◌}
-use Rattle.om_session.proofs.ValueLemmas.{all_well-snoc}
+use Rattle.om_session.proofs.ValueLemmas.{silent, comparison-well, all_well-snoc}
 use Rattle.om_model.specs.declared.status.Status.{Status}
 use Rattle.om_model.specs.declared.status.Status.TheVariants as statuses
 use Rattle.om_model.specs.Bytes.{AreBytes}
@@ -12,15 +12,16 @@ use Rattle.om_types.specs.ListShapes.{base_text}
 use Rattle.om_types.specs.VerdictLaws.{FaultsExcludeTypes}
 use Rattle.om_format.specs.Laws.{HasOneJudgement}
 use Rattle.om_format.specs.Tree.{Tree, root, objects_of}
-use Rattle.om_format.specs.Stream.{End, clean, SpellAll, IsTail}
-use Rattle.om_outcome.specs.Outcome.{whole, at_end, Found, opened, Stop, fault_of, stopped, check, Work, checks, Task, Language, ReadsFile, ReadsTypeOf, Prepares, Said, nothing_said, Reply, Replies, replies, stops, all_well, ending_of, AllSay, StopsAt, ValuesReply, Closes, limit_of, found_of}
+use Rattle.om_format.specs.Stream.{End, SpellAll, IsTail}
+use Rattle.om_outcome.specs.Outcome.{whole, at_end, Found, opened, Stop, fault_of, stopped, check, compare, Work, checks, compares, Task, Language, ReadsFile, ReadsTypeOf, Prepares, Said, nothing_said, says, comparison, Reply, Replies, replies, stops, all_well, ending_of, AllSay, StopsAt, ValuesReply, Finishes, Closes, limit_of, found_of}
 use Rattle.om_edge.specs.Files.{File, contents_of}
 use Rattle.om_session.specs.Call.{Call}
 use Rattle.om_session.specs.Given.{TellsBytes}
 use Rattle.om_session.specs.Lists.{lists}
 use Rattle.om_session.specs.Run.{Account, AreAllWell, IsAllWell, IsComplete, HasOutcome}
-use Rattle.om_session.proofs.HeadlineLemmas.{no_stop, headline}
-use Rattle.om_session.proofs.StreamLemmas.{stream_once}
+use Rattle.om_session.proofs.HeadlineLemmas.{headline}
+use Rattle.om_session.proofs.StreamLemmas.{stream_once, spell_once}
+use Rattle.om_session.proofs.WordLemmas.{check_or_compare}
 
 -- a text is read in one way
 pub record IsLawful {D T : Type 0} (language : Language D T) : Type 0 where
@@ -90,6 +91,18 @@ module _ {D T : Type 0} (language : Language D T) (lawful : IsLawful language) (
   prepares_once words task r (Err s, h, same) other = absurd (cc same)
   prepares_once words task r (Ok (check f u), asks, (Err s, h, same)) other = absurd (cc same)
   prepares_once words task r (Ok (check f u), asks, (Ok work, h, same)) (Err s, (none, e), told) = absurd (none (check f u) asks)
+  prepares_once words task r (Ok (check f u), asks, (Ok work, h, told)) (Ok compare, other, more) = absurd (check_or_compare words f u asks other)
+  prepares_once words task r (Ok compare, asks, (Err s, h, same)) other = absurd (cc same)
+  prepares_once words task r (Ok compare, asks, (Ok work, h, same)) (Err s, (none, e), told) = absurd (none compare asks)
+  prepares_once words task r (Ok compare, asks, (Ok work, h, same)) (Ok (check g v), other, more) = absurd (check_or_compare words g v other asks)
+  prepares_once words task r (Ok compare, asks, (Ok work, h, same)) (Ok compare, other, (found, h', told)) = compare_task found h' told where
+    compare_task : (found : Result (Work T) Stop) → found ≡ Ok compares → MatchResult found (λ x. r ≡ Ok (record { work = x; limit = limit_of compare })) (λ stop. r ≡ Err stop) → Ok task ≡ r
+    compare_task (Err s) h' k = absurd (cc h')
+    compare_task (Ok x) h' k =
+        let is : task ≡ record { work = work; limit = limit_of compare } = cc in
+        let ours : work ≡ compares = cc in
+        let theirs : x ≡ compares = cc in
+        ap (λ t. Ok t) is ∙ (ap (λ w. Ok (record { work = w; limit = limit_of compare })) (ours ∙ sym theirs) ∙ sym k)
   prepares_once words task r (Ok (check f u), asks, (Ok work, (Err s, reads, same), told)) (Ok (check g v), other, (found, (r3, reads', same'), told')) = absurd (cc same)
   prepares_once words task r (Ok (check f u), asks, (Ok work, (Ok t, reads, same), told)) (Ok (check g v), other, (found, (r3, reads', same'), told')) =
       let one = asks.0 in let two = other.0 in
@@ -127,18 +140,36 @@ is_memory statuses.TooLong = inr (λ e. cc e)
 
 module _ {D T : Type 0} (language : Language D T) (lawful : IsLawful language) where
   says_well : (work : Work T) (k : ℕ) (trees : List Tree) (said : List Said) → AreAllWell language work trees → AllSay language work k trees said → all_well said ≡ true
-  says_well work k [] [] all h = refl
-  says_well work k [] (first ∷ said) all h = absurd h
-  says_well work k (tree ∷ trees) [] all h = absurd h
+  says_well compares k trees said all h = silent language k trees said h
+  says_well (checks type) k [] [] all h = refl
+  says_well (checks type) k [] (first ∷ said) all h = absurd h
+  says_well (checks type) k (tree ∷ trees) [] all h = absurd h
   says_well (checks type) k (tree ∷ trees) (first ∷ said) all h = first_well first.well h.0.1 (says_well (checks type) (suc k) trees said all.1 h.1) where
     first_well : (well : Bool) → language.LineOf type tree h.0.0 well → all_well said ≡ true → (well && all_well said) ≡ true
     first_well true line rest = rest
     first_well false line rest = absurd (lawful.verdict_once type tree all.0.0 h.0.0 all.0.1 line)
 
-  finishes_well : (work : Work T) (trees : List Tree) (said : List Said) (last : Reply) → all_well said ≡ true → Closes language work trees at_end clean last → (ending_of (replies said last)).status ≡ statuses.Well
-  finishes_well (checks type) trees said last well h =
+  -- the run ends well with a last reply in which nothing is wrong
+  last_well : (said : List Said) (last : Reply) (final : Said) → all_well said ≡ true → final.well ≡ true → last ≡ says final → (ending_of (replies said last)).status ≡ statuses.Well
+  last_well said last final well fine h =
       ap (λ l. (ending_of (replies said l)).status) h
-      ∙ ap (λ w. if w then statuses.Well else statuses.No) (all_well-snoc said nothing_said ∙ ap (λ w. w && true) well)
+      ∙ ap (λ w. if w then statuses.Well else statuses.No) (all_well-snoc said final ∙ (ap (λ w. w && final.well) well ∙ fine))
+
+  finishes_well : (work : Work T) (trees : List Tree) (said : List Said) (last : Reply) → AreAllWell language work trees → all_well said ≡ true → Finishes language work trees last → (ending_of (replies said last)).status ≡ statuses.Well
+  finishes_well (checks type) trees said last all well h = last_well said last nothing_said well refl h
+  finishes_well compares [] said last all well h = absurd all
+  finishes_well compares (t ∷ []) said last all well h = absurd all
+  finishes_well compares (t ∷ u ∷ v ∷ trees) said last all well h = absurd all
+  finishes_well compares (t ∷ u ∷ []) said last all well (alike, decides, h) = last_well said last (comparison alike) well (comparison-well alike ∙ decides.1 all) h
+
+  -- nothing stops a run over such values
+  never_stops : (work : Work T) (limit : ℕ) (trees others : List Tree) (rest : List ℕ) (stop : Stop) → AreAllWell language work trees → (length trees ≡ length others → rest ≡ [])
+      → StopsAt language work limit others rest stop → ⊥
+  never_stops (checks type) limit trees others rest stop all whole at = at
+  never_stops compares limit [] others rest stop all whole at = all
+  never_stops compares limit (t ∷ []) others rest stop all whole at = all
+  never_stops compares limit (t ∷ u ∷ v ∷ trees) others rest stop all whole at = all
+  never_stops compares limit (t ∷ u ∷ []) others rest stop all whole (two, some, is) = some (whole (sym two))
 
 module _ {D T : Type 0} (language : Language D T) (lawful : IsLawful language) (law : HasOneJudgement) (words : List (List ℕ)) (call : Call) where
   values_well : (input : List ℕ) → AreBytes input → (task : Task T) (trees : List Tree) → SpellAll task.limit input trees [] → AreAllWell language task.work trees
@@ -147,12 +178,14 @@ module _ {D T : Type 0} (language : Language D T) (lawful : IsLawful language) (
     go : ((stop : Stop) × StopsAt language task.work task.limit v.trees v.rest stop × (fault_of at_end ≡ None) × (all.last ≡ stops stop))
         ⊎ ((end : End) × IsTail task.limit v.rest end × ((stop : Stop) → StopsAt language task.work task.limit v.trees v.rest stop → ⊥) × Closes language task.work v.trees at_end end all.last)
         → (ending_of all).status ≡ statuses.Well
-    go (inl (stop, at, free, is)) = absurd (no_stop language task.work task.limit v.trees v.rest stop at)
+    go (inl (stop, at, free, is)) =
+        absurd (never_stops language lawful task.work task.limit trees v.trees v.rest stop well
+        (λ same. sym (spell_once law task.limit input trees v.trees [] v.rest are_bytes same spelled v.first.spelled).1) at)
     go (inr (end, tail, none, closes)) =
         let once = stream_once law task.limit input trees v.trees end are_bytes spelled (v.rest, v.first.spelled, tail) in
         let said = subst (λ trees. AllSay language task.work 0 trees all.said) (sym once.0) v.first.all_say in
-        finishes_well language lawful task.work v.trees all.said all.last (says_well language lawful task.work 0 trees all.said well said)
-        (subst (λ end. Closes language task.work v.trees at_end end all.last) once.1 closes)
+        finishes_well language lawful task.work v.trees all.said all.last (subst (λ trees. AreAllWell language task.work trees) once.0 well)
+        (says_well language lawful task.work 0 trees all.said well said) (subst (λ end. Closes language task.work v.trees at_end end all.last) once.1 closes)
 
   ends_well : (input : List ℕ) (files : List File) → AreBytes input → (all : IsAllWell language words input files) → (o : HasOutcome language words call input files) → call.status ≡ statuses.Well
   ends_well input files are_bytes all o = o.status ∙ from o.outcome.0 (prepares_once language lawful (λ name. found_of (contents_of files name)) words all.task o.outcome.0 all.prepared o.outcome.1) o.outcome.2 where

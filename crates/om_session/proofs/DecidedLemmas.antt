@@ -1,21 +1,21 @@
 -- An outcome has one status.
-use Rattle.std.proofs.Common.{◌≡◌, ◌⊎◌, ℕ, suc, Bool, true, false, List, [], ◌∷◌, None, Result, Ok, Err, inl, inr, refl, sym, ap, ◌∙◌, subst}
-use Rattle.std.specs.Prelude.{MatchResult, ◌&&◌, if◌then◌else◌}
+use Rattle.std.proofs.Common.{◌≡◌, ◌⊎◌, ℕ, suc, ◌+◌, ◌≤◌, Bool, true, false, List, [], ◌∷◌, ◌++◌, length, length-append, arith, None, Result, Ok, Err, inl, inr, refl, sym, ap, ◌∙◌, subst}
+use Rattle.std.specs.Prelude.{MatchResult, ◌&&◌, ◌↔◌, IsTrue, if◌then◌else◌}
 use Rattle.om_model.specs.declared.status.Status.{Status}
 use Rattle.om_model.specs.declared.status.Status.TheVariants as statuses
-use Rattle.om_session.proofs.ValueLemmas.{all_well-snoc}
+use Rattle.om_session.proofs.ValueLemmas.{few_said, all_well-snoc}
 use Rattle.om_model.specs.Bytes.{AreBytes}
 use Rattle.om_format.specs.Laws.{HasOneJudgement}
 use Rattle.om_format.specs.Tree.{Tree}
-use Rattle.om_format.specs.Stream.{End, clean, refused, cut, IsTail, Stream}
-use Rattle.om_outcome.specs.Outcome.{whole, at_end, Found, opened, missing, failed, unfetched, Stop, fault_of, usage, declarations, requested_type, status_of, stopped, Request, check, Asks, Then, OrRefusal, Work, checks, Task, Language, ReadsFile, ReadsTypeOf, Prepares, Said, nothing_said, stops, Reply, Replies, replies, all_well, ending_of, Says, AllSay, StopsAt, ValuesReply, Closes, limit_of, found_of, Outcome}
+use Rattle.om_format.specs.Stream.{SpellAll, End, clean, refused, cut, IsTail, Stream}
+use Rattle.om_outcome.specs.Outcome.{whole, at_end, Found, opened, missing, failed, unfetched, Stop, fault_of, usage, declarations, requested_type, status_of, stopped, Request, check, compare, Asks, Then, OrRefusal, Work, checks, compares, Task, Language, ReadsFile, ReadsTypeOf, Prepares, Said, nothing_said, says, not_two_values, comparison, AreSame, stops, Reply, Replies, replies, all_well, ending_of, Says, AllSay, StopsAt, ValuesReply, Finishes, Closes, limit_of, found_of, Outcome}
 use Rattle.om_edge.specs.Files.{File, contents_of}
 use Rattle.om_session.specs.Call.{Call}
 use Rattle.om_session.specs.Given.{TellsBytes}
 use Rattle.om_session.specs.Run.{Account, IsDecided}
-use Rattle.om_session.proofs.HeadlineLemmas.{no_stop, headline}
+use Rattle.om_session.proofs.HeadlineLemmas.{headline}
 use Rattle.om_session.proofs.CompleteLemmas.{IsLawful, prepares_once}
-use Rattle.om_session.proofs.StreamLemmas.{streams_once}
+use Rattle.om_session.proofs.StreamLemmas.{streams_once, spell_once, spell_append, spell_bytes, stream_of}
 
 -- ---- the stages before the values
 
@@ -58,6 +58,8 @@ module _ {D T : Type 0} (language : Language D T) (lawful : IsLawful language) (
 
   unprepared : (words : List (List ℕ)) (s : Stop) → Prepares language words file (Err s) → Unprepared words s
   unprepared words s (Err a, (none, e), same) = inl (none, (let one : s ≡ a = cc in one ∙ e))
+  unprepared words s (Ok compare, asks, (Ok x, told, same)) = absurd (cc same)
+  unprepared words s (Ok compare, asks, (Err b, told, same)) = absurd (cc told)
   unprepared words s (Ok (check f u), asks, (found, (r, reads, told), same)) = inr (f, u, asks, type_stop found r reads told same) where
     type_stop : (found : Result (Work T) Stop) (r : Result T Stop) → ReadsTypeOf language file (f, u) r
         → MatchResult r (λ x. found ≡ Ok (checks x)) (λ stop. found ≡ Err stop)
@@ -86,6 +88,7 @@ module _ {D T : Type 0} (language : Language D T) (lawful : IsLawful language) w
     same false false one two = refl
     same true false one two = absurd (lawful.verdict_once t tree h.0 g.0 one two)
     same false true one two = absurd (lawful.verdict_once t tree g.0 h.0 two one)
+  one_wellness compares k tree said other h g = ap (λ s. s.well) (h.1 ∙ sym g.1)
 
   all_wellness : (work : Work T) (k : ℕ) (trees : List Tree) (said others : List Said) → AllSay language work k trees said → AllSay language work k trees others → all_well said ≡ all_well others
   all_wellness work k [] [] [] h g = refl
@@ -99,34 +102,82 @@ module _ {D T : Type 0} (language : Language D T) (lawful : IsLawful language) w
   abbrev status : List Said → Reply → Status
   status said last = (ending_of (replies said last)).status
 
+  -- two last replies in which the same is wrong
+  says_once : (said others : List Said) (last other : Reply) (final final' : Said) → all_well said ≡ all_well others → final.well ≡ final'.well → last ≡ says final → other ≡ says final'
+      → status said last ≡ status others other
+  says_once said others last other final final' same fine h g =
+      let well = all_well-snoc said final ∙ (ap (λ w. w && final.well) same ∙ (ap (λ w. all_well others && w) fine ∙ sym (all_well-snoc others final'))) in
+      ap (λ l. status said l) h ∙ (ap (λ w. if w then statuses.Well else statuses.No) well ∙ sym (ap (λ l. status others l) g))
+
+  stops_once : (said others : List Said) (last other : Reply) (stop : Stop) → last ≡ stops stop → other ≡ stops stop → status said last ≡ status others other
+  stops_once said others last other stop h g = ap (λ l. status said l) h ∙ sym (ap (λ l. status others l) g)
+
+  -- a line on two values says what they are
+  one_answer : (a b : Bool) (P : Type 0) → (IsTrue a ↔ P) → (IsTrue b ↔ P) → a ≡ b
+  one_answer true b P is other = sym (other.1 (is.0 refl))
+  one_answer false true P is other = is.1 (other.0 refl)
+  one_answer false false P is other = refl
+
+  finishes_once : (work : Work T) (trees : List Tree) (said others : List Said) (last other : Reply) → all_well said ≡ all_well others
+      → Finishes language work trees last → Finishes language work trees other → status said last ≡ status others other
+  finishes_once (checks t) trees said others last other same h g = says_once said others last other nothing_said nothing_said same refl h g
+  finishes_once compares [] said others last other same h g = stops_once said others last other not_two_values h g
+  finishes_once compares (t ∷ []) said others last other same h g = stops_once said others last other not_two_values h g
+  finishes_once compares (t ∷ u ∷ v ∷ trees) said others last other same h g = stops_once said others last other not_two_values h g
+  finishes_once compares (t ∷ u ∷ []) said others last other same (a, is, h) (b, is', g) =
+      says_once said others last other (comparison a) (comparison b) same (ap (λ a. (comparison a).well) (one_answer a b (AreSame t u) is is')) h g
+
   closes_once : (work : Work T) (trees : List Tree) (end : End) (said others : List Said) (last other : Reply) → all_well said ≡ all_well others
       → Closes language work trees at_end end last → Closes language work trees at_end end other → status said last ≡ status others other
-  closes_once (checks t) trees clean said others last other same h g =
-      let well = all_well-snoc said nothing_said ∙ (ap (λ w. w && true) same ∙ sym (all_well-snoc others nothing_said)) in
-      ap (λ l. status said l) h ∙ (ap (λ w. if w then statuses.Well else statuses.No) well ∙ sym (ap (λ l. status others l) g))
-  closes_once work trees (refused r) said others last other same h g = ap (λ l. status said l) h ∙ sym (ap (λ l. status others l) g)
-  closes_once work trees (cut n) said others last other same h g = ap (λ l. status said l) h ∙ sym (ap (λ l. status others l) g)
+  closes_once work trees clean said others last other same h g = finishes_once work trees said others last other same h g
+  closes_once work trees (refused r) said others last other same h g = stops_once said others last other _ h g
+  closes_once work trees (cut n) said others last other same h g = stops_once said others last other _ h g
 
-  -- `check` comes to the last value
-  pub last_of : (task : Task T) (input : List ℕ) (all : Replies) (v : ValuesReply language task (whole input) all)
-      → (end : End) × Stream input task.limit v.trees end × Closes language task.work v.trees at_end end all.last
-  last_of task input all v = go v.last where
-    go : ((stop : Stop) × StopsAt language task.work task.limit v.trees v.rest stop × (fault_of at_end ≡ None) × (all.last ≡ stops stop))
-        ⊎ ((end : End) × IsTail task.limit v.rest end × ((stop : Stop) → StopsAt language task.work task.limit v.trees v.rest stop → ⊥) × Closes language task.work v.trees at_end end all.last)
-        → (end : End) × Stream input task.limit v.trees end × Closes language task.work v.trees at_end end all.last
-    go (inl (stop, at, free, is)) = absurd (no_stop language task.work task.limit v.trees v.rest stop at)
-    go (inr (end, tail, none, closes)) = (end, (v.rest, v.first.spelled, tail), closes)
+  -- a stop is one
+  same_stop : (work : Work T) (limit : ℕ) (trees trees' : List Tree) (rest rest' : List ℕ) (stop stop' : Stop) → StopsAt language work limit trees rest stop → StopsAt language work limit trees' rest' stop' → stop ≡ stop'
+  same_stop (checks t) limit trees trees' rest rest' stop stop' at at' = absurd at
+  same_stop compares limit trees trees' rest rest' stop stop' at at' = at.2 ∙ sym at'.2
+
+  pub few_of : (work : Work T) (trees : List Tree) (said : List Said) → AllSay language work 0 trees said → work ≡ compares → length trees ≤ 2
+  few_of work trees said all_say e = let n = few_said language 0 trees said (omega arith) (subst (λ w. AllSay language w 0 trees said) e all_say) in omega (arith, n)
+
+  -- a run that stops at some bytes does not end elsewhere
+  pub stop_or_end : (law : HasOneJudgement) (work : Work T) (limit : ℕ) (input : List ℕ) → AreBytes input → (trees trees' : List Tree) (rest rest' : List ℕ) (end : End) (stop : Stop)
+      → SpellAll limit input trees rest → StopsAt language work limit trees rest stop → SpellAll limit input trees' rest' → (work ≡ compares → length trees' ≤ 2) → IsTail limit rest' end
+      → ((stop : Stop) → StopsAt language work limit trees' rest' stop → ⊥) → ⊥
+  stop_or_end law (checks t) limit input are_bytes trees trees' rest rest' end stop spelled at spelled' few tail none = at
+  stop_or_end law compares limit input are_bytes trees trees' rest rest' end stop spelled at spelled' few tail none =
+      let more = stream_of law limit rest (spell_bytes limit input rest trees spelled are_bytes) in
+      let all : Stream input limit (trees ++ more.0) more.1 = (more.2.0, spell_append limit input rest more.2.0 trees more.0 spelled more.2.1, more.2.2) in
+      let once = streams_once law limit input (trees ++ more.0) trees' more.1 end are_bytes all (rest', spelled', tail) in
+      let size : length trees' ≡ length trees + length more.0 = ap length (sym once.0) ∙ length-append trees more.0 in
+      let least = few refl in
+      let two = at.0 in
+      let two' : length trees' ≡ 2 = omega (arith, size, least, two) in
+      let same : rest ≡ rest' = (spell_once law limit input trees trees' rest rest' are_bytes (two ∙ sym two') spelled spelled').1 in
+      none stop (two', (λ e. at.1 (same ∙ e)), at.2)
 
   values_status : (law : HasOneJudgement) (task : Task T) (input : List ℕ) → AreBytes input → (all other : Replies)
       → ValuesReply language task (whole input) all → ValuesReply language task (whole input) other → (ending_of all).status ≡ (ending_of other).status
-  values_status law task input are_bytes all other v w =
-      let (end, stream, closes) = last_of task input all v in
-      let (end', stream', closes') = last_of task input other w in
-      let once = streams_once law task.limit input v.trees w.trees end end' are_bytes stream stream' in
-      let said = subst (λ trees. AllSay language task.work 0 trees other.said) (sym once.0) w.first.all_say in
-      let here = subst (λ trees. Closes language task.work trees at_end end' other.last) (sym once.0) closes' in
-      closes_once task.work v.trees end all.said other.said all.last other.last (all_wellness task.work 0 v.trees all.said other.said v.first.all_say said)
-      closes (subst (λ end. Closes language task.work v.trees at_end end other.last) (sym once.1) here)
+  values_status law task input are_bytes all other v w = go v.last w.last where
+    go : ((stop : Stop) × StopsAt language task.work task.limit v.trees v.rest stop × (fault_of at_end ≡ None) × (all.last ≡ stops stop))
+        ⊎ ((end : End) × IsTail task.limit v.rest end × ((stop : Stop) → StopsAt language task.work task.limit v.trees v.rest stop → ⊥) × Closes language task.work v.trees at_end end all.last)
+        → ((stop : Stop) × StopsAt language task.work task.limit w.trees w.rest stop × (fault_of at_end ≡ None) × (other.last ≡ stops stop))
+        ⊎ ((end : End) × IsTail task.limit w.rest end × ((stop : Stop) → StopsAt language task.work task.limit w.trees w.rest stop → ⊥) × Closes language task.work w.trees at_end end other.last)
+        → (ending_of all).status ≡ (ending_of other).status
+    go (inl (stop, at, free, is)) (inl (stop', at', free', is')) =
+        stops_once all.said other.said all.last other.last stop is
+        (is' ∙ ap (λ s. stops s) (sym (same_stop task.work task.limit v.trees w.trees v.rest w.rest stop stop' at at')))
+    go (inl (stop, at, free, is)) (inr (end, tail, none, closes)) =
+        absurd (stop_or_end law task.work task.limit input are_bytes v.trees w.trees v.rest w.rest end stop v.first.spelled at w.first.spelled (few_of task.work w.trees other.said w.first.all_say) tail none)
+    go (inr (end, tail, none, closes)) (inl (stop, at, free, is)) =
+        absurd (stop_or_end law task.work task.limit input are_bytes w.trees v.trees w.rest v.rest end stop w.first.spelled at v.first.spelled (few_of task.work v.trees all.said v.first.all_say) tail none)
+    go (inr (end, tail, none, closes)) (inr (end', tail', none', closes')) =
+        let once = streams_once law task.limit input v.trees w.trees end end' are_bytes (v.rest, v.first.spelled, tail) (w.rest, w.first.spelled, tail') in
+        let said = subst (λ trees. AllSay language task.work 0 trees other.said) (sym once.0) w.first.all_say in
+        let here = subst (λ trees. Closes language task.work trees at_end end' other.last) (sym once.0) closes' in
+        closes_once task.work v.trees end all.said other.said all.last other.last (all_wellness task.work 0 v.trees all.said other.said v.first.all_say said)
+        closes (subst (λ end. Closes language task.work v.trees at_end end other.last) (sym once.1) here)
 
 -- ---- the whole run
 

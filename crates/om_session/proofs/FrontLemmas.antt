@@ -1,17 +1,13 @@
 -- What is said of some first values is said first in an outcome: there is one that goes on after them.
-use Rattle.std.proofs.Common.{◌≡◌, ◌⊎◌, ℕ, zero, suc, ◌+◌, ◌-◌, ◌<◌, ◌≤◌, List, [], ◌∷◌, ◌++◌, length, take, drop, Option, Some, None, Result, Ok, Err, inl, inr, refl, sym, ap, subst, append_assoc, append-nil, arith}
-use Rattle.std.proofs.lemmas.List.{take-append-drop, length-drop, length-take-le}
-use Rattle.std.proofs.lemmas.List.Elements.{All-drop}
+use Rattle.std.proofs.Common.{◌≡◌, ◌≢◌, ◌⊎◌, ℕ, suc, ◌+◌, ◌<◌, ◌≤◌, List, [], ◌∷◌, ◌++◌, length, Option, Some, None, Result, Ok, Err, inl, inr, refl, sym, ap, subst, append_assoc, append-nil, arith}
 use Rattle.om_model.specs.declared.status.Status.TheVariants as statuses
 use Rattle.om_model.specs.Bytes.{AreBytes}
-use Rattle.om_format.specs.Judgement.{Judgement, value, Judges}
-use Rattle.om_format.specs.Judgement as j
 use Rattle.om_format.specs.Laws.{HasOneJudgement}
 use Rattle.om_format.specs.Tree.{Tree}
-use Rattle.om_format.specs.Stream.{SpellAll, End, clean, refused, cut, Stream}
+use Rattle.om_format.specs.Stream.{SpellAll, End, clean, refused, cut, IsTail}
 use Rattle.om_outcome.specs.RefusalText.{refusal_text, truncated_text}
 use Rattle.om_outcome.specs.Outcome as o
-use Rattle.om_outcome.specs.Outcome.{Taken, at_end, whole, Found, opened, missing, Given, Stop, usage, cannot_open, declarations, requested_type, out_of_memory, stop_text, err_line, Said, nothing_said, Reply, says, stops, Replies, replies, all_said, texts_of, ending_of, stopped, line, Request, check, Asks, Work, checks, Task, Language, ReadsFile, ReadsTypeOf, Prepares, RunReplies, ValuesReply, SayFirst, Says, AllSay, SaysOfFirst, Closes, limit_of, found_of, Outcome}
+use Rattle.om_outcome.specs.Outcome.{Taken, at_end, whole, Found, opened, missing, Given, Stop, usage, cannot_open, declarations, requested_type, out_of_memory, stop_text, err_line, Said, nothing_said, Reply, says, stops, Replies, replies, all_said, texts_of, ending_of, stopped, line, Request, check, compare, Asks, Work, checks, compares, Task, task, not_two_values, comparison, StopsAt, Finishes, fault_of, Language, ReadsFile, ReadsTypeOf, Prepares, RunReplies, ValuesReply, SayFirst, Says, AllSay, SaysOfFirst, Closes, limit_of, found_of, Outcome}
 use Rattle.om_edge.specs.Files.{File, contents_of}
 use Rattle.om_format.proofs.JudgementLaws.{one_judgement_lem}
 use Rattle.om_edge.specs.Sink.{Puts}
@@ -19,49 +15,15 @@ use Rattle.om_session.specs.StreamLaws.{HasOneStream}
 use Rattle.om_session.specs.Call.{Call}
 use Rattle.om_session.specs.Given.{TakesFrom, TellsBytes}
 use Rattle.om_session.specs.Run.{IsSaidFirst, Account, IsWellRead, IsFrontOfOutcome, IfMemory, IfWriteFault, OutBreaks, ErrBreaks, IsUsage}
-use Rattle.om_session.proofs.HeadlineLemmas.{no_stop, prepares_same, says_same}
-use Rattle.om_session.proofs.ValueLemmas.{first_after, first_none}
-use Rattle.om_session.proofs.LengthLemmas.{spelled_some}
-use Rattle.om_session.proofs.StreamLemmas.{bytes_after, streams_once}
+use Rattle.om_session.proofs.HeadlineLemmas.{prepares_same, says_same}
+use Rattle.om_session.proofs.SameLemmas.{same_or_not}
+use Rattle.om_session.proofs.ValueLemmas.{first_after, first_more, first_none, few_said}
+use Rattle.om_session.proofs.StreamLemmas.{streams_once, spell_append, spell_bytes, stream_of}
 use Rattle.om_session.proofs.CauseLemmas.{Why, memory, out_fault, err_fault, MayEnd, account_why}
-use Rattle.om_session.proofs.TotalLemmas.{IsTotal, plain_or_not}
+use Rattle.om_session.proofs.TotalLemmas.{IsTotal, plain_or_not, number_same, empty_or_not}
 
--- ---- a stream goes on
+-- ---- bytes are one stream
 
-pub spell_append : (limit : ℕ) (bytes rest tail : List ℕ) (trees more : List Tree) → SpellAll limit bytes trees rest → SpellAll limit rest more tail → SpellAll limit bytes (trees ++ more) tail
-spell_append limit bytes rest tail [] more same next = subst (λ bytes. SpellAll limit bytes more tail) (sym same) next
-spell_append limit bytes rest tail (tree ∷ trees) more (first, after, same, spelled, all) next = (first, after, same, spelled, spell_append limit after rest tail trees more all next)
-
-spell_bytes : (limit : ℕ) (bytes rest : List ℕ) (trees : List Tree) → SpellAll limit bytes trees rest → AreBytes bytes → AreBytes rest
-spell_bytes limit bytes rest [] same are_bytes = subst AreBytes same are_bytes
-spell_bytes limit bytes rest (tree ∷ trees) (first, more, same, spelled, all) are_bytes =
-    spell_bytes limit more rest trees all (bytes_after first more (subst AreBytes same are_bytes))
-
-module _ (law : HasOneJudgement) (limit : ℕ) where
-  -- bytes are a stream of values
-  stream_in : (fuel : ℕ) (bytes : List ℕ) → length bytes ≤ fuel → AreBytes bytes → (trees : List Tree) × (end : End) × Stream bytes limit trees end
-  stream_in fuel [] fits are_bytes = ([], clean, ([], refl, refl))
-  stream_in zero (b ∷ bytes) fits are_bytes = absurd (omega arith)
-  stream_in (suc fuel) (b ∷ bytes) fits are_bytes =
-      let one = law limit (b ∷ bytes) are_bytes in at (λ more. stream_in fuel more) one.0 one.1.holds where
-        at : ((more : List ℕ) → length more ≤ fuel → AreBytes more → (trees : List Tree) × (end : End) × Stream more limit trees end)
-            → (judgement : Judgement) → Judges limit (b ∷ bytes) judgement → (trees : List Tree) × (end : End) × Stream (b ∷ bytes) limit trees end
-        at next_stream j.front f = ([], cut (length (b ∷ bytes)), (b ∷ bytes, refl, (omega arith, refl, f)))
-        at next_stream (j.refused n refusal) r = ([], refused refusal, (b ∷ bytes, refl, (n, r.0, r.1)))
-        at next_stream (j.value n tree) v =
-            let some : 0 < length (take n (b ∷ bytes)) = spelled_some limit (take n (b ∷ bytes)) tree v.1 in
-            let taken : length (take n (b ∷ bytes)) ≡ n = length-take-le n (b ∷ bytes) v.0 in
-            let left : length (drop n (b ∷ bytes)) ≡ length (b ∷ bytes) - n = length-drop n (b ∷ bytes) in
-            let next = next_stream (drop n (b ∷ bytes)) (omega arith) (All-drop (λ b. b < 256) n (b ∷ bytes) are_bytes) in (
-              tree ∷ next.0,
-              next.1,
-              (next.2.0, (take n (b ∷ bytes), drop n (b ∷ bytes), sym (take-append-drop n (b ∷ bytes)), v.1, next.2.1), next.2.2),
-            )
-
-  pub stream_of : (bytes : List ℕ) → AreBytes bytes → (trees : List Tree) × (end : End) × Stream bytes limit trees end
-  stream_of bytes are_bytes = stream_in (length bytes) bytes (omega arith) are_bytes
-
--- and of one alone
 pub one_stream_lem : HasOneStream
 one_stream_lem limit bytes are_bytes =
     let some = stream_of one_judgement_lem limit bytes are_bytes in (
@@ -83,18 +45,121 @@ module _ {D T : Type 0} (language : Language D T) where
   say_append work k n (tree ∷ trees) more [] others at h g = absurd h
   say_append work k n (tree ∷ trees) more (first ∷ said) others at h g = (h.0, say_append work (suc k) n trees more said others (omega arith) h.1 g)
 
-  say_exist : IsTotal language → (work : Work T) (k : ℕ) (trees : List Tree) → (said : List Said) × AllSay language work k trees said
-  say_exist total work k [] = ([], tt)
-  say_exist total (checks type) k (tree ∷ trees) =
-      let rest = say_exist total (checks type) (suc k) trees in
+  say_exist : IsTotal language → (type : T) (k : ℕ) (trees : List Tree) → (said : List Said) × AllSay language (checks type) k trees said
+  say_exist total type k [] = ([], tt)
+  say_exist total type k (tree ∷ trees) =
+      let rest = say_exist total type (suc k) trees in
       let here = total.verdict type tree in
       (record { text = line here.0; well = here.1 } ∷ rest.0, ((here.0, here.2, refl), rest.1))
 
-  -- there is a last reply at the input's end
-  closes_exist : (work : Work T) (trees : List Tree) (end : End) → (last : Reply) × Closes language work trees at_end end last
-  closes_exist (checks type) trees clean = (says nothing_said, refl)
-  closes_exist work trees (refused refusal) = (stops (o.value (length trees) (refusal_text refusal)), refl)
-  closes_exist work trees (cut n) = (stops (o.value (length trees) (truncated_text n)), refl)
+  -- what is said of values after the first ones, and a last reply
+  pub record GoesOn (task : Task T) (bytes : List ℕ) (said : List Said) : Type 0 where
+    pub more : List Said
+    pub last : Reply
+    pub reply : ValuesReply language task (whole bytes) (replies (said ++ more) last)
+
+  -- the last reply at the end of checked values
+  closes_exist : (type : T) (trees : List Tree) (end : End) → (last : Reply) × Closes language (checks type) trees at_end end last
+  closes_exist type trees clean = (says nothing_said, refl)
+  closes_exist type trees (refused refusal) = (stops (o.value (length trees) (refusal_text refusal)), refl)
+  closes_exist type trees (cut n) = (stops (o.value (length trees) (truncated_text n)), refl)
+
+  module _ (total : IsTotal language) (law : HasOneJudgement) (limit : ℕ) (bytes : List ℕ) (are_bytes : AreBytes bytes) where
+    checks_go_on : (type : T) (trees : List Tree) (said : List Said) (rest : List ℕ) → SayFirst language (task (checks type) limit) bytes trees said rest → GoesOn (task (checks type) limit) bytes said
+    checks_go_on type trees said rest first =
+        let stream = stream_of law limit rest (spell_bytes limit bytes rest trees first.spelled are_bytes) in
+        let others = say_exist total type (length trees) stream.0 in
+        let last = closes_exist type (trees ++ stream.0) stream.1 in
+        record {
+          more = others.0;
+          last = last.0;
+          reply = record {
+            trees = trees ++ stream.0;
+            rest = stream.2.0;
+            first = record {
+              spelled = spell_append limit bytes rest stream.2.0 trees stream.0 first.spelled stream.2.1;
+              all_say = say_append (checks type) 0 (length trees) trees stream.0 said others.0 (omega arith) first.all_say others.1;
+            };
+            last = inr (stream.1, stream.2.2, λ stop at. at, last.1);
+          };
+        }
+
+    -- some first values are compared; this is said of others
+    module _ (trees : List Tree) (said : List Said) (others : List Tree) (more : List Said) (rest : List ℕ)
+        (first : SayFirst language (task compares limit) bytes (trees ++ others) (said ++ more) rest) where
+      compared : (last : Reply) → ((stop : Stop) × StopsAt language compares limit (trees ++ others) rest stop × (fault_of at_end ≡ None) × (last ≡ stops stop))
+          ⊎ ((end : End) × IsTail limit rest end × ((stop : Stop) → StopsAt language compares limit (trees ++ others) rest stop → ⊥) × Closes language compares (trees ++ others) at_end end last)
+          → GoesOn (task compares limit) bytes said
+      compared last why = record { more = more; last = last; reply = record { trees = trees ++ others; rest = rest; first = first; last = why } }
+
+      -- the input ends, or the next value is bad
+      compared_end : (end : End) → IsTail limit rest end → (length (trees ++ others) ≡ 2 → rest ≡ []) → GoesOn (task compares limit) bytes said
+      compared_end (refused refusal) tail whole =
+          compared (stops (o.value (length (trees ++ others)) (refusal_text refusal))) (inr (refused refusal, tail, (λ stop at. at.1 (whole at.0)), refl))
+      compared_end (cut n) tail whole = compared (stops (o.value (length (trees ++ others)) (truncated_text n))) (inr (cut n, tail, (λ stop at. at.1 (whole at.0)), refl))
+      compared_end clean tail whole = let last = comparison_exists (trees ++ others) first.spelled in compared last.0 (inr (clean, tail, (λ stop at. at.1 (whole at.0)), last.1)) where
+        comparison_exists : (all : List Tree) → SpellAll limit bytes all rest → (last : Reply) × Finishes language compares all last
+        comparison_exists [] spelled = (stops not_two_values, refl)
+        comparison_exists (t ∷ []) spelled = (stops not_two_values, refl)
+        comparison_exists (t ∷ u ∷ v ∷ all) spelled = (stops not_two_values, refl)
+        comparison_exists (t ∷ u ∷ []) (one, more, same, spelled, (other, last, same', spelled', none)) =
+            let answer = same_or_not t u spelled.spells.is_tree spelled.spells.refers_back spelled'.spells.is_tree spelled'.spells.refers_back in
+            (says (comparison answer.0), (answer.0, answer.1, refl))
+
+      -- a byte comes after two values
+      compared_stop : length (trees ++ others) ≡ 2 → rest ≢ [] → GoesOn (task compares limit) bytes said
+      compared_stop two some = compared (stops not_two_values) (inl (not_two_values, (two, some, refl), refl, refl))
+
+    -- of values that are compared
+    module _ (trees : List Tree) (said : List Said) where
+      -- two values, or fewer
+      two_or_fewer : (others : List Tree) (more : List Said) (rest : List ℕ) → SayFirst language (task compares limit) bytes (trees ++ others) (said ++ more) rest
+          → (length (trees ++ others) ≡ 2) ⊎ (length (trees ++ others) < 2)
+      two_or_fewer others more rest first = at (number_same (length (trees ++ others)) 2) where
+        least : 0 + length (trees ++ others) ≤ 2
+        least = few_said language 0 (trees ++ others) (said ++ more) (omega arith) first.all_say
+
+        at : (length (trees ++ others) ≡ 2) ⊎ (length (trees ++ others) ≢ 2) → (length (trees ++ others) ≡ 2) ⊎ (length (trees ++ others) < 2)
+        at (inl two) = inl two
+        at (inr ne) = inr (let few = least in omega (arith, few, ne))
+
+      -- after two values nothing comes, or a byte
+      after_two : (others : List Tree) (more : List Said) (rest : List ℕ) → SayFirst language (task compares limit) bytes (trees ++ others) (said ++ more) rest
+          → length (trees ++ others) ≡ 2 → (rest ≡ []) ⊎ (rest ≢ []) → GoesOn (task compares limit) bytes said
+      after_two others more rest first two (inl none) = compared_end trees said others more rest first clean none (λ e. none)
+      after_two others more rest first two (inr some) = compared_stop trees said others more rest first two some
+
+      compared_on : (others : List Tree) (more : List Said) (rest : List ℕ) → SayFirst language (task compares limit) bytes (trees ++ others) (said ++ more) rest
+          → (left : List Tree) (end : End) (tail : List ℕ) → SpellAll limit rest left tail → IsTail limit tail end → GoesOn (task compares limit) bytes said
+      compared_on others more rest first [] end tail same is = at (two_or_fewer others more rest first) where
+        at : (length (trees ++ others) ≡ 2) ⊎ (length (trees ++ others) < 2) → GoesOn (task compares limit) bytes said
+        at (inl two) = after_two others more rest first two (empty_or_not rest)
+        at (inr fewer) = compared_end trees said others more rest first end (subst (λ t. IsTail limit t end) (sym same) is) (λ two. absurd (omega (arith, two, fewer)))
+      compared_on others more rest first (t ∷ left) end tail (bytes_of, after, same, spelled, all) is =
+          at (two_or_fewer others more rest first) (λ others more first. compared_on others more after first left end tail all is) where
+            at : (length (trees ++ others) ≡ 2) ⊎ (length (trees ++ others) < 2)
+                → ((others : List Tree) (more : List Said) → SayFirst language (task compares limit) bytes (trees ++ others) (said ++ more) after → GoesOn (task compares limit) bytes said)
+                → GoesOn (task compares limit) bytes said
+            at (inl two) next = after_two others more rest first two (empty_or_not rest)
+            at (inr fewer) next =
+                next (others ++ t ∷ []) (more ++ nothing_said ∷ [])
+                (subst (λ all. SayFirst language (task compares limit) bytes all (said ++ (more ++ nothing_said ∷ [])) after) (append_assoc trees others (t ∷ []))
+                (subst (λ all. SayFirst language (task compares limit) bytes ((trees ++ others) ++ t ∷ []) all after) (append_assoc said more (nothing_said ∷ []))
+                (first_more language (task compares limit) bytes (trees ++ others) (said ++ more) bytes_of after t nothing_said
+                (subst (λ r. SayFirst language (task compares limit) bytes (trees ++ others) (said ++ more) r) same first) spelled (fewer, refl))))
+
+    compares_go_on : (trees : List Tree) (said : List Said) (rest : List ℕ) → SayFirst language (task compares limit) bytes trees said rest → GoesOn (task compares limit) bytes said
+    compares_go_on trees said rest first =
+        let stream = stream_of law limit rest (spell_bytes limit bytes rest trees first.spelled are_bytes) in
+        compared_on trees said [] [] rest
+        (subst (λ all. SayFirst language (task compares limit) bytes all (said ++ []) rest) (sym (append-nil trees))
+        (subst (λ all. SayFirst language (task compares limit) bytes trees all rest) (sym (append-nil said)) first))
+        stream.0 stream.1 stream.2.0 stream.2.1 stream.2.2
+
+    -- some first values, and then the others
+    goes_on : (work : Work T) (trees : List Tree) (said : List Said) (rest : List ℕ) → SayFirst language (task work limit) bytes trees said rest → GoesOn (task work limit) bytes said
+    goes_on (checks type) trees said rest first = checks_go_on type trees said rest first
+    goes_on compares trees said rest first = compares_go_on trees said rest first
 
 -- ---- the stages before the values
 
@@ -128,32 +193,19 @@ module _ {D T : Type 0} (language : Language D T) (total : IsTotal language) (fi
 
     at : ((request : Request) × Asks words request) ⊎ IsUsage words → (prepared : Result (Task T) Stop) × Prepares language words in_map prepared
     at (inl (check f u, asks)) = let reads = reads_exist f u in typed f u asks reads.0 reads.1
+    at (inl (compare, asks)) = (Ok (task compares (limit_of compare)), (Ok compare, asks, (Ok compares, refl, refl)))
     at (inr none) = (Err usage, (Err usage, (none, refl), refl))
 
   module _ (law : HasOneJudgement) (words : List (List ℕ)) (input : List ℕ) (are_bytes : AreBytes input) where
     -- some first values, and then the others
     front_of_values : (task : Task T) → Prepares language words in_map (Ok task) → (trees : List Tree) (said : List Said) (rest : List ℕ) → SayFirst language task input trees said rest → IsFrontOfOutcome language words input files said
     front_of_values task prepared trees said rest first =
-        let stream = stream_of law task.limit rest (spell_bytes task.limit input rest trees first.spelled are_bytes) in
-        let others = say_exist language total task.work (length trees) stream.0 in
-        let last = closes_exist language task.work (trees ++ stream.0) stream.1 in
+        let on = goes_on language total law task.limit input are_bytes task.work trees said rest first in
         record {
-          all = replies (said ++ others.0) last.0;
-          later = all_said (replies others.0 last.0);
-          outcome = (
-            Ok task,
-            prepared,
-            record {
-              trees = trees ++ stream.0;
-              rest = stream.2.0;
-              first = record {
-                spelled = spell_append task.limit input rest stream.2.0 trees stream.0 first.spelled stream.2.1;
-                all_say = say_append language task.work 0 (length trees) trees stream.0 said others.0 (omega arith) first.all_say others.1;
-              };
-              last = inr (stream.1, stream.2.2, λ stop at. no_stop language task.work task.limit (trees ++ stream.0) stream.2.0 stop at, last.1);
-            },
-          );
-          front = append_assoc said others.0 (all_said (replies [] last.0));
+          all = replies (said ++ on.more) on.last;
+          later = all_said (replies on.more on.last);
+          outcome = (Ok task, prepared, on.reply);
+          front = append_assoc said on.more (all_said (replies [] on.last));
         }
 
     -- there is an outcome

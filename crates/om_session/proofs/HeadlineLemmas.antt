@@ -1,13 +1,13 @@
 -- An honest call has the outcome of what was told.
-use Rattle.std.proofs.Common.{◌≡◌, ◌≢◌, ◌⊎◌, ℕ, ◌+◌, ◌^◌, ◌<◌, ◌≤◌, List, ◌++◌, length, Option, Some, None, Result, Ok, Err, inl, inr, refl, sym, ap, ◌∙◌, subst, append-nil, length-append, arith}
-use Rattle.std.proofs.lemmas.List.{take-append-le}
+use Rattle.std.proofs.Common.{◌≡◌, ◌≢◌, ◌⊎◌, ℕ, ◌+◌, ◌^◌, ◌<◌, ◌≤◌, List, [], ◌∷◌, ◌++◌, length, take, Option, Some, None, Result, Ok, Err, inl, inr, refl, sym, ap, ◌∙◌, subst, append-nil, length-append, arith}
+use Rattle.std.proofs.lemmas.List.{take-append-le, length-take-le}
 use Rattle.std.specs.Prelude.{IsSomeAnd, MatchResult}
 use Rattle.om_model.specs.declared.status.Status.TheVariants as statuses
 use Rattle.om_model.specs.declared.refusal.ReadRefusal.{ReadRefusal}
 use Rattle.om_format.specs.Front.{IsRefused}
 use Rattle.om_format.specs.Stream.{End, clean, refused, cut, IsTail}
 use Rattle.om_format.specs.Tree.{Tree}
-use Rattle.om_outcome.specs.Outcome.{Taken, InputEnd, at_end, at_fault, at_length, unasked, whole, Found, opened, missing, failed, unfetched, Stop, ending_of, Replies, replies, stops, stopped, out_of_memory, check, Work, checks, Task, Language, ReadsFile, ReadsTypeOf, Prepares, RunReplies, ValuesReply, StopsAt, Closes, found_of, Outcome, fault_of}
+use Rattle.om_outcome.specs.Outcome.{Taken, InputEnd, at_end, at_fault, at_length, unasked, whole, Found, opened, missing, failed, unfetched, Stop, ending_of, Replies, replies, stops, stopped, out_of_memory, check, compare, Work, checks, compares, Task, Language, ReadsFile, ReadsTypeOf, Prepares, RunReplies, ValuesReply, StopsAt, Closes, found_of, Outcome, fault_of}
 use Rattle.om_edge.specs.Faults.{RoseOrLast}
 use Rattle.om_edge.specs.Files.{File, contents_of}
 use Rattle.om_edge.specs.State.{ByteState, FilesState, Change}
@@ -15,7 +15,7 @@ use Rattle.om_session.specs.Call.{Call}
 use Rattle.om_session.specs.Given.{TakesFrom, Gathers, Fetched, IsFoundOf, IsMeasured}
 use Rattle.om_session.specs.Run.{FetchesFor, PutsLine, Completes, Breaks, Account, IsWellRead, IsHonest, HasOutcome, Headline}
 use Rattle.om_session.proofs.PutLemmas.{rose_after}
-use Rattle.om_session.proofs.ValueLemmas.{first_after}
+use Rattle.om_session.proofs.ValueLemmas.{first_after, refused_some}
 
 -- ---- what was taken, where it is told and there is no fault
 
@@ -80,15 +80,35 @@ module _ {D T : Type 0} (language : Language D T) (words : List (List ℕ)) (fil
   prepares_same prepared (Err stop, none, rest) = (Err stop, none, rest)
   prepares_same prepared (Ok (check f t), asks, (found, (type, r, same), rest)) =
       (Ok (check f t), asks, (found, (type, reads_same f t (fetches.asked (check f t) asks) type r, same), rest))
+  prepares_same prepared (Ok compare, asks, more) = (Ok compare, asks, more)
 
 -- what is refused in the first bytes is refused in all
 pub tail_after : (limit : ℕ) (tail more : List ℕ) (refusal : ReadRefusal) → IsTail limit tail (refused refusal) → IsTail limit (tail ++ more) (refused refusal)
 tail_after limit tail more refusal (n, fits, is) =
     (n, omega (arith, fits, length-append tail more), subst (λ b. IsRefused limit b refusal) (sym (take-append-le n tail more fits)) is)
 
--- `check` stops at no value
-pub no_stop : {D T : Type 0} (language : Language D T) (work : Work T) (limit : ℕ) (trees : List Tree) (rest : List ℕ) (stop : Stop) → StopsAt language work limit trees rest stop → ⊥
-no_stop language (checks type) limit trees rest stop h = h
+-- what is refused has some bytes
+pub tail_some : (limit : ℕ) (tail : List ℕ) (refusal : ReadRefusal) → IsTail limit tail (refused refusal) → 0 < length tail
+tail_some limit tail refusal (n, fits, is) =
+    let some = refused_some limit (take n tail) refusal is in
+    let size = length-take-le n tail fits in omega (arith, some, size, fits)
+
+pub front_none : (xs ys : List ℕ) → xs ++ ys ≡ [] → xs ≡ []
+front_none [] ys e = refl
+front_none (x ∷ xs) ys e = absurd (cc e)
+
+-- a stop stays one where more bytes come
+pub stops_more : {D T : Type 0} (language : Language D T) (work : Work T) (limit : ℕ) (trees : List Tree) (rest more : List ℕ) (stop : Stop)
+    → StopsAt language work limit trees rest stop → StopsAt language work limit trees (rest ++ more) stop
+stops_more language (checks type) limit trees rest more stop at = at
+stops_more language compares limit trees rest more stop (two, some, is) = (two, λ none. some (front_none rest more none), is)
+
+-- and none comes of more after some bytes
+pub goes_on_more : {D T : Type 0} (language : Language D T) (work : Work T) (limit : ℕ) (trees : List Tree) (rest more : List ℕ) → 0 < length rest
+    → ((stop : Stop) → StopsAt language work limit trees rest stop → ⊥) → (stop : Stop) → StopsAt language work limit trees (rest ++ more) stop → ⊥
+goes_on_more language (checks type) limit trees rest more some none stop at = at
+goes_on_more language compares limit trees rest more some none stop (two, left, is) =
+    none stop (two, (λ e. let zero : length rest ≡ 0 = ap length e in omega (arith, zero, some)), is)
 
 module _ {D T : Type 0} (language : Language D T) (task : Task T) where
   -- where more bytes come after a stop, the last reply is the same
@@ -103,11 +123,16 @@ module _ {D T : Type 0} (language : Language D T) (task : Task T) where
         ⊎ ((end : End) × IsTail task.limit v.rest end × ((stop : Stop) → StopsAt language task.work task.limit v.trees v.rest stop → ⊥) × Closes language task.work v.trees unasked end all.last)
         → ((stop : Stop) × StopsAt language task.work task.limit v.trees (v.rest ++ more) stop × (fault_of at_end ≡ None) × (all.last ≡ stops stop))
         ⊎ ((end : End) × IsTail task.limit (v.rest ++ more) end × ((stop : Stop) → StopsAt language task.work task.limit v.trees (v.rest ++ more) stop → ⊥) × Closes language task.work v.trees at_end end all.last)
-    go (inl (stop, at, free, is)) = absurd (no_stop language task.work task.limit v.trees v.rest stop at)
+    go (inl (stop, at, free, is)) = inl (stop, stops_more language task.work task.limit v.trees v.rest more stop at, refl, is)
     go (inr (clean, tail, none, closes)) = absurd closes
     go (inr (cut n, tail, none, closes)) = absurd closes
     go (inr (refused refusal, tail, none, closes)) =
-        inr (refused refusal, tail_after task.limit v.rest more refusal tail, λ stop at. no_stop language task.work task.limit v.trees (v.rest ++ more) stop at, closes)
+        inr (
+          refused refusal,
+          tail_after task.limit v.rest more refusal tail,
+          goes_on_more language task.work task.limit v.trees v.rest more (tail_some task.limit v.rest refusal tail) none,
+          closes,
+        )
 
 module _ {D T : Type 0} (language : Language D T) (task : Task T) (source : Change ByteState) (input : List ℕ) (told : source.before.bytes ≡ Some input)
     (short : length input < 2 ^ 48) (no_fault : ¬ RoseOrLast source.before.faults source.after.faults) (taken : Taken) (took : Gathers source taken) (all : Replies) where

@@ -9,7 +9,7 @@ pub mod ReadLemmas
 pub mod WordLemmas
 pub mod EndLemmas
 pub mod LoopLemmas
-pub mod CheckLemmas
+pub mod CloseLemmas
 pub mod AccountLemmas
 pub mod HeadlineLemmas
 pub mod LengthLemmas
@@ -22,3 +22,4 @@ pub mod FrontLemmas
 pub mod PaceLemmas
 pub mod PromiseLemmas
 pub mod CauseLemmas
+pub mod SameLemmas

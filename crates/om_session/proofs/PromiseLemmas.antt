@@ -8,7 +8,7 @@ use Rattle.om_session.specs.Run.{Account, Promises}
 use Rattle.om_session.proofs.CauseLemmas.{only_usage, if_usage, only_types, only_value, only_read_fault, only_write_fault, only_open_fault, if_missing, only_too_long, tells_read_fault, tells_open_fault, tells_write_fault}
 use Rattle.om_session.proofs.CompleteLemmas.{IsLawful, complete}
 use Rattle.om_session.proofs.DecidedLemmas.{decided}
-use Rattle.om_session.proofs.ExactLemmas.{if_types, if_too_long, if_value}
+use Rattle.om_session.proofs.ExactLemmas.{if_types, if_not_two, if_too_long, if_value}
 use Rattle.om_session.proofs.PaceLemmas.{if_input_fails}
 use Rattle.om_session.proofs.FrontLemmas.{if_memory, if_write_fault}
 use Rattle.om_session.proofs.HeadlineLemmas.{headline}
@@ -24,6 +24,7 @@ module _ {D T : Type 0} (language : Language D T) (lawful : IsLawful language) (
     decided = decided language lawful law words call tells a;
     usage_only = only_usage language words call a;
     usage_if = if_usage language words call a;
+    not_two_if = if_not_two language lawful words call a law tells;
     types_only = only_types language words call a;
     types_if = if_types language lawful words call a;
     value_only = only_value language words call a;

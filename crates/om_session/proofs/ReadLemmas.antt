@@ -1,13 +1,18 @@
 -- What is said of the values so far, as a piece is taken.
 use Rattle.std.proofs.Common.{◌≡◌, ℕ, zero, suc, ◌+◌, ◌^◌, ◌<◌, ◌≤◌, Bool, true, false, List, [], ◌∷◌, ◌++◌, length, take, drop, Result, Ok, Err, inl, inr, refl, sym, ap, ◌∙◌, subst, append_assoc, append-nil, length-append, take_all, arith}
 use Rattle.std.proofs.lemmas.List.{length-take-le, take-append-drop}
-use Rattle.std.specs.Prelude.{◌&&◌, IsErrAnd}
+use Rattle.std.specs.Prelude.{◌&&◌, ◌↔◌, ◌≢◌, IsTrue, IsErrAnd, Vec}
+use Rattle.std.specs.List.{AllZip, AllByRecursion}
+use Rattle.std.proofs.lemmas.List.Elements.{All-from_recursion}
+use Rattle.std.specs.declared.alloc.Global.{Global}
 use Rattle.om_edge.specs.Sink.{Puts, PutsPart}
-use Rattle.om_edge.specs.State.{ByteState, Change}
+use Rattle.om_edge.specs.State.{ByteState, Change, change}
 use Rattle.om_session.specs.declared.values.Halt.{Halt}
 use Rattle.om_model.specs.declared.refusal.ReadRefusal.{ReadRefusal}
 use Rattle.om_format.specs.Front.{IsFront}
-use Rattle.om_format.specs.Tree.{Tree, objects_of}
+use Rattle.om_format.specs.Tree.{Tree, root, objects_of}
+use Rattle.om_format.specs.Iso.{Iso}
+use Rattle.om_model.specs.Graph.{IsValue}
 use Rattle.om_format.specs.Spelled.{SpelledUnder}
 use Rattle.om_types.specs.declared.list_type.ListType.{ListType}
 use Rattle.om_read.specs.declared.reader.Reader.{Reader}
@@ -20,7 +25,7 @@ use Rattle.om_format.specs.Stream.{SpellAll}
 use Rattle.om_session.proofs.LengthLemmas.{spelled_some}
 use Rattle.om_outcome.specs.RefusalText.{truncated_text}
 use Rattle.om_outcome.specs.Outcome as outcome
-use Rattle.om_outcome.specs.Outcome.{Said, Says, SayFirst, checks}
+use Rattle.om_outcome.specs.Outcome.{Said, Says, SayFirst, StopsAt, Finishes as FinishesRun, nothing_said, says, not_two_values, comparison, all_well, checks, compares}
 use Rattle.om_session.specs.declared.values.Values.{Values}
 use Rattle.om_session.specs.declared.values.Halt.TheVariants as halts
 use Rattle.om_session.specs.declared.stop.Stop.TheVariants as stops
@@ -30,51 +35,141 @@ use Rattle.om_session.specs.declared.stop.Stop.{Stop}
 use Rattle.om_format.specs.Front.{IsRefused}
 use Rattle.om_read.specs.Reading.{RefusedIn}
 use Rattle.om_read.proofs.ReadingLemmas.{unless_memory}
-use Rattle.om_session.specs.Values.{IsStopOf, StopsIn, HaltsIn, ReadsSome, HasRead, IsValueRead, PutsNext, AreSaid, EndsAt, checks_of, word_limit}
-use Rattle.om_session.proofs.ValueLemmas.{not_whole, nothing_front, first_more, first_after, all_well-snoc}
+use Rattle.om_session.specs.declared.values.Work.{Work}
+use Rattle.om_session.specs.declared.values.Work.TheVariants as works
+use Rattle.om_session.specs.Values.{IsStopOf, StopsIn, HaltsIn, ReadsSome, IsFull, MayTake, AreValues, IsKept, HasRead, IsValueRead, PutsNext, PutsLast, Compares, AreSaid, EndsAt, work_of, task_of, word_limit}
+use Rattle.om_session.proofs.PutLemmas.{puts_nothing}
+use Rattle.om_session.proofs.ValueLemmas.{not_whole, nothing_front, first_more, first_after, silent, and_true, all_well-snoc}
+
+-- where one more value may come, any bytes may
+pub may_go_on : (w : Work) (limit : ℕ) (trees : List Tree) (rest : List ℕ) (stop : outcome.Stop) → MayTake w (length trees) → StopsAt lists (work_of w) limit trees rest stop → ⊥
+may_go_on (works.Check t) limit trees rest stop may at = at
+may_go_on works.Compare limit trees rest stop may at = let two = at.0 in omega (arith, may, two)
+
+-- and where none come, nothing stops the run
+pub none_goes_on : (w : Work) (limit : ℕ) (trees : List Tree) (stop : outcome.Stop) → StopsAt lists (work_of w) limit trees [] stop → ⊥
+none_goes_on (works.Check t) limit trees stop at = at
+none_goes_on works.Compare limit trees stop at = at.1 refl
 
 -- what was taken holds no stop
-abbrev pub holds : (t : ListType) (taken : List ℕ) (said : List Said) (values : Values) → HasRead t taken said values → HoldNoStop lists (checks_of t) taken said
-holds t taken said values h = record { trees = h.trees; front = h.front; first = h.first; is_front = h.is_front; goes_on = λ stop none. none }
+abbrev pub holds : (w : Work) (taken : List ℕ) (said : List Said) (values : Values) → HasRead w taken said values → HoldNoStop lists (task_of w) taken said
+holds w taken said values h = record { trees = h.trees; front = h.front; first = h.first; is_front = h.is_front; goes_on = h.goes_on }
 
-module _ (t : ListType) (taken : List ℕ) (said : List Said) (values : Values) (h : HasRead t taken said values) where
-  -- the input ends after a value
-  pub ends_clean : EndsInput {U = Unit {0}} word_limit h.front (Ok tt) → EndsAt t taken said (Ok values.has_type)
-  ends_clean (inl none) = (h.trees, subst (λ f. SayFirst lists (checks_of t) taken h.trees said f) none h.first, h.has_type)
-  ends_clean (inr (tree, spelled)) = absurd (not_whole word_limit h.front tree h.leads.bytes h.is_front spelled)
+-- ---- the input's end
+
+-- what is said after two values
+pub compares_alike : (kept : List Value) (trees : List Tree) → AllZip IsValueOf kept trees → (first second : Value) → kept ≡ first ∷ second ∷ [] → (alike : Bool)
+    → (IsTrue alike ↔ Iso first.heap first.root second.heap second.root) → FinishesRun lists compares trees (says (comparison alike))
+compares_alike kept trees are first second two alike is = at trees (subst (λ k. AllZip IsValueOf k trees) two are) where
+  at : (trees : List Tree) → AllZip IsValueOf (first ∷ second ∷ []) trees → FinishesRun lists compares trees (says (comparison alike))
+  at [] h = absurd h
+  at (t ∷ []) h = absurd h.1
+  at (t ∷ u ∷ v ∷ rest) h = absurd h.1.1
+  at (t ∷ u ∷ []) h = (
+    alike,
+    subst (λ v. IsTrue alike ↔ Iso (objects_of t 0) v (objects_of u 0) (root u 0)) h.0.root (subst (λ g. IsTrue alike ↔ Iso g first.root (objects_of u 0) (root u 0)) h.0.heap
+        (subst (λ w. IsTrue alike ↔ Iso first.heap first.root (objects_of u 0) w) h.1.0.root (subst (λ g. IsTrue alike ↔ Iso first.heap first.root g second.root) h.1.0.heap is))),
+    refl,
+  )
+
+-- out failed within the line, by `?`
+pub last_fault : (trees : List Tree) (out : Change ByteState) (result : Result Bool Halt) → IsErrAnd result (λ h. h ≡ halts.WriteFault) → (final : Said) → FinishesRun lists compares trees (says final) → PutsPart out final.text
+    → PutsLast compares trees out result
+last_fault trees out (Ok well) is final finishes part = absurd is
+last_fault trees out (Err halt) is final finishes part = subst (λ h. PutsLast compares trees out (Err h)) (sym is) (final, finishes, part)
+
+-- or other than two
+pub compares_none : (kept : List Value) (trees : List Tree) → AllZip IsValueOf kept trees → length kept ≢ 2 → FinishesRun lists compares trees (outcome.stops not_two_values)
+compares_none kept [] are not = refl
+compares_none kept (t ∷ []) are not = refl
+compares_none kept (t ∷ u ∷ v ∷ rest) are not = refl
+compares_none [] (t ∷ u ∷ []) are not = absurd are
+compares_none (a ∷ []) (t ∷ u ∷ []) are not = absurd are.1
+compares_none (a ∷ b ∷ []) (t ∷ u ∷ []) are not = absurd (not refl)
+compares_none (a ∷ b ∷ c ∷ kept) (t ∷ u ∷ []) are not = absurd are.1.1
+
+-- what is kept are values
+pub kept_values : (kept : List Value) (trees : List Tree) → AllZip IsValueOf kept trees → AreValues kept
+kept_values kept trees are = All-from_recursion (λ v. IsValue (length v.heap) v.root) kept (each kept trees are) where
+  each : (kept : List Value) (trees : List Tree) → AllZip IsValueOf kept trees → AllByRecursion (λ v. IsValue (length v.heap) v.root) kept
+  each [] trees are = tt
+  each (v ∷ kept) [] are = absurd are
+  each (v ∷ kept) (t ∷ trees) are = (are.0.valid, each kept trees are.1)
+
+module _ (w : Work) (taken : List ℕ) (said : List Said) (values : Values) (h : HasRead w taken said values) where
+  -- the reader is at the end of a value
+  ended : EndsInput {U = Unit {0}} word_limit h.front (Ok tt) → SayFirst lists (task_of w) taken h.trees said []
+  ended (inl none) = subst (λ f. SayFirst lists (task_of w) taken h.trees said f) none h.first
+  ended (inr (tree, spelled)) = absurd (not_whole word_limit h.front tree h.leads.bytes h.is_front spelled)
 
   -- or within one
-  pub ends_cut : (truncated : Truncated) → EndsInput {U = Unit {0}} word_limit h.front (Err truncated)
-      → EndsAt t taken said (Err (halts.Stop (stops.Cut values.count truncated.taken)))
-  ends_cut truncated cut = (
-    holds t taken said values h,
-    cut.1,
-    ap (λ n. outcome.value n (truncated_text truncated.taken)) h.counted ∙ ap (λ n. outcome.value (length h.trees) (truncated_text n)) cut.0,
+  pub ends_cut : (truncated : Truncated) → EndsInput {U = Unit {0}} word_limit h.front (Err truncated) → (out : Change ByteState) → Puts out []
+      → EndsAt w taken said out (Err (halts.Stop (stops.Cut values.count truncated.taken)))
+  ends_cut truncated cut out none = (
+    inl (
+      holds w taken said values h,
+      cut.1,
+      ap (λ n. outcome.value n (truncated_text truncated.taken)) h.counted ∙ ap (λ n. outcome.value (length h.trees) (truncated_text n)) cut.0,
+    ),
+    none,
   )
+
+-- checked values are done with
+pub ends_checked : (t : ListType) (taken : List ℕ) (said : List Said) (values : Values) (h : HasRead (works.Check t) taken said values) → EndsInput {U = Unit {0}} word_limit h.front (Ok tt) → (o : ByteState)
+    → EndsAt (works.Check t) taken said (change o o) (Ok values.has_type)
+ends_checked t taken said values h e o = (h.trees, ended (works.Check t) taken said values h e, nothing_said, refl, h.has_type ∙ sym (and_true (all_well said)), puts_nothing o)
+
+-- values that are kept are compared
+pub ends_compared : (taken : List ℕ) (said : List Said) (values : Values) (h : HasRead works.Compare taken said values) → EndsInput {U = Unit {0}} word_limit h.front (Ok tt) → (out : Change ByteState)
+    (result : Result Bool Halt) → PutsLast compares h.trees out result → EndsAt works.Compare taken said out result
+ends_compared taken said values h e out (Ok well) (final, finishes, is, put) =
+    (h.trees, ended works.Compare taken said values h e, final, finishes, is ∙ sym (ap (λ b. b && final.well) (silent lists 0 h.trees said h.first.all_say)), put)
+ends_compared taken said values h e out (Err (halts.Stop stop)) (why, put) = (inr (h.trees, ended works.Compare taken said values h e, why), put)
+ends_compared taken said values h e out (Err halts.WriteFault) (final, finishes, part) = (h.trees, ended works.Compare taken said values h e, final, finishes, part)
+
+-- the same, where the work is known by an equation
+module _ (w : Work) (taken : List ℕ) (said : List Said) (values : Values) (h : HasRead w taken said values) where
+  pub ends_as_checked : (t : ListType) → w ≡ works.Check t → EndsInput {U = Unit {0}} word_limit h.front (Ok tt) → (o : ByteState) → EndsAt w taken said (change o o) (Ok values.has_type)
+  ends_as_checked t is e o =
+      let P : Work → Type 0 = λ w. (h : HasRead w taken said values) → EndsInput {U = Unit {0}} word_limit h.front (Ok tt) → EndsAt w taken said (change o o) (Ok values.has_type) in
+      subst P (sym is) (λ h e. ends_checked t taken said values h e o) h e
+
+  pub ends_as_compared : w ≡ works.Compare → EndsInput {U = Unit {0}} word_limit h.front (Ok tt) → (out : Change ByteState) (result : Result Bool Halt) → Compares values.kept.items out result
+      → EndsAt w taken said out result
+  ends_as_compared is e out result compared =
+      let P : Work → Type 0 = λ w. (h : HasRead w taken said values) → EndsInput {U = Unit {0}} word_limit h.front (Ok tt) → EndsAt w taken said out result in
+      subst P (sym is) (λ h e. ends_compared taken said values h e out result (compared h.trees h.kept.0)) h e
+
+  pub kept_as_values : w ≡ works.Compare → AreValues values.kept.items
+  kept_as_values is =
+      let P : Work → Type 0 = λ w. HasRead w taken said values → AreValues values.kept.items in
+      subst P (sym is) (λ h. kept_values values.kept.items h.trees h.kept.0) h
 
 -- the line of a value that was read whole
 pub says_read : (t : ListType) (k : ℕ) (value : Value) (tree : Tree) (text : List ℕ) (well : Bool) → IsValueOf value tree → SaysLine t value.heap value.root text well
     → Says lists (checks t) k tree (record { text = text; well = well })
-says_read t k value tree text well is_value says =
-    subst (λ v. SaysLine t (objects_of tree 0) v text well) is_value.root (subst (λ h. SaysLine t h value.root text well) is_value.heap says)
+says_read t k value tree text well is_value it_says =
+    subst (λ v. SaysLine t (objects_of tree 0) v text well) is_value.root (subst (λ h. SaysLine t h value.root text well) is_value.heap it_says)
 
 -- ---- bytes in hand
 
-module _ (t : ListType) (taken : List ℕ) (said : List Said) (values : Values) (h : HasRead t taken said values) (rest : List ℕ) (reader : Reader) (fed : Fed) (f : Feeds word_limit h.front rest reader fed) where
+module _ (w : Work) (taken : List ℕ) (said : List Said) (values : Values) (h : HasRead w taken said values) (rest : List ℕ) (reader : Reader) (fed : Fed) (f : Feeds word_limit h.front rest reader fed) where
   abbrev after : Values
   after = record values { reader = reader }
 
   -- they complete the value
-  pub whole_read : fed.done ≡ true → IsValueRead t (taken ++ take fed.taken rest) said after
-  whole_read done = record {
+  pub whole_read : MayTake w (length h.trees) → fed.done ≡ true → IsValueRead w (taken ++ take fed.taken rest) said after
+  whole_read may done = record {
     trees = h.trees;
     whole = h.front ++ take fed.taken rest;
-    first = first_after lists (checks_of t) taken h.trees said h.front (take fed.taken rest) h.first;
+    first = first_after lists (task_of w) taken h.trees said h.front (take fed.taken rest) h.first;
     some = spelled_some word_limit (h.front ++ take fed.taken rest) (f.done done).1.0 (f.done done).1.1;
+    may = may;
     leads = f.leads;
     done = (f.done done).0;
     counted = h.counted;
     has_type = h.has_type;
+    kept = h.kept;
   }
 
   pub few_read : length taken + length rest < 2 ^ 63 → length (taken ++ take fed.taken rest) < 2 ^ 64
@@ -94,46 +189,67 @@ module _ (t : ListType) (taken : List ℕ) (said : List Said) (values : Values) 
     some (suc n) e = omega arith
 
   -- they are all taken, and do not complete it
-  pub front_read : fed.done ≡ false → HasRead t (taken ++ take fed.taken rest) (said ++ []) after
-  front_read not_done =
+  pub front_read : MayTake w (length h.trees) → fed.done ≡ false → HasRead w (taken ++ take fed.taken rest) (said ++ []) after
+  front_read may not_done =
       let more = f.more not_done in
       let all : take fed.taken rest ≡ rest = take_all fed.taken rest (omega (arith, more.0)) in
-      subst (λ s. HasRead t (taken ++ take fed.taken rest) s after) (sym (append-nil said)) (record {
+      subst (λ s. HasRead w (taken ++ take fed.taken rest) s after) (sym (append-nil said)) (record {
         trees = h.trees;
         front = h.front ++ take fed.taken rest;
-        first = first_after lists (checks_of t) taken h.trees said h.front (take fed.taken rest) h.first;
+        first = first_after lists (task_of w) taken h.trees said h.front (take fed.taken rest) h.first;
         is_front = subst (λ b. IsFront word_limit (h.front ++ b)) (sym all) more.1;
+        goes_on = λ stop at. may_go_on w word_limit h.trees (h.front ++ take fed.taken rest) stop may at;
         leads = f.leads;
         counted = h.counted;
         has_type = h.has_type;
+        kept = h.kept;
       })
 
 -- a value that was read whole, and what is said of it
-pub value_said : (t : ListType) (taken : List ℕ) (said : List Said) (values : Values) (v : IsValueRead t taken said values) (value : Value) → Finishes word_limit v.whole value
-    → (next : Said) → SaysLine t value.heap value.root next.text next.well
-    → (tree : Tree) × SayFirst lists (checks_of t) taken (v.trees ++ tree ∷ []) (said ++ next ∷ []) []
-value_said t taken said values v value f next says = (
-  f.tree,
-  first_more lists (checks_of t) taken v.trees said v.whole [] f.tree next
-      (subst (λ b. SayFirst lists (checks_of t) taken v.trees said b) (sym (append-nil v.whole)) v.first) f.spelled
-      (says_read t (length v.trees) value f.tree next.text next.well f.is_value says),
-)
+pub value_said : (w : Work) (taken : List ℕ) (said : List Said) (values : Values) (v : IsValueRead w taken said values) (tree : Tree) → SpelledUnder word_limit v.whole tree
+    → (next : Said) → Says lists (work_of w) (length v.trees) tree next → SayFirst lists (task_of w) taken (v.trees ++ tree ∷ []) (said ++ next ∷ []) []
+value_said w taken said values v tree spelled next it_says =
+    first_more lists (task_of w) taken v.trees said v.whole [] tree next (subst (λ b. SayFirst lists (task_of w) taken v.trees said b) (sym (append-nil v.whole)) v.first) spelled it_says
 
 -- the reader waits for the next one
-pub value_put : (t : ListType) (taken : List ℕ) (said : List Said) (values : Values) (v : IsValueRead t taken said values) (value : Value) → Finishes word_limit v.whole value
-    → (next : Said) → SaysLine t value.heap value.root next.text next.well → (reader : Reader) → Leads word_limit [] reader → (has_type : Bool) → has_type ≡ (values.has_type && next.well)
-    → HasRead t taken (said ++ next ∷ []) (record { reader = reader; has_type = has_type; count = values.count + 1 })
-value_put t taken said values v value f next says reader leads has_type well =
-    let more = value_said t taken said values v value f next says in
-    record {
-      trees = v.trees ++ more.0 ∷ [];
-      front = [];
-      first = more.1;
-      is_front = nothing_front word_limit leads.bytes;
-      leads = leads;
-      counted = ap (λ n. n + 1) v.counted ∙ sym (length-append v.trees (more.0 ∷ []));
-      has_type = well ∙ (ap (λ w. w && next.well) v.has_type ∙ sym (all_well-snoc said next));
-    }
+pub value_put : (w : Work) (taken : List ℕ) (said : List Said) (values : Values) (v : IsValueRead w taken said values) (tree : Tree) → SpelledUnder word_limit v.whole tree
+    → (next : Said) → Says lists (work_of w) (length v.trees) tree next → (reader : Reader) → Leads word_limit [] reader → (has_type : Bool) → has_type ≡ (values.has_type && next.well)
+    → (kept : Vec Value Global) → IsKept w (v.trees ++ tree ∷ []) kept.items
+    → HasRead w taken (said ++ next ∷ []) (record { reader = reader; has_type = has_type; count = values.count + 1; kept = kept })
+value_put w taken said values v tree spelled next it_says reader leads has_type well kept are = record {
+  trees = v.trees ++ tree ∷ [];
+  front = [];
+  first = value_said w taken said values v tree spelled next it_says;
+  is_front = nothing_front word_limit leads.bytes;
+  goes_on = λ stop at. none_goes_on w word_limit (v.trees ++ tree ∷ []) stop at;
+  leads = leads;
+  counted = ap (λ n. n + 1) v.counted ∙ sym (length-append v.trees (tree ∷ []));
+  has_type = well ∙ (ap (λ w. w && next.well) v.has_type ∙ sym (all_well-snoc said next));
+  kept = are;
+}
+
+zip_push : (kept : List Value) (trees : List Tree) (value : Value) (tree : Tree) → AllZip IsValueOf kept trees → IsValueOf value tree → AllZip IsValueOf (kept ++ value ∷ []) (trees ++ tree ∷ [])
+zip_push [] [] value tree are is = (is, tt)
+zip_push [] (t ∷ trees) value tree are is = absurd are
+zip_push (v ∷ kept) [] value tree are is = absurd are
+zip_push (v ∷ kept) (t ∷ trees) value tree are is = (are.0, zip_push kept trees value tree are.1 is)
+
+-- it is kept
+pub value_kept : (taken : List ℕ) (said : List Said) (values : Values) (v : IsValueRead works.Compare taken said values) (value : Value) (f : Finishes word_limit v.whole value)
+    → (kept : Vec Value Global) → kept.items ≡ values.kept.items ++ value ∷ [] → (reader : Reader) → Leads word_limit [] reader
+    → HasRead works.Compare taken (said ++ nothing_said ∷ []) (record { reader = reader; has_type = values.has_type; count = values.count + 1; kept = kept })
+value_kept taken said values v value f kept same reader leads =
+    value_put works.Compare taken said values v f.tree f.spelled nothing_said (v.may, refl) reader leads values.has_type (sym (and_true values.has_type)) kept
+    (let few = v.may in
+    let size = length-append v.trees (f.tree ∷ []) in
+    (subst (λ k. AllZip IsValueOf k (v.trees ++ f.tree ∷ [])) (sym same) (zip_push values.kept.items v.trees value f.tree v.kept.0 f.is_value), omega (arith, few, size)))
+
+-- where the work is known by an equation
+pub kept_next : (w : Work) (taken : List ℕ) (said : List Said) (values : Values) → IsValueRead w taken said values → w ≡ works.Compare → (new : Values) (o : ByteState)
+    → (IsValueRead works.Compare taken said values → HasRead works.Compare taken (said ++ nothing_said ∷ []) new) → (next : Said) × HasRead w taken (said ++ next ∷ []) new × Puts (change o o) next.text
+kept_next w taken said values v is new o kept =
+    let P : Work → Type 0 = λ w. IsValueRead w taken said values → HasRead w taken (said ++ nothing_said ∷ []) new in
+    (nothing_said, subst P (sym is) kept v, puts_nothing o)
 
 -- there are no more values than bytes
 spell_count : (limit : ℕ) (bytes rest : List ℕ) (trees : List Tree) → SpellAll limit bytes trees rest → length trees + length rest ≤ length bytes
@@ -143,47 +259,54 @@ spell_count limit bytes rest (tree ∷ trees) (first, more, same, spelled, all) 
     let fewer = spell_count limit more rest trees all in
     let size : length bytes ≡ length first + length more = ap length same ∙ length-append first more in omega (arith, some, fewer, size)
 
-pub room_for_one : (t : ListType) (taken : List ℕ) (said : List Said) (values : Values) → IsValueRead t taken said values → length taken < 2 ^ 64 → values.count + 1 < 2 ^ 64
-room_for_one t taken said values v short =
+pub room_for_one : (w : Work) (taken : List ℕ) (said : List Said) (values : Values) → IsValueRead w taken said values → length taken < 2 ^ 64 → values.count + 1 < 2 ^ 64
+room_for_one w taken said values v short =
     let fewer = spell_count word_limit taken v.whole v.trees v.first.spelled in
     let counted = v.counted in
     let some = v.some in omega (arith, fewer, short, counted, some)
 
 -- memory ran out for the line, by `?`
-pub next_memory : (t : ListType) (taken : List ℕ) (said : List Said) (out : Change ByteState) (new : Values) (result : Result (Unit {0}) Halt) → IsErrAnd result (λ h. h ≡ halts.Stop stops.Memory) → Puts out []
-    → PutsNext t taken said out new result
-next_memory t taken said out new (Ok unit) is none = absurd is
-next_memory t taken said out new (Err halt) is none = subst (λ h. PutsNext {U = Unit {0}} t taken said out new (Err h)) (sym is) (refl, none)
+pub next_memory : (w : Work) (taken : List ℕ) (said : List Said) (out : Change ByteState) (new : Values) (result : Result (Unit {0}) Halt) → IsErrAnd result (λ h. h ≡ halts.Stop stops.Memory) → Puts out []
+    → PutsNext w taken said out new result
+next_memory w taken said out new (Ok unit) is none = absurd is
+next_memory w taken said out new (Err halt) is none = subst (λ h. PutsNext {U = Unit {0}} w taken said out new (Err h)) (sym is) (refl, none)
 
 -- out failed, by `?`
-pub next_fault : (t : ListType) (taken : List ℕ) (said : List Said) (out : Change ByteState) (new : Values) (result : Result (Unit {0}) Halt) → IsErrAnd result (λ h. h ≡ halts.WriteFault)
-    → (next : Said) → AreSaid t taken (said ++ next ∷ []) → PutsPart out next.text → PutsNext t taken said out new result
-next_fault t taken said out new (Ok unit) is next are part = absurd is
-next_fault t taken said out new (Err halt) is next are part = subst (λ h. PutsNext {U = Unit {0}} t taken said out new (Err h)) (sym is) (next, are, part)
+pub next_fault : (w : Work) (taken : List ℕ) (said : List Said) (out : Change ByteState) (new : Values) (result : Result (Unit {0}) Halt) → IsErrAnd result (λ h. h ≡ halts.WriteFault)
+    → (next : Said) → AreSaid w taken (said ++ next ∷ []) → PutsPart out next.text → PutsNext w taken said out new result
+next_fault w taken said out new (Ok unit) is next are part = absurd is
+next_fault w taken said out new (Err halt) is next are part = subst (λ h. PutsNext {U = Unit {0}} w taken said out new (Err h)) (sym is) (next, are, part)
 
 -- what is refused in hand stops the run, or memory ran out
-pub stops_in : (k : ℕ) (rest : List ℕ) (refusal : ReadRefusal) (stop : Stop) → RefusedIn word_limit rest refusal → IsStopOf k refusal stop → StopsIn k rest stop
-stops_in k rest refusal stop r (inl (memory, is)) = inl is
-stops_in k rest refusal stop r (inr (some, is)) =
-    elim ((unless_memory refusal ((n : ℕ) × (n ≤ length rest) × IsRefused word_limit (take n rest) refusal)).1 r) [ inl e ↦ absurd (some e) | inr p ↦ inr (refusal, p, is) ]
+pub stops_in : (w : Work) (trees : List Tree) (rest : List ℕ) (refusal : ReadRefusal) (stop : Stop) → MayTake w (length trees) → RefusedIn word_limit rest refusal → IsStopOf (length trees) refusal stop
+    → StopsIn w trees rest stop
+stops_in w trees rest refusal stop may r (inl (memory, is)) = inl is
+stops_in w trees rest refusal stop may r (inr (some, is)) =
+    elim ((unless_memory refusal ((n : ℕ) × (n ≤ length rest) × IsRefused word_limit (take n rest) refusal)).1 r) [ inl e ↦ absurd (some e) | inr p ↦ inr (inl (refusal, p, may, is)) ]
+
+-- any byte after two values does
+pub full_stops : (w : Work) (trees : List Tree) (front rest : List ℕ) → IsFull w (length trees) → 0 < length rest → StopsIn w trees (front ++ rest) stops.NotTwoValues
+full_stops (works.Check t) trees front rest full some = absurd full
+full_stops works.Compare trees front rest full some =
+    inr (inr (full, λ none. let e : length (front ++ rest) ≡ 0 = ap length none in let size = length-append front rest in absurd (omega (arith, e, size, some)), refl))
 
 -- a halt at the value's line, in what is in hand
-module _ (t : ListType) (taken : List ℕ) (said : List Said) (values : Values) (h : HasRead t taken said values) (rest : List ℕ) (n : ℕ) (out : Change ByteState) (new : Values) where
-  next_halt : (halt : Halt) → PutsNext {U = Unit {0}} t (taken ++ take n rest) said out new (Err halt) → HaltsIn t taken rest said out halt
-  next_halt (halts.Stop stop) (memory, none) = (holds t taken said values h, inl memory, none)
+module _ (w : Work) (taken : List ℕ) (said : List Said) (values : Values) (h : HasRead w taken said values) (rest : List ℕ) (n : ℕ) (out : Change ByteState) (new : Values) where
+  next_halt : (halt : Halt) → PutsNext {U = Unit {0}} w (taken ++ take n rest) said out new (Err halt) → HaltsIn w taken rest said out halt
+  next_halt (halts.Stop stop) (memory, none) = (holds w taken said values h, inl memory, none)
   next_halt halts.WriteFault (next, (trees, left, first), part) =
       let all : (taken ++ take n rest) ++ drop n rest ≡ taken ++ rest = append_assoc taken (take n rest) (drop n rest) ∙ ap (λ r. taken ++ r) (take-append-drop n rest) in (
-        holds t taken said values h,
+        holds w taken said values h,
         next,
         (
           trees,
           left ++ drop n rest,
-          subst (λ b. SayFirst lists (checks_of t) b trees (said ++ next ∷ []) (left ++ drop n rest)) all
-              (first_after lists (checks_of t) (taken ++ take n rest) trees (said ++ next ∷ []) left (drop n rest) first),
+          subst (λ b. SayFirst lists (task_of w) b trees (said ++ next ∷ []) (left ++ drop n rest)) all
+              (first_after lists (task_of w) (taken ++ take n rest) trees (said ++ next ∷ []) left (drop n rest) first),
         ),
         part,
       )
 
-  pub some_halt : (halt : Halt) (result : Result ℕ Halt) → IsErrAnd result (λ e. e ≡ halt) → PutsNext {U = Unit {0}} t (taken ++ take n rest) said out new (Err halt) → ReadsSome t taken said rest out new result
+  pub some_halt : (halt : Halt) (result : Result ℕ Halt) → IsErrAnd result (λ e. e ≡ halt) → PutsNext {U = Unit {0}} w (taken ++ take n rest) said out new (Err halt) → ReadsSome w taken said rest out new result
   some_halt halt (Ok m) is put = absurd is
-  some_halt halt (Err e) is put = subst (λ e. ReadsSome t taken said rest out new (Err e)) (sym is) (next_halt halt put)
+  some_halt halt (Err e) is put = subst (λ e. ReadsSome w taken said rest out new (Err e)) (sym is) (next_halt halt put)

@@ -1,6 +1,7 @@
 -- Bytes are one stream of values alone.
-use Rattle.std.proofs.Common.{◌≡◌, ℕ, ◌+◌, ◌≤◌, ◌<◌, List, [], ◌∷◌, ◌++◌, length, take, drop, min, inl, inr, length-take, refl, sym, ap, ◌∙◌, subst, length-append, arith}
+use Rattle.std.proofs.Common.{◌≡◌, ℕ, zero, suc, ◌+◌, ◌-◌, ◌≤◌, ◌<◌, List, [], ◌∷◌, ◌++◌, length, take, drop, min, inl, inr, length-take, refl, sym, ap, ◌∙◌, subst, length-append, arith}
 use Rattle.std.proofs.Math.Seq.{take-append_seam, drop-append_seam}
+use Rattle.std.proofs.lemmas.List.{take-append-drop, length-drop, length-take-le}
 use Rattle.std.proofs.lemmas.List.Elements.{All-drop}
 use Rattle.om_model.specs.Bytes.{AreBytes}
 use Rattle.om_format.specs.Tree.{Tree}
@@ -98,3 +99,52 @@ module _ (law : HasOneJudgement) (limit : ℕ) where
       → (trees ≡ others) × (end ≡ clean)
   stream_once bytes trees others end are_bytes all other =
       let once = streams_once bytes trees others clean end are_bytes ([], all, refl) other in (once.0, sym once.1)
+
+  -- the same number of values is the same values, before the same rest
+  pub spell_once : (bytes : List ℕ) (trees others : List Tree) (rest other : List ℕ) → AreBytes bytes → length trees ≡ length others → SpellAll limit bytes trees rest → SpellAll limit bytes others other
+      → (trees ≡ others) × (rest ≡ other)
+  spell_once bytes [] [] rest other are_bytes e h g = (refl, sym h ∙ g)
+  spell_once bytes [] (u ∷ others) rest other are_bytes e h g = absurd (cc e)
+  spell_once bytes (t ∷ trees) [] rest other are_bytes e h g = absurd (cc e)
+  spell_once bytes (t ∷ trees) (u ∷ others) rest other are_bytes e (first, more, same, spelled, all) (first', more', same', spelled', all') =
+      let whole : AreBytes (first ++ more) = subst AreBytes same are_bytes in
+      let one = one_value first more first' more' t u whole (sym same ∙ same') spelled spelled' in
+      let after : more ≡ more' =
+      sym (drop-append_seam first more) ∙ (ap (λ n. drop n (first ++ more)) one.1 ∙ (ap (λ b. drop (length first') b) (sym same ∙ same') ∙ drop-append_seam first' more')) in
+      let next = spell_once more trees others rest other (bytes_after first more whole) (omega (arith, e)) all (subst (λ m. SpellAll limit m others other) (sym after) all') in
+      (let head : t ≡ u = one.0 in let tails : trees ≡ others = next.0 in cc, next.1)
+
+-- ---- a stream goes on
+
+pub spell_append : (limit : ℕ) (bytes rest tail : List ℕ) (trees more : List Tree) → SpellAll limit bytes trees rest → SpellAll limit rest more tail → SpellAll limit bytes (trees ++ more) tail
+spell_append limit bytes rest tail [] more same next = subst (λ bytes. SpellAll limit bytes more tail) (sym same) next
+spell_append limit bytes rest tail (tree ∷ trees) more (first, after, same, spelled, all) next = (first, after, same, spelled, spell_append limit after rest tail trees more all next)
+
+pub spell_bytes : (limit : ℕ) (bytes rest : List ℕ) (trees : List Tree) → SpellAll limit bytes trees rest → AreBytes bytes → AreBytes rest
+spell_bytes limit bytes rest [] same are_bytes = subst AreBytes same are_bytes
+spell_bytes limit bytes rest (tree ∷ trees) (first, more, same, spelled, all) are_bytes =
+    spell_bytes limit more rest trees all (bytes_after first more (subst AreBytes same are_bytes))
+
+module _ (law : HasOneJudgement) (limit : ℕ) where
+  -- bytes are a stream of values
+  stream_in : (fuel : ℕ) (bytes : List ℕ) → length bytes ≤ fuel → AreBytes bytes → (trees : List Tree) × (end : End) × Stream bytes limit trees end
+  stream_in fuel [] fits are_bytes = ([], clean, ([], refl, refl))
+  stream_in zero (b ∷ bytes) fits are_bytes = absurd (omega arith)
+  stream_in (suc fuel) (b ∷ bytes) fits are_bytes =
+      let one = law limit (b ∷ bytes) are_bytes in at (λ more. stream_in fuel more) one.0 one.1.holds where
+        at : ((more : List ℕ) → length more ≤ fuel → AreBytes more → (trees : List Tree) × (end : End) × Stream more limit trees end)
+            → (judgement : Judgement) → Judges limit (b ∷ bytes) judgement → (trees : List Tree) × (end : End) × Stream (b ∷ bytes) limit trees end
+        at next_stream j.front f = ([], cut (length (b ∷ bytes)), (b ∷ bytes, refl, (omega arith, refl, f)))
+        at next_stream (j.refused n refusal) r = ([], refused refusal, (b ∷ bytes, refl, (n, r.0, r.1)))
+        at next_stream (j.value n tree) v =
+            let some : 0 < length (take n (b ∷ bytes)) = spelled_some limit (take n (b ∷ bytes)) tree v.1 in
+            let taken : length (take n (b ∷ bytes)) ≡ n = length-take-le n (b ∷ bytes) v.0 in
+            let left : length (drop n (b ∷ bytes)) ≡ length (b ∷ bytes) - n = length-drop n (b ∷ bytes) in
+            let next = next_stream (drop n (b ∷ bytes)) (omega arith) (All-drop (λ b. b < 256) n (b ∷ bytes) are_bytes) in (
+              tree ∷ next.0,
+              next.1,
+              (next.2.0, (take n (b ∷ bytes), drop n (b ∷ bytes), sym (take-append-drop n (b ∷ bytes)), v.1, next.2.1), next.2.2),
+            )
+
+  pub stream_of : (bytes : List ℕ) → AreBytes bytes → (trees : List Tree) × (end : End) × Stream bytes limit trees end
+  stream_of bytes are_bytes = stream_in (length bytes) bytes (omega arith) are_bytes

@@ -7,7 +7,7 @@ use Rattle.om_types.specs.declared.list_type.Base.TheVariants as bases
 use Rattle.om_types.specs.declared.list_type.ListType.{ListType}
 use Rattle.om_types.specs.ListShapes.{list_type_text, IsListTypeText}
 use Rattle.om_format.specs.Tree.{Tree, root, objects_of}
-use Rattle.om_outcome.specs.Outcome.{Language, Request, check, Asks, IsArgument}
+use Rattle.om_outcome.specs.Outcome.{Language, Request, check, compare, Asks, IsArgument}
 use Rattle.om_typing.specs.ListLaws.{ListLines}
 use Rattle.om_session.specs.Lists.{lists}
 use Rattle.om_session.specs.Run.{IsUsage}
@@ -72,15 +72,22 @@ pub plain_or_not : (words : List (List ℕ)) → ((request : Request) × Asks wo
 plain_or_not [] = inr (λ request asks. not_so request asks) where
   not_so : (request : Request) → Asks [] request → ⊥
   not_so (check f t) asks = let e = asks.0 in cc
-plain_or_not (a ∷ []) = inr (λ request asks. not_so request asks) where
-  not_so : (request : Request) → Asks (a ∷ []) request → ⊥
-  not_so (check f t) asks = let e = asks.0 in cc
+  not_so compare asks = cc asks
+plain_or_not (a ∷ []) = at (text_same a (codes "same")) where
+  at : (a ≡ codes "same") ⊎ (a ≢ codes "same") → ((request : Request) × Asks (a ∷ []) request) ⊎ IsUsage (a ∷ [])
+  at (inl e) = inl (compare, ap (λ word. word ∷ []) e)
+  at (inr ne) = inr (λ request asks. not_so request asks) where
+    not_so : (request : Request) → Asks (a ∷ []) request → ⊥
+    not_so (check f t) asks = let e = asks.0 in cc
+    not_so compare asks = ne (ap (λ words. get_or words 0 a) asks)
 plain_or_not (a ∷ b ∷ []) = inr (λ request asks. not_so request asks) where
   not_so : (request : Request) → Asks (a ∷ b ∷ []) request → ⊥
   not_so (check f t) asks = let e = asks.0 in cc
+  not_so compare asks = cc asks
 plain_or_not (a ∷ b ∷ c ∷ d ∷ rest) = inr (λ request asks. not_so request asks) where
   not_so : (request : Request) → Asks (a ∷ b ∷ c ∷ d ∷ rest) request → ⊥
   not_so (check f t) asks = let e = asks.0 in cc
+  not_so compare asks = cc asks
 plain_or_not (a ∷ b ∷ c ∷ []) = at (text_same a (codes "check")) (argument_or_not b) (argument_or_not c) where
   at : (a ≡ codes "check") ⊎ (a ≢ codes "check") → IsArgument b ⊎ ¬ IsArgument b → IsArgument c ⊎ ¬ IsArgument c
       → ((request : Request) × Asks (a ∷ b ∷ c ∷ []) request) ⊎ IsUsage (a ∷ b ∷ c ∷ [])
@@ -88,12 +95,15 @@ plain_or_not (a ∷ b ∷ c ∷ []) = at (text_same a (codes "check")) (argument
   at (inr ne) p q = inr (λ request asks. not_so request asks) where
     not_so : (request : Request) → Asks (a ∷ b ∷ c ∷ []) request → ⊥
     not_so (check f t) asks = ne (ap (λ words. get_or words 0 a) asks.0)
+    not_so compare asks = cc asks
   at e (inr ne) q = inr (λ request asks. not_so request asks) where
     not_so : (request : Request) → Asks (a ∷ b ∷ c ∷ []) request → ⊥
     not_so (check f t) asks = let all = asks.0 in let same : f ≡ b = cc in ne (subst IsArgument same asks.1)
+    not_so compare asks = cc asks
   at e p (inr ne) = inr (λ request asks. not_so request asks) where
     not_so : (request : Request) → Asks (a ∷ b ∷ c ∷ []) request → ⊥
     not_so (check f t) asks = let all = asks.0 in let same : t ≡ c = cc in ne (subst IsArgument same asks.2)
+    not_so compare asks = cc asks
 
 -- ---- lists
 
@@ -116,7 +126,7 @@ type_or_none text = at (types_of bases.Int text) (types_of bases.Text text) wher
     by_base t is bases.Int e = not t.lists is.few (is.spelled ∙ ap (λ b. list_type_text (list_type b t.lists)) e)
     by_base t is bases.Text e = none t.lists is.few (is.spelled ∙ ap (λ b. list_type_text (list_type b t.lists)) e)
 
-empty_or_not : (text : List ℕ) → (text ≡ []) ⊎ (text ≢ [])
+pub empty_or_not : (text : List ℕ) → (text ≡ []) ⊎ (text ≢ [])
 empty_or_not [] = inl refl
 empty_or_not (b ∷ text) = inr (λ e. cc e)
 

@@ -1,5 +1,5 @@
 -- One value more, and bytes that come after.
-use Rattle.std.proofs.Common.{◌≡◌, ℕ, suc, ◌+◌, ◌<◌, Bool, true, false, List, [], ◌∷◌, ◌++◌, length, take, inl, inr, refl, sym, ap, ◌∙◌, subst, append_assoc, append-nil, length-append, take_all, arith}
+use Rattle.std.proofs.Common.{◌≡◌, ℕ, suc, ◌+◌, ◌<◌, ◌≤◌, Bool, true, false, List, [], ◌∷◌, ◌++◌, length, take, inl, inr, refl, sym, ap, ◌∙◌, subst, append_assoc, append-nil, length-append, take_all, arith}
 use Rattle.std.proofs.lemmas.List.{length-take-le}
 use Rattle.std.specs.Prelude.{◌&&◌}
 use Rattle.om_model.specs.Bytes.{AreBytes}
@@ -12,7 +12,7 @@ use Rattle.om_format.specs.Tree.{Tree}
 use Rattle.om_format.specs.Spelled.{SpelledUnder}
 use Rattle.om_format.specs.Stream.{SpellAll}
 use Rattle.om_session.proofs.LengthLemmas.{spelled_some}
-use Rattle.om_outcome.specs.Outcome.{Language, Task, Said, Says, AllSay, SayFirst, texts_of, all_well}
+use Rattle.om_outcome.specs.Outcome.{Language, compares, comparison, Task, Said, Says, AllSay, SayFirst, texts_of, all_well}
 
 -- ---- the bytes
 
@@ -25,7 +25,7 @@ not_whole limit bytes tree are_bytes front spelled =
     let both : j.front ≡ value (length bytes) tree = one ∙ sym other in cc both
 
 -- what is refused has a byte
-refused_some : (limit : ℕ) (bytes : List ℕ) (refusal : ReadRefusal) → IsRefused limit bytes refusal → 0 < length bytes
+pub refused_some : (limit : ℕ) (bytes : List ℕ) (refusal : ReadRefusal) → IsRefused limit bytes refusal → 0 < length bytes
 refused_some limit bytes refusal (inl h) = let size : length bytes ≡ length h.front + 1 = ap length h.bytes_are ∙ length-append h.front (h.last ∷ []) in omega (arith, size)
 refused_some limit bytes refusal (inr h) = let size : length bytes ≡ length h.front + 1 = ap length h.bytes_are ∙ length-append h.front (h.last ∷ []) in omega (arith, size)
 
@@ -73,6 +73,30 @@ pub all_well-snoc : (said : List Said) (next : Said) → all_well (said ++ next 
 all_well-snoc [] next = and_true next.well
 all_well-snoc (first ∷ said) next =
     ap (λ well. first.well && well) (all_well-snoc said next) ∙ sym (and_assoc first.well (all_well said) next.well)
+
+-- ---- of values that are compared
+
+-- of no more than two values something is said
+pub few_said : {D T : Type 0} (language : Language D T) (k : ℕ) (trees : List Tree) (said : List Said) → k ≤ 2 → AllSay language compares k trees said → k + length trees ≤ 2
+few_said language k [] said fits h = omega (arith, fits)
+few_said language k (t ∷ trees) [] fits h = absurd h
+few_said language k (t ∷ trees) (next ∷ said) fits h =
+    let less = h.0.0 in
+    let more = few_said language (suc k) trees said (omega (arith, less)) h.1 in omega (arith, more)
+
+-- nothing is wrong before the line
+pub silent : {D T : Type 0} (language : Language D T) (k : ℕ) (trees : List Tree) (said : List Said) → AllSay language compares k trees said → all_well said ≡ true
+silent language k [] [] h = refl
+silent language k [] (next ∷ said) h = absurd h
+silent language k (t ∷ trees) [] h = absurd h
+silent language k (t ∷ trees) (next ∷ said) h = ap (λ s. s.well && all_well said) h.0.1 ∙ silent language (suc k) trees said h.1
+
+-- nothing is wrong with the line exactly where the values are the same
+pub comparison-well : (alike : Bool) → (comparison alike).well ≡ alike
+comparison-well true = refl
+comparison-well false = refl
+
+-- ---- one value more
 
 module _ {D T : Type 0} (language : Language D T) (task : Task T) where
   say_snoc : (k n : ℕ) (trees : List Tree) (said : List Said) (tree : Tree) (next : Said) → n ≡ k + length trees

@@ -1,7 +1,7 @@
 pub mod Verdict
 pub mod Search
 pub mod Call
-pub mod Check
+pub mod Ends
 pub mod Fetch
 pub mod Gathered
 pub mod Given

@@ -5,9 +5,9 @@ use Rattle.om_model.specs.declared.status.Status.{Status}
 use Rattle.om_model.specs.declared.status.Status.TheVariants.{Well, Usage, ReadFault, WriteFault, OpenFault, Memory, TooLong, Types, Value}
 use Rattle.std.specs.List.{AllByRecursion}
 use Rattle.om_format.specs.Tree.{Tree}
-use Rattle.om_format.specs.Stream.{SpellAll, End, clean, cut, Stream}
+use Rattle.om_format.specs.Stream.{SpellAll, End, clean, cut, IsTail}
 use Rattle.om_format.specs.Front.{IsFront}
-use Rattle.om_outcome.specs.Outcome.{InputEnd, Taken, unasked, nothing, Found, opened, fault_of, status_of, Given, Stop, Request, Language, Ending, ending_of, Said, says, stops, Reply, Replies, replies, all_said, texts_of, Work, checks, Task, Asks, typed_by, limit_of, Prepares, StopsAt, SayFirst, found_of, RunReplies, SaysOfFirst, Outcome, out_of_memory, stop_text, err_line}
+use Rattle.om_outcome.specs.Outcome.{InputEnd, Taken, unasked, nothing, Found, opened, fault_of, status_of, Given, Stop, Request, Language, Ending, ending_of, Said, says, stops, Reply, Replies, replies, all_said, texts_of, Work, checks, compares, Task, compare, Asks, typed_by, limit_of, Prepares, StopsAt, AreSame, SayFirst, found_of, RunReplies, SaysOfFirst, Outcome, out_of_memory, stop_text, err_line}
 use Rattle.om_edge.specs.Faults.{RoseOrLast}
 use Rattle.om_edge.specs.Files.{File, contents_of}
 use Rattle.om_edge.specs.Sink.{Puts, PutsPart}
@@ -17,12 +17,13 @@ use Rattle.om_session.specs.Given.{Gathers, Fetched}
 
 -- ---- the account of a call
 
--- FILE is fetched where the words are plain and ask for one, and nothing else is
+-- FILE is fetched where the words ask for one, and nothing else is
 pub record FetchesFor (words : List (List ℕ)) (files : Change FilesState) (file : List ℕ → Found) : Type 0 where
   pub asked : (request : Request) → Asks words request → IfSome (typed_by request) (λ typed. Fetched files typed.0 (file typed.0))
-  pub unasked : ((request : Request) → Asks words request → ⊥) → files.after ≡ files.before
+  pub unasked : ((request : Request) → Asks words request → typed_by request ≡ None) → files.after ≡ files.before
 
--- Nothing in the bytes stops the run: they are values of which this is said, and a front of one more.
+-- Nothing in the bytes stops the run: they are values of which this is said, and a front of one more. Of a value after a
+-- stop nothing can be said, so there is no stop between the values either.
 pub record HoldNoStop {D T : Type 0} (language : Language D T) (task : Task T) (bytes : List ℕ) (said : List Said) : Type 0 where
   pub trees : List Tree
   pub front : List ℕ
@@ -127,16 +128,31 @@ IsUsage words = (request : Request) → Asks words request → ⊥
 abbrev pub IsUnsaid : Status → Type 0
 IsUnsaid status = (status ≡ Memory) ⊎ (status ≡ WriteFault)
 
--- 2: only where the words are not plain; and where they are not, unless it could not be said
-abbrev pub OnlyUsage : List (List ℕ) → Call → Type 0
-OnlyUsage words call = call.status ≡ Usage → IsUsage words
+-- other than two values: a byte comes after two of them, or the bytes end after fewer
+pub record AreNotTwo (limit : ℕ) (bytes : List ℕ) : Type 0 where
+  pub trees : List Tree
+  pub rest : List ℕ
+  pub spelled : SpellAll limit bytes trees rest
+  pub why : ((length trees ≡ 2) × (rest ≢ [])) ⊎ ((length trees < 2) × (rest ≡ []))
 
+-- 2: only where the words are not plain, or `same` finds other than two values in the whole input
+abbrev pub OnlyUsage : List (List ℕ) → Call → Type 0
+OnlyUsage words call = call.status ≡ Usage
+    → IsUsage words ⊎ (Asks words compare × (input : List ℕ) × IfSome call.input.before.bytes (λ bytes. bytes ≡ input) × AreNotTwo (limit_of compare) input)
+
+-- and where the words are not plain, unless it could not be said
 abbrev pub IfUsage : List (List ℕ) → Call → Type 0
 IfUsage words call = IsUsage words → (call.status ≡ Usage) ⊎ IsUnsaid call.status
 
 -- 6 to 9: what comes of a call that failed, or of out of memory, comes in the place of all else
 abbrev pub IsOutside : Status → Type 0
 IsOutside status = (status ≡ ReadFault) ⊎ ((status ≡ OpenFault) ⊎ IsUnsaid status)
+
+-- 2: and where `same` is told other than two values, in the first 2^48 bytes, or in all where they end after fewer
+abbrev pub IfNotTwo : List (List ℕ) → Call → Type 0
+IfNotTwo words call =
+    (bytes : List ℕ) → Asks words compare → call.input.before.bytes ≡ Some bytes → (two : AreNotTwo (limit_of compare) (take (2 ^ 48) bytes)) → (two.rest ≡ [] → length bytes < 2 ^ 48)
+    → (call.status ≡ Usage) ⊎ IsOutside call.status
 
 -- the files are told, and have these bytes of the name
 abbrev pub TellsFile : Change FilesState → List ℕ → List ℕ → Type 0
@@ -163,25 +179,31 @@ IfTypes language words call =
     (name type text : List ℕ) → AsksFor words name type → TellsFile call.files name text → length text < 2 ^ 48 → IsRefusedType language text type
     → (call.status ≡ Types) ⊎ IsOutside call.status
 
--- bytes come after the values that are not one more: they are refused, or end within it
-pub record HoldBadValue (limit : ℕ) (bytes : List ℕ) : Type 0 where
+-- after values of which this is said bytes come that are not one more: they are refused, or end within it; and nothing stops
+-- the run before
+pub record HoldBadValue {D T : Type 0} (language : Language D T) (task : Task T) (bytes : List ℕ) : Type 0 where
   pub trees : List Tree
+  pub said : List Said
+  pub rest : List ℕ
+  pub first : SayFirst language task bytes trees said rest
   pub end : End
-  pub stream : Stream bytes limit trees end
+  pub tail : IsTail task.limit rest end
   pub some : end ≢ clean
+  pub goes_on : (stop : Stop) → StopsAt language task.work task.limit trees rest stop → ⊥
 
--- 4: only where the whole input holds a bad value
-abbrev pub OnlyValue : List (List ℕ) → Call → Type 0
-OnlyValue words call = call.status ≡ Value
-    → (request : Request) × Asks words request × (input : List ℕ) × IfSome call.input.before.bytes (λ bytes. bytes ≡ input) × HoldBadValue (limit_of request) input
+-- 4: only where the words, FILE and TYPE are accepted, and the whole input holds a bad value
+abbrev pub OnlyValue : {D T : Type 0} → Language D T → List (List ℕ) → Call → Type 0
+OnlyValue {D} {T} language words call = call.status ≡ Value
+    → (file : List ℕ → Found) × FetchesFor words call.files file × (task : Task T) × Prepares language words file (Ok task)
+    × (input : List ℕ) × IfSome call.input.before.bytes (λ bytes. bytes ≡ input) × HoldBadValue language task input
 
--- and where the words, FILE and TYPE are accepted, FILE is short enough, and the first 2^48 bytes of the input, which is told,
--- hold one, in all where it ends within it
+-- and where they are, FILE is short enough, and the first 2^48 bytes of the input, which is told, hold one, in all where it
+-- ends within it
 abbrev pub IfValue : {D T : Type 0} → Language D T → List (List ℕ) → Call → Type 0
 IfValue {D} {T} language words call =
     (files : List File) (task : Task T) (bytes : List ℕ) → call.files.before.map ≡ Some files → AreShort files
     → Prepares language words (λ name. found_of (contents_of files name)) (Ok task) → call.input.before.bytes ≡ Some bytes
-    → (bad : HoldBadValue task.limit (take (2 ^ 48) bytes)) → ((n : ℕ) → bad.end ≡ cut n → length bytes < 2 ^ 48)
+    → (bad : HoldBadValue language task (take (2 ^ 48) bytes)) → ((n : ℕ) → bad.end ≡ cut n → length bytes < 2 ^ 48)
     → (call.status ≡ Value) ⊎ IsOutside call.status
 
 -- 6: only where the count of the input or the files' read faults rose, or is the last value
@@ -312,6 +334,8 @@ IfWriteFault language words call =
 -- nothing is wrong with the values
 abbrev pub AreAllWell : {D T : Type 0} → Language D T → Work T → List Tree → Type 0
 AreAllWell language (checks type) trees = AllByRecursion (λ tree. (line : List ℕ) × language.LineOf type tree line true) trees
+AreAllWell language compares (first ∷ second ∷ []) = AreSame first second
+AreAllWell language compares trees = ⊥
 
 -- the words, the declarations and the type are accepted, and the input is values with which nothing is wrong
 pub record IsAllWell {D T : Type 0} (language : Language D T) (words : List (List ℕ)) (input : List ℕ) (files : List File) : Type 0 where
@@ -347,14 +371,15 @@ pub record Promises {D T : Type 0} (language : Language D T) (words : List (List
   pub complete : IsComplete language words call
   -- unless memory runs out, an honest call has the status of each outcome: each comes exactly where an outcome has it
   pub decided : IsDecided language words call
-  -- 2: the words are not plain
+  -- 2: the words are not plain, or `same` finds other than two values
   pub usage_only : OnlyUsage words call
   pub usage_if : IfUsage words call
+  pub not_two_if : IfNotTwo words call
   -- 3: what FILE holds is refused, or TYPE
   pub types_only : OnlyTypes language words call
   pub types_if : IfTypes language words call
   -- 4: the input holds a value that is refused or cut
-  pub value_only : OnlyValue words call
+  pub value_only : OnlyValue language words call
   pub value_if : IfValue language words call
   -- 6: a call on the input failed, or a read of FILE
   pub read_fault_only : OnlyReadFault call

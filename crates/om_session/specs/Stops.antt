@@ -11,6 +11,7 @@ use Rattle.om_session.specs.declared.stop.Stop.TheVariants as stops
 
 abbrev pub stop_of : Stop → outcome.Stop
 stop_of stops.Usage = outcome.usage
+stop_of stops.NotTwoValues = outcome.not_two_values
 stop_of (stops.CannotOpen name) = outcome.cannot_open name.now
 stop_of stops.Declarations = outcome.declarations (codes "NotYet")
 stop_of stops.RequestedType = outcome.requested_type (codes "NotYet")

@@ -16,6 +16,7 @@ use std::alloc::{AllocError, Global};
 #[derive(Clone, Copy)]
 pub enum Stop<'a> {
     Usage,
+    NotTwoValues,
     CannotOpen(&'a str),
     Declarations,
     RequestedType,
@@ -30,7 +31,7 @@ fn status(stop: Stop) -> Status
     ensures { result ≡ status_of (stop_of stop.entry) }
 {
     match stop {
-        Stop::Usage => Status::Usage,
+        Stop::Usage | Stop::NotTwoValues => Status::Usage,
         Stop::CannotOpen(_) => Status::OpenFault,
         Stop::Declarations | Stop::RequestedType => Status::Types,
         Stop::Refused(..) | Stop::Cut(..) => Status::Value,
@@ -52,6 +53,7 @@ fn text(alloc: Global, stop: Stop) -> Result<String, AllocError>
 {
     match stop {
         Stop::Usage => String::from_str(alloc, "usage"),
+        Stop::NotTwoValues => String::from_str(alloc, "not two values"),
         Stop::CannotOpen(name) => format!(in alloc; "cannot open {name}"),
         Stop::Declarations => String::from_str(alloc, "types: NotYet"),
         Stop::RequestedType => String::from_str(alloc, "type: NotYet"),

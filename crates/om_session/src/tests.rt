@@ -3,6 +3,7 @@
 
 ghost use Rattle.std.specs.Prelude.{◌≤◌};
 
+mod comparisons;
 mod failing_calls;
 mod refusals;
 mod requests;

@@ -1,37 +1,36 @@
 //! The top call.
 
 ghost use Rattle.std.specs.Prelude.{List, ℕ};
-ghost use Rattle.om_outcome.specs.Outcome.{Asks, check as check_of};
+ghost use Rattle.om_outcome.specs.Outcome.{Asks, check as check_of, compare};
 ghost use Rattle.om_edge.specs.State.{change};
 ghost use Rattle.om_session.specs.Call.{call};
-ghost use Rattle.om_session.specs.Check.{ChecksValues};
+ghost use Rattle.om_session.specs.Ends.{TakesValues};
 ghost use Rattle.om_session.specs.Lists.{lists};
 ghost use Rattle.om_session.specs.Run.{Account, Promises};
 ghost use Rattle.om_session.specs.Words.{texts};
 
 use crate::stop::{Stop, report_stop};
 use crate::types::find_type;
-use crate::values::{Halt, put_values};
+use crate::values::{Halt, Work, put_values};
 use crate::words::{Command, read_words};
 use om_edge::{Opener, Sink, Source};
 use om_format::laws::one_judgement;
 use om_model::status::Status;
 use om_types::laws::faults_exclude_types;
-use om_types::list_type::ListType;
 use om_typing::each_has_a_line;
 use std::alloc::Global;
 
-// Checks the values of the input at a type.
-fn check_values<S: Source, K: Sink, E: Sink>(
+// Does the work with the values of the input.
+fn take_values<S: Source, K: Sink, E: Sink>(
     alloc: Global,
-    ty: ListType,
+    work: Work,
     input: &mut S,
     out: &mut K,
     err: &mut E,
 ) -> Status
-    ensures { ChecksValues ty (change (S.state input.old) (S.state input.new)) (change (K.state out.old) (K.state out.new)) (change (E.state err.old) (E.state err.new)) result }
+    ensures { TakesValues work (change (S.state input.old) (S.state input.new)) (change (K.state out.old) (K.state out.new)) (change (E.state err.old) (E.state err.new)) result }
 {
-    match put_values(alloc, ty, input, out) {
+    match put_values(alloc, work, input, out) {
         Ok(true) => Status::Well,
         Ok(false) => Status::No,
         Err(Halt::Stop(stop)) => report_stop(alloc, err, stop),
@@ -54,7 +53,7 @@ fn check<S: Source, O: Opener, K: Sink, E: Sink>(
         (change (K.state out.old) (K.state out.new)) (change (E.state err.old) (E.state err.new)) result) }
 {
     match find_type(alloc, files, file, type_text) {
-        Ok(ty) => check_values(alloc, ty, input, out, err),
+        Ok(ty) => take_values(alloc, Work::Check(ty), input, out, err),
         Err(stop) => report_stop(alloc, err, stop),
     }
 }
@@ -76,6 +75,7 @@ fn run_command<S: Source, O: Opener, K: Sink, E: Sink>(
         Some(Command::Check { file, type_text }) => {
             check(alloc, file, type_text, input, files, out, err)
         }
+        Some(Command::Same) => take_values(alloc, Work::Compare, input, out, err),
         None => report_stop(alloc, err, Stop::Usage),
     }
 }

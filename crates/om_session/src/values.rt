@@ -1,19 +1,21 @@
 //! The values of the input, one by one, as their bytes come.
 
-ghost use Rattle.std.specs.Prelude.{◌≡◌, ◌<◌, ◌≤◌, ◌+◌, ◌^◌, ℕ, List, [], length};
+ghost use Rattle.std.specs.Prelude.{◌≡◌, ◌<◌, ◌≤◌, ◌+◌, ◌^◌, ◌++◌, ◌∷◌, ℕ, List, [], length, IfOk, OnOk, MatchBool};
 ghost use Rattle.om_model.specs.Bytes.{AreBytes};
-ghost use Rattle.om_outcome.specs.Outcome.{Said};
+ghost use Rattle.om_outcome.specs.Outcome.{Said, comparison};
 ghost use Rattle.om_edge.specs.State.{change};
-ghost use Rattle.om_session.specs.Values.{IsStopOf, HasRead, IsValueRead, PutsNext, ReadsSome, ReadsPiece, EndsAt, PutsValues};
+ghost use Rattle.om_session.specs.declared.values.Work.TheVariants as works;
+ghost use Rattle.om_session.specs.Values.{IsStopOf, AreValues, IsFull, MayTake, HasRead, IsValueRead, KeepsNext, PutsNext, ReadsSome, ReadsPiece, Compares, EndsAt, PutsValues};
 
 use crate::gather::LENGTH_LIMIT;
 use crate::stop::Stop;
 use crate::verdict::verdict_line;
 use om_edge::{Failed, Sink, Source, put_all};
+use om_iso::same;
 use om_model::Memory;
 use om_model::bytes::skip;
 use om_model::refusal::ReadRefusal;
-use om_read::{Reader, Truncated};
+use om_read::{Reader, Truncated, Value};
 use om_types::list_type::ListType;
 use std::alloc::Global;
 use std::mem;
@@ -23,6 +25,13 @@ const WORD_LIMIT: u64 = 1 << 27;
 
 /// So many bytes a call on the input is asked for.
 const PIECE: usize = 4096;
+
+/// What is done with the values: each is checked at a type, or the two are compared.
+#[derive(Clone, Copy)]
+pub enum Work {
+    Check(ListType),
+    Compare,
+}
 
 /// Why the values are read no further: the run stops, or out failed.
 #[derive(Clone, Copy)]
@@ -62,32 +71,74 @@ fn refused(number: u64, refusal: ReadRefusal) -> Stop<'static>
     }
 }
 
-/// The values so far, each of which has its line on out: how many there are, whether nothing is wrong with any, and the
-/// reader of the next one.
+/// Puts a value at the end.
+fn keep(kept: &mut Vec<Value>, value: Value) -> Result<(), Memory>
+    ensures { OnOk result (kept.new.items ≡ kept.old.items ++ value ∷ []) }
+{
+    Ok(kept.push(value)?)
+}
+
+/// The line on two values.
+fn comparison_line(alike: bool) -> &'static [u8]
+    ensures { result.now ≡ (comparison alike).text }
+{
+    if alike { b"same\n" } else { b"differ\n" }
+}
+
+/// Puts the line on two values, and answers whether they are the same; other than two stop the run.
+fn compare<K: Sink>(alloc: Global, kept: &[Value], out: &mut K) -> Result<bool, Halt>
+    requires { AreValues kept.now }
+    ensures { Compares kept.now (change (K.state out.old) (K.state out.new)) result }
+{
+    if kept.len() != 2 {
+        return Err(Halt::Stop(Stop::NotTwoValues));
+    }
+    let first = &kept[0];
+    let second = &kept[1];
+    let alike = same(alloc, &first.heap, first.root, &second.heap, second.root)?;
+    put_all(out, comparison_line(alike))?;
+    Ok(alike)
+}
+
+/// The values so far: how many there are, whether nothing is wrong with any, those that are kept, and the reader of the
+/// next one.
 #[derive(Drop)]
 struct Values {
     reader: Reader,
     has_type: bool,
     count: u64,
+    kept: Vec<Value>,
 }
 
 impl Values {
     /// No byte was taken.
     fn new(alloc: Global) -> Values
-        ensures { (ty : ListType) → HasRead ty [] [] result }
+        ensures { (work : Work) → HasRead work [] [] result }
     {
         Values {
             reader: Reader::new(alloc, WORD_LIMIT),
             has_type: true,
             count: 0,
+            kept: Vec::new(alloc),
+        }
+    }
+
+    /// Whether any more byte stops the run.
+    fn is_full(&self, work: Work) -> bool
+        requires { (taken : List ℕ) × (said : List Said) × HasRead work taken said self.now }
+        ensures { MatchBool result (IsFull work self.now.count) (MayTake work self.now.count) }
+    {
+        match work {
+            Work::Check(_) => false,
+            Work::Compare => self.count == 2,
         }
     }
 
     /// Puts the line of the value that the reader has whole. A new reader waits for the next one, in the memory of this one.
     fn put_line<K: Sink>(&mut self, alloc: Global, ty: ListType, out: &mut K) -> Result<(), Halt>
-        requires { (taken : List ℕ) × (said : List Said) × IsValueRead ty taken said self.old × (length taken < 2 ^ 64) }
-        ensures { (taken : List ℕ) (said : List Said) → IsValueRead ty taken said self.old →
-            PutsNext ty taken said (change (K.state out.old) (K.state out.new)) self.new result }
+        requires { (taken : List ℕ) × (said : List Said) × IsValueRead (works.Check ty) taken said self.old × (length taken < 2 ^ 64) }
+        ensures { (taken : List ℕ) (said : List Said) → IsValueRead (works.Check ty) taken said self.old →
+            PutsNext (works.Check ty) taken said (change (K.state out.old) (K.state out.new)) self.new result }
     {
         let reader = mem::replace(&mut self.reader, Reader::new(alloc, WORD_LIMIT));
         let value = reader.finish();
@@ -99,23 +150,49 @@ impl Values {
         Ok(())
     }
 
-    /// Takes bytes up to the end of a value, whose line is put, or all of them.
+    /// Keeps the value that the reader has whole. A new reader waits for the next one.
+    fn keep_value(&mut self, alloc: Global) -> Result<(), Memory>
+        requires { (taken : List ℕ) × (said : List Said) × IsValueRead works.Compare taken said self.old × (length taken < 2 ^ 64) }
+        ensures { (taken : List ℕ) (said : List Said) → IsValueRead works.Compare taken said self.old → KeepsNext taken said self.new result }
+    {
+        let reader = mem::replace(&mut self.reader, Reader::new(alloc, WORD_LIMIT));
+        keep(&mut self.kept, reader.finish())?;
+        self.count += 1;
+        Ok(())
+    }
+
+    /// Says what is said of the value that the reader has whole.
+    fn put_value<K: Sink>(&mut self, alloc: Global, work: Work, out: &mut K) -> Result<(), Halt>
+        requires { (taken : List ℕ) × (said : List Said) × IsValueRead work taken said self.old × (length taken < 2 ^ 64) }
+        ensures { (taken : List ℕ) (said : List Said) → IsValueRead work taken said self.old →
+            PutsNext work taken said (change (K.state out.old) (K.state out.new)) self.new result }
+    {
+        match work {
+            Work::Check(ty) => self.put_line(alloc, ty, out),
+            Work::Compare => Ok(self.keep_value(alloc)?),
+        }
+    }
+
+    /// Takes bytes up to the end of a value, of which is said what is to be, or all of them.
     fn read_some<K: Sink>(
         &mut self,
         alloc: Global,
-        ty: ListType,
+        work: Work,
         rest: &[u8],
         out: &mut K,
     ) -> Result<usize, Halt>
         requires some { 0 < length rest.now }
-        requires reads { (taken : List ℕ) × (said : List Said) × HasRead ty taken said self.old × (length taken + length rest.now < 2 ^ 63) }
-        ensures { (taken : List ℕ) (said : List Said) → HasRead ty taken said self.old →
-            ReadsSome ty taken said rest.now (change (K.state out.old) (K.state out.new)) self.new result }
+        requires reads { (taken : List ℕ) × (said : List Said) × HasRead work taken said self.old × (length taken + length rest.now < 2 ^ 63) }
+        ensures { (taken : List ℕ) (said : List Said) → HasRead work taken said self.old →
+            ReadsSome work taken said rest.now (change (K.state out.old) (K.state out.new)) self.new result }
     {
+        if self.is_full(work) {
+            return Err(Halt::Stop(Stop::NotTwoValues));
+        }
         match self.reader.feed(rest) {
             Ok(fed) => {
                 if fed.done {
-                    self.put_line(alloc, ty, out)?;
+                    self.put_value(alloc, work, out)?;
                 }
                 Ok(fed.taken)
             }
@@ -123,49 +200,53 @@ impl Values {
         }
     }
 
-    /// Takes a piece to its end, and puts the line of each value that ends in it.
+    /// Takes a piece to its end, and says what is to be said of each value that ends in it.
     fn read_piece<K: Sink>(
         &mut self,
         alloc: Global,
-        ty: ListType,
+        work: Work,
         piece: &[u8],
         out: &mut K,
     ) -> Result<(), Halt>
         requires short { length piece.now ≤ 4096 }
-        requires reads { (taken : List ℕ) × (said : List Said) × HasRead ty taken said self.old × (length taken < 2 ^ 48) }
-        ensures reads { (taken : List ℕ) (said : List Said) → HasRead ty taken said self.old →
-            ReadsPiece ty taken said piece.now (change (K.state out.old) (K.state out.new)) self.new result }
+        requires reads { (taken : List ℕ) × (said : List Said) × HasRead work taken said self.old × (length taken < 2 ^ 48) }
+        ensures reads { (taken : List ℕ) (said : List Said) → HasRead work taken said self.old →
+            ReadsPiece work taken said piece.now (change (K.state out.old) (K.state out.new)) self.new result }
         ensures are_bytes { AreBytes piece.now }
     {
         let mut rest = piece;
         while !rest.is_empty() {
-            let taken = self.read_some(alloc, ty, rest, out)?;
+            let taken = self.read_some(alloc, work, rest, out)?;
             rest = skip(rest, taken);
         }
         Ok(())
     }
 
-    /// The input ends here: whether nothing is wrong with any value, or a value is cut.
-    fn at_end(&self) -> Result<bool, Halt>
-        requires { (ty : ListType) × (taken : List ℕ) × (said : List Said) × HasRead ty taken said self.now }
-        ensures { (ty : ListType) (taken : List ℕ) (said : List Said) → HasRead ty taken said self.now → EndsAt ty taken said result }
+    /// The input ends here: whether nothing is wrong with any value, or a value is cut. Two values are compared.
+    fn finish<K: Sink>(&self, alloc: Global, work: Work, out: &mut K) -> Result<bool, Halt>
+        requires { (taken : List ℕ) × (said : List Said) × HasRead work taken said self.now }
+        ensures { (taken : List ℕ) (said : List Said) → HasRead work taken said self.now →
+            EndsAt work taken said (change (K.state out.old) (K.state out.new)) result }
     {
         match self.reader.at_end() {
-            Ok(()) => Ok(self.has_type),
+            Ok(()) => match work {
+                Work::Check(_) => Ok(self.has_type),
+                Work::Compare => compare(alloc, self.kept.as_slice(), out),
+            },
             Err(Truncated { taken }) => Err(Halt::Stop(Stop::Cut(self.count, taken))),
         }
     }
 }
 
-/// Takes the input piece by piece, and puts the line of each value before it asks for the next piece. The answer at the
-/// input's end is whether nothing is wrong with any value.
+/// Takes the input piece by piece, and says what is to be said of each value before it asks for the next piece. The answer
+/// at the input's end is whether nothing is wrong with any value.
 pub fn put_values<S: Source, K: Sink>(
     alloc: Global,
-    ty: ListType,
+    work: Work,
     input: &mut S,
     out: &mut K,
 ) -> Result<bool, Halt>
-    ensures { PutsValues ty (change (S.state input.old) (S.state input.new)) (change (K.state out.old) (K.state out.new)) result }
+    ensures { PutsValues work (change (S.state input.old) (S.state input.new)) (change (K.state out.old) (K.state out.new)) result }
 {
     let mut values = Values::new(alloc);
     let mut buffer = [0; PIECE];
@@ -175,9 +256,9 @@ pub fn put_values<S: Source, K: Sink>(
             return Err(Halt::Stop(Stop::ReadFault));
         };
         if n == 0 {
-            return values.at_end();
+            return values.finish(alloc, work, out);
         }
-        values.read_piece(alloc, ty, &buffer[..n], out)?;
+        values.read_piece(alloc, work, &buffer[..n], out)?;
         taken += n;
     }
     Err(Halt::Stop(Stop::TooLong))

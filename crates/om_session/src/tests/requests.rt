@@ -7,7 +7,7 @@ use std::process::Abort;
 use std::test::Fail;
 
 /// The words stand between commas, which none of them holds. An empty text has no words.
-static NOT_PLAIN: [&str; 15] = [
+static NOT_PLAIN: [&str; 17] = [
     "",
     "check",
     "check,t.ml",
@@ -22,6 +22,8 @@ static NOT_PLAIN: [&str; 15] = [
     "check,t.ml,-int",
     "check,--,int",
     "check,--limit,5,t.ml,int",
+    "same,t.ml",
+    "Same",
     "--help",
 ];
 

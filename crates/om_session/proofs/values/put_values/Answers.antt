@@ -4,15 +4,15 @@ use Rattle.om_session.proofs.LoopLemmas.{values_begin, values_too_long, values_f
 use Rattle.om_session.proofs.values.put_values.Goals as goal
 
 pub loop-taken-init : goal.loop-taken-init
-loop-taken-init g c = values_begin c.args.ty (g.S.Source.state c.args.input.now) (g.K.Sink.state c.args.out.now) c.new-values.result (c.new-values.ensures c.args.ty)
+loop-taken-init g c = values_begin c.args.work (g.S.Source.state c.args.input.now) (g.K.Sink.state c.args.out.now) c.new-values.result (c.new-values.ensures c.args.work)
 
 pub returns-in_default : goal.returns-in_default
 returns-in_default g c = values_fault _ _ _ _ _ _ _ c.loop-taken.invariant (g.S.Source.state c.take.new.self) c.take.new.buf c.in_default.field-0 (omega (arith, c.loop-taken-test.true)) c.in_default.ensures
 
 pub returns-then-n-eq0 : goal.returns-then-n-eq0
 returns-then-n-eq0 g c =
-    values_end _ _ _ _ _ _ _ c.loop-taken.invariant (g.S.Source.state c.take.new.self) c.take.new.buf c.at_end.result (omega (arith, c.loop-taken-test.true)) (omega (arith, c.take.auto.buf))
-    (rw c.if-n-eq0.true at c.in-Ok.ensures) c.at_end.ensures
+    values_end _ _ _ _ _ _ _ c.loop-taken.invariant (g.S.Source.state c.take.new.self) c.take.new.buf (g.K.Sink.state c.finish.new.out) c.finish.result (omega (arith, c.loop-taken-test.true)) (omega (arith, c.take.auto.buf))
+    (rw c.if-n-eq0.true at c.in-Ok.ensures) c.finish.ensures
 
 pub returns-in_err-read_piece : goal.returns-in_err-read_piece
 returns-in_err-read_piece g c =

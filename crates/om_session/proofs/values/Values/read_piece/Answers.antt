@@ -4,7 +4,7 @@ use Rattle.om_session.proofs.LoopLemmas.{piece_begins, piece_room, piece_more, p
 use Rattle.om_session.proofs.values.Values.read_piece.Goals as goal
 
 pub loop-rest-init : goal.loop-rest-init
-loop-rest-init g c = λ taken said h. piece_begins c.args.ty taken said c.args.piece.now (g.K.Sink.state c.args.out.now) c.args.self.now h
+loop-rest-init g c = λ taken said h. piece_begins c.args.work taken said c.args.piece.now (g.K.Sink.state c.args.out.now) c.args.self.now h
 
 pub read_some-requires-clause-reads : goal.read_some-requires-clause-reads
 read_some-requires-clause-reads g c =

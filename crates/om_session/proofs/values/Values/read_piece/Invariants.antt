@@ -7,8 +7,8 @@ use Rattle.om_session.proofs.values.Values.read_piece.Given as goal
 
 abbrev pub invariant-loop-rest : goal.invariant-loop-rest
 invariant-loop-rest g l =
-    (taken : List ℕ) (said : List Said) → HasRead l.ty taken said l.initial.self
-    → PieceSoFar l.ty taken said l.piece l.rest (change (g.K.Sink.state l.initial.out) (g.K.Sink.state l.out)) l.self
+    (taken : List ℕ) (said : List Said) → HasRead l.work taken said l.initial.self
+    → PieceSoFar l.work taken said l.piece l.rest (change (g.K.Sink.state l.initial.out) (g.K.Sink.state l.out)) l.self
 
 abbrev pub decreases-loop-rest : goal.decreases-loop-rest
 decreases-loop-rest g l = length l.rest

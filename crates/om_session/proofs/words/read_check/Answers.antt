@@ -1,7 +1,7 @@
 use Rattle.std.proofs.Common.{codes, refl, sym}
 use Rattle.std.proofs.lemmas.Slice.Eq.{bytes_eq-Decides}
 use Rattle.om_session.proofs.WordLemmas.{three_texts}
-use Rattle.om_session.proofs.words.read_words.Goals as goal
+use Rattle.om_session.proofs.words.read_check.Goals as goal
 
 pub returns-then-is_argument-2 : goal.returns-then-is_argument-2
 returns-then-is_argument-2 c =
