@@ -33,7 +33,8 @@ word_of-append graph more v valid =
 pub word_of-next : (graph : List Obj) (object : Obj) → word_of (graph ++ object ∷ []) (vals.Ref (length graph)) ≡ 8 * heap_words graph
 word_of-next graph object = ap (λ (p : ℕ). 8 * p) (place-append graph (object ∷ []) (length graph) (omega arith) ∙ place-all graph)
 
-object_words-with_field : (object : Obj) (i : ℕ) (v : Val) → object_words (with_field object i v) ≡ object_words object
+-- a field changes no size
+pub object_words-with_field : (object : Obj) (i : ℕ) (v : Val) → object_words (with_field object i v) ≡ object_words object
 object_words-with_field (objects.Block tag values) i v = omega (arith, length-set values i v)
 object_words-with_field object i v = refl
 

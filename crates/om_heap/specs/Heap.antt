@@ -1,5 +1,5 @@
 -- What a heap's calls read and write: an object's parts, its size in words (`extern.c`), and a graph with one place changed.
-use Rattle.std.specs.Prelude.{ℕ, ◌+◌, ◌-◌, ◌*◌, ◌/◌, ◌^◌, ◌<◌, ◌≡◌, List, [], ◌∷◌, ◌++◌, length, take, All, sum_by, ℤ, pos, negsuc, Result, Ok, Err, slice_index, slice_index_or, slice_set}
+use Rattle.std.specs.Prelude.{ℕ, ◌+◌, ◌-◌, ◌*◌, ◌/◌, ◌^◌, ◌<◌, ◌≡◌, List, [], ◌∷◌, ◌++◌, length, take, All, sum_by, ℤ, pos, negsuc, Option, Some, None, Result, Ok, Err, slice_index, slice_index_or, slice_set}
 use Rattle.om_model.specs.declared.out_of_memory.Memory.{Memory}
 use Rattle.om_model.specs.declared.value.Val.{Val}
 use Rattle.om_model.specs.declared.value.Val.TheVariants as vals
@@ -143,6 +143,11 @@ word_with places (vals.Ref k) = 8 * places k
 
 abbrev pub word_of : List Obj → Val → ℕ
 word_of graph v = word_with (place graph) v
+
+-- the object is appended, and the answer is the word that refers to it; without room nothing has changed
+abbrev pub AppendsInRoom : List Obj → List Obj → Obj → Option ℕ → Type 0
+AppendsInRoom old new object (Some word) = (word ≡ word_of new (vals.Ref (length old))) × (new ≡ old ++ object ∷ [])
+AppendsInRoom old new object None = new ≡ old
 
 -- the word of some value of the graph, and of a reference
 abbrev pub IsFieldWord : List Obj → ℕ → Type 0

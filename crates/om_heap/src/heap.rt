@@ -7,11 +7,11 @@ ghost use Rattle.om_model.specs.declared.value.Val.{Val};
 ghost use Rattle.om_model.specs.declared.value.Val.TheVariants as vals;
 ghost use Rattle.om_model.specs.declared.value.Obj.TheVariants as objects;
 ghost use Rattle.om_model.specs.declared.code.Measure.TheVariants as measures;
-ghost use Rattle.om_heap.specs.Heap.{object_at, fields_of, bytes_of, doubles_of, field_at, byte_at, double_at, set_field, set_byte, set_double, custom_object, kind_of, IsOfKind, IsHeap, Appends, object_words, heap_words, IsBlock, place, word_of, key_of, IsFieldWord, IsReferenceWord, ForNamed};
+ghost use Rattle.om_heap.specs.Heap.{object_at, fields_of, bytes_of, doubles_of, field_at, byte_at, double_at, set_field, set_byte, set_double, custom_object, kind_of, IsOfKind, IsHeap, Appends, AppendsInRoom, object_words, heap_words, IsBlock, place, word_of, key_of, IsFieldWord, IsReferenceWord, ForNamed};
 ghost use Rattle.om_heap.specs.Words.{header_of, body_of};
 
 use crate::kind::Kind;
-use crate::objects::{append_copy, append_custom, begin, body_in};
+use crate::objects::{append_copy, append_custom, begin, begin_in_room, body_in};
 use crate::strings::{append_string, append_zeros, with_byte};
 use crate::words::{
     CUSTOM, DOUBLE, DOUBLES, STRING, header_word, integer_of_word, kind_of_words, word_of_integer,
@@ -85,6 +85,54 @@ impl Heap {
         self.region.append_reserved(header);
         self.region.append_run(size as usize, 1);
         Ok(number)
+    }
+
+    /// Appends a block whose fields are 0, if no memory is needed for it: the word that refers to it.
+    #[inline(always)]
+    pub fn add_block_in_room(&mut self, tag: u8, size: u64) -> Option<u64>
+        requires tag { tag ≤ 243 }
+        requires nonempty { 0 < size }
+        requires small { words64 (measures.Block size) < 2 ^ 54 }
+        ensures { AppendsInRoom self.old self.new (objects.Block tag (replicate size (vals.Int (pos 0)))) result }
+    {
+        let place = self.region.len() as u64;
+        if !begin_in_room(&self.region, &mut self.places, 1 + size) {
+            return None;
+        }
+        self.region
+            .append_reserved(header_word(u64::from(tag), size));
+        self.region.append_run(size as usize, 1);
+        Some(8 * place)
+    }
+
+    /// Appends a string of these bytes, if no memory is needed for it: the word that refers to it.
+    #[inline(always)]
+    pub fn add_bytes_in_room(&mut self, content: &[u8]) -> Option<u64>
+        requires small { words64 (measures.Bytes (length content.now)) < 2 ^ 54 }
+        ensures { AppendsInRoom self.old self.new (objects.Bytes content.now) result }
+    {
+        let place = self.region.len() as u64;
+        let size = content.len() as u64 / 8 + 1;
+        if !begin_in_room(&self.region, &mut self.places, 1 + size) {
+            return None;
+        }
+        self.region.append_reserved(header_word(STRING, size));
+        append_string(&mut self.region, content);
+        Some(8 * place)
+    }
+
+    /// Appends a double, by its bits, if no memory is needed for it: the word that refers to it.
+    #[inline(always)]
+    pub fn add_double_in_room(&mut self, bits: u64) -> Option<u64>
+        ensures { AppendsInRoom self.old self.new (objects.Double bits) result }
+    {
+        let place = self.region.len() as u64;
+        if !begin_in_room(&self.region, &mut self.places, 2) {
+            return None;
+        }
+        self.region.append_reserved(header_word(DOUBLE, 1));
+        self.region.append_reserved(bits);
+        Some(8 * place)
     }
 
     /// Appends a block of these words of values.
@@ -315,6 +363,17 @@ impl Heap {
     {
         let at = self.place(o) + 1 + i as usize;
         self.region.set(at, word);
+    }
+
+    /// Puts the value of this word into field i of the block that a reference's word names.
+    #[inline(always)]
+    pub fn set_word_at(&mut self, block: u64, i: u64, word: u64)
+        requires place { (k : ℕ) × (k < length self.old) × (block ≡ word_of self.old (vals.Ref k)) × (i < length (fields_of (object_at self.old k))) }
+        requires valid { IsFieldWord self.old word }
+        ensures { (k : ℕ) (v : Val) → k < length self.old → block ≡ word_of self.old (vals.Ref k) → i < length (fields_of (object_at self.old k))
+            → IsValue (length self.old) v → word ≡ word_of self.old v → self.new ≡ set_field self.old k i v }
+    {
+        self.region.set((block / 8) as usize + 1 + i as usize, word);
     }
 
     /// Byte i of a string.

@@ -1,6 +1,7 @@
 //! Objects as words of the region.
 
-ghost use Rattle.std.specs.Prelude.{◌≡◌, ◌+◌, ◌/◌, ◌<◌, ◌≤◌, ◌^◌, [], ◌∷◌, ◌++◌, length, take, drop, All, MatchResult, OnOk, slice_index, slice_range};
+ghost use Rattle.std.specs.Prelude.{◌≡◌, ◌+◌, ◌/◌, ◌<◌, ◌≤◌, ◌^◌, [], ◌∷◌, ◌++◌, length, take, drop, All, MatchResult, MatchBool, OnOk, slice_index, slice_range};
+ghost use Rattle.std.specs.Bool.{OnTrue};
 ghost use Rattle.om_heap.specs.Words.{custom_words};
 
 use crate::words::word_of_signed;
@@ -25,6 +26,17 @@ pub fn begin(region: &mut Region, places: &mut Places, words: u64) -> Result<u64
     let end = region.len() as u64;
     places.push(end)?;
     Ok(number)
+}
+
+/// The same where no memory is needed for it.
+#[inline(always)]
+pub fn begin_in_room(region: &Region, places: &mut Places, words: u64) -> bool
+    requires { All (λ p. p < length region.now.words) places.old }
+    ensures places { MatchBool result (places.new ≡ places.old ++ length region.now.words ∷ []) (places.new ≡ places.old) }
+    ensures room { OnTrue result (words ≤ region.now.spare) }
+    ensures small { OnTrue result (length region.now.words + words < 2 ^ 60) }
+{
+    region.has_room(words as usize) && places.push_in_room(region.len() as u64)
 }
 
 /// Appends the words of a custom.

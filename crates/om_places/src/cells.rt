@@ -1,6 +1,6 @@
 //! Places as bits: the number of a place is how many places are before it.
 
-ghost use Rattle.std.specs.Prelude.{◌≡◌, ◌+◌, ◌-◌, ◌/◌, ◌%◌, ◌^◌, ◌<◌, length, take, replicate, ◌++◌, MatchResult};
+ghost use Rattle.std.specs.Prelude.{◌≡◌, ◌+◌, ◌-◌, ◌/◌, ◌%◌, ◌^◌, ◌<◌, length, take, replicate, ◌++◌, MatchResult, MatchBool};
 ghost use Rattle.om_places.specs.Cells.{cell_at, rank, marked, cut};
 
 use om_model::Memory;
@@ -26,6 +26,24 @@ pub fn cover(cells: &mut Vec<Cell>, count: usize, before: u64) -> Result<(), Mem
         return Err(Memory);
     };
     Ok(())
+}
+
+/// Makes `count` cells, if at most one is missing and no memory is needed for it.
+#[inline(always)]
+pub fn cover_in_room(cells: &mut Vec<Cell>, count: usize, before: u64) -> bool
+    ensures { MatchBool result
+        (cells.new.items ≡ take count cells.old.items ++ replicate (count - length cells.old.items) (record { bits = 0; before = before }))
+        (cells.new.items ≡ cells.old.items) }
+{
+    let len = cells.len();
+    if len == count {
+        return true;
+    }
+    if len + 1 != count || len == cells.capacity() {
+        return false;
+    }
+    cells.push_reserved(Cell { bits: 0, before });
+    true
 }
 
 /// Sets the bit of place p, which was not set.

@@ -1,6 +1,6 @@
 //! A list of increasing places.
 
-ghost use Rattle.std.specs.Prelude.{◌≡◌, ◌<◌, ◌≤◌, [], ◌∷◌, ◌++◌, length, take, All, Contains, slice_index, MatchResult};
+ghost use Rattle.std.specs.Prelude.{◌≡◌, ◌<◌, ◌≤◌, [], ◌∷◌, ◌++◌, length, take, All, Contains, slice_index, MatchResult, MatchBool};
 
 use crate::cells;
 use crate::cells::Cell;
@@ -79,6 +79,24 @@ impl Places {
         append(&mut self.low, &mut self.high, p)?;
         cells::mark(&mut self.cells, p);
         Ok(())
+    }
+
+    /// Appends a place, if it is below 2^32 and no memory is needed for it.
+    #[inline(always)]
+    pub fn push_in_room(&mut self, p: u64) -> bool
+        requires { All (λ q. q < p) self.old }
+        ensures { MatchBool result (self.new ≡ self.old ++ p ∷ []) (self.new ≡ self.old) }
+    {
+        let count = self.low.len();
+        if p >= 1 << 32 || self.high.len() > 0 || count == self.low.capacity() {
+            return false;
+        }
+        if !cells::cover_in_room(&mut self.cells, (p / 64) as usize + 1, count as u64) {
+            return false;
+        }
+        self.low.push_reserved(p as u32);
+        cells::mark(&mut self.cells, p);
+        true
     }
 
     /// Drops the places from number n on.

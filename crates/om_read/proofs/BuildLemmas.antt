@@ -14,7 +14,8 @@ use Rattle.om_format.specs.Token.{Token, integer, atom, shared, block, leaf, IsT
 use Rattle.om_format.specs.Tree.{made_by, value_of}
 use Rattle.om_read.specs.Build.{Building, building, start, still_open, advanced, fill, blank, blank_fields, opened, absorb, absorb_all, root_to_come, fields_to_come, to_come, HasSize, IsOpenIn, AreOpen, WellOpen}
 use Rattle.om_read.specs.declared.build.OpenBlock.{OpenBlock}
-use Rattle.om_heap.specs.Heap.{with_field, set_field}
+use Rattle.om_heap.specs.Heap.{with_field, set_field, word_of}
+use Rattle.om_heap.proofs.ReadLemmas.{word_of-append, word_of-set_field}
 use Rattle.om_format.specs.Preorder.{OpenBefore}
 use Rattle.om_format.proofs.Counts.{leaf_fields, length-object_of, objects-tokens-cons}
 use Rattle.om_format.proofs.Pending.{pending_push}
@@ -48,6 +49,7 @@ IsOpenIn-set_field all b i v o h = record {
   object = rw length-set_field h.object;
   next = h.next;
   size = HasSize-set_field all o.size o.object b i v h.object h.size;
+  at = h.at ∙ sym (word_of-set_field all b i v (vals.Ref o.object));
 }
 
 -- and when more objects follow
@@ -56,6 +58,7 @@ IsOpenIn-append xs ys o h = record {
   object = let l = length-append xs ys in let k = h.object in omega arith;
   next = h.next;
   size = λ d. rw (get_or_append_left xs ys d o.object h.object) (h.size d);
+  at = h.at ∙ sym (word_of-append xs ys (vals.Ref o.object) h.object);
 }
 
 AreOpen-in : (xs ys : List Obj) → ((o : OpenBlock) → IsOpenIn xs o → IsOpenIn ys o) → (bs : List OpenBlock) → AreOpen xs bs → AreOpen ys bs
@@ -80,7 +83,7 @@ AreOpen-still_open all b outer h =
     elim (cases_eq (b.next + 1) b.size) [
       | inl e ↦ rw (still_open_full (advanced b 1) outer e) h.2
       | inr ne ↦ rw (still_open_below (advanced b 1) outer (omega arith))
-          (record { object = h.0.object; next = omega arith; size = h.0.size }, h.1, h.2)
+          (record { object = h.0.object; next = omega arith; size = h.0.size; at = h.0.at }, h.1, h.2)
     ]
 
 -- an object after them all
@@ -89,33 +92,38 @@ all_below all [] c e h = All-nil (λ o. o.object < c)
 all_below all (b ∷ outer) c e h = All-cons (λ o. o.object < c) b outer (let k = h.0.object in omega arith) (all_below all outer c e h.2)
 
 -- a token opens its block
-AreOpen-opened : (t : Token) (all : List Obj) (bs : List OpenBlock) (c : ℕ) → IsToken t → length all ≡ c → AreOpen all bs → AreOpen (all ++ blank t) (opened t c ++ bs)
-AreOpen-opened (integer z) all bs c h e k = AreOpen-append all [] bs k
-AreOpen-opened (atom tag) all bs c h e k = AreOpen-append all [] bs k
-AreOpen-opened (shared offset) all bs c h e k = AreOpen-append all [] bs k
-AreOpen-opened (block tag size) all bs c h e k =
+AreOpen-opened : (t : Token) (all : List Obj) (bs : List OpenBlock) (c at : ℕ) → IsToken t → length all ≡ c → at ≡ word_of (all ++ blank t) (vals.Ref c) → AreOpen all bs
+    → AreOpen (all ++ blank t) (opened t c at ++ bs)
+AreOpen-opened (integer z) all bs c at h e w k = AreOpen-append all [] bs k
+AreOpen-opened (atom tag) all bs c at h e w k = AreOpen-append all [] bs k
+AreOpen-opened (shared offset) all bs c at h e w k = AreOpen-append all [] bs k
+AreOpen-opened (block tag size) all bs c at h e w k =
     let o : Obj = objs.Block tag (blank_fields (block tag size)) in
     let p : 0 < size = h.1 in (
       record {
         object = let l = length_push all o in omega arith;
         next = p;
         size = λ d. rw (get_or_at all o [] d c e) (length-replicate size (vals.Int (pos 0)));
+        at = w;
       },
       all_below all bs c e k,
       AreOpen-append all (o ∷ []) bs k,
     )
-AreOpen-opened (leaf o) all bs c h e k = AreOpen-append all (o ∷ []) bs k
+AreOpen-opened (leaf o) all bs c at h e w k = AreOpen-append all (o ∷ []) bs k
 
 -- ---- a step keeps what is built well
 
 keeps_open : (all : List Obj) (bs : List OpenBlock) (r : Option Val) (t : Token) → IsToken t → AreOpen all bs
     → AreOpen (absorb (building all bs r) t).objects (absorb (building all bs r) t).open_blocks
-keeps_open all [] r t h k = AreOpen-opened t all [] (length all) h refl tt
+keeps_open all [] r t h k = AreOpen-opened t all [] (length all) (word_of (all ++ blank t) (vals.Ref (length all))) h refl refl tt
 keeps_open all (b ∷ outer) r t h k =
     let v : Val = value_of t (length all) in
     let xs : List Obj = set_field all b.object b.next v in
+    let at : ℕ = word_of (all ++ blank t) (vals.Ref (length all)) in
+    let same : at ≡ word_of (set_field (all ++ blank t) b.object b.next v) (vals.Ref (length all)) = sym (word_of-set_field (all ++ blank t) b.object b.next v (vals.Ref (length all))) in
+    let moved : at ≡ word_of (xs ++ blank t) (vals.Ref (length all)) = rw (← set_field-append all (blank t) b.object b.next v k.0.object) same in
     rw (set_field-append all (blank t) b.object b.next v k.0.object)
-    (AreOpen-opened t xs (still_open (advanced b 1) outer) (length all) h (length-set_field all b.object b.next v)
+    (AreOpen-opened t xs (still_open (advanced b 1) outer) (length all) at h (length-set_field all b.object b.next v) moved
     (AreOpen-still_open xs b outer (AreOpen-set_field all b.object b.next v (b ∷ outer) k)))
 
 keeps_root : (all : List Obj) (bs : List OpenBlock) (r : Option Val) (t : Token) → (r ≡ None → bs ≡ []) → (absorb (building all bs r) t).root ≡ None → ⊥
@@ -145,12 +153,12 @@ to_come_append : (bs cs : List OpenBlock) → fields_to_come (bs ++ cs) ≡ fiel
 to_come_append bs cs = sum_by-append (λ o. o.size - o.next) bs cs
 
 -- the block that a token opens has all its fields to come
-to_come_opened : (t : Token) (c : ℕ) → fields_to_come (opened t c) ≡ of_object fields (measure_of t)
-to_come_opened (integer z) c = refl
-to_come_opened (atom tag) c = refl
-to_come_opened (shared offset) c = refl
-to_come_opened (block tag size) c = omega arith
-to_come_opened (leaf o) c = sym (leaf_fields o)
+to_come_opened : (t : Token) (c at : ℕ) → fields_to_come (opened t c at) ≡ of_object fields (measure_of t)
+to_come_opened (integer z) c at = refl
+to_come_opened (atom tag) c at = refl
+to_come_opened (shared offset) c at = refl
+to_come_opened (block tag size) c at = omega arith
+to_come_opened (leaf o) c at = sym (leaf_fields o)
 
 -- a field is taken
 to_come_still_open : (b : OpenBlock) (outer : List OpenBlock) → b.next < b.size → fields_to_come (still_open (advanced b 1) outer) + 1 ≡ fields_to_come (b ∷ outer)
@@ -165,13 +173,15 @@ to_come_still_open b outer h =
 takes_one : (all : List Obj) (bs : List OpenBlock) (r : Option Val) (t : Token) → AreOpen all bs → 0 < to_come (building all bs r)
     → to_come (absorb (building all bs r) t) ≡ to_come (building all bs r) - 1 + of_object fields (measure_of t)
 takes_one all [] None t h k =
-    let o = to_come_opened t (length all) in
-    let a = to_come_append (opened t (length all)) [] in
+    let at : ℕ = word_of (all ++ blank t) (vals.Ref (length all)) in
+    let o = to_come_opened t (length all) at in
+    let a = to_come_append (opened t (length all) at) [] in
     omega arith
 takes_one all [] (Some v) t h k = absurd (omega arith)
 takes_one all (b ∷ outer) r t h k =
-    let o = to_come_opened t (length all) in
-    let a = to_come_append (opened t (length all)) (still_open (advanced b 1) outer) in
+    let at : ℕ = word_of (all ++ blank t) (vals.Ref (length all)) in
+    let o = to_come_opened t (length all) at in
+    let a = to_come_append (opened t (length all) at) (still_open (advanced b 1) outer) in
     let s = to_come_still_open b outer h.0.next in
     omega arith
 

@@ -44,7 +44,7 @@ module _ (header : List ℕ) (before : List (List ℕ)) (place next : Totals) (s
   -- a token of this kind is taken
   pub common_taken : (kind : CodeKind) (n : ℕ) → n ≡ 1 + fixed_bytes kind + variable_bytes kind (drop 1 bytes) → kind_of (get_or bytes 0 0) ≡ Ok kind → PassesTo place (get_or bytes 0 0) kind (drop 1 bytes) next
       → ((t : Token) → SpellsAfter kind (take (fixed_bytes kind + variable_bytes kind (drop 1 bytes)) (drop 1 bytes)) t → state' ≡ absorb_in state t)
-      → TakesOne header before bytes place state next state' (Ok n)
+      → TakesOne header before bytes place state next state' n
   common_taken kind n e k p adds =
       let j = next_there place (context header before) bytes (Ok next) h.sums (passes_next place next bytes kind some k p) in (
         λ none. absurd (omega arith),
@@ -65,7 +65,7 @@ module _ (header : List ℕ) (before : List (List ℕ)) (place next : Totals) (s
 -- ---- one after another
 
 pub one_taken : (limit : ℕ) (taken bytes : List ℕ) (place next : Totals) (state state' : Bounded) (n : ℕ) → 0 < place.pending → LeadsAs (Some place) limit taken state [] → 0 < n
-    → ((header : List ℕ) (before : List (List ℕ)) → Builds header before place state → TakesOne header before bytes place state next state' (Ok n))
+    → ((header : List ℕ) (before : List (List ℕ)) → Builds header before place state → TakesOne header before bytes place state next state' n)
     → TakesCommon limit taken bytes next state' n
 one_taken limit taken bytes place next state state' n is_open l some takes =
     let m = (takes l.0 l.1 l.2.builds).1 some in
@@ -74,7 +74,7 @@ one_taken limit taken bytes place next state state' n is_open l some takes =
     (omega (arith, e, r.1), m.1, subst (λ k. LeadsAs (Some next) limit (taken ++ take k bytes) state' []) e r.2)
 
 pub one_more_taken : (limit : ℕ) (taken bytes : List ℕ) (place next : Totals) (state state' : Bounded) (a n : ℕ) → TakesCommon limit taken bytes place state a → 0 < n
-    → ((header : List ℕ) (before : List (List ℕ)) → Builds header before place state → TakesOne header before (take (length bytes - a) (drop a bytes)) place state next state' (Ok n))
+    → ((header : List ℕ) (before : List (List ℕ)) → Builds header before place state → TakesOne header before (take (length bytes - a) (drop a bytes)) place state next state' n)
     → TakesCommon limit taken bytes next state' (a + n)
 one_more_taken limit taken bytes place next state state' a n t some takes =
     let rest = take (length bytes - a) (drop a bytes) in

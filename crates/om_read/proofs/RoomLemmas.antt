@@ -18,6 +18,7 @@ use Rattle.om_format.proofs.SpellValues.{IsToken-spelled}
 use Rattle.om_format.proofs.TokenStepLemmas.{header_length-from, header_length-take, head_of-take}
 use Rattle.om_format.proofs.OneJudgement.{header_length-append}
 use Rattle.om_heap.specs.Heap.{object_at, with_field, set_field, object_words, heap_words}
+use Rattle.om_heap.proofs.ReadLemmas.{object_words-with_field}
 use Rattle.om_heap.proofs.WriteLemmas.{heap_words-append}
 use Rattle.om_read.specs.Build.{Building, start, fill, blank, blank_fields, absorb, absorb_all, AreOpen, WellOpen}
 use Rattle.om_read.specs.declared.build.OpenBlock.{OpenBlock}
@@ -26,19 +27,10 @@ use Rattle.om_read.proofs.TreeLemmas.{absorb_start}
 
 -- ---- a field
 
-words-with_field : (i : ℕ) (v : Val) (o : Obj) → object_words (with_field o i v) ≡ object_words o
-words-with_field i v (objs.Block tag values) = ap (λ n. 1 + n) (length-set values i v)
-words-with_field i v (objs.Bytes bytes) = refl
-words-with_field i v (objs.Double bits) = refl
-words-with_field i v (objs.Doubles all) = refl
-words-with_field i v (objs.I32 z) = refl
-words-with_field i v (objs.I64 z) = refl
-words-with_field i v (objs.Native z) = refl
-
 pub heap_words-set_field : (all : List Obj) (b i : ℕ) (v : Val) → b < length all → heap_words (set_field all b i v) ≡ heap_words all
 heap_words-set_field all b i v h =
     let s = sum_by-set object_words all b (with_field (object_at all b) i v) (objs.I32 (pos 0)) h in
-    let w = words-with_field i v (object_at all b) in
+    let w = object_words-with_field (object_at all b) i v in
     omega arith
 
 -- ---- an object

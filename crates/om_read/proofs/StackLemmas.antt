@@ -1,13 +1,14 @@
 -- Open blocks in a vector, the innermost last.
-use Rattle.std.proofs.Common.{ℕ, ◌≡◌, ◌≢◌, ◌+◌, ◌-◌, ◌<◌, List, [], ◌∷◌, ◌++◌, length, reverse, take, set, get_or, eqb, false, Option, arith, refl, ap, sym, ◌∙◌, get_or-set_same}
+use Rattle.std.proofs.Common.{ℕ, ◌≡◌, ◌≢◌, ◌+◌, ◌-◌, ◌<◌, List, [], ◌∷◌, ◌++◌, length, reverse, take, set, get_or, eqb, false, Option, arith, pos, refl, ap, sym, subst, ◌∙◌, get_or-set_same}
 use Rattle.std.proofs.lemmas.List.{reverse-append, take_more, take-set, length-set}
 use Rattle.std.proofs.Math.Seq.{take-length}
 use Rattle.std.proofs.lemmas.Bool.Decides.{nat_tests}
 use Rattle.om_model.specs.declared.value.Val.{Val}
 use Rattle.om_model.specs.declared.value.Obj.{Obj}
-use Rattle.om_heap.specs.Heap.{set_field}
+use Rattle.om_model.specs.declared.value.Obj.TheVariants as objs
+use Rattle.om_heap.specs.Heap.{object_at, fields_of, set_field}
 use Rattle.om_read.specs.declared.build.OpenBlock.{OpenBlock}
-use Rattle.om_read.specs.Build.{building, fill, advanced}
+use Rattle.om_read.specs.Build.{building, fill, advanced, HasSize, IsOpenIn, AreOpen, WellOpen}
 
 -- the last one comes first
 pub reverse_last : {A : Type 0} (xs : List A) (n : ℕ) (d : A) → n ≡ length xs → 0 < n → reverse xs ≡ get_or xs (n - 1) d ∷ reverse (take (n - 1) xs)
@@ -25,6 +26,26 @@ reverse_set_last xs n y e h =
     reverse_last (set xs (n - 1) y) n y n_is h
     ∙ ap (λ x. x ∷ reverse (take (n - 1) (set xs (n - 1) y))) (get_or-set_same xs (n - 1) y y below)
     ∙ ap (λ ys. y ∷ reverse ys) (take-set xs (n - 1) y)
+
+-- the last one is open
+pub last_open : (heap : List Obj) (open_blocks : List OpenBlock) (root : Option Val) (b : OpenBlock) (n : ℕ) → n ≡ length open_blocks → 0 < n → b ≡ get_or open_blocks (n - 1) b
+    → WellOpen (building heap (reverse open_blocks) root) → IsOpenIn heap b
+last_open heap open_blocks root b n e h last well =
+    let r : reverse open_blocks ≡ b ∷ reverse (take (n - 1) open_blocks) = reverse_last open_blocks n b e h ∙ ap (λ x. x ∷ reverse (take (n - 1) open_blocks)) (sym last) in
+    (subst (AreOpen heap) r well.are_open).0
+
+sized : (size : ℕ) (object : Obj) → HasSize size object → length (fields_of object) ≡ size
+sized size (objs.Block tag values) h = h
+sized size (objs.Bytes bytes) h = absurd h
+sized size (objs.Double bits) h = absurd h
+sized size (objs.Doubles all) h = absurd h
+sized size (objs.I32 z) h = absurd h
+sized size (objs.I64 z) h = absurd h
+sized size (objs.Native z) h = absurd h
+
+-- its next field is one of its object's
+pub next_inside : (heap : List Obj) (b : OpenBlock) → IsOpenIn heap b → b.next < length (fields_of (object_at heap b.object))
+next_inside heap b h = omega (arith, h.next, sized b.size (object_at heap b.object) (h.size (objs.I32 (pos 0))))
 
 -- a block that is not full yet stays open
 pub filled_last : (v : Val) (heap : List Obj) (open_blocks : List OpenBlock) (root : Option Val) (b : OpenBlock) (n : ℕ) → n ≡ length open_blocks → 0 < n

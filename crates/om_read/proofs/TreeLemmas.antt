@@ -11,7 +11,7 @@ use Rattle.om_format.specs.Token.{Token, integer, atom, shared, block, leaf}
 use Rattle.om_format.specs.Tree.{Tree, Forest, node, none, more, trees_in, IsTree, AreTrees, ReferBack, tokens, forest_tokens, made, value_of, root, roots, objects_of, all_objects}
 use Rattle.om_read.specs.Build.{building, start, still_open, advanced, blank, opened, absorb, absorb_all}
 use Rattle.om_read.specs.declared.build.OpenBlock.{OpenBlock}
-use Rattle.om_heap.specs.Heap.{set_field}
+use Rattle.om_heap.specs.Heap.{set_field, word_of}
 use Rattle.om_format.proofs.Counts.{leaf_fields, length-objects_of, length-roots}
 use Rattle.om_read.proofs.FieldLemmas.{set_fields, set_field-append, length-set_field, set_fields-append, set_fields_at, still_open_below, still_open_full, advanced-zero, advanced-suc}
 
@@ -26,8 +26,8 @@ FillsFields f =
 -- the trees after a token, once it is placed, complete its object
 abbrev CompletesObject : Token → Forest → Type 0
 CompletesObject t f =
-    (xs : List Obj) (c : ℕ) (outer : List OpenBlock) (r : Option Val) → length xs ≡ c
-    → absorb_all (building (xs ++ blank t) (opened t c ++ outer) r) (forest_tokens f) ≡ building (xs ++ objects_of (node t f) c) outer r
+    (xs : List Obj) (c at : ℕ) (outer : List OpenBlock) (r : Option Val) → length xs ≡ c
+    → absorb_all (building (xs ++ blank t) (opened t c at ++ outer) r) (forest_tokens f) ≡ building (xs ++ objects_of (node t f) c) outer r
 
 -- a token without fields has no trees after it
 no_trees : (t : Token) (f : Forest) → trees_in f ≡ 0 → CompletesObject t none → CompletesObject t f
@@ -35,8 +35,8 @@ no_trees t none e h = h
 no_trees t (more tree f) e h = absurd (omega arith)
 
 completes_block : (tag size : ℕ) (f : Forest) → 0 < size → trees_in f ≡ size → FillsFields f → CompletesObject (block tag size) f
-completes_block tag size f h e fills xs c outer r l =
-    let b : OpenBlock = record { object = c; next = 0; size = size } in
+completes_block tag size f h e fills xs c at outer r l =
+    let b : OpenBlock = record { object = c; next = 0; size = size; at = at } in
     let old : List Val = replicate size (vals.Int (pos 0)) in
     let all : List Obj = xs ++ objs.Block tag old ∷ [] in
     let n : length all ≡ c + 1 = length_push xs (objs.Block tag old) ∙ ap (λ n. n + 1) l in
@@ -51,11 +51,11 @@ completes_block tag size f h e fills xs c outer r l =
     (still_open_full (advanced b (trees_in f)) outer (omega arith))
 
 pub completes : (t : Token) (f : Forest) → IsTree (node t f) → FillsFields f → CompletesObject t f
-completes (integer z) f h fills = no_trees (integer z) f h.1 (λ xs c outer r l. refl)
-completes (atom tag) f h fills = no_trees (atom tag) f h.1 (λ xs c outer r l. refl)
-completes (shared offset) f h fills = no_trees (shared offset) f h.1 (λ xs c outer r l. refl)
+completes (integer z) f h fills = no_trees (integer z) f h.1 (λ xs c at outer r l. refl)
+completes (atom tag) f h fills = no_trees (atom tag) f h.1 (λ xs c at outer r l. refl)
+completes (shared offset) f h fills = no_trees (shared offset) f h.1 (λ xs c at outer r l. refl)
 completes (block tag size) f h fills = completes_block tag size f h.0.1 h.1 fills
-completes (leaf o) f h fills = no_trees (leaf o) f (h.1 ∙ leaf_fields o) (λ xs c outer r l. refl)
+completes (leaf o) f h fills = no_trees (leaf o) f (h.1 ∙ leaf_fields o) (λ xs c at outer r l. refl)
 
 -- the tokens of a tree set the next field of an open block
 mutual
@@ -65,9 +65,10 @@ mutual
       ≡ building (set_field all b.object b.next (root tree (length all)) ++ objects_of tree (length all)) (still_open (advanced b 1) outer) r
   absorb_tree (node t f) all b outer r h k =
       let v : Val = value_of t (length all) in
-      ap (λ a. absorb_all (building a (opened t (length all) ++ still_open (advanced b 1) outer) r) (forest_tokens f))
+      let at : ℕ = word_of (all ++ blank t) (vals.Ref (length all)) in
+      ap (λ a. absorb_all (building a (opened t (length all) at ++ still_open (advanced b 1) outer) r) (forest_tokens f))
       (set_field-append all (blank t) b.object b.next v k)
-      ∙ completes t f h (absorb_forest f h.2) (set_field all b.object b.next v) (length all) (still_open (advanced b 1) outer) r
+      ∙ completes t f h (absorb_forest f h.2) (set_field all b.object b.next v) (length all) at (still_open (advanced b 1) outer) r
       (length-set_field all b.object b.next v)
 
   pub absorb_forest : (f : Forest) → AreTrees f → FillsFields f
@@ -94,7 +95,7 @@ mutual
 -- with no open block it is the root
 pub absorb_root : (tree : Tree) (all : List Obj) (r : Option Val) → IsTree tree
     → absorb_all (building all [] r) (tokens tree) ≡ building (all ++ objects_of tree (length all)) [] (Some (root tree (length all)))
-absorb_root (node t f) all r h = completes t f h (absorb_forest f h.2) all (length all) [] (Some (value_of t (length all))) refl
+absorb_root (node t f) all r h = completes t f h (absorb_forest f h.2) all (length all) (word_of (all ++ blank t) (vals.Ref (length all))) [] (Some (value_of t (length all))) refl
 
 -- from the start the tokens of a tree build it
 pub absorb_start : (tree : Tree) → IsTree tree → absorb_all start (tokens tree) ≡ building (objects_of tree 0) [] (Some (root tree 0))

@@ -9,7 +9,7 @@ use Rattle.om_model.specs.declared.code.Measure.{Measure}
 use Rattle.om_format.specs.Words.{of_object, fields, words64}
 use Rattle.om_format.specs.Token.{Token, integer, atom, shared, block, leaf, measure_of}
 use Rattle.om_format.specs.Tree.{value_of, object_of}
-use Rattle.om_heap.specs.Heap.{set_field, heap_words}
+use Rattle.om_heap.specs.Heap.{set_field, heap_words, word_of}
 use Rattle.om_read.specs.declared.build.OpenBlock.{OpenBlock}
 
 -- ---- what is built
@@ -53,20 +53,21 @@ blank_fields token = replicate (of_object fields (measure_of token)) (vals.Int (
 abbrev pub blank : Token → List Obj
 blank token = object_of token (blank_fields token)
 
--- the block that it opens, which becomes object c
-abbrev pub opened : Token → ℕ → List OpenBlock
-opened (integer z) c = []
-opened (atom tag) c = []
-opened (shared offset) c = []
-opened (block tag size) c = record { object = c; next = 0; size = size } ∷ []
-opened (leaf object) c = []
+-- the block that it opens, which becomes object c, and the word that refers to it
+abbrev pub opened : Token → ℕ → ℕ → List OpenBlock
+opened (integer z) c at = []
+opened (atom tag) c at = []
+opened (shared offset) c at = []
+opened (block tag size) c at = record { object = c; next = 0; size = size; at = at } ∷ []
+opened (leaf object) c at = []
 
 -- its object is made, its value is filled in, and the block that it opens becomes the innermost
 abbrev pub absorb : Building → Token → Building
 absorb state token =
     let c = length state.objects in
-    let filled = fill (value_of token c) (state.objects ++ blank token) state.open_blocks state.root in
-    record filled { open_blocks = opened token c ++ filled.open_blocks }
+    let all = state.objects ++ blank token in
+    let filled = fill (value_of token c) all state.open_blocks state.root in
+    record filled { open_blocks = opened token c (word_of all (vals.Ref c)) ++ filled.open_blocks }
 
 -- the same of several tokens
 abbrev pub absorb_all : Building → List Token → Building
@@ -99,11 +100,12 @@ HasSize size (objects.I32 z) = ⊥
 HasSize size (objects.I64 z) = ⊥
 HasSize size (objects.Native z) = ⊥
 
--- an open block's object is a block of its size, and its next field is one of those
+-- an open block's object is a block of its size, its next field is one of those, and the word refers to it
 pub record IsOpenIn (all : List Obj) (b : OpenBlock) : Type 0 where
   pub object : b.object < length all
   pub next : b.next < b.size
   pub size : HoldsAt (HasSize b.size) all b.object
+  pub at : b.at ≡ word_of all (vals.Ref b.object)
 
 -- open blocks, each with a later object than those further out
 abbrev pub AreOpen : List Obj → List OpenBlock → Type 0

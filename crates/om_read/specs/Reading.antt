@@ -12,7 +12,6 @@ use Rattle.om_format.specs.Front.{context, with_next, IsRefused}
 use Rattle.om_read.specs.declared.unread.Unread.{Unread}
 use Rattle.om_read.specs.declared.unread.Unread.TheVariants.{NeedMore, Refused}
 use Rattle.om_read.specs.declared.totals.Totals.{Totals}
-use Rattle.om_model.specs.declared.out_of_memory.Memory.{Memory as OutOfMemory}
 use Rattle.om_read.specs.declared.value.Value.{Value}
 use Rattle.om_read.specs.Totals.{AreTotals}
 use Rattle.om_read.specs.Build.{Bounded, start, absorb_all}
@@ -36,11 +35,10 @@ NextOf header before rest state (Ok next) =
     (first_refusal (length rest) (token_steps (context header before) rest) ≡ None) × (raw_length rest ≤ length rest) × Builds header (with_next before rest) next state
 
 -- one token is taken and leads on, not to the end; or nothing is taken and all stays
-abbrev pub TakesOne : List ℕ → List (List ℕ) → List ℕ → Totals → Bounded → Totals → Bounded → Result ℕ OutOfMemory → Type 0
-TakesOne header before bytes place state next new (Ok n) =
+abbrev pub TakesOne : List ℕ → List (List ℕ) → List ℕ → Totals → Bounded → Totals → Bounded → ℕ → Type 0
+TakesOne header before bytes place state next new n =
     (n ≡ 0 → (next ≡ place) × (new ≡ state))
     × (0 < n → (n ≡ next.taken - place.taken) × (0 < next.pending) × NextOf header before bytes new (Ok next))
-TakesOne header before bytes place state next new (Err memory) = Unit {0}
 
 -- ---- a whole value
 

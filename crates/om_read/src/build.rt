@@ -1,6 +1,9 @@
 //! The graph that tokens build, one token after another: a block's fields come after it (`intern.c`).
 
-ghost use Rattle.std.specs.Prelude.{◌≡◌, ◌≤◌, ◌<◌, ◌^◌, length, OnOk, vec_len, IsSome, Some};
+ghost use Rattle.std.specs.Prelude.{◌≡◌, ◌≤◌, ◌<◌, ◌^◌, length, reverse, OnOk, vec_len, vec_capacity, IsSome, Some, MatchBool};
+ghost use Rattle.om_model.specs.Graph.{IsValue};
+ghost use Rattle.om_heap.specs.Heap.{word_of};
+ghost use Rattle.om_read.specs.Build.{building, fill as fill_next_of, WellOpen};
 
 use crate::value::Value;
 use om_heap::Heap;
@@ -10,12 +13,14 @@ use om_model::value::Val;
 use std::alloc::Global;
 use std::marker::Model;
 
-/// A block some of whose fields are still to come: the number of its object, its next field and how many it has.
+/// A block some of whose fields are still to come: the number of its object, its next field, how many it has, and the
+/// word that refers to it.
 #[derive(Clone, Copy)]
 pub struct OpenBlock {
     pub object: u64,
     pub next: u64,
     pub size: u64,
+    pub at: u64,
 }
 
 /// The objects so far, the open blocks, the innermost last, the root once it has come, and how many words on 64 bits
@@ -40,14 +45,44 @@ impl Model for Builder {
     ghost invariant = { λ b. heap_words b.heap ≤ b.room };
 }
 
+/// A value comes, whose word this is: it is the root, or the next field of the innermost open block.
+#[inline(always)]
+fn fill_next(
+    heap: &mut Heap,
+    open_blocks: &mut Vec<OpenBlock>,
+    root: &mut Option<Val>,
+    v: Val,
+    word: u64,
+)
+    requires well { WellOpen (building heap.old (reverse open_blocks.old.items) root.old) }
+    requires valid { IsValue (length heap.old) v }
+    requires word { word ≡ word_of heap.old v }
+    ensures fills { building heap.new (reverse open_blocks.new.items) root.new ≡ fill_next_of v heap.old (reverse open_blocks.old.items) root.old }
+    ensures len { vec_len open_blocks.new ≤ vec_len open_blocks.old }
+    ensures capacity { vec_capacity open_blocks.new ≡ vec_capacity open_blocks.old }
+{
+    let depth = open_blocks.len();
+    if depth == 0 {
+        *root = Some(v);
+        return;
+    }
+    let block = open_blocks[depth - 1];
+    heap.set_word_at(block.at, block.next, word);
+    if block.next + 1 == block.size {
+        open_blocks.truncate(depth - 1);
+    } else {
+        open_blocks[depth - 1].next = block.next + 1;
+    }
+}
+
 impl Builder {
     ghost use Rattle.om_format.specs.Token.{integer as integer_token, atom as atom_token, shared as shared_token, block as block_token, leaf};
     ghost use Rattle.om_model.specs.declared.value.Obj.TheVariants as objects;
     ghost use Rattle.om_heap.specs.Heap.{custom_object, heap_words};
     ghost use Rattle.om_model.specs.declared.code.Measure.TheVariants as measures;
     ghost use Rattle.om_format.specs.Token.{leaf_measure};
-    ghost use Rattle.om_read.specs.Build.{empty, in_room, fill_in, absorb_in, WellOpen, Fits};
-    ghost use Rattle.om_model.specs.Graph.{IsValue, IsInteger};
+    ghost use Rattle.om_read.specs.Build.{empty, in_room, fill_in, absorb_in, Fits};
+    ghost use Rattle.om_model.specs.Graph.{IsInteger};
 
     /// Nothing is built, and the objects may have so many words.
     pub fn new(alloc: Global, room: u64) -> Builder
@@ -78,29 +113,21 @@ impl Builder {
         self.room = room;
     }
 
-    /// The value comes: it is the root, or the next field of the innermost open block.
+    /// A value comes.
     #[inline(always)]
     fn fill(&mut self, v: Val)
         requires well { WellOpen self.old.built }
         requires valid { IsValue (length self.old.built.objects) v }
         ensures { self.new ≡ fill_in v self.old }
     {
-        let depth = self.open_blocks.len();
-        if depth == 0 {
-            self.root = Some(v);
-            return;
-        }
-        let block = self.open_blocks[depth - 1];
-        self.heap.set(block.object, block.next, v);
-        if block.next + 1 == block.size {
-            self.open_blocks.truncate(depth - 1);
-        } else {
-            self.open_blocks[depth - 1] = OpenBlock {
-                object: block.object,
-                next: block.next + 1,
-                size: block.size,
-            };
-        }
+        let word = self.heap.word(v);
+        fill_next(
+            &mut self.heap,
+            &mut self.open_blocks,
+            &mut self.root,
+            v,
+            word,
+        );
     }
 
     /// An integer.
@@ -146,14 +173,49 @@ impl Builder {
         ensures { OnOk result (self.new ≡ absorb_in self.old (block_token tag size)) }
     {
         let object = self.heap.add_block(tag, size)?;
+        let at = self.heap.word(Val::Ref(object));
         self.fill(Val::Ref(object));
         let block = OpenBlock {
             object,
             next: 0,
             size,
+            at,
         };
         self.open_blocks.push(block)?;
         Ok(())
+    }
+
+    /// The same, if no memory is needed for it.
+    #[inline(always)]
+    pub fn block_in_room(&mut self, tag: u8, size: u64) -> bool
+        requires well { WellOpen self.old.built }
+        requires range { tag ≤ 243 }
+        requires some { 0 < size }
+        requires small { size < 2 ^ 53 }
+        requires fits { Fits self.old (Some (measures.Block size)) }
+        ensures { MatchBool result (self.new ≡ absorb_in self.old (block_token tag size)) (self.new ≡ self.old) }
+    {
+        if self.open_blocks.len() == self.open_blocks.capacity() {
+            return false;
+        }
+        let object = self.heap.count();
+        let Some(at) = self.heap.add_block_in_room(tag, size) else {
+            return false;
+        };
+        fill_next(
+            &mut self.heap,
+            &mut self.open_blocks,
+            &mut self.root,
+            Val::Ref(object),
+            at,
+        );
+        self.open_blocks.push_reserved(OpenBlock {
+            object,
+            next: 0,
+            size,
+            at,
+        });
+        true
     }
 
     /// A string.
@@ -168,6 +230,28 @@ impl Builder {
         Ok(())
     }
 
+    /// The same, if no memory is needed for it.
+    #[inline(always)]
+    pub fn bytes_in_room(&mut self, content: &[u8]) -> bool
+        requires well { WellOpen self.old.built }
+        requires small { length content.now < 2 ^ 53 }
+        requires fits { Fits self.old (Some (measures.Bytes (length content.now))) }
+        ensures { MatchBool result (self.new ≡ absorb_in self.old (leaf (objects.Bytes content.now))) (self.new ≡ self.old) }
+    {
+        let object = self.heap.count();
+        let Some(at) = self.heap.add_bytes_in_room(content) else {
+            return false;
+        };
+        fill_next(
+            &mut self.heap,
+            &mut self.open_blocks,
+            &mut self.root,
+            Val::Ref(object),
+            at,
+        );
+        true
+    }
+
     /// A double.
     pub fn double(&mut self, bits: u64) -> Result<(), Memory>
         requires well { WellOpen self.old.built }
@@ -177,6 +261,27 @@ impl Builder {
         let object = self.heap.add_double(bits)?;
         self.fill(Val::Ref(object));
         Ok(())
+    }
+
+    /// The same, if no memory is needed for it.
+    #[inline(always)]
+    pub fn double_in_room(&mut self, bits: u64) -> bool
+        requires well { WellOpen self.old.built }
+        requires fits { Fits self.old (Some measures.Double) }
+        ensures { MatchBool result (self.new ≡ absorb_in self.old (leaf (objects.Double bits))) (self.new ≡ self.old) }
+    {
+        let object = self.heap.count();
+        let Some(at) = self.heap.add_double_in_room(bits) else {
+            return false;
+        };
+        fill_next(
+            &mut self.heap,
+            &mut self.open_blocks,
+            &mut self.root,
+            Val::Ref(object),
+            at,
+        );
+        true
     }
 
     /// An array of doubles.

@@ -1,6 +1,6 @@
 //! What a whole token adds to the graph (`intern.c`).
 
-ghost use Rattle.std.specs.Prelude.{◌≡◌, ◌≤◌, ◌<◌, ◌*◌, ◌/◌, ◌%◌, ◌^◌, ℕ, List, length, OnOk, Some};
+ghost use Rattle.std.specs.Prelude.{◌≡◌, ◌≤◌, ◌<◌, ◌*◌, ◌/◌, ◌%◌, ◌^◌, ℕ, List, length, OnOk, Some, MatchBool};
 ghost use Rattle.om_model.specs.declared.value.Obj.TheVariants as objects;
 ghost use Rattle.om_model.specs.Bytes.{number, SpellsDoubles};
 ghost use Rattle.om_format.specs.Code.{IsKind};
@@ -66,6 +66,44 @@ fn doubles(
 {
     let all = doubles_of(alloc, bytes, count as usize, little)?;
     builder.doubles(all)
+}
+
+/// The token of this kind, after whose code stands `rest`, comes, if it is one that may be common and no memory is
+/// needed for it.
+#[inline(always)]
+pub fn decode_in_room(builder: &mut Builder, kind: CodeKind, rest: &[u8]) -> bool
+    requires well { WellOpen builder.old.built }
+    requires known { IsKind kind }
+    requires small { length rest.now < 2 ^ 53 }
+    requires size { of_object fields (measure_after kind rest.now) < 2 ^ 53 }
+    requires fits { Fits builder.old (measure_after kind rest.now) }
+    requires spelled { SpellsTokenAfter kind rest.now (length builder.old.built.objects) }
+    ensures { MatchBool result ((t : Token) → SpellsAfter kind rest.now t → builder.new ≡ absorb_in builder.old t) (builder.new ≡ builder.old) }
+{
+    match kind {
+        CodeKind::SmallBlock(tag, size) => {
+            if size == 0 {
+                builder.atom(tag);
+                return true;
+            }
+            builder.block_in_room(tag, u64::from(size))
+        }
+        CodeKind::SmallInt(value) => {
+            builder.integer(i64::from(value));
+            true
+        }
+        CodeKind::SmallString(_) => builder.bytes_in_room(rest),
+        CodeKind::Int(_) => {
+            builder.integer(signed(rest));
+            true
+        }
+        CodeKind::Shared(_) => {
+            builder.shared(big_endian(rest));
+            true
+        }
+        CodeKind::Double(little) => builder.double_in_room(double(rest, little)),
+        _ => false,
+    }
 }
 
 /// The token of this kind, after whose code stands `rest`, comes.

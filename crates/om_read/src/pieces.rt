@@ -52,7 +52,7 @@ impl Pieces {
         requires leads { (limit : ℕ) × (taken : List ℕ) × LeadsPieces limit taken self.old }
         ensures { (limit : ℕ) (taken : List ℕ) → LeadsPieces limit taken self.old → Takes limit taken rest.now self.new result }
     {
-        let common = self.reading.take_common(alloc, rest)?;
+        let common = self.reading.take_common(rest);
         if common > 0 {
             return Ok(common);
         }

@@ -1,6 +1,6 @@
 //! The header and the tokens that were read whole, and what they build.
 
-ghost use Rattle.std.specs.Prelude.{◌≡◌, ◌≤◌, ◌++◌, ◌↔◌, ℕ, List, [], length, take, None, IsTrue, OnOk, IfOk};
+ghost use Rattle.std.specs.Prelude.{◌≡◌, ◌≤◌, ◌++◌, ◌↔◌, ℕ, List, [], length, take, None, IsTrue};
 
 use crate::build::Builder;
 use crate::common::take_common;
@@ -9,7 +9,6 @@ use crate::read::next_token;
 use crate::totals::Totals;
 use crate::unread::Unread;
 use om_heap::Heap;
-use om_model::Memory;
 use std::alloc::Global;
 
 /// The limit of words, the sums over the tokens once the header is whole, and what they build.
@@ -68,23 +67,23 @@ impl Reading {
         }
     }
 
-    /// Takes tokens after the header that surely pass: how many bytes they have. A last token does not, so it is left to
-    /// the judge at once.
-    pub fn take_common(&mut self, alloc: Global, bytes: &[u8]) -> Result<usize, Memory>
+    /// Takes tokens after the header that surely pass and need no memory: how many bytes they have. A last token does not,
+    /// so it is left to the judge at once.
+    pub fn take_common(&mut self, bytes: &[u8]) -> usize
         requires open { IsWhole self.old.totals → ⊥ }
         requires leads { (taken : List ℕ) × LeadsAs self.old.totals self.old.limit taken self.old.builder [] }
         ensures limit { self.new.limit ≡ self.old.limit }
-        ensures open { OnOk result (IsWhole self.new.totals → ⊥) }
+        ensures open { IsWhole self.new.totals → ⊥ }
         ensures takes { (taken : List ℕ) → LeadsAs self.old.totals self.old.limit taken self.old.builder [] →
-            IfOk result (λ n. (n ≤ length bytes.now) × LeadsAs self.new.totals self.old.limit (taken ++ take n bytes.now) self.new.builder []) }
+            (result ≤ length bytes.now) × LeadsAs self.new.totals self.old.limit (taken ++ take result bytes.now) self.new.builder [] }
     {
         let mut totals = match &self.totals {
             Some(totals) if totals.pending > 1 || opens_block(bytes) => *totals,
-            _ => return Ok(0),
+            _ => return 0,
         };
-        let n = take_common(alloc, &mut totals, &mut self.builder, bytes)?;
+        let n = take_common(&mut totals, &mut self.builder, bytes);
         self.totals = Some(totals);
-        Ok(n)
+        n
     }
 
     /// Reads the header, or after it the next token, where the bytes begin with all of it: how many bytes it has.

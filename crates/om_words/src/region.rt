@@ -1,6 +1,6 @@
 //! A region: words side by side in one block of memory.
 
-ghost use Rattle.std.specs.Prelude.{◌≡◌, ◌+◌, ◌-◌, ◌*◌, ◌^◌, ◌<◌, ◌≤◌, [], ◌∷◌, ◌++◌, length, take, replicate, slice_index, slice_set, slice_range, OnOk, OnErr};
+ghost use Rattle.std.specs.Prelude.{◌≡◌, ◌↔◌, ◌+◌, ◌-◌, ◌*◌, ◌^◌, ◌<◌, ◌≤◌, [], ◌∷◌, ◌++◌, length, take, replicate, slice_index, slice_set, slice_range, IsTrue, OnOk, OnErr};
 ghost use Rattle.std.specs.Borrow.{sem};
 ghost use Rattle.om_words.specs.Region.{capacity};
 
@@ -70,6 +70,14 @@ impl Region {
             return Ok(());
         }
         self.grow(n)
+    }
+
+    /// There is room for n more words.
+    #[inline(always)]
+    pub fn has_room(&self, n: usize) -> bool
+        ensures { IsTrue result ↔ (n ≤ self.now.spare) }
+    {
+        n <= self.cap - self.len
     }
 
     /// Takes memory for n more words.
@@ -191,7 +199,9 @@ mod tests {
     fn words_are_kept_and_lent(rt: HostRuntime) -> Result<(), Fail> {
         let mut region = Region::new(rt.alloc());
         assert_eq!(rt; region.len(), 0);
+        assert!(rt; !region.has_room(1));
         region.reserve(6)?;
+        assert!(rt; region.has_room(6));
         region.append_reserved(7);
         region.append_slice(&[8, 9]);
         region.append_run(3, 1);

@@ -36,21 +36,21 @@ passes c e =
 after_code : (c : After-advance) → take (fixed_bytes c.args.kind + variable_bytes c.args.kind (drop 1 c.args.bytes.now)) (drop 1 c.args.bytes.now) ≡ take c.in-Some.len c.skip-rest.result.now
 after_code c = ap (λ n. take n (drop 1 c.args.bytes.now)) (sym (len_is c)) ∙ ap (take c.in-Some.len) (sym c.skip-rest.ensures)
 
-pub decode-requires-clause-well : goal.decode-requires-clause-well
-decode-requires-clause-well c = built_well c.requires.leads.0 c.requires.leads.1 c.args.totals.now c.args.builder.now c.requires.leads.2
+pub decode_in_room-requires-clause-well : goal.decode_in_room-requires-clause-well
+decode_in_room-requires-clause-well c = built_well c.requires.leads.0 c.requires.leads.1 c.args.totals.now c.args.builder.now c.requires.leads.2
 
-pub decode-requires-clause-fits : goal.decode-requires-clause-fits
-decode-requires-clause-fits c =
-    let d = (goal.at.decode-requires-clause-fits c).After-advance in
+pub decode_in_room-requires-clause-fits : goal.decode_in_room-requires-clause-fits
+decode_in_room-requires-clause-fits c =
+    let d = (goal.at.decode_in_room-requires-clause-fits c).After-advance in
     let rest = c.skip-rest.result.now in
     let h = c.requires.leads in
     let fits = advance_fits h.0 h.1 c.args.totals.now c.advance.new.self c.args.builder.now (1 + c.in-Some.len) (measure_after c.args.kind rest) h.2 (advances d (search rules)).1 in
     let l : c.in-Some.len ≡ fixed_bytes c.args.kind + variable_bytes c.args.kind rest = search rules in
     subst (Fits c.args.builder.now) (sym (measure_after-take c.args.kind c.in-Some.len rest (omega (arith, fields_fit c.args.kind)))) fits
 
-pub decode-requires-clause-spelled : goal.decode-requires-clause-spelled
-decode-requires-clause-spelled c =
-    let d = (goal.at.decode-requires-clause-spelled c).After-advance in
+pub decode_in_room-requires-clause-spelled : goal.decode_in_room-requires-clause-spelled
+decode_in_room-requires-clause-spelled c =
+    let d = (goal.at.decode_in_room-requires-clause-spelled c).After-advance in
     let h = c.requires.leads in
     subst (λ xs. SpellsTokenAfter c.args.kind xs (length c.args.builder.now.built.objects)) (after_code d)
     (common_spelled h.0 h.1 c.args.totals.now c.advance.new.self c.args.builder.now c.args.builder.now c.args.bytes.now (are_bytes c.args.bytes.now c.type_inv.bytes) c.requires.some c.requires.«open» h.2
@@ -59,6 +59,6 @@ decode-requires-clause-spelled c =
 pub returns : goal.returns
 returns c = λ header before h.
     let d = (goal.at.returns c).After-advance in
-    let adds : (t : Token) → SpellsAfter c.args.kind (take c.in-Some.len c.skip-rest.result.now) t → c.decode.new.builder ≡ absorb_in c.args.builder.now t = search rules in
-    common_taken header before c.args.totals.now c.advance.new.self c.args.builder.now c.decode.new.builder c.args.bytes.now (are_bytes c.args.bytes.now c.type_inv.bytes) c.requires.some c.requires.«open» h
+    let adds : (t : Token) → SpellsAfter c.args.kind (take c.in-Some.len c.skip-rest.result.now) t → c.decode_in_room.new.builder ≡ absorb_in c.args.builder.now t = search rules in
+    common_taken header before c.args.totals.now c.advance.new.self c.args.builder.now c.decode_in_room.new.builder c.args.bytes.now (are_bytes c.args.bytes.now c.type_inv.bytes) c.requires.some c.requires.«open» h
     c.args.kind (1 + c.in-Some.len) (omega (arith, len_is d)) c.requires.kind (passes d (search rules)) (λ t s. adds t (subst (λ xs. SpellsAfter c.args.kind xs t) (after_code d) s))

@@ -7,11 +7,11 @@ pub returns-clause-open : goal.returns-clause-open
 returns-clause-open c = λ e.
     let self = c.args.self.now in
     let x = c.requires.leads in
-    let t = c.in_ok-n.ensures self.limit x.0 (subst (λ (o : Option Totals). LeadsAs o self.limit x.0 self.builder []) c.in-Some.is x.1) in
+    let t = c.take_common-n.ensures self.limit x.0 (subst (λ (o : Option Totals). LeadsAs o self.limit x.0 self.builder []) c.in-Some.is x.1) in
     absurd (omega (arith, t.1, e))
 
 pub returns-clause-takes : goal.returns-clause-takes
 returns-clause-takes c = λ taken h.
     let self = c.args.self.now in
-    let t = c.in_ok-n.ensures self.limit taken (subst (λ (o : Option Totals). LeadsAs o self.limit taken self.builder []) c.in-Some.is h) in
+    let t = c.take_common-n.ensures self.limit taken (subst (λ (o : Option Totals). LeadsAs o self.limit taken self.builder []) c.in-Some.is h) in
     (t.0, t.2)
