@@ -11,7 +11,7 @@ ghost use Rattle.om_heap.specs.Heap.{object_at, fields_of, bytes_of, doubles_of,
 ghost use Rattle.om_heap.specs.Words.{header_of, body_of};
 
 use crate::kind::Kind;
-use crate::objects::{append_copy, append_custom, begin, begin_in_room, body_in};
+use crate::objects::{append_copy, append_custom, append_fields, begin, begin_in_room, body_in};
 use crate::strings::{append_string, append_zeros, with_byte};
 use crate::words::{
     CUSTOM, DOUBLE, DOUBLES, STRING, header_word, integer_of_word, kind_of_words, word_of_integer,
@@ -101,7 +101,7 @@ impl Heap {
         }
         self.region
             .append_reserved(header_word(u64::from(tag), size));
-        self.region.append_run(size as usize, 1);
+        append_fields(&mut self.region, size as usize);
         Some(8 * place)
     }
 

@@ -1,6 +1,6 @@
 //! Objects as words of the region.
 
-ghost use Rattle.std.specs.Prelude.{◌≡◌, ◌+◌, ◌/◌, ◌<◌, ◌≤◌, ◌^◌, [], ◌∷◌, ◌++◌, length, take, drop, All, MatchResult, MatchBool, OnOk, slice_index, slice_range};
+ghost use Rattle.std.specs.Prelude.{◌≡◌, ◌+◌, ◌/◌, ◌<◌, ◌≤◌, ◌^◌, [], ◌∷◌, ◌++◌, length, take, drop, replicate, All, MatchResult, MatchBool, OnOk, slice_index, slice_range};
 ghost use Rattle.std.specs.Bool.{OnTrue};
 ghost use Rattle.om_heap.specs.Words.{custom_words};
 
@@ -37,6 +37,28 @@ pub fn begin_in_room(region: &Region, places: &mut Places, words: u64) -> bool
     ensures small { OnTrue result (length region.now.words + words < 2 ^ 60) }
 {
     region.has_room(words as usize) && places.push_in_room(region.len() as u64)
+}
+
+/// Appends the fields of a new block, which are 0.
+#[inline(always)]
+pub fn append_fields(region: &mut Region, size: usize)
+    requires { size ≤ region.old.spare }
+    ensures { region.new.words ≡ region.old.words ++ replicate size 1 }
+{
+    // Few fields need no loop.
+    match size {
+        1 => region.append_reserved(1),
+        2 => {
+            region.append_reserved(1);
+            region.append_reserved(1);
+        }
+        3 => {
+            region.append_reserved(1);
+            region.append_reserved(1);
+            region.append_reserved(1);
+        }
+        _ => region.append_run(size, 1),
+    }
 }
 
 /// Appends the words of a custom.

@@ -64,18 +64,16 @@ module _ (header : List ℕ) (before : List (List ℕ)) (place next : Totals) (s
 
 -- ---- one after another
 
-pub one_taken : (limit : ℕ) (taken bytes : List ℕ) (place next : Totals) (state state' : Bounded) (n : ℕ) → 0 < place.pending → LeadsAs (Some place) limit taken state [] → 0 < n
-    → ((header : List ℕ) (before : List (List ℕ)) → Builds header before place state → TakesOne header before bytes place state next state' n)
-    → TakesCommon limit taken bytes next state' n
+pub one_taken : (limit : ℕ) (taken bytes : List ℕ) (place next : Totals) (state state' : Bounded) (n : ℕ) → 0 < place.pending → (l : LeadsAs (Some place) limit taken state []) → 0 < n
+    → TakesOne l.0 l.1 bytes place state next state' n → TakesCommon limit taken bytes next state' n
 one_taken limit taken bytes place next state state' n is_open l some takes =
-    let m = (takes l.0 l.1 l.2.builds).1 some in
+    let m = takes.1 some in
     let r = token_is_read limit taken [] bytes l.0 l.1 place state l.2 is_open next state' m.2 in
     let e : next.taken - place.taken - 0 ≡ n = omega (arith, m.0) in
     (omega (arith, e, r.1), m.1, subst (λ k. LeadsAs (Some next) limit (taken ++ take k bytes) state' []) e r.2)
 
-pub one_more_taken : (limit : ℕ) (taken bytes : List ℕ) (place next : Totals) (state state' : Bounded) (a n : ℕ) → TakesCommon limit taken bytes place state a → 0 < n
-    → ((header : List ℕ) (before : List (List ℕ)) → Builds header before place state → TakesOne header before (take (length bytes - a) (drop a bytes)) place state next state' n)
-    → TakesCommon limit taken bytes next state' (a + n)
+pub one_more_taken : (limit : ℕ) (taken bytes : List ℕ) (place next : Totals) (state state' : Bounded) (a n : ℕ) → (t : TakesCommon limit taken bytes place state a) → 0 < n
+    → TakesOne t.2.0 t.2.1 (take (length bytes - a) (drop a bytes)) place state next state' n → TakesCommon limit taken bytes next state' (a + n)
 one_more_taken limit taken bytes place next state state' a n t some takes =
     let rest = take (length bytes - a) (drop a bytes) in
     let r = one_taken limit (taken ++ take a bytes) rest place next state state' n t.1 t.2 some takes in

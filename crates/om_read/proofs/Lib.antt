@@ -9,6 +9,7 @@ pub mod RoomLemmas
 pub mod StackLemmas
 pub mod AbsorbLemmas
 pub mod HeadLemmas
+pub mod LeftLemmas
 pub mod NextLemmas
 pub mod ReadingLemmas
 pub mod PiecesLemmas

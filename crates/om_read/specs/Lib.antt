@@ -2,6 +2,7 @@ pub mod Totals
 pub mod Progress
 pub mod Build
 pub mod Head
+pub mod Left
 pub mod Reading
 pub mod Contents
 pub mod Pieces

@@ -113,6 +113,14 @@ impl Builder {
         self.room = room;
     }
 
+    /// How many objects there are.
+    #[inline(always)]
+    pub fn count(&self) -> u64
+        ensures { result ≡ length self.now.built.objects }
+    {
+        self.heap.count()
+    }
+
     /// A value comes.
     #[inline(always)]
     fn fill(&mut self, v: Val)

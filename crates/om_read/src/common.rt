@@ -1,75 +1,139 @@
 //! Most tokens pass for sure, by few tests, and need no memory: they are taken here, one after another. What is in doubt is
 //! left to the judge.
 
-ghost use Rattle.std.specs.Prelude.{◌≡◌, ◌<◌, ℕ, List, [], length, slice_index, Some, Ok};
+ghost use Rattle.std.specs.Prelude.{◌≡◌, ◌≤◌, ◌<◌, ◌+◌, ℕ, List, [], length, slice_index, None, Some, Ok, IfSome, OnSome};
 ghost use Rattle.om_format.specs.Code.{kind_of, IsKind};
-ghost use Rattle.om_read.specs.Reading.{Builds, TakesOne};
+ghost use Rattle.om_format.specs.Raw.{fixed_bytes, variable_bytes};
+ghost use Rattle.om_format.specs.Step.{Context, field_refusal};
+ghost use Rattle.om_read.specs.declared.totals.Totals.{Totals};
+ghost use Rattle.om_read.specs.Totals.{IsPlain};
+ghost use Rattle.om_read.specs.Left.{Leaves, Stands, TakesLeft, TakesAll};
 ghost use Rattle.om_read.specs.Pieces.{LeadsAs, TakesCommon};
 
 use crate::build::Builder;
 use crate::decode::decode_in_room;
-use crate::token::measure_at;
+use crate::left::Left;
+use crate::token::{measure_at, number_at};
 use crate::totals::Totals;
 use om_codes::code_kind;
 use om_model::bytes::skip;
 use om_model::code::CodeKind;
 
-/// Takes the next token, which is of this kind, if it surely passes and needs no memory.
-#[tactic(auto, using(crate::proofs::SizeLemmas::measure_small, crate::proofs::SizeLemmas::few_words32, crate::proofs::SizeLemmas::few_words64))]
+/// How many bytes the token has after its code, if its kind is a common one, it is whole and its fields are sound: a
+/// reference goes back to one of so many objects, where the header states some.
 #[inline(always)]
-fn take_kind(totals: &mut Totals, builder: &mut Builder, kind: CodeKind, bytes: &[u8]) -> usize
+fn sound_len(stated: u64, objects: u64, kind: CodeKind, rest: &[u8]) -> Option<usize>
+    requires { IsKind kind }
+    ensures len { IfSome result (λ len. (len ≡ fixed_bytes kind + variable_bytes kind rest.now) × (len < 32) × (len ≤ length rest.now) × IsPlain kind) }
+    ensures sound { (c : Context) (code : ℕ) → c.head.objects ≡ stated → c.sums.objects ≡ objects → OnSome result (field_refusal c code kind rest.now ≡ None) }
+{
+    let len = match kind {
+        CodeKind::SmallBlock(_, _) | CodeKind::SmallInt(_) => 0,
+        CodeKind::SmallString(len) => usize::from(len),
+        CodeKind::Int(width) if width < 8 => usize::from(width),
+        CodeKind::Shared(width) => {
+            if rest.len() < usize::from(width) {
+                return None;
+            }
+            let offset = number_at(rest, width);
+            if offset == 0 || objects < offset || stated == 0 {
+                return None;
+            }
+            usize::from(width)
+        }
+        CodeKind::Double(_) => 8,
+        _ => return None,
+    };
+    if rest.len() < len {
+        return None;
+    }
+    Some(len)
+}
+
+/// Takes the next token, which is of this kind, if it surely passes and needs no memory.
+#[tactic(auto, using(crate::proofs::SizeLemmas::measure_small))]
+#[inline(always)]
+fn take_kind(
+    first: &Totals,
+    left: &mut Left,
+    builder: &mut Builder,
+    kind: CodeKind,
+    bytes: &[u8],
+) -> usize
     requires some { 0 < length bytes.now }
     requires kind { kind_of (slice_index bytes.now 0) ≡ Ok kind }
     requires known { IsKind kind }
-    requires open { 0 < totals.old.pending }
-    requires leads { (header : List ℕ) × (before : List (List ℕ)) × Builds header before totals.old builder.old }
-    ensures { (header : List ℕ) (before : List (List ℕ)) → Builds header before totals.old builder.old →
-        TakesOne header before bytes.now totals.old builder.old totals.new builder.new result }
+    requires open { 0 < left.old.pending }
+    requires stands { (n : ℕ) × (header : List ℕ) × (before : List (List ℕ)) × (place : Totals) × Stands first.now n header before place left.old builder.old }
+    ensures { (n : ℕ) (header : List ℕ) (before : List (List ℕ)) (place : Totals) → Stands first.now n header before place left.old builder.old →
+        TakesLeft first.now n header before bytes.now place left.old builder.old left.new builder.new result }
 {
     let rest = skip(bytes, 1);
-    let Some(len) = totals.sound_len(bytes[0], kind, rest) else {
+    let Some(len) = sound_len(first.head.objects, builder.count(), kind, rest) else {
         return 0;
     };
-    let mut next = *totals;
-    if !next.advance(1 + len as u64, measure_at(kind, rest)) {
+    let mut next = *left;
+    if !next.spend(1 + len as u64, measure_at(kind, rest)) {
         return 0;
     }
     if !decode_in_room(builder, kind, &rest[..len]) {
         return 0;
     }
-    *totals = next;
+    *left = next;
     1 + len
 }
 
 /// Takes the next token, if it surely passes and needs no memory: how many bytes it has, or 0.
 #[inline(always)]
-fn take_one(totals: &mut Totals, builder: &mut Builder, bytes: &[u8]) -> usize
+fn take_one(first: &Totals, left: &mut Left, builder: &mut Builder, bytes: &[u8]) -> usize
     requires some { 0 < length bytes.now }
-    requires open { 0 < totals.old.pending }
-    requires leads { (header : List ℕ) × (before : List (List ℕ)) × Builds header before totals.old builder.old }
-    ensures { (header : List ℕ) (before : List (List ℕ)) → Builds header before totals.old builder.old →
-        TakesOne header before bytes.now totals.old builder.old totals.new builder.new result }
+    requires open { 0 < left.old.pending }
+    requires stands { (n : ℕ) × (header : List ℕ) × (before : List (List ℕ)) × (place : Totals) × Stands first.now n header before place left.old builder.old }
+    ensures { (n : ℕ) (header : List ℕ) (before : List (List ℕ)) (place : Totals) → Stands first.now n header before place left.old builder.old →
+        TakesLeft first.now n header before bytes.now place left.old builder.old left.new builder.new result }
 {
     // The kinds that are named get code of their own.
     match code_kind(bytes[0]) {
         Ok(CodeKind::SmallBlock(tag, size)) => {
-            take_kind(totals, builder, CodeKind::SmallBlock(tag, size), bytes)
+            take_kind(first, left, builder, CodeKind::SmallBlock(tag, size), bytes)
         }
         Ok(CodeKind::SmallInt(value)) => {
-            take_kind(totals, builder, CodeKind::SmallInt(value), bytes)
+            take_kind(first, left, builder, CodeKind::SmallInt(value), bytes)
         }
         Ok(CodeKind::SmallString(len)) => {
-            take_kind(totals, builder, CodeKind::SmallString(len), bytes)
+            take_kind(first, left, builder, CodeKind::SmallString(len), bytes)
         }
-        Ok(CodeKind::Int(1)) => take_kind(totals, builder, CodeKind::Int(1), bytes),
-        Ok(CodeKind::Int(2)) => take_kind(totals, builder, CodeKind::Int(2), bytes),
-        Ok(CodeKind::Int(4)) => take_kind(totals, builder, CodeKind::Int(4), bytes),
-        Ok(CodeKind::Shared(1)) => take_kind(totals, builder, CodeKind::Shared(1), bytes),
-        Ok(CodeKind::Shared(2)) => take_kind(totals, builder, CodeKind::Shared(2), bytes),
-        Ok(CodeKind::Shared(4)) => take_kind(totals, builder, CodeKind::Shared(4), bytes),
-        Ok(CodeKind::Double(true)) => take_kind(totals, builder, CodeKind::Double(true), bytes),
+        Ok(CodeKind::Int(1)) => take_kind(first, left, builder, CodeKind::Int(1), bytes),
+        Ok(CodeKind::Int(2)) => take_kind(first, left, builder, CodeKind::Int(2), bytes),
+        Ok(CodeKind::Int(4)) => take_kind(first, left, builder, CodeKind::Int(4), bytes),
+        Ok(CodeKind::Shared(1)) => take_kind(first, left, builder, CodeKind::Shared(1), bytes),
+        Ok(CodeKind::Shared(2)) => take_kind(first, left, builder, CodeKind::Shared(2), bytes),
+        Ok(CodeKind::Shared(4)) => take_kind(first, left, builder, CodeKind::Shared(4), bytes),
+        Ok(CodeKind::Double(true)) => {
+            take_kind(first, left, builder, CodeKind::Double(true), bytes)
+        }
         _ => 0,
     }
+}
+
+/// Takes tokens that surely pass and need no memory: how many bytes they have.
+#[inline(always)]
+fn take_all(first: &Totals, left: &mut Left, builder: &mut Builder, bytes: &[u8]) -> usize
+    requires open { 0 < first.now.pending }
+    requires leaves { Leaves first.now 0 first.now left.old }
+    requires leads { (limit : ℕ) × (taken : List ℕ) × LeadsAs (Some first.now) limit taken builder.old [] }
+    ensures { (limit : ℕ) (taken : List ℕ) → LeadsAs (Some first.now) limit taken builder.old [] →
+        TakesAll first.now 0 limit taken bytes.now left.new builder.new result }
+{
+    let mut at = 0;
+    while at < bytes.len() {
+        let n = take_one(first, left, builder, &bytes[at..]);
+        if n == 0 {
+            return at;
+        }
+        at += n;
+    }
+    at
 }
 
 /// Takes tokens that surely pass and need no memory: how many bytes they have.
@@ -79,16 +143,9 @@ pub fn take_common(totals: &mut Totals, builder: &mut Builder, bytes: &[u8]) -> 
     ensures { (limit : ℕ) (taken : List ℕ) → LeadsAs (Some totals.old) limit taken builder.old [] →
         TakesCommon limit taken bytes.now totals.new builder.new result }
 {
-    let mut now = *totals;
-    let mut at = 0;
-    while at < bytes.len() {
-        let n = take_one(&mut now, builder, &bytes[at..]);
-        if n == 0 {
-            *totals = now;
-            return at;
-        }
-        at += n;
-    }
-    *totals = now;
-    at
+    let first = *totals;
+    let mut left = Left::at(&first);
+    let n = take_all(&first, &mut left, builder, bytes);
+    *totals = left.place(&first, n as u64, builder.count());
+    n
 }

@@ -6,6 +6,7 @@ mod common;
 mod content;
 mod decode;
 mod head;
+mod left;
 mod pieces;
 mod read;
 mod reader;

@@ -1,6 +1,6 @@
 //! Where a token stands, and the steps that compare it with what came before.
 
-ghost use Rattle.std.specs.Prelude.{◌≡◌, ◌≤◌, ◌<◌, ◌+◌, ◌-◌, ◌*◌, ◌^◌, [], length, take, slice_index, None, OnOk, IfOk, IfSome, ◌≢◌, false, nat_lt, Option, ℕ, ◌==◌, if◌then◌else◌};
+ghost use Rattle.std.specs.Prelude.{◌≡◌, ◌≤◌, ◌<◌, ◌+◌, ◌-◌, ◌*◌, ◌^◌, [], length, take, slice_index, None, OnOk, IfOk, ◌≢◌, false, nat_lt, Option, ℕ, ◌==◌, if◌then◌else◌};
 ghost use Rattle.std.specs.Option.{ForSome};
 
 use crate::token::{
@@ -335,59 +335,6 @@ impl Totals {
             CodeFault::PointerCode => ReadRefusal::PointerCode(self.at(), code),
             CodeFault::CustomLen => ReadRefusal::OtherCustom(self.at(), code),
         }
-    }
-
-    /// How many bytes the token has after its code, if its kind is a common one, it is whole and its fields are sound.
-    pub fn sound_len(&self, code: u8, kind: CodeKind, rest: &[u8]) -> Option<usize>
-        requires { IsKind kind }
-        ensures { IfSome result (λ len. (len ≡ fixed_bytes kind + variable_bytes kind rest.now) × (len < 32) × (len ≤ length rest.now) × IsPlain kind
-            × (refusal_of_fields (context_of self.now) code kind rest.now ≡ None)) }
-    {
-        let len = match kind {
-            CodeKind::SmallBlock(_, _) | CodeKind::SmallInt(_) => 0,
-            CodeKind::SmallString(len) => usize::from(len),
-            CodeKind::Int(width) if width < 8 => usize::from(width),
-            CodeKind::Shared(width) => usize::from(width),
-            CodeKind::Double(_) => 8,
-            _ => return None,
-        };
-        if rest.len() < len || self.field_refusal(code, kind, rest).is_some() {
-            return None;
-        }
-        Some(len)
-    }
-
-    /// Goes on after a token of `n` bytes whose object has this measure, if it fits and is not the last.
-    pub fn advance(&mut self, n: u64, measure: Option<Measure>) -> bool
-        requires open { 0 < self.old.pending }
-        requires some { 0 < n }
-        requires short { n < 2 ^ 32 }
-        requires small { of_object fields_of measure < 2 ^ 60 }
-        requires countable { ForSome measure IsCountable }
-        requires few32 { AreFew words32 measure n }
-        requires few64 { AreFew words64 measure n }
-        ensures { Advances self.old n measure self.new result }
-    {
-        let taken = self.taken + n;
-        let pending = self.pending_after(measure);
-        let objects = self.objects_after(measure);
-        let (w32, w64) = self.words_after(measure);
-        if pending == 0 || self.head.length < taken + pending || self.head.w64 < w64 {
-            return false;
-        }
-        if !self.head.big && self.head.w32 < w32 {
-            return false;
-        }
-        *self = Totals {
-            head: self.head,
-            start: self.start,
-            taken,
-            objects,
-            pending,
-            w32,
-            w64,
-        };
-        true
     }
 
     /// Judges the next token, by all the bytes that are there: the place after it, once it is whole and passes.

@@ -1,39 +1,30 @@
-use Rattle.std.proofs.Common.{rules, ℕ, List, [], Some, ◌+◌, ◌<◌, ◌^◌, length, arith, sym, subst₂}
+use Rattle.std.proofs.Common.{ℕ, List, [], Some, ◌≡◌, ◌+◌, ◌++◌, take, arith, sym, subst, ◌∙◌}
 use Rattle.om_read.specs.declared.totals.Totals.{Totals}
-use Rattle.om_read.specs.Build.{Bounded}
 use Rattle.om_read.specs.Pieces.{LeadsAs, TakesCommon}
-use Rattle.om_read.proofs.CommonLemmas.{one_more_taken}
+use Rattle.om_read.specs.Left.{Leaves, TakesAll}
+use Rattle.om_read.proofs.LeftLemmas.{same_place}
+use Rattle.om_read.proofs.NextLemmas.{objects_built}
 use Rattle.om_read.proofs.common.take_common.Goals as goal
-use Rattle.om_read.proofs.common.take_common.Goals.{After-take_one-n}
+use Rattle.om_read.proofs.common.take_common.Goals.{After-count}
 
-pub take_one-n-requires-clause-open : goal.take_one-n-requires-clause-open
-take_one-n-requires-clause-open c = let l = c.requires.leads in (c.loop-at.invariant l.0 l.1 l.2).1
+-- the place that is reached
+reached : (c : After-count) (limit : ℕ) (taken : List ℕ) → LeadsAs (Some c.args.totals.now) limit taken c.args.builder.now []
+    → (place : Totals) × Leaves c.args.totals.now c.take_all-n.result place c.take_all-n.new.left × (c.count.result ≡ place.objects)
+    × TakesCommon limit taken c.args.bytes.now place c.take_all-n.new.builder c.take_all-n.result
+reached c limit taken h =
+    let t = c.take_all-n.ensures limit taken h in
+    let w = t.2.2 in
+    let leaves = subst (λ k. Leaves c.args.totals.now k t.0 c.take_all-n.new.left) (omega arith) t.1 in
+    (t.0, leaves, c.count.ensures ∙ objects_built w.0 w.1 t.0 c.take_all-n.new.builder w.2.builds ∙ w.2.builds.sums.objects, t.2)
 
-pub take_one-n-requires-clause-leads : goal.take_one-n-requires-clause-leads
-take_one-n-requires-clause-leads c =
+pub place-requires : goal.place-requires
+place-requires c =
     let l = c.requires.leads in
-    let t = (c.loop-at.invariant l.0 l.1 l.2).2 in
-    (t.0, t.1, t.2.builds)
+    let r = reached (goal.at.place-requires c).After-count l.0 l.1 l.2 in
+    (r.0, r.1, r.2)
 
-pub returns-then-n-eq0 : goal.returns-then-n-eq0
-returns-then-n-eq0 c = λ limit taken h.
-    let t = c.loop-at.invariant limit taken h in
-    let same = (c.take_one-n.ensures t.2.0 t.2.1 t.2.2.builds).0 c.if-n-eq0.true in
-    subst₂ (λ (place : Totals) (state : Bounded). TakesCommon limit taken c.args.bytes.now place state c.loop-at.at) (sym same.0) (sym same.1) t
-
--- one token more
-moved : (c : After-take_one-n) → 0 < c.take_one-n.result → (limit : ℕ) (taken : List ℕ) → LeadsAs (Some c.args.totals.now) limit taken c.args.builder.now []
-    → TakesCommon limit taken c.args.bytes.now c.take_one-n.new.totals c.take_one-n.new.builder (c.loop-at.at + c.take_one-n.result)
-moved c some limit taken h =
-    one_more_taken limit taken c.args.bytes.now c.loop-at.now c.take_one-n.new.totals c.loop-at.builder c.take_one-n.new.builder c.loop-at.at c.take_one-n.result
-    (c.loop-at.invariant limit taken h) some c.take_one-n.ensures
-
-pub overflow_add-at : goal.overflow_add-at
-overflow_add-at c =
-    let l = c.requires.leads in
-    let m = moved (goal.at.overflow_add-at c).After-take_one-n (omega arith) l.0 l.1 l.2 in
-    let short : length c.args.bytes.now < 2 ^ 64 = search rules in
-    omega (arith, m.0)
-
-pub loop-at-preserved : goal.loop-at-preserved
-loop-at-preserved c = λ limit taken h. moved (goal.at.loop-at-preserved c).After-take_one-n (omega arith) limit taken h
+pub returns : goal.returns
+returns c = λ limit taken h.
+    let r = reached (goal.at.returns c).After-count limit taken h in
+    let same = c.place.ensures r.0 r.1 r.2 in
+    (r.3.0, omega (arith, r.3.1, same.pending), same_place limit (taken ++ take c.take_all-n.result c.args.bytes.now) r.0 c.place.result c.take_all-n.new.builder same r.3.2)

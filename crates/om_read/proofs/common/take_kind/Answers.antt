@@ -1,64 +1,94 @@
-use Rattle.std.proofs.Common.{rules, ◌≡◌, ◌≢◌, ◌+◌, ◌≤◌, None, true, length, take, drop, get_or, sym, subst, ap, ◌∙◌, arith, refl}
+use Rattle.std.proofs.Common.{rules, ◌≡◌, ◌≢◌, ℕ, ◌+◌, ◌≤◌, ◌<◌, List, None, true, length, take, drop, get_or, sym, subst, ap, ◌∙◌, arith, refl}
 use Rattle.om_model.specs.declared.code.CodeKind.TheVariants as kinds
+use Rattle.om_model.specs.declared.header.Head.{Head}
 use Rattle.om_model.proofs.Numbers.{are_bytes}
 use Rattle.om_format.specs.Raw.{fixed_bytes, variable_bytes, measure_after}
+use Rattle.om_format.specs.Words.{words32, words64}
 use Rattle.om_format.specs.Step.{field_refusal}
 use Rattle.om_format.specs.Token.{Token, SpellsAfter}
 use Rattle.om_format.proofs.RawLemmas.{fields_fit, measure_after-take}
-use Rattle.om_read.specs.Totals.{PassesTo, Advances, context_of, IsPlain}
+use Rattle.om_read.specs.declared.totals.Totals.{Totals}
+use Rattle.om_read.specs.Totals.{PassesTo, Advances, AreFew, context_of, IsPlain}
 use Rattle.om_read.specs.Build.{Fits, absorb_in}
+use Rattle.om_read.specs.Left.{Leaves, Stands, Spends}
 use Rattle.om_read.specs.Contents.{SpellsTokenAfter}
-use Rattle.om_read.proofs.NextLemmas.{built_well}
+use Rattle.om_read.proofs.SizeLemmas.{few_words32, few_words64}
+use Rattle.om_read.proofs.LeftLemmas.{goes_on}
+use Rattle.om_read.proofs.NextLemmas.{built_well, objects_built}
 use Rattle.om_read.proofs.CommonLemmas.{advance_fits, common_taken, common_spelled, passes_from}
 use Rattle.om_read.proofs.common.take_kind.Goals as goal
-use Rattle.om_read.proofs.common.take_kind.Goals.{After-advance}
+use Rattle.om_read.proofs.common.take_kind.Goals.{After-spend}
 
 -- the length, by the bytes after the code
-len_is : (c : After-advance) → c.in-Some.len ≡ fixed_bytes c.args.kind + variable_bytes c.args.kind (drop 1 c.args.bytes.now)
+len_is : (c : After-spend) → c.in-Some.len ≡ fixed_bytes c.args.kind + variable_bytes c.args.kind (drop 1 c.args.bytes.now)
 len_is c = let e : c.in-Some.len ≡ fixed_bytes c.args.kind + variable_bytes c.args.kind c.skip-rest.result.now = search rules in
     subst (λ rest. c.in-Some.len ≡ fixed_bytes c.args.kind + variable_bytes c.args.kind rest) c.skip-rest.ensures e
 
-advances : (c : After-advance) → c.advance.result ≡ true → Advances c.args.totals.now (1 + c.in-Some.len) (measure_after c.args.kind c.skip-rest.result.now) c.advance.new.self true
-advances c e = search rules
+-- the place goes on
+moved : (c : After-spend) → c.spend.result ≡ true → (n : ℕ) (header : List ℕ) (before : List (List ℕ)) (place : Totals) → Stands c.args.first.now n header before place c.args.left.now c.args.builder.now
+    → (next : Totals) × Leaves c.args.first.now (n + (1 + c.in-Some.len)) next c.spend.new.self × Advances place (1 + c.in-Some.len) (measure_after c.args.kind c.skip-rest.result.now) next true
+moved c e n header before place h =
+    let rest = c.skip-rest.result.now in
+    let l : 1 + fixed_bytes c.args.kind + variable_bytes c.args.kind rest ≡ 1 + c.in-Some.len = omega (arith, c.in-Some.ensures.len) in
+    let spends : Spends c.args.left.now (1 + c.in-Some.len) (measure_after c.args.kind rest) c.spend.new.self = search rules in
+    goes_on c.args.first.now place n (1 + c.in-Some.len) c.args.left.now c.spend.new.self (measure_after c.args.kind rest) h.leaves c.requires.«open» (omega arith) spends
+    (subst (AreFew words32 (measure_after c.args.kind rest)) l (few_words32 c.args.kind rest))
+    (subst (AreFew words64 (measure_after c.args.kind rest)) l (few_words64 c.args.kind rest))
 
 -- the token passes
-passes : (c : After-advance) → c.advance.result ≡ true → PassesTo c.args.totals.now (get_or c.args.bytes.now 0 0) c.args.kind (drop 1 c.args.bytes.now) c.advance.new.self
-passes c e =
+passes : (c : After-spend) → (n : ℕ) (header : List ℕ) (before : List (List ℕ)) (place next : Totals) → Stands c.args.first.now n header before place c.args.left.now c.args.builder.now
+    → Advances place (1 + c.in-Some.len) (measure_after c.args.kind c.skip-rest.result.now) next true → PassesTo place (get_or c.args.bytes.now 0 0) c.args.kind (drop 1 c.args.bytes.now) next
+passes c n header before place next h advances =
     let rest = c.skip-rest.result.now in
     let l : c.in-Some.len ≡ fixed_bytes c.args.kind + variable_bytes c.args.kind rest = search rules in
     let within : c.in-Some.len ≤ length rest = search rules in
     let plain : IsPlain c.args.kind = search rules in
-    let sound : field_refusal (context_of c.args.totals.now) (get_or c.args.bytes.now 0 0) c.args.kind rest ≡ None = search rules in
-    subst (λ r. PassesTo c.args.totals.now (get_or c.args.bytes.now 0 0) c.args.kind r c.advance.new.self) c.skip-rest.ensures
-    (passes_from c.args.totals.now c.advance.new.self (get_or c.args.bytes.now 0 0) c.args.kind rest c.in-Some.len (measure_after c.args.kind rest) l within plain sound refl (advances c e))
+    let stated = ap (λ (t : Head). t.objects) h.leaves.head in
+    let many : place.objects ≡ c.count.result = sym (c.count.ensures ∙ objects_built header before place c.args.builder.now h.builds ∙ h.builds.sums.objects) in
+    let sound : field_refusal (context_of place) (get_or c.args.bytes.now 0 0) c.args.kind rest ≡ None = c.in-Some.ensures.sound (context_of place) (get_or c.args.bytes.now 0 0) stated many in
+    subst (λ r. PassesTo place (get_or c.args.bytes.now 0 0) c.args.kind r next) c.skip-rest.ensures
+    (passes_from place next (get_or c.args.bytes.now 0 0) c.args.kind rest c.in-Some.len (measure_after c.args.kind rest) l within plain sound refl advances)
 
 -- the bytes after its code
-after_code : (c : After-advance) → take (fixed_bytes c.args.kind + variable_bytes c.args.kind (drop 1 c.args.bytes.now)) (drop 1 c.args.bytes.now) ≡ take c.in-Some.len c.skip-rest.result.now
+after_code : (c : After-spend) → take (fixed_bytes c.args.kind + variable_bytes c.args.kind (drop 1 c.args.bytes.now)) (drop 1 c.args.bytes.now) ≡ take c.in-Some.len c.skip-rest.result.now
 after_code c = ap (λ n. take n (drop 1 c.args.bytes.now)) (sym (len_is c)) ∙ ap (take c.in-Some.len) (sym c.skip-rest.ensures)
 
 pub decode_in_room-requires-clause-well : goal.decode_in_room-requires-clause-well
-decode_in_room-requires-clause-well c = built_well c.requires.leads.0 c.requires.leads.1 c.args.totals.now c.args.builder.now c.requires.leads.2
+decode_in_room-requires-clause-well c =
+    let r = c.requires.stands in
+    built_well r.1 r.2 r.3 c.args.builder.now r.4.builds
 
 pub decode_in_room-requires-clause-fits : goal.decode_in_room-requires-clause-fits
 decode_in_room-requires-clause-fits c =
-    let d = (goal.at.decode_in_room-requires-clause-fits c).After-advance in
+    let d = (goal.at.decode_in_room-requires-clause-fits c).After-spend in
     let rest = c.skip-rest.result.now in
-    let h = c.requires.leads in
-    let fits = advance_fits h.0 h.1 c.args.totals.now c.advance.new.self c.args.builder.now (1 + c.in-Some.len) (measure_after c.args.kind rest) h.2 (advances d (search rules)).1 in
+    let r = c.requires.stands in
+    let m = moved d (search rules) r.0 r.1 r.2 r.3 r.4 in
+    let fits = advance_fits r.1 r.2 r.3 m.0 c.args.builder.now (1 + c.in-Some.len) (measure_after c.args.kind rest) r.4.builds m.2.1 in
     let l : c.in-Some.len ≡ fixed_bytes c.args.kind + variable_bytes c.args.kind rest = search rules in
     subst (Fits c.args.builder.now) (sym (measure_after-take c.args.kind c.in-Some.len rest (omega (arith, fields_fit c.args.kind)))) fits
 
 pub decode_in_room-requires-clause-spelled : goal.decode_in_room-requires-clause-spelled
 decode_in_room-requires-clause-spelled c =
-    let d = (goal.at.decode_in_room-requires-clause-spelled c).After-advance in
-    let h = c.requires.leads in
+    let d = (goal.at.decode_in_room-requires-clause-spelled c).After-spend in
+    let r = c.requires.stands in
+    let m = moved d (search rules) r.0 r.1 r.2 r.3 r.4 in
+    let is_open : 0 < r.3.pending = omega (arith, r.4.leaves.pending) in
     subst (λ xs. SpellsTokenAfter c.args.kind xs (length c.args.builder.now.built.objects)) (after_code d)
-    (common_spelled h.0 h.1 c.args.totals.now c.advance.new.self c.args.builder.now c.args.builder.now c.args.bytes.now (are_bytes c.args.bytes.now c.type_inv.bytes) c.requires.some c.requires.«open» h.2
-    c.args.kind c.requires.kind (passes d (search rules)))
+    (common_spelled r.1 r.2 r.3 m.0 c.args.builder.now c.args.builder.now c.args.bytes.now (are_bytes c.args.bytes.now c.type_inv.bytes) c.requires.some is_open r.4.builds
+    c.args.kind c.requires.kind (passes d r.0 r.1 r.2 r.3 m.0 r.4 m.2))
 
 pub returns : goal.returns
-returns c = λ header before h.
-    let d = (goal.at.returns c).After-advance in
-    let adds : (t : Token) → SpellsAfter c.args.kind (take c.in-Some.len c.skip-rest.result.now) t → c.decode_in_room.new.builder ≡ absorb_in c.args.builder.now t = search rules in
-    common_taken header before c.args.totals.now c.advance.new.self c.args.builder.now c.decode_in_room.new.builder c.args.bytes.now (are_bytes c.args.bytes.now c.type_inv.bytes) c.requires.some c.requires.«open» h
-    c.args.kind (1 + c.in-Some.len) (omega (arith, len_is d)) c.requires.kind (passes d (search rules)) (λ t s. adds t (subst (λ xs. SpellsAfter c.args.kind xs t) (after_code d) s))
+returns c = λ n header before place h.
+    let d = (goal.at.returns c).After-spend in
+    let m = moved d (search rules) n header before place h in
+    let is_open : 0 < place.pending = omega (arith, h.leaves.pending) in
+    let adds : (t : Token) → SpellsAfter c.args.kind (take c.in-Some.len c.skip-rest.result.now) t → c.decode_in_room.new.builder ≡ absorb_in c.args.builder.now t = search rules in (
+      λ none. absurd (omega arith),
+      λ some. (
+        m.0,
+        m.1,
+        common_taken header before place m.0 c.args.builder.now c.decode_in_room.new.builder c.args.bytes.now (are_bytes c.args.bytes.now c.type_inv.bytes) c.requires.some is_open h.builds
+            c.args.kind (1 + c.in-Some.len) (omega (arith, len_is d)) c.requires.kind (passes d n header before place m.0 h m.2) (λ t s. adds t (subst (λ xs. SpellsAfter c.args.kind xs t) (after_code d) s)),
+      ),
+    )

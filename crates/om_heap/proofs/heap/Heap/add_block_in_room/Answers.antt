@@ -14,10 +14,10 @@ use Rattle.om_heap.proofs.heap.Heap.add_block_in_room.Goals as goal
 pub begin_in_room-requires : goal.begin_in_room-requires
 begin_in_room-requires c = places_below _ _ _ (held _ _ _ c.self.invariant c.self.view_is)
 
-made_here : (c : goal.After-append_run) → IsStored c.append_run.new.self.words c.begin_in_room.new.places × (decode c.append_run.new.self.words c.begin_in_room.new.places ≡ c.args.self.now ++ objects.Block c.args.tag (replicate c.args.size (vals.Int (pos 0))) ∷ [])
+made_here : (c : goal.After-append_fields) → IsStored c.append_fields.new.region.words c.begin_in_room.new.places × (decode c.append_fields.new.region.words c.begin_in_room.new.places ≡ c.args.self.now ++ objects.Block c.args.tag (replicate c.args.size (vals.Int (pos 0))) ∷ [])
 made_here c =
     let begun = c.if-not-begin_in_room.ensures in
-    made _ _ c.args.self.now c.self.invariant c.self.view_is c.self.inside.region.words _ _ _ _ _ _ _ (IsNew-block (length c.args.self.now) _ c.args.tag c.args.size c.requires.tag c.requires.nonempty c.requires.small) begun.small refl c.append_reserved.ensures.words (c.header_word.ensures ∙ ap (λ (t : ℕ). header t c.args.size) c.from.ensures) c.append_run.ensures.words begun.places
+    made _ _ c.args.self.now c.self.invariant c.self.view_is c.self.inside.region.words _ _ _ _ _ _ _ (IsNew-block (length c.args.self.now) _ c.args.tag c.args.size c.requires.tag c.requires.nonempty c.requires.small) begun.small refl c.append_reserved.ensures.words (c.header_word.ensures ∙ ap (λ (t : ℕ). header t c.args.size) c.from.ensures) c.append_fields.ensures begun.places
 
 pub invariant_of-self-2 : goal.invariant_of-self-2
 invariant_of-self-2 c = (made_here c).0

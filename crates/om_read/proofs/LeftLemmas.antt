@@ -1,0 +1,89 @@
+-- What is left for tokens that surely pass.
+use Rattle.std.proofs.Common.{ℕ, ◌≡◌, ◌+◌, ◌-◌, ◌^◌, ◌<◌, ◌≤◌, List, [], true, false, cond, Option, Some, None, arith, refl, ap, sym, subst, ◌∙◌}
+use Rattle.om_model.specs.declared.header.Head.{Head}
+use Rattle.om_model.specs.declared.code.Measure.{Measure}
+use Rattle.om_format.specs.Words.{of_object, fields, words32, words64}
+use Rattle.om_format.specs.Step.{Context}
+use Rattle.om_format.specs.Front.{context}
+use Rattle.om_read.specs.declared.totals.Totals.{Totals}
+use Rattle.om_read.specs.declared.left.Left.{Left}
+use Rattle.om_read.specs.Totals.{AreTotals, AreFew, Advances, context_of, moved}
+use Rattle.om_read.specs.Build.{Bounded}
+use Rattle.om_read.specs.Reading.{Builds}
+use Rattle.om_read.specs.Pieces.{LeadsAs, TakesCommon}
+use Rattle.om_read.specs.Left.{Leaves, Spends, Stands, limit_of}
+use Rattle.om_read.proofs.TotalsLemmas.{totals_are}
+
+-- a token makes one object at most
+one_object : (measure : Option Measure) → of_object (λ _. 1) measure ≤ 1
+one_object None = omega arith
+one_object (Some m) = omega arith
+
+limit_small : (head : Head) → head.big ≡ false → limit_of head ≡ head.w32
+limit_small head e = ap (λ b. cond b (2 ^ 62) head.w32) e
+
+-- what is spent is that by which the place goes on
+module _ (first place : Totals) (n k : ℕ) (left left' : Left) (measure : Option Measure) (leaves : Leaves first n place left) (is_open : 0 < left.pending) (some : 0 < k) (spends : Spends left k measure left')
+    (few32 : AreFew words32 measure k) (few64 : AreFew words64 measure k) where
+  next_place : Totals
+  next_place = record {
+    head = place.head;
+    start = place.start;
+    taken = place.taken + k;
+    objects = place.objects + of_object (λ _. 1) measure;
+    pending = place.pending - 1 + of_object fields measure;
+    w32 = place.w32 + of_object words32 measure;
+    w64 = place.w64 + of_object words64 measure;
+    begins = place.begins;
+    short = place.short;
+    room = omega (arith, leaves.slack, leaves.pending, spends.slack);
+    few = omega (arith, place.few, one_object measure);
+    words32 = omega (arith, place.words32, few32, leaves.pending);
+    words64 = omega (arith, place.words64, few64, leaves.pending);
+    within32 = λ e. omega (arith, leaves.w32, spends.w32, limit_small place.head e);
+    within64 = omega (arith, leaves.w64, spends.w64);
+  }
+
+  pub goes_on : (next : Totals) × Leaves first (n + k) next left' × Advances place k measure next true
+  unfolding next_place
+  goes_on = (
+    next_place,
+    record {
+      head = leaves.head;
+      start = leaves.start;
+      taken = omega (arith, leaves.taken);
+      slack = omega (arith, leaves.slack, leaves.pending, spends.slack);
+      pending = omega (arith, leaves.pending, spends.pending);
+      w32 = omega (arith, leaves.w32, spends.w32);
+      w64 = omega (arith, leaves.w64, spends.w64);
+    },
+    (
+      omega (arith, leaves.pending, spends.pending, spends.more),
+      record { head = refl; start = refl; taken = refl; objects = refl; pending = refl; w32 = refl; w64 = refl },
+    ),
+  )
+
+-- a place with the same numbers serves as well
+pub same_place : (limit : ℕ) (taken : List ℕ) (place place' : Totals) (state : Bounded) → AreTotals place' (context_of place) → LeadsAs (Some place) limit taken state [] → LeadsAs (Some place') limit taken state []
+same_place limit taken place place' state same l =
+    let h = l.2 in
+    let sums : AreTotals place' (context l.0 l.1) = subst (AreTotals place') (sym (totals_are place (context l.0 l.1) h.builds.sums)) same in (
+      l.0,
+      l.1,
+      record {
+        bytes_are = h.bytes_are;
+        header_passes = h.header_passes;
+        tokens_pass = h.tokens_pass;
+        builds = record {
+          tokens = h.builds.tokens;
+          sums = sums;
+          spells = h.builds.spells;
+          are_tokens = h.builds.are_tokens;
+          builds = h.builds.builds;
+          room = h.builds.room ∙ ap (λ (x : Head). x.w64) same.head;
+        };
+        is_part = h.is_part;
+        passes = h.passes;
+        ends = λ _. refl;
+      },
+    )

@@ -1,0 +1,11 @@
+use Rattle.std.proofs.Common.{ℕ, List, [], Some, ◌-◌, length}
+use Rattle.om_read.specs.Pieces.{LeadsAs}
+use Rattle.om_read.specs.Left.{TakesAll}
+use Rattle.om_read.proofs.common.take_all.Given as goal
+
+-- what led to the first place leads on with the tokens that were taken
+abbrev pub invariant-loop-at : goal.invariant-loop-at
+invariant-loop-at l = (limit : ℕ) (taken : List ℕ) → LeadsAs (Some l.fn.first) limit taken l.fn.builder [] → TakesAll l.fn.first 0 limit taken l.bytes l.left l.builder l.at
+
+abbrev pub decreases-loop-at : goal.decreases-loop-at
+decreases-loop-at l = length l.bytes - l.at

@@ -1,0 +1,110 @@
+//! What is left for tokens that surely pass, in few numbers, so that each test of a token is one subtraction.
+
+ghost use Rattle.std.specs.Prelude.{◌≡◌, ◌+◌, ◌<◌, ◌≤◌, ◌^◌, MatchBool};
+ghost use Rattle.std.specs.Option.{ForSome};
+ghost use Rattle.om_format.specs.Words.{of_object, fields};
+ghost use Rattle.om_headers.specs.Counting.{IsCountable};
+
+use crate::totals::Totals;
+use om_headers::words_of;
+use om_model::code::Measure;
+use om_model::header::Head;
+
+/// Data bytes beyond one for each value to come, values to come, and words.
+#[derive(Clone, Copy)]
+pub struct Left {
+    pub slack: u64,
+    pub pending: u64,
+    pub w32: u64,
+    pub w64: u64,
+    ghost short: { slack + pending < 2 ^ 48 },
+}
+
+/// How many fields the object has.
+#[inline(always)]
+fn fields_of(measure: Measure) -> u64
+    ensures { result ≡ fields measure }
+{
+    match measure {
+        Measure::Block(size) => size,
+        _ => 0,
+    }
+}
+
+impl Left {
+    ghost use Rattle.om_read.specs.declared.totals.Totals.{Totals};
+    ghost use Rattle.om_read.specs.Totals.{AreTotals, context_of};
+    ghost use Rattle.om_read.specs.Left.{Leaves, Spends, limit_of};
+
+    /// The words on 32 bits that a header allows. A big one states none, and this is more than its data can come to.
+    fn limit32(head: &Head) -> u64
+        ensures { result ≡ limit_of head.now }
+    {
+        if head.big { 1 << 62 } else { head.w32 }
+    }
+
+    /// What is left at this place.
+    pub fn at(first: &Totals) -> Left
+        ensures { Leaves first.now 0 first.now result }
+    {
+        Left {
+            slack: first.head.length - (first.taken + first.pending),
+            pending: first.pending,
+            w32: Left::limit32(&first.head) - first.w32,
+            w64: first.head.w64 - first.w64,
+        }
+    }
+
+    /// Goes on after a token of `n` bytes whose object has this measure, if it fits and is not the last.
+    #[inline(always)]
+    pub fn spend(&mut self, n: u64, measure: Option<Measure>) -> bool
+        requires open { 0 < self.old.pending }
+        requires some { 0 < n }
+        requires short { n < 2 ^ 32 }
+        requires small { of_object fields measure < 2 ^ 60 }
+        requires countable { ForSome measure IsCountable }
+        ensures { MatchBool result (Spends self.old n measure self.new) (self.new ≡ self.old) }
+    {
+        let Some(measure) = measure else {
+            if self.slack < n - 1 || self.pending == 1 {
+                return false;
+            }
+            *self = Left {
+                slack: self.slack - (n - 1),
+                pending: self.pending - 1,
+                w32: self.w32,
+                w64: self.w64,
+            };
+            return true;
+        };
+        let fields = fields_of(measure);
+        let (w32, w64) = words_of(measure);
+        let need = n - 1 + fields;
+        if self.slack < need || self.w32 < w32 || self.w64 < w64 || self.pending - 1 + fields == 0 {
+            return false;
+        }
+        *self = Left {
+            slack: self.slack - need,
+            pending: self.pending - 1 + fields,
+            w32: self.w32 - w32,
+            w64: self.w64 - w64,
+        };
+        true
+    }
+
+    /// The place that is reached, n bytes and so many objects after the first.
+    pub fn place(self, first: &Totals, n: u64, objects: u64) -> Totals
+        requires { (place : Totals) × Leaves first.now n place self × (objects ≡ place.objects) }
+        ensures { (place : Totals) → Leaves first.now n place self → objects ≡ place.objects → AreTotals result (context_of place) }
+    {
+        Totals {
+            head: first.head,
+            start: first.start,
+            taken: first.taken + n,
+            objects,
+            pending: self.pending,
+            w32: Left::limit32(&first.head) - self.w32,
+            w64: first.head.w64 - self.w64,
+        }
+    }
+}
