@@ -13,7 +13,7 @@ ghost use Rattle.om_read.specs.Contents.{SpellsTokenAfter};
 
 use crate::build::Builder;
 use crate::content::{custom_value, doubles_of};
-use crate::token::number_at;
+use crate::token::{number_at, signed_four};
 use om_model::Memory;
 use om_model::bytes::{big_endian, double, signed, skip};
 use om_model::code::CodeKind;
@@ -93,6 +93,10 @@ pub fn decode_in_room(builder: &mut Builder, kind: CodeKind, rest: &[u8]) -> boo
             true
         }
         CodeKind::SmallString(_) => builder.bytes_in_room(rest),
+        CodeKind::Int(4) => {
+            builder.integer(signed_four(rest));
+            true
+        }
         CodeKind::Int(_) => {
             builder.integer(signed(rest));
             true

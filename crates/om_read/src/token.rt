@@ -1,7 +1,7 @@
 //! What the code of a token and its first bytes say of its size (`intext.h` has the codes).
 
 ghost use Rattle.std.specs.Prelude.{◌≡◌, ◌≤◌, ◌<◌, ◌+◌, ◌*◌, ◌^◌, length, take};
-ghost use Rattle.om_model.specs.Bytes.{number};
+ghost use Rattle.om_model.specs.Bytes.{number, signed};
 ghost use Rattle.om_format.specs.Code.{custom_of, native_bytes, IsKind};
 ghost use Rattle.om_format.specs.Raw.{fixed_bytes, field_bytes, variable_bytes, measure_after, custom_bytes, custom_measure, block_measure};
 ghost use Rattle.om_format.specs.Words.{of_object, fields};
@@ -51,6 +51,16 @@ pub fn number_at(rest: &[u8], width: u8) -> u64
     ensures { result ≡ number (take width rest.now) }
 {
     big_endian(&rest[..usize::from(width)])
+}
+
+/// The integer of four bytes, the most significant first, in two's complement. It is one load.
+#[inline(always)]
+pub fn signed_four(bytes: &[u8]) -> i64
+    requires { length bytes.now ≡ 4 }
+    ensures { result ≡ signed bytes.now }
+{
+    let value = u32::from_be_bytes([bytes[0], bytes[1], bytes[2], bytes[3]]);
+    i64::from(value.cast_signed())
 }
 
 /// The custom that the first three bytes name.
