@@ -6,7 +6,6 @@ pub mod FieldLemmas
 pub mod TreeLemmas
 pub mod BuildLemmas
 pub mod RoomLemmas
-pub mod StackLemmas
 pub mod AbsorbLemmas
 pub mod HeadLemmas
 pub mod LeftLemmas

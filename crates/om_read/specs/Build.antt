@@ -1,6 +1,6 @@
 -- A graph built from tokens that come one at a time, in preorder: what a reader holds, and what a token adds to it
 -- (`intern.c` fills blocks so, from a stack of its own).
-use Rattle.std.specs.Prelude.{ℕ, ◌+◌, ◌-◌, ◌<◌, ◌≤◌, ◌≡◌, ◌==◌, if◌then◌else◌, List, [], ◌∷◌, ◌++◌, length, fold, sum_by, replicate, HoldsAt, All, Option, Some, None, pos}
+use Rattle.std.specs.Prelude.{ℕ, ◌+◌, ◌-◌, ◌<◌, ◌≤◌, ◌≡◌, ◌==◌, if◌then◌else◌, List, [], ◌∷◌, ◌++◌, length, reverse, fold, sum_by, replicate, HoldsAt, All, Option, Some, None, pos}
 use Rattle.om_model.specs.declared.value.Val.{Val}
 use Rattle.om_model.specs.declared.value.Val.TheVariants as vals
 use Rattle.om_model.specs.declared.value.Obj.{Obj}
@@ -33,6 +33,10 @@ start = building [] [] None
 -- a full block is no longer open
 abbrev pub still_open : OpenBlock → List OpenBlock → List OpenBlock
 still_open b outer = if b.next == b.size then outer else b ∷ outer
+
+-- the open blocks, innermost first: one, unless it is full, and those further out, the last one nearest
+abbrev pub stack : OpenBlock → List OpenBlock → List OpenBlock
+stack inner outer = still_open inner (reverse outer)
 
 -- n more fields have come
 abbrev pub advanced : OpenBlock → ℕ → OpenBlock

@@ -1,9 +1,9 @@
 //! The graph that tokens build, one token after another: a block's fields come after it (`intern.c`).
 
-ghost use Rattle.std.specs.Prelude.{◌≡◌, ◌≤◌, ◌<◌, ◌^◌, length, reverse, OnOk, vec_len, vec_capacity, IsSome, Some, MatchBool};
+ghost use Rattle.std.specs.Prelude.{◌≡◌, ◌≢◌, ◌+◌, ◌≤◌, ◌<◌, ◌^◌, ◌∷◌, length, OnOk, vec_len, vec_capacity, IsSome, Some, MatchBool};
 ghost use Rattle.om_model.specs.Graph.{IsValue};
 ghost use Rattle.om_heap.specs.Heap.{word_of};
-ghost use Rattle.om_read.specs.Build.{building, fill as fill_next_of, WellOpen};
+ghost use Rattle.om_read.specs.Build.{building, stack, fill as fill_next_of, AreOpen, WellOpen};
 
 use crate::value::Value;
 use om_heap::Heap;
@@ -23,56 +23,95 @@ pub struct OpenBlock {
     pub at: u64,
 }
 
-/// The objects so far, the open blocks, the innermost last, the root once it has come, and how many words on 64 bits
-/// the objects may have.
+/// The objects so far, the innermost open block, which is full where none is or one further out is the innermost, those
+/// further out, the last one nearest, the root once it has come, and how many words on 64 bits the objects may have.
 #[derive(Drop)]
 pub struct Builder {
     heap: Heap,
-    open_blocks: Vec<OpenBlock>,
+    inner: OpenBlock,
+    outer: Vec<OpenBlock>,
     root: Option<Val>,
     room: u64,
 }
 
 impl Model for Builder {
-    ghost use Rattle.std.specs.Prelude.{◌≤◌, reverse};
+    ghost use Rattle.std.specs.Prelude.{◌≤◌};
     ghost use Rattle.om_heap.specs.Heap.{heap_words};
-    ghost use Rattle.om_read.specs.Build.{Bounded, building, in_room};
+    ghost use Rattle.om_read.specs.Build.{Bounded, building, in_room, stack};
 
     ghost Value = { Bounded };
 
-    ghost view = { λ b. in_room (building b.heap (reverse b.open_blocks.items) b.root) b.room };
+    ghost view = { λ b. in_room (building b.heap (stack b.inner b.outer.items) b.root) b.room };
 
     ghost invariant = { λ b. heap_words b.heap ≤ b.room };
+}
+
+/// Where the innermost block is full, the next one takes its place.
+#[inline(always)]
+fn settle(_heap: &Heap, inner: &mut OpenBlock, outer: &mut Vec<OpenBlock>)
+    requires { AreOpen _heap.now (stack inner.old outer.old.items) }
+    ensures same { stack inner.new outer.new.items ≡ stack inner.old outer.old.items }
+    ensures settled { inner.new.next ≡ inner.new.size → vec_len outer.new ≡ 0 }
+{
+    if inner.next == inner.size {
+        if let Some(block) = outer.pop() {
+            *inner = block;
+        }
+    }
 }
 
 /// A value comes, whose word this is: it is the root, or the next field of the innermost open block.
 #[inline(always)]
 fn fill_next(
     heap: &mut Heap,
-    open_blocks: &mut Vec<OpenBlock>,
+    inner: &mut OpenBlock,
+    _outer: &Vec<OpenBlock>,
     root: &mut Option<Val>,
     v: Val,
     word: u64,
 )
-    requires well { WellOpen (building heap.old (reverse open_blocks.old.items) root.old) }
+    requires well { WellOpen (building heap.old (stack inner.old _outer.now.items) root.old) }
+    requires settled { inner.old.next ≡ inner.old.size → vec_len _outer.now ≡ 0 }
     requires valid { IsValue (length heap.old) v }
     requires word { word ≡ word_of heap.old v }
-    ensures fills { building heap.new (reverse open_blocks.new.items) root.new ≡ fill_next_of v heap.old (reverse open_blocks.old.items) root.old }
-    ensures len { vec_len open_blocks.new ≤ vec_len open_blocks.old }
-    ensures capacity { vec_capacity open_blocks.new ≡ vec_capacity open_blocks.old }
+    ensures fills { building heap.new (stack inner.new _outer.now.items) root.new ≡ fill_next_of v heap.old (stack inner.old _outer.now.items) root.old }
+    ensures moved { inner.new.next ≢ inner.new.size → inner.old.next + 1 < inner.old.size }
 {
-    let depth = open_blocks.len();
-    if depth == 0 {
+    if inner.next == inner.size {
         *root = Some(v);
         return;
     }
-    let block = open_blocks[depth - 1];
-    heap.set_word_at(block.at, block.next, word);
-    if block.next + 1 == block.size {
-        open_blocks.truncate(depth - 1);
-    } else {
-        open_blocks[depth - 1].next = block.next + 1;
+    heap.set_word_at(inner.at, inner.next, word);
+    inner.next += 1;
+}
+
+/// A block becomes the innermost, where there is room for the one that was.
+#[inline(always)]
+fn open_in_room(inner: &mut OpenBlock, outer: &mut Vec<OpenBlock>, block: OpenBlock)
+    requires room { inner.old.next ≢ inner.old.size → vec_len outer.old < vec_capacity outer.old }
+    requires some { block.next ≢ block.size }
+    ensures { stack inner.new outer.new.items ≡ block ∷ stack inner.old outer.old.items }
+{
+    if inner.next != inner.size {
+        outer.push_reserved(*inner);
     }
+    *inner = block;
+}
+
+/// A block becomes the innermost.
+fn open_block(
+    inner: &mut OpenBlock,
+    outer: &mut Vec<OpenBlock>,
+    block: OpenBlock,
+) -> Result<(), Memory>
+    requires { block.next ≢ block.size }
+    ensures { OnOk result (stack inner.new outer.new.items ≡ block ∷ stack inner.old outer.old.items) }
+{
+    if inner.next != inner.size {
+        outer.push(*inner)?;
+    }
+    *inner = block;
+    Ok(())
 }
 
 impl Builder {
@@ -99,7 +138,13 @@ impl Builder {
         heap.clear();
         Builder {
             heap,
-            open_blocks: Vec::new(alloc),
+            inner: OpenBlock {
+                object: 0,
+                next: 0,
+                size: 0,
+                at: 0,
+            },
+            outer: Vec::new(alloc),
             root: None,
             room,
         }
@@ -129,9 +174,11 @@ impl Builder {
         ensures { self.new ≡ fill_in v self.old }
     {
         let word = self.heap.word(v);
+        settle(&self.heap, &mut self.inner, &mut self.outer);
         fill_next(
             &mut self.heap,
-            &mut self.open_blocks,
+            &mut self.inner,
+            &self.outer,
             &mut self.root,
             v,
             word,
@@ -189,8 +236,7 @@ impl Builder {
             size,
             at,
         };
-        self.open_blocks.push(block)?;
-        Ok(())
+        open_block(&mut self.inner, &mut self.outer, block)
     }
 
     /// The same, if no memory is needed for it.
@@ -203,7 +249,9 @@ impl Builder {
         requires fits { Fits self.old (Some (measures.Block size)) }
         ensures { MatchBool result (self.new ≡ absorb_in self.old (block_token tag size)) (self.new ≡ self.old) }
     {
-        if self.open_blocks.len() == self.open_blocks.capacity() {
+        settle(&self.heap, &mut self.inner, &mut self.outer);
+        let fields = self.inner.size.saturating_sub(self.inner.next);
+        if fields > 1 && self.outer.len() == self.outer.capacity() {
             return false;
         }
         let object = self.heap.count();
@@ -212,17 +260,19 @@ impl Builder {
         };
         fill_next(
             &mut self.heap,
-            &mut self.open_blocks,
+            &mut self.inner,
+            &self.outer,
             &mut self.root,
             Val::Ref(object),
             at,
         );
-        self.open_blocks.push_reserved(OpenBlock {
+        let block = OpenBlock {
             object,
             next: 0,
             size,
             at,
-        });
+        };
+        open_in_room(&mut self.inner, &mut self.outer, block);
         true
     }
 
@@ -250,9 +300,11 @@ impl Builder {
         let Some(at) = self.heap.add_bytes_in_room(content) else {
             return false;
         };
+        settle(&self.heap, &mut self.inner, &mut self.outer);
         fill_next(
             &mut self.heap,
-            &mut self.open_blocks,
+            &mut self.inner,
+            &self.outer,
             &mut self.root,
             Val::Ref(object),
             at,
@@ -282,9 +334,11 @@ impl Builder {
         let Some(at) = self.heap.add_double_in_room(bits) else {
             return false;
         };
+        settle(&self.heap, &mut self.inner, &mut self.outer);
         fill_next(
             &mut self.heap,
-            &mut self.open_blocks,
+            &mut self.inner,
+            &self.outer,
             &mut self.root,
             Val::Ref(object),
             at,
@@ -324,7 +378,8 @@ impl Builder {
     {
         let Builder {
             heap,
-            open_blocks: _,
+            inner: _,
+            outer: _,
             root,
             room: _,
         } = self;

@@ -1,5 +1,13 @@
+use Rattle.std.proofs.Common.{List, sym, subst}
+use Rattle.om_read.specs.declared.build.OpenBlock.{OpenBlock}
+use Rattle.om_read.specs.Build.{building, WellOpen}
 use Rattle.om_read.proofs.AbsorbLemmas.{well_added}
 use Rattle.om_read.proofs.build.Builder.double_in_room.Goals as goal
 
+pub settle-requires : goal.settle-requires
+settle-requires c = (well_added _ _ _ _ _ _ _ c.self.view_is c.in-Some.ensures.1 c.requires.well).are_open
+
 pub fill_next-requires-clause-well : goal.fill_next-requires-clause-well
-fill_next-requires-clause-well c = well_added _ _ _ _ _ _ _ c.self.view_is c.in-Some.ensures.1 c.requires.well
+fill_next-requires-clause-well c =
+    subst (λ (bs : List OpenBlock). WellOpen (building c.add_double_in_room.new.self bs c.self.inside.root)) (sym c.settle.ensures.same)
+    (well_added _ _ _ _ _ _ _ c.self.view_is c.in-Some.ensures.1 c.requires.well)
