@@ -1,12 +1,15 @@
 #!/bin/sh
 # Has OCaml write the streams anew and compares them with those that stand in data/.
 # With the word --keep it puts the new ones in their place.
+# Each stream is read and written again, and comes back byte for byte, up to where no whole value begins: all of bigarray,
+# cut, exception and forward, and the end of half_header. no_sharing and no_sharing_float alone come back otherwise:
+# with No_sharing OCaml counts no objects in the header, and the canonical header counts them.
 set -eu
 cd "$(dirname "$0")"
 for file in data/*.stream; do
     name=$(basename "$file" .stream)
-    if ! grep -q "^stream $name at " stdin; then
-        echo "there is no question on $name"
+    if ! grep -q "^stream $name at " stdin || ! grep -qx "again $name" stdin; then
+        echo "a question on $name is missing"
         exit 1
     fi
 done

@@ -8,4 +8,5 @@ pub mod NextLemmas
 pub mod SizeLemmas
 pub mod SumLemmas
 pub mod TextLemmas
+pub mod TreeLemmas
 pub mod WalkLemmas

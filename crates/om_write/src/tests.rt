@@ -42,8 +42,9 @@ fn is_written(
 #[test]
 fn integers_are_written(rt: HostRuntime) -> Result<(), Fail> {
     let heap = Heap::new(rt.alloc());
-    let rows: [(i64, u32, &[u8]); 12] = [
+    let rows: [(i64, u32, &[u8]); 13] = [
         (0, 1, &[0x40]),
+        (1, 1, &[0x41]),
         (63, 1, &[0x7f]),
         (64, 2, &[0x00, 0x40]),
         (-1, 2, &[0x00, 0xff]),
@@ -215,5 +216,41 @@ fn what_is_too_large_for_32_bits_is_told(rt: HostRuntime) -> Result<(), Fail> {
     );
     let expected = small(rt.alloc(), [5, 0, 0, 0], &[0x02, 0x3f, 0xff, 0xff, 0xff])?;
     assert!(rt; sink.written() == expected.as_slice());
+    Ok(())
+}
+
+// By hand: one field, byte or double more than `extern.c` has on 32 bits.
+#[test]
+fn the_size_of_what_is_too_large_is_told(rt: HostRuntime) -> Result<(), Fail> {
+    let mut heap = Heap::new(rt.alloc());
+    let block = heap.add_block(0, 0x40_0000)?;
+    let text = heap.add_bytes(0xff_fffc)?;
+    let doubles = heap.add_doubles(0x20_0000)?;
+    let rows = [
+        (block, Compat::Block(0x40_0000)),
+        (text, Compat::Bytes(0xff_fffc)),
+        (doubles, Compat::Doubles(0x20_0000)),
+    ];
+    for (o, compat) in rows {
+        assert!(rt; o < heap.count());
+        let mut sink = MemSink::new(rt.alloc(), 100, Vec::new(rt.alloc()))?;
+        assert_eq!(rt;
+            write32(rt.alloc(), &heap, Val::Ref(o), &mut sink),
+            Err(Write32Error::Compat(compat))
+        );
+        assert_eq!(rt; sink.written().len(), 0);
+    }
+    Ok(())
+}
+
+#[test]
+fn faults_are_told_on_32_bits(rt: HostRuntime) -> Result<(), Fail> {
+    let heap = Heap::new(rt.alloc());
+    let mut full = MemSink::new(rt.alloc(), 20, Vec::new(rt.alloc()))?;
+    assert_eq!(rt;
+        write32(rt.alloc(), &heap, Val::Int(1), &mut full),
+        Err(Write32Error::Fault)
+    );
+    assert_eq!(rt; full.faults(), 1);
     Ok(())
 }

@@ -25,10 +25,11 @@ use std::alloc::Global;
 /// taken before the first byte is put.
 pub fn write<K: Sink>(alloc: Global, heap: &Heap, root: Val, out: &mut K) -> Result<(), WriteError>
     requires { IsValue (length heap.now) root }
-    ensures puts { (tree : Tree) → IsTreeOf heap.now root tree
-        → Writes (change (K.state out.old) (K.state out.new)) (canon tree) result }
+    ensures puts { (tree : Tree) × IsTreeOf heap.now root tree
+        × Writes (change (K.state out.old) (K.state out.new)) (canon tree) result }
     ensures untouched { IsErrOf result WriteError.Memory → out.new ≡ out.old }
 {
+    let _graph = heap.count();
     let mut walk = Walk::new(alloc, heap, root)?;
     let mut buffer = new_buffer(alloc)?;
     let head = measure(heap, &mut walk);

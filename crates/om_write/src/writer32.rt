@@ -56,10 +56,11 @@ pub fn write32<K: Sink>(
     out: &mut K,
 ) -> Result<(), Write32Error>
     requires { IsValue (length heap.now) root }
-    ensures puts { (tree : Tree) → IsTreeOf heap.now root tree
-        → Writes32 (change (K.state out.old) (K.state out.new)) tree result }
+    ensures puts { (tree : Tree) × IsTreeOf heap.now root tree
+        × Writes32 (change (K.state out.old) (K.state out.new)) tree result }
     ensures untouched { IfErr result (λ error. IsEarly error → out.new ≡ out.old) }
 {
+    let _graph = heap.count();
     let mut walk = Walk::new(alloc, heap, root)?;
     let mut buffer = new_buffer(alloc)?;
     if let Some(compat) = first_large(heap, &mut walk) {

@@ -2,21 +2,30 @@ use Rattle.std.proofs.Common.{◌∙◌, sym, subst}
 use Rattle.std.proofs.lemmas.Result.{err_from_is_err_and}
 use Rattle.om_format.specs.Iso.{IsTreeOf}
 use Rattle.om_write.proofs.CompatLemmas.{large_token, large_head, nothing_large}
+use Rattle.om_write.proofs.TreeLemmas.{for_tree}
 use Rattle.om_write.proofs.writer32.write32.Goals as goal
 
+pub returns-in_err-walk-clause-puts : goal.returns-in_err-walk-clause-puts
+returns-in_err-walk-clause-puts g c = for_tree _ _ _ c.count-graph.ensures.heap c.requires (λ tree is_of.
+    let p = err_from_is_err_and c.from_residual.result c.from_residual.ensures.1 in rw (p.1, p.2) tt)
+
+pub returns-in_err-buffer-clause-puts : goal.returns-in_err-buffer-clause-puts
+returns-in_err-buffer-clause-puts g c = for_tree _ _ _ c.count-graph.ensures.heap c.requires (λ tree is_of.
+    let p = err_from_is_err_and c.from_residual-in_err-buffer.result c.from_residual-in_err-buffer.ensures.1 in rw (p.1, p.2) tt)
+
 pub returns-in-Some-clause-puts : goal.returns-in-Some-clause-puts
-returns-in-Some-clause-puts g c = λ tree is_of.
+returns-in-Some-clause-puts g c = for_tree _ _ _ c.count-graph.ensures.heap c.requires (λ tree is_of.
     let at = subst (λ r. IsTreeOf c.args.heap.now r tree) (sym c.in_ok-walk.ensures.root) is_of in
-    large_token tree c.in-Some.compat (c.in-Some.ensures.large tree at)
+    large_token tree c.in-Some.compat (c.in-Some.ensures.large tree at))
 
 pub returns-in-Some-head_compat-clause-puts : goal.returns-in-Some-head_compat-clause-puts
-returns-in-Some-head_compat-clause-puts g c = λ tree is_of.
+returns-in-Some-head_compat-clause-puts g c = for_tree _ _ _ c.count-graph.ensures.heap c.requires (λ tree is_of.
     let at = subst (λ r. IsTreeOf c.args.heap.now r tree) (sym c.in_ok-walk.ensures.root) is_of in
     let at_head = subst (λ r. IsTreeOf c.args.heap.now r tree) (sym (c.restart.ensures.root ∙ c.in_default.ensures.root)) at in
-    large_head tree c.measure-head.result c.in-Some-head_compat.compat (c.in_default.ensures.large tree at) (c.measure-head.ensures.head tree at_head) c.in-Some-head_compat.ensures
+    large_head tree c.measure-head.result c.in-Some-head_compat.compat (c.in_default.ensures.large tree at) (c.measure-head.ensures.head tree at_head) c.in-Some-head_compat.ensures)
 
 pub returns-in_err-put_value-clause-puts : goal.returns-in_err-put_value-clause-puts
-returns-in_err-put_value-clause-puts g c = λ tree is_of.
+returns-in_err-put_value-clause-puts g c = for_tree _ _ _ c.count-graph.ensures.heap c.requires (λ tree is_of.
     let at = subst (λ r. IsTreeOf c.args.heap.now r tree) (sym c.in_ok-walk.ensures.root) is_of in
     let at_head = subst (λ r. IsTreeOf c.args.heap.now r tree) (sym (c.restart.ensures.root ∙ c.in_default.ensures.root)) at in
     let at_put = subst (λ r. IsTreeOf c.args.heap.now r tree) (sym (c.restart-2.ensures.root ∙ c.measure-head.ensures.root)) at_head in
@@ -24,13 +33,13 @@ returns-in_err-put_value-clause-puts g c = λ tree is_of.
     rw (p.1, p.2) (
       nothing_large tree c.measure-head.result (c.in_default.ensures.large tree at) (c.measure-head.ensures.head tree at_head) c.in_default-head_compat.ensures,
       c.in_err-put_value.ensures tree at_put,
-    )
+    ))
 
 pub returns-clause-puts : goal.returns-clause-puts
-returns-clause-puts g c = λ tree is_of.
+returns-clause-puts g c = for_tree _ _ _ c.count-graph.ensures.heap c.requires (λ tree is_of.
     let at = subst (λ r. IsTreeOf c.args.heap.now r tree) (sym c.in_ok-walk.ensures.root) is_of in
     let at_head = subst (λ r. IsTreeOf c.args.heap.now r tree) (sym (c.restart.ensures.root ∙ c.in_default.ensures.root)) at in
     let at_put = subst (λ r. IsTreeOf c.args.heap.now r tree) (sym (c.restart-2.ensures.root ∙ c.measure-head.ensures.root)) at_head in (
       nothing_large tree c.measure-head.result (c.in_default.ensures.large tree at) (c.measure-head.ensures.head tree at_head) c.in_default-head_compat.ensures,
       c.in_ok-put_value.ensures tree at_put,
-    )
+    ))

@@ -1,0 +1,65 @@
+//! Streams of the folder, read and written again.
+
+ghost use Rattle.std.specs.Prelude.{◌≤◌, length, IfOk};
+
+use om_edge::{MemSink, Sink};
+use om_model::bytes::skip;
+use om_read::Reader;
+use om_write::write;
+use std::alloc::Global;
+use std::io::ErrorKind;
+use std::{fs, io};
+
+/// So many words a value may have.
+const LIMIT: u64 = 1 << 27;
+
+// Writes the value that the bytes begin with: how many bytes it took, or none where they begin with no whole value.
+fn write_first<K: Sink>(alloc: Global, bytes: &[u8], sink: &mut K) -> io::Result<Option<usize>> {
+    let mut reader = Reader::new(alloc, LIMIT);
+    let Ok(fed) = reader.feed(bytes) else {
+        return Ok(None);
+    };
+    if !fed.done {
+        return Ok(None);
+    }
+    let value = reader.finish();
+    match write(alloc, &value.heap, value.root, sink) {
+        Ok(()) => Ok(Some(fed.taken)),
+        Err(_) => Err(ErrorKind::WriteZero.into()),
+    }
+}
+
+// Writes the values that the bytes begin with, one after another: how many bytes they took.
+fn write_values<K: Sink>(alloc: Global, bytes: &[u8], sink: &mut K) -> io::Result<usize>
+    ensures { IfOk result (λ taken. taken ≤ length bytes.now) }
+{
+    let mut rest = bytes;
+    for _ in 0..bytes.len() {
+        let Some(taken) = write_first(alloc, rest, sink)? else {
+            break;
+        };
+        rest = skip(rest, taken);
+    }
+    Ok(bytes.len() - rest.len())
+}
+
+/// Prints what is written of the values of the stream `NAME`: the same bytes, up to a place where no whole value begins, or
+/// else the bytes.
+pub fn answer(rt: &HostRuntime, stream: &str) -> io::Result<()> {
+    let alloc = rt.alloc();
+    let name = format!(in alloc; "{stream}.stream")?;
+    let bytes = fs::read(rt, name.as_str())?;
+    let Ok(mut sink) = MemSink::new(alloc, bytes.len() + 100, Vec::new(alloc)) else {
+        return Err(ErrorKind::OutOfMemory.into());
+    };
+    let taken = write_values(alloc, bytes.as_slice(), &mut sink)?;
+    if sink.written() != &bytes[..taken] {
+        let digits = hex::encode(alloc, sink.written())?;
+        println!(rt; "{digits}")?;
+    } else if taken < bytes.len() {
+        println!(rt; "same bytes up to {taken}")?;
+    } else {
+        println!(rt; "same bytes")?;
+    }
+    Ok(())
+}
