@@ -6,6 +6,7 @@ pub mod LawLemmas
 pub mod LeftLemmas
 pub mod NextLemmas
 pub mod SizeLemmas
+pub mod StringLemmas
 pub mod SumLemmas
 pub mod TextLemmas
 pub mod TreeLemmas

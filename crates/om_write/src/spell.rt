@@ -2,15 +2,18 @@
 
 ghost use Rattle.std.specs.Prelude.{◌≡◌, ◌<◌, ◌≤◌, length, take, vec_capacity, flat_map};
 ghost use Rattle.om_format.specs.Canonical.{spelling, leaf_spelling, double_bytes};
+ghost use Rattle.om_model.specs.declared.value.Obj.TheVariants as objects;
 ghost use Rattle.om_heap.specs.Heap.{IsHeap, object_at, bytes_of, doubles_of};
+ghost use Rattle.om_heap.specs.Words.{body_of};
 ghost use Rattle.om_write.specs.Step.{token_in, IsHeld};
 ghost use Rattle.om_write.specs.Text.{Adds};
 
-use crate::text::{LIMIT, add};
+use crate::text::{LIMIT, add, add_byte};
 use crate::walk::Step;
 use om_codes::{spell_block, spell_double_array_len, spell_int, spell_shared, spell_string_len};
 use om_edge::{Failed, Sink};
 use om_heap::{Heap, Kind};
+use om_model::value::Val;
 
 /// Lengthens the text by the spelling of a token.
 pub fn add_step<K: Sink>(
@@ -46,7 +49,10 @@ fn add_front<K: Sink>(
     ensures room { LIMIT ≤ vec_capacity buffer.new }
 {
     let (bytes, len) = front;
-    add(out, buffer, &bytes[..len])
+    match len {
+        1 => add_byte(out, buffer, bytes[0]),
+        _ => add(out, buffer, &bytes[..len]),
+    }
 }
 
 // An object without fields.
@@ -78,7 +84,7 @@ fn add_leaf<K: Sink>(heap: &Heap, k: u64, out: &mut K, buffer: &mut Vec<u8>) -> 
     }
 }
 
-// The n bytes of a string.
+// The n bytes of a string, which its words have, the least significant first.
 fn add_bytes<K: Sink>(
     heap: &Heap,
     k: u64,
@@ -86,15 +92,29 @@ fn add_bytes<K: Sink>(
     out: &mut K,
     buffer: &mut Vec<u8>,
 ) -> Result<(), Failed>
+    requires heap { IsHeap heap.now }
+    requires inside { k < length heap.now }
+    requires string { object_at heap.now k ≡ objects.Bytes (bytes_of (object_at heap.now k)) }
     requires all { n ≡ length (bytes_of (object_at heap.now k)) }
     requires room { LIMIT ≤ vec_capacity buffer.old }
     ensures adds { Adds (K.state out.old) (K.state out.new) buffer.old.items buffer.new.items (bytes_of (object_at heap.now k)) result }
     ensures room { LIMIT ≤ vec_capacity buffer.new }
 {
-    for i in 0..n {
-        add(out, buffer, &[heap.byte(k, i)])?;
+    let words = body(heap, k);
+    let whole = n as usize / 8;
+    for j in 0..whole {
+        add(out, buffer, &words[j].to_le_bytes())?;
     }
-    Ok(())
+    let last = words[whole].to_le_bytes();
+    add(out, buffer, &last[..n as usize % 8])
+}
+
+// The words of an object after its header.
+fn body(heap: &Heap, k: u64) -> &[u64]
+    requires { k < length heap.now }
+    ensures { result.now ≡ body_of heap.now (object_at heap.now k) }
+{
+    heap.body_at(heap.word(Val::Ref(k)))
 }
 
 // The n doubles of an array, or one double.

@@ -1,6 +1,6 @@
 //! Text that goes to a sink through a buffer.
 
-ghost use Rattle.std.specs.Prelude.{◌≡◌, ◌+◌, ◌≤◌, [], length, IfOk, OnOk, vec_len, vec_capacity};
+ghost use Rattle.std.specs.Prelude.{◌≡◌, ◌+◌, ◌≤◌, [], ◌∷◌, length, IfOk, OnOk, vec_len, vec_capacity};
 ghost use Rattle.om_write.specs.Text.{Adds};
 
 use om_edge::{Failed, Sink, put_all};
@@ -52,5 +52,16 @@ pub fn add<K: Sink>(out: &mut K, buffer: &mut Vec<u8>, piece: &[u8]) -> Result<(
 {
     make_room(out, buffer, piece.len())?;
     buffer.extend_from_slice(piece).unwrap();
+    Ok(())
+}
+
+/// Lengthens the text by a byte.
+pub fn add_byte<K: Sink>(out: &mut K, buffer: &mut Vec<u8>, byte: u8) -> Result<(), Failed>
+    requires { LIMIT ≤ vec_capacity buffer.old }
+    ensures adds { Adds (K.state out.old) (K.state out.new) buffer.old.items buffer.new.items (byte ∷ []) result }
+    ensures room { LIMIT ≤ vec_capacity buffer.new }
+{
+    make_room(out, buffer, 1)?;
+    buffer.push_reserved(byte);
     Ok(())
 }

@@ -1,24 +1,30 @@
-use Rattle.std.proofs.Common.{◌<◌, ◌∙◌, ap, length, subst, arith}
-use Rattle.std.specs.Prelude.{flat_map}
-use Rattle.om_heap.specs.Heap.{object_at, bytes_of}
-use Rattle.om_write.specs.Text.{AddsAll, AddsPart}
-use Rattle.om_write.proofs.SumLemmas.{all_taken}
-use Rattle.om_write.proofs.TextLemmas.{itself, flat_map-itself, content_failed, adds_if_failed}
+use Rattle.std.proofs.Common.{arith}
+use Rattle.om_write.proofs.StringLemmas.{string_body, word_adds, word_fails, last_adds}
+use Rattle.om_write.proofs.TextLemmas.{adds_if_failed}
 use Rattle.om_write.proofs.spell.add_bytes.Goals as goal
+
+pub bounds-words-j : goal.bounds-words-j
+bounds-words-j g c =
+    let has = string_body _ _ _ c.requires.heap c.requires.inside c.requires.string c.body-words.ensures in omega (arith, has.many, c.requires.all)
+
+pub bounds-words-whole : goal.bounds-words-whole
+bounds-words-whole g c =
+    let has = string_body _ _ _ c.requires.heap c.requires.inside c.requires.string c.body-words.ensures in omega (arith, has.many, c.requires.all)
 
 pub returns-in_err-add-clause-adds : goal.returns-in_err-add-clause-adds
 returns-in_err-add-clause-adds g c =
-    let old = g.K.Sink.state c.args.out.now in
-    let new = g.K.Sink.state c.add.new.out in
-    let all = bytes_of (object_at c.args.heap.now c.args.k) in
-    let inside : c.loop-i.i < length all = omega (arith, c.requires.all) in
-    adds_if_failed old new _ _ _ c.from_residual.result c.from_residual.ensures.0
-    (subst (AddsPart old new c.args.buffer.now.items) (flat_map-itself all)
-    (content_failed old (g.K.Sink.state c.loop-i.out) new c.args.buffer.now.items c.loop-i.buffer.items itself all c.loop-i.i inside c.loop-i.invariant.adds
-    (subst (λ b. AddsPart (g.K.Sink.state c.loop-i.out) new c.loop-i.buffer.items (itself b)) c.byte.ensures c.in_err-add.ensures.adds)))
+    let has = string_body _ _ _ c.requires.heap c.requires.inside c.requires.string c.body-words.ensures in
+    adds_if_failed _ _ _ _ _ c.from_residual.result c.from_residual.ensures.0
+    (word_fails _ _ _ has _ _ _ _ _ c.loop-j.j (omega (arith, c.requires.all)) c.to_le_bytes.ensures c.loop-j.invariant.adds c.in_err-add.ensures.adds)
+
+pub loop-j-preserved : goal.loop-j-preserved
+loop-j-preserved g c =
+    let has = string_body _ _ _ c.requires.heap c.requires.inside c.requires.string c.body-words.ensures in record {
+      adds = word_adds _ _ _ has _ _ _ _ _ _ c.loop-j.j (omega (arith, c.requires.all)) c.to_le_bytes.ensures c.loop-j.invariant.adds c.in_ok-add.ensures.adds;
+      room = c.in_ok-add.ensures.room;
+    }
 
 pub returns-clause-adds : goal.returns-clause-adds
 returns-clause-adds g c =
-    let all = bytes_of (object_at c.args.heap.now c.args.k) in
-    subst (AddsAll (g.K.Sink.state c.args.out.now) (g.K.Sink.state c.loop-i.out) c.args.buffer.now.items c.loop-i.buffer.items)
-    (ap (flat_map itself) (all_taken c.loop-i.i all (omega (arith, c.requires.all))) ∙ flat_map-itself all) c.loop-i.invariant.adds
+    let has = string_body _ _ _ c.requires.heap c.requires.inside c.requires.string c.body-words.ensures in
+    last_adds _ _ _ has _ _ _ _ _ _ c.loop-j.j c.args.n c.add-2.result (omega arith) c.requires.all c.to_le_bytes-last.ensures c.loop-j.invariant.adds c.add-2.ensures.adds

@@ -1,0 +1,139 @@
+-- The bytes of a string, a word at a time.
+use Rattle.std.specs.Int.{to_le_bytes, w64}
+use Rattle.std.proofs.Common.{ℕ, zero, suc, ◌≡◌, ◌+◌, ◌-◌, ◌*◌, inl, inr, replicate, length-append, length-take-le, ◌/◌, ◌%◌, ◌<◌, ◌∙◌, List, [], ◌∷◌, ◌++◌, length, get_or, take, drop, refl, sym, ap, subst, arith, length-drop, take_all, Result}
+use Rattle.std.proofs.lemmas.Bool.{cases_lt}
+use Rattle.std.proofs.lemmas.Nat.{le_bytes_8}
+use Rattle.std.proofs.lemmas.List.{take-append-le, take-append-drop, drop-append-le, length-replicate, get_or_past}
+use Rattle.std.proofs.lemmas.List.Elements.{All-append, All-replicate, All-cons, All-nil, All-take, All-drop}
+use Rattle.std.proofs.lemmas.List.FromFn.{length-map-range_with_len, get_or-map-range_with_len}
+use Rattle.om_model.specs.declared.value.Obj.{Obj}
+use Rattle.om_model.specs.declared.value.Obj.TheVariants as objects
+use Rattle.om_model.specs.Bytes.{AreBytes}
+use Rattle.om_model.specs.Graph.{IsObject}
+use Rattle.om_heap.specs.Heap.{object_at, bytes_of, IsHeap}
+use Rattle.om_heap.specs.Words.{body_of, padded, word_of_bytes, bytes_of_word, word_at, string_words}
+use Rattle.om_edge.specs.State.{ByteState}
+use Rattle.om_write.specs.Text.{AddsAll, AddsPart, Adds}
+use Rattle.om_write.proofs.TextLemmas.{adds_both, adds_then, adds_then_part, adds_part_of}
+
+-- ---- the words of a string, as in `om_heap`
+
+-- the bytes of a word that was made of eight bytes
+word_back : (bytes : List ℕ) → length bytes ≡ 8 → AreBytes bytes → bytes_of_word (word_of_bytes bytes) ≡ bytes
+unfolding word_of_bytes bytes_of_word
+word_back bytes eight valid =
+    le_bytes_8 bytes _ eight (λ i. elim (cases_lt i (length bytes)) [
+      | inl inside ↦ valid i 0 inside
+      | inr past ↦ omega (arith, get_or_past bytes i 0 past)
+    ]) refl
+
+padded_bytes : (bytes : List ℕ) → AreBytes bytes → AreBytes (padded bytes)
+padded_bytes bytes valid =
+    All-append (λ b. b < 256) bytes _ valid (All-append (λ b. b < 256) (replicate (7 - length bytes % 8) 0) _ (All-replicate (λ b. b < 256) (7 - length bytes % 8) 0 (omega arith)) (All-cons (λ b. b < 256) (7 - length bytes % 8) [] (omega arith) (All-nil (λ b. b < 256))))
+
+length-padded : (bytes : List ℕ) → length (padded bytes) ≡ 8 * (length bytes / 8 + 1)
+length-padded bytes =
+    omega (arith, length-append bytes (replicate (7 - length bytes % 8) 0 ++ (7 - length bytes % 8) ∷ []), length-append (replicate (7 - length bytes % 8) 0) ((7 - length bytes % 8) ∷ []), length-replicate {A = ℕ} (7 - length bytes % 8) 0)
+
+length-string_words : (bytes : List ℕ) → length (string_words bytes) ≡ length bytes / 8 + 1
+unfolding string_words
+length-string_words bytes = length-map-range_with_len (word_at (padded bytes)) 0 (length bytes / 8 + 1)
+
+get_or-string_words : (bytes : List ℕ) (j : ℕ) → j < length bytes / 8 + 1 → get_or (string_words bytes) j 0 ≡ word_at (padded bytes) j
+unfolding string_words
+get_or-string_words bytes j inside = get_or-map-range_with_len (word_at (padded bytes)) 0 (length bytes / 8 + 1) j j 0 inside (omega arith)
+
+-- the bytes of word j
+word_bytes : (bytes : List ℕ) (j : ℕ) → AreBytes bytes → j < length bytes / 8 + 1 → bytes_of_word (get_or (string_words bytes) j 0) ≡ take 8 (drop (8 * j) (padded bytes))
+word_bytes bytes j valid inside =
+    ap bytes_of_word (get_or-string_words bytes j inside)
+    ∙ word_back (take 8 (drop (8 * j) (padded bytes))) (length-take-le 8 (drop (8 * j) (padded bytes)) (omega (arith, length-drop (8 * j) (padded bytes), length-padded bytes)))
+    (All-take (λ b. b < 256) 8 _ (All-drop (λ b. b < 256) (8 * j) (padded bytes) (padded_bytes bytes valid)))
+
+-- the words before the last have eight bytes of the string each
+eight_bytes : (bytes : List ℕ) (j : ℕ) → j < length bytes / 8 → take 8 (drop (8 * j) (padded bytes)) ≡ take 8 (drop (8 * j) bytes)
+eight_bytes bytes j inside =
+    ap (take 8) (drop-append-le (8 * j) bytes _ (omega arith))
+    ∙ take-append-le 8 (drop (8 * j) bytes) _ (omega (arith, length-drop (8 * j) bytes))
+
+-- the last has the others
+last_bytes : (bytes : List ℕ) → take 8 (drop (8 * (length bytes / 8)) (padded bytes)) ≡ drop (8 * (length bytes / 8)) bytes ++ (replicate (7 - length bytes % 8) 0 ++ (7 - length bytes % 8) ∷ [])
+last_bytes bytes =
+    let m = 8 * (length bytes / 8) in
+    let ending : List ℕ = replicate (7 - length bytes % 8) 0 ++ (7 - length bytes % 8) ∷ [] in
+    ap (take 8) (drop-append-le m bytes ending (omega arith))
+    ∙ take_all 8 (drop m bytes ++ ending) (omega (arith, length-append (drop m bytes) ending, length-drop m bytes, length-append (replicate (7 - length bytes % 8) 0) ((7 - length bytes % 8) ∷ []), length-replicate {A = ℕ} (7 - length bytes % 8) 0))
+
+-- ---- the bytes of words
+
+take_none : (n : ℕ) → let none : List ℕ = [] in take n none ≡ none
+take_none zero = refl
+take_none (suc n) = refl
+
+take_plus : (m n : ℕ) (xs : List ℕ) → take (m + n) xs ≡ take m xs ++ take n (drop m xs)
+take_plus zero n xs = ap (λ k. take k xs) (omega arith)
+take_plus (suc m) n [] = take_none (suc m + n) ∙ sym (take_none n)
+take_plus (suc m) n (x ∷ xs) = let place : suc m + n ≡ suc (m + n) = omega arith in rw place (ap (λ ys. x ∷ ys) (take_plus m n xs))
+
+-- a whole word has eight bytes of the string
+pub whole_word : (bytes : List ℕ) (j : ℕ) → AreBytes bytes → j < length bytes / 8
+    → take (8 * (j + 1)) bytes ≡ take (8 * j) bytes ++ bytes_of_word (get_or (string_words bytes) j 0)
+whole_word bytes j valid inside =
+    let place : 8 * (j + 1) ≡ 8 * j + 8 = omega arith in
+    rw place (take_plus (8 * j) 8 bytes)
+    ∙ ap (λ t. take (8 * j) bytes ++ t) (sym (word_bytes bytes j valid (omega arith) ∙ eight_bytes bytes j inside))
+
+-- the last has the others
+pub last_word : (bytes : List ℕ) → AreBytes bytes
+    → take (8 * (length bytes / 8)) bytes ++ take (length bytes % 8) (bytes_of_word (get_or (string_words bytes) (length bytes / 8) 0)) ≡ bytes
+last_word bytes valid =
+    let m = 8 * (length bytes / 8) in
+    let rest : length bytes % 8 ≡ length (drop m bytes) = omega (arith, length-drop m bytes) in
+    ap (λ t. take m bytes ++ t)
+    (ap (take (length bytes % 8)) (word_bytes bytes (length bytes / 8) valid (omega arith) ∙ last_bytes bytes)
+    ∙ take-append-le (length bytes % 8) (drop m bytes) _ (omega (arith, rest))
+    ∙ take_all (length bytes % 8) (drop m bytes) (omega (arith, rest)))
+    ∙ take-append-drop m bytes
+
+pub record HasWords (bytes words : List ℕ) : Type 0 where
+  pub valid : AreBytes bytes
+  pub are : words ≡ string_words bytes
+  pub many : length words ≡ length bytes / 8 + 1
+
+pub string_body : (g : List Obj) (k : ℕ) (words : List ℕ) → IsHeap g → k < length g → object_at g k ≡ objects.Bytes (bytes_of (object_at g k))
+    → words ≡ body_of g (object_at g k) → HasWords (bytes_of (object_at g k)) words
+string_body g k words heap inside is are =
+    let bytes = bytes_of (object_at g k) in
+    let h : IsObject (length g) (objects.Bytes bytes) = subst (IsObject (length g)) is (heap.is_graph k _ inside) in
+    let same : words ≡ string_words bytes = are ∙ ap (body_of g) is in
+    record { valid = h; are = same; many = ap length same ∙ length-string_words bytes }
+
+-- ---- as text
+
+module _ (bytes words piece : List ℕ) (has : HasWords bytes words) where
+  joined : (j : ℕ) → j < length bytes / 8 → piece ≡ to_le_bytes w64 (get_or words j 0) → take (8 * j) bytes ++ piece ≡ take (8 * (j + 1)) bytes
+  unfolding bytes_of_word
+  joined j inside is =
+      ap (λ t. take (8 * j) bytes ++ t) (is ∙ ap (λ ws. to_le_bytes w64 (get_or ws j 0)) has.are) ∙ sym (whole_word bytes j has.valid inside)
+
+  pub word_adds : (a b c : ByteState) (x y z : List ℕ) (j : ℕ) → j < length bytes / 8 → piece ≡ to_le_bytes w64 (get_or words j 0)
+      → AddsAll a b x y (take (8 * j) bytes) → AddsAll b c y z piece → AddsAll a c x z (take (8 * (j + 1)) bytes)
+  word_adds a b c x y z j inside is first second =
+      subst (AddsAll a c x z) (joined j inside is) (adds_both a b c x y z (take (8 * j) bytes) piece first second)
+
+  pub word_fails : (a b c : ByteState) (x y : List ℕ) (j : ℕ) → j < length bytes / 8 → piece ≡ to_le_bytes w64 (get_or words j 0)
+      → AddsAll a b x y (take (8 * j) bytes) → AddsPart b c y piece → AddsPart a c x bytes
+  word_fails a b c x y j inside is first second =
+      subst (AddsPart a c x) (take-append-drop (8 * (j + 1)) bytes)
+      (adds_part_of a c x (take (8 * (j + 1)) bytes) (drop (8 * (j + 1)) bytes)
+      (subst (AddsPart a c x) (joined j inside is) (adds_then_part a b c x y (take (8 * j) bytes) piece first second)))
+
+  pub last_adds : {A E : Type 0} (a b c : ByteState) (x y z : List ℕ) (m n : ℕ) (result : Result A E) → m ≡ n / 8 → n ≡ length bytes → piece ≡ to_le_bytes w64 (get_or words (n / 8) 0)
+      → AddsAll a b x y (take (8 * m) bytes) → Adds b c y z (take (n % 8) piece) result → Adds a c x z bytes result
+  unfolding bytes_of_word
+  last_adds a b c x y z m n result place many is first second =
+      let whole : take (8 * (n / 8)) bytes ++ take (n % 8) piece ≡ bytes =
+      ap (λ p. take (8 * (n / 8)) bytes ++ take (n % 8) p) (is ∙ ap (λ ws. to_le_bytes w64 (get_or ws (n / 8) 0)) has.are)
+      ∙ ap (λ m. take (8 * (m / 8)) bytes ++ take (m % 8) (to_le_bytes w64 (get_or (string_words bytes) (m / 8) 0))) many
+      ∙ last_word bytes has.valid in
+      subst (λ t. Adds a c x z t result) whole (adds_then a b c x y z (take (8 * (n / 8)) bytes) (take (n % 8) piece) result (subst (λ k. AddsAll a b x y (take (8 * k) bytes)) place first) second)
