@@ -26,6 +26,7 @@ use Rattle.om_scope.specs.declared.rule.NameRule.TheVariants as names
 use Rattle.om_scope.specs.declared.rule.UseRule.{UseRule}
 use Rattle.om_scope.specs.declared.rule.UseRule.TheVariants as use_rules
 use Rattle.om_scope.specs.Breaks.{Later, OfGroup, IsOther, BreaksUse, UsesBreak}
+use Rattle.om_scope.specs.Breaks.{WantsDistinctNames}
 use Rattle.om_scope.specs.Breaks.{names_of_decls, SiteBreaks, SitesBreak, NameBreaks, TypeBreaks, rule_of}
 use Rattle.om_scope.specs.Sites.{HasArguments, IsRow, IsSite, AreUses, IsTypeSite}
 use Rattle.om_scope.specs.Sites.{AreSites}
@@ -229,12 +230,12 @@ module _ (all : List DeclPlaces) (d : DeclPlaces) (site : Site) (is : IsSite sit
       ))
 
   site_breaks :
-      (rule : NameRule) → (rule ≡ names.Irregular → (k : ℕ) → ¬ NamesBreak all twice k) → (k : ℕ)
+      (rule : NameRule) → rule ≢ names.Cyclic → (WantsDistinctNames rule → (k : ℕ) → ¬ NamesBreak all twice k) → (k : ℕ)
       → SiteBreaks rule (decls_of all) d.decl site k ↔ BreaksInDecl all d (rule_of rule) k
-  site_breaks names.Twice distinct k = rows_break k
-  site_breaks names.UnknownName distinct k = unknown_break k
-  site_breaks names.Arity distinct k = arity_break k
-  site_breaks names.UnboundVariable distinct k = (
+  site_breaks names.Twice none distinct k = rows_break k
+  site_breaks names.UnknownName none distinct k = unknown_break k
+  site_breaks names.Arity none distinct k = arity_break k
+  site_breaks names.UnboundVariable none distinct k = (
     λ some. (
       some.0.1,
       is.variables k some.0.1
@@ -243,16 +244,17 @@ module _ (all : List DeclPlaces) (d : DeclPlaces) (site : Site) (is : IsSite sit
     ),
     λ some. ((k, some.0), is.all_variables k some.0 some.1, (refl, some.2)),
   )
-  site_breaks names.Irregular distinct k = irregular_break (distinct refl) k
-  site_breaks names.TooManyConstructors distinct k = (
+  site_breaks names.Cyclic none distinct k = absurd (none refl)
+  site_breaks names.Irregular none distinct k = irregular_break (distinct tt) k
+  site_breaks names.TooManyConstructors none distinct k = (
     λ at. subst (λ (places : List ℕ). slice_get places 244 ≡ Some k) is.carrying at,
     λ at. subst (λ (places : List ℕ). slice_get places 244 ≡ Some k) (sym is.carrying) at,
   )
 
 -- ---- the file
 
-module _ (all : List DeclPlaces) (rule : NameRule)
-    (distinct : rule ≡ names.Irregular → (k : ℕ) → ¬ NamesBreak all twice k) where
+module _ (all : List DeclPlaces) (rule : NameRule) (none : rule ≢ names.Cyclic)
+    (distinct : WantsDistinctNames rule → (k : ℕ) → ¬ NamesBreak all twice k) where
   sites_break :
       (sites : List Site) → length sites ≡ length all
       → ((i : ℕ) (site : Site) (d : DeclPlaces) → slice_get sites i ≡ Some site
@@ -264,7 +266,7 @@ module _ (all : List DeclPlaces) (rule : NameRule)
     λ some. let e = map_at (λ (x : DeclPlaces). x.decl) all some.0 some.2.0 some.2.2 in (
       e.0,
       slice_get-Contains all some.0 e.0 e.1,
-      (site_breaks all e.0 some.2.1 (stand some.0 some.2.1 e.0 some.2.3 e.1) rule distinct k).0
+      (site_breaks all e.0 some.2.1 (stand some.0 some.2.1 e.0 some.2.3 e.1) rule none distinct k).0
           (subst (λ x. SiteBreaks rule (decls_of all) x some.2.1 k) (sym e.2) some.2.4),
     ),
     λ some. let j = some.1.0 in
@@ -279,7 +281,7 @@ module _ (all : List DeclPlaces) (rule : NameRule)
             site.0,
             decl_at all j d d_at,
             site.1,
-            (site_breaks all d site.0 (stand j site.0 d site.1 d_at) rule distinct k).1 some.2,
+            (site_breaks all d site.0 (stand j site.0 d site.1 d_at) rule none distinct k).1 some.2,
           ),
         ),
   )
@@ -298,22 +300,23 @@ names_break all names.Twice k = (
 names_break all names.UnknownName k = (λ never. never, λ never. never)
 names_break all names.Arity k = (λ never. never, λ never. never)
 names_break all names.UnboundVariable k = (λ never. never, λ never. never)
+names_break all names.Cyclic k = (λ never. never, λ never. never)
 names_break all names.Irregular k = (λ never. never, λ never. never)
 names_break all names.TooManyConstructors k = (λ never. never, λ never. never)
 
 pub file_breaks :
     (decls : List Decl) (declared : List Placed) (sites : List Site) (all : List DeclPlaces)
-    (rule : NameRule) → (rule ≡ names.Irregular → (k : ℕ) → ¬ NamesBreak all twice k)
+    (rule : NameRule) → rule ≢ names.Cyclic → (WantsDistinctNames rule → (k : ℕ) → ¬ NamesBreak all twice k)
     → AreSites decls declared sites all → (k : ℕ)
     → (NameBreaks rule declared k ⊎ SitesBreak rule decls sites k) ↔ BreaksInFile all (rule_of rule) k
-file_breaks decls declared sites all rule distinct are k =
+file_breaks decls declared sites all rule none distinct are k =
     subst (λ x. (NameBreaks rule x k ⊎ SitesBreak rule decls sites k) ↔ BreaksInFile all (rule_of rule) k) (sym are.declared)
     (subst (λ x. (NameBreaks rule (declared_names all) k ⊎ SitesBreak rule x sites k) ↔ BreaksInFile all (rule_of rule) k)
     (sym are.declares) (
       ⊎_elim (λ here. inl ((names_break all rule k).0 here))
-          (λ some. inr ((sites_break all rule distinct sites are.counted are.stand k).0 some)),
+          (λ some. inr ((sites_break all rule none distinct sites are.counted are.stand k).0 some)),
       ⊎_elim (λ here. inl ((names_break all rule k).1 here))
-          (λ some. inr ((sites_break all rule distinct sites are.counted are.stand k).1 some)),
+          (λ some. inr ((sites_break all rule none distinct sites are.counted are.stand k).1 some)),
     ))
 
 -- ---- the text of a type
@@ -346,5 +349,6 @@ type_breaks decls site occurrences is names.Arity k =
     (λ name arguments. (n : ℕ) × (arity_of decls name ≡ Some n) × (n ≢ length arguments)) None
     (λ u arguments has. other_arity (arity_of decls u.name) u.arguments (length arguments) has.counted) k
 type_breaks decls site occurrences is names.UnboundVariable k = (λ never. never, λ never. never)
+type_breaks decls site occurrences is names.Cyclic k = (λ never. never, λ never. never)
 type_breaks decls site occurrences is names.Irregular k = (λ never. never, λ never. never)
 type_breaks decls site occurrences is names.TooManyConstructors k = (λ never. never, λ never. never)

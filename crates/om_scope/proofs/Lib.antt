@@ -9,4 +9,5 @@ pub mod RankLemmas
 pub mod SearchLemmas
 pub mod StepLemmas
 pub mod CyclicLemmas
+pub mod FirstLemmas
 pub mod WrittenLemmas

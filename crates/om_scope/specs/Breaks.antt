@@ -5,7 +5,7 @@ use Rattle.om_types.specs.declared.decl.Decl.{Decl}
 use Rattle.om_types.specs.Declarations.{arity_of, declaration_of, predeclared}
 use Rattle.om_types.specs.Occurrence.{Placed}
 use Rattle.om_types.specs.Scope.{Rule, IsSecond, twice, unknown_name, arity}
-use Rattle.om_types.specs.Scope.{unbound_variable, irregular, too_many_constructors}
+use Rattle.om_types.specs.Scope.{unbound_variable, cyclic, irregular, too_many_constructors}
 use Rattle.om_scope.specs.declared.site.Use.{Use}
 use Rattle.om_scope.specs.declared.site.Site.{Site}
 use Rattle.om_scope.specs.declared.site.TypeSite.{TypeSite}
@@ -60,7 +60,7 @@ abbrev pub VariablesBreak : List (List ℕ) → List Placed → ℕ → Type 0
 VariablesBreak parameters variables k =
     (v : Placed) × Contains variables v × ((v.0 ≡ k) × (¬ Contains parameters v.1))
 
--- what stands in a declaration breaks a rule at lexeme k
+-- what stands in a declaration breaks a rule at lexeme k; none breaks the rule against cycles alone
 abbrev pub SiteBreaks : NameRule → List Decl → Decl → Site → ℕ → Type 0
 SiteBreaks names.Twice decls d site k =
     (row : List Placed) × Contains site.rows row × IsSecond row k
@@ -71,6 +71,7 @@ SiteBreaks names.UnboundVariable decls d site k =
     VariablesBreak d.parameters site.variables k
 SiteBreaks names.Irregular decls d site k =
     UsesBreak use_rules.Irregular decls (Some d.group) site.uses k
+SiteBreaks names.Cyclic decls d site k = ⊥
 SiteBreaks names.TooManyConstructors decls d site k = slice_get site.carrying 244 ≡ Some k
 
 -- the rule of scope that it is
@@ -79,8 +80,15 @@ rule_of names.Twice = twice
 rule_of names.UnknownName = unknown_name
 rule_of names.Arity = arity
 rule_of names.UnboundVariable = unbound_variable
+rule_of names.Cyclic = cyclic
 rule_of names.Irregular = irregular
 rule_of names.TooManyConstructors = too_many_constructors
+
+-- the rule is judged where no name is declared twice
+abbrev pub WantsDistinctNames : NameRule → Type 0
+WantsDistinctNames names.Cyclic = Unit {0}
+WantsDistinctNames names.Irregular = Unit {0}
+WantsDistinctNames rule = ⊥
 
 -- what stands in declaration i breaks a rule at lexeme k
 abbrev pub BreaksAt : NameRule → List Decl → List Site → ℕ → ℕ → Type 0

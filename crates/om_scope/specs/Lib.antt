@@ -1,5 +1,6 @@
 pub mod Breaks
 pub mod Cyclic
+pub mod First
 pub mod Graph
 pub mod Least
 pub mod Names

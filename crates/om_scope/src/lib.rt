@@ -3,6 +3,7 @@
 
 mod cyclic;
 pub mod declared;
+mod first;
 mod graph;
 mod least;
 mod names;
@@ -17,7 +18,7 @@ pub mod table;
 mod uses;
 mod variables;
 
-pub use cyclic::least_cyclic;
+pub use first::{Broken, first_break};
 pub use least::{place_if, sooner};
 pub use rule::NameRule;
 pub use site::{Placed, Site, TypeSite, Use};

@@ -11,6 +11,8 @@ pub enum NameRule {
     Arity,
     /// Each variable is a parameter.
     UnboundVariable,
+    /// No abbreviation comes back to itself.
+    Cyclic,
     /// In its own group no argument of a name holds a variable unless it is one.
     Irregular,
     /// At most 244 constructors of a declaration have arguments.

@@ -3,11 +3,12 @@
 ghost use Rattle.std.specs.Prelude.{◌≡◌, ℕ, List, IfOk, length, slice_get};
 ghost use Rattle.om_types.specs.Occurrence.{DeclPlaces, Occurrence};
 ghost use Rattle.om_types.specs.Scope.{BreaksInFile, BreaksInType, NamesBreak, twice};
-ghost use Rattle.om_scope.specs.Breaks.{names_of_decls, SiteBreaks, SitesBreak, NameBreaks, TypeBreaks, rule_of};
+ghost use Rattle.om_scope.specs.Breaks.{names_of_decls, SiteBreaks, SitesBreak, NameBreaks, TypeBreaks, WantsDistinctNames, rule_of};
 ghost use Rattle.om_scope.specs.Least.{IsLeast};
 ghost use Rattle.om_scope.specs.Names.{number_of, ArePlaces};
 ghost use Rattle.om_scope.specs.Sites.{AreSites, IsTypeSite};
 
+use crate::cyclic::least_cyclic;
 use crate::declared::table_of;
 use crate::least::sooner;
 use crate::names::least_name_twice;
@@ -51,6 +52,7 @@ fn least_in_site(
             decl.parameters.as_slice(),
             site.variables.as_slice(),
         ),
+        NameRule::Cyclic => Ok(None),
         NameRule::Irregular => Ok(least_use(UseRule::Irregular, decls, table, group, uses)),
         NameRule::TooManyConstructors => Ok(nth(site.carrying.as_slice(), 244)),
     }
@@ -72,7 +74,10 @@ pub fn least_in_type(
         NameRule::Twice => least_second_of_rows(alloc, site.rows.as_slice()),
         NameRule::UnknownName => Ok(least_use(UseRule::UnknownName, decls, table, None, uses)),
         NameRule::Arity => Ok(least_use(UseRule::Arity, decls, table, None, uses)),
-        NameRule::UnboundVariable | NameRule::Irregular | NameRule::TooManyConstructors => Ok(None),
+        NameRule::UnboundVariable
+        | NameRule::Cyclic
+        | NameRule::Irregular
+        | NameRule::TooManyConstructors => Ok(None),
     }
 }
 
@@ -119,12 +124,17 @@ pub fn least_break(
 ) -> Result<Option<usize>, Memory>
     ghost all: { List DeclPlaces }
     requires sites { AreSites decls.now names.now sites.now all }
-    requires distinct { rule ≡ NameRule.Irregular → (k : ℕ) → ¬ NamesBreak all twice k }
+    requires distinct { WantsDistinctNames rule → (k : ℕ) → ¬ NamesBreak all twice k }
     ensures { IfOk result (IsLeast (BreaksInFile all (rule_of rule))) }
 {
-    let in_names = least_in_names(alloc, rule, names)?;
-    let in_sites = least_in_sites(alloc, rule, decls, sites)?;
-    Ok(sooner(in_names, in_sites))
+    match rule {
+        NameRule::Cyclic => least_cyclic(alloc, decls, names, sites),
+        _ => {
+            let in_names = least_in_names(alloc, rule, names)?;
+            let in_sites = least_in_sites(alloc, rule, decls, sites)?;
+            Ok(sooner(in_names, in_sites))
+        }
+    }
 }
 
 /// The least lexeme at which the text of a type breaks the rule.

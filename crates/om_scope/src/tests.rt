@@ -2,7 +2,7 @@ ghost use Rattle.std.specs.Prelude.{◌≡◌, ◌↔◌, IsTrue};
 ghost use Rattle.om_scope.specs.Sites.{AreSites, IsTypeSite};
 ghost use Rattle.om_scope.specs.Written.{HaveArguments, IsWritable, file_of, occurrences_of};
 
-use crate::cyclic::least_cyclic;
+use crate::first::{Broken, first_break};
 use crate::rule::NameRule;
 use crate::site::{Placed, Site, TypeSite, Use};
 use crate::sites::{least_break, least_break_in_type};
@@ -212,16 +212,13 @@ fn least(
     }
 }
 
-// The least name on a cycle, or one that stands twice.
-fn least_in_ring(rt: &impl Abort, alloc: Global, file: &Written) -> Result<Option<usize>, Fail> {
+// The first rule on names that is broken.
+fn first(rt: &impl Abort, alloc: Global, file: &Written) -> Result<Option<Broken>, Fail> {
     let decls = file.decls.as_slice();
     let names = file.names.as_slice();
     let sites = file.sites.as_slice();
     assert!(rt; are_sites(decls, names, sites));
-    match least_break(alloc, NameRule::Twice, decls, names, sites)? {
-        Some(place) => Ok(Some(place)),
-        None => Ok(least_cyclic(alloc, decls, names, sites)?),
-    }
+    Ok(first_break(alloc, decls, names, sites)?)
 }
 
 fn least_in_type_site(
@@ -397,7 +394,31 @@ fn abbreviations_come_back(rt: HostRuntime) -> Result<(), Fail> {
     ];
     for (shows, words, place) in cases {
         let file = file_of_words(rt.alloc(), words)?;
-        assert_eq!(rt; least_in_ring(&rt, rt.alloc(), &file)?, place, "{shows}");
+        assert_eq!(rt;
+            least(&rt, rt.alloc(), NameRule::Cyclic, &file)?,
+            place,
+            "{shows}"
+        );
+    }
+    Ok(())
+}
+
+// The later `N`, and the unknown `u`, of the example; a ring; and no break.
+#[test]
+fn the_first_rule_is_answered(rt: HostRuntime) -> Result<(), Fail> {
+    let alloc = rt.alloc();
+    let cases = [
+        (example(alloc, b"N")?, Some((NameRule::Twice, 12))),
+        (example(alloc, b"M")?, Some((NameRule::UnknownName, 14))),
+        (
+            file_of_words(alloc, "s0=t t0=t")?,
+            Some((NameRule::Cyclic, 8)),
+        ),
+        (file_of_words(alloc, "s0=t t0=")?, None),
+    ];
+    for (file, answer) in cases {
+        let found = first(&rt, alloc, &file)?;
+        assert_eq!(rt; found.map(|broken| (broken.rule, broken.place)), answer);
     }
     Ok(())
 }

@@ -1,17 +1,27 @@
-use Rattle.std.proofs.Common.{subst, sym, ◌⊎◌}
-use Rattle.om_types.specs.Scope.{BreaksInFile}
-use Rattle.om_scope.specs.Breaks.{SitesBreak, NameBreaks, rule_of}
+use Rattle.std.proofs.Common.{subst, sym, ◌⊎◌, ℕ}
+use Rattle.std.specs.Prelude.{IfOk}
+use Rattle.om_types.specs.Scope.{BreaksInFile, NamesBreak, twice}
+use Rattle.om_scope.specs.Breaks.{SitesBreak, NameBreaks, WantsDistinctNames, rule_of}
 use Rattle.om_scope.specs.Least.{IsLeast, sooner}
 use Rattle.om_scope.proofs.LeastLemmas.{least_same, least_of_either}
 use Rattle.om_scope.proofs.FileLemmas.{file_breaks}
 use Rattle.om_scope.proofs.sites.least_break.Goals as goal
 
-pub returns : goal.returns
-returns g c =
-    let same = file_breaks c.args.decls.now c.args.names.now c.args.sites.now g.all c.args.rule c.requires.1 c.requires.0 in
+pub least_cyclic-requires : goal.least_cyclic-requires
+least_cyclic-requires g c =
+    (c.requires.0, subst (λ rule. WantsDistinctNames rule → (k : ℕ) → ¬ NamesBreak g.all twice k) c.in-Cyclic.is c.requires.1 tt)
+
+pub returns-in-Cyclic : goal.returns-in-Cyclic
+returns-in-Cyclic g c =
+    subst (λ rule. IfOk c.least_cyclic.result (IsLeast (BreaksInFile g.all (rule_of rule)))) (sym c.in-Cyclic.is) c.least_cyclic.ensures
+
+pub returns-in_ok-in_sites-in_default : goal.returns-in_ok-in_sites-in_default
+returns-in_ok-in_sites-in_default g c =
+    let same = file_breaks c.args.decls.now c.args.names.now c.args.sites.now g.all c.args.rule c.in_default.not-Cyclic
+    c.requires.1 c.requires.0 in
     subst (IsLeast (BreaksInFile g.all (rule_of c.args.rule))) (sym c.sooner.ensures)
     (least_same (λ k. NameBreaks c.args.rule c.args.names.now k ⊎ SitesBreak c.args.rule c.args.decls.now c.args.sites.now k)
-    (BreaksInFile g.all (rule_of c.args.rule)) (sooner c.in_ok-in_names.in_names c.in_ok-in_sites.in_sites)
+    (BreaksInFile g.all (rule_of c.args.rule)) (sooner c.in_ok-in_names-in_default.in_names c.in_ok-in_sites-in_default.in_sites)
     (least_of_either (NameBreaks c.args.rule c.args.names.now) (SitesBreak c.args.rule c.args.decls.now c.args.sites.now)
-    c.in_ok-in_names.in_names c.in_ok-in_sites.in_sites c.in_ok-in_names.ensures c.in_ok-in_sites.ensures)
+    c.in_ok-in_names-in_default.in_names c.in_ok-in_sites-in_default.in_sites c.in_ok-in_names-in_default.ensures c.in_ok-in_sites-in_default.ensures)
     (λ k. (same k).0) (λ k. (same k).1))

@@ -1,0 +1,58 @@
+//! The first rule on names that a file breaks.
+
+ghost use Rattle.std.specs.Prelude.{◌≡◌, ◌<◌, IfOk, List};
+ghost use Rattle.om_types.specs.Occurrence.{DeclPlaces};
+ghost use Rattle.om_types.specs.Scope.{BreaksInFile, turn};
+ghost use Rattle.om_scope.specs.Breaks.{rule_of};
+ghost use Rattle.om_scope.specs.First.{IsFirstBefore};
+ghost use Rattle.om_scope.specs.Sites.{AreSites};
+
+use crate::rule::NameRule;
+use crate::site::{Placed, Site};
+use crate::sites::least_break;
+use om_model::Memory;
+use om_types::decl::Decl;
+use std::alloc::Global;
+
+/// A rule that is broken, and the lexeme.
+#[derive(Clone, Copy, Debug, PartialEq, Eq)]
+pub struct Broken {
+    pub rule: NameRule,
+    pub place: usize,
+}
+
+/// The rule that is judged at this turn.
+fn rule_at(i: usize) -> NameRule
+    requires { i < 7 }
+    ensures { turn (rule_of result) ≡ i }
+{
+    match i {
+        0 => NameRule::Twice,
+        1 => NameRule::UnknownName,
+        2 => NameRule::Arity,
+        3 => NameRule::UnboundVariable,
+        4 => NameRule::Cyclic,
+        5 => NameRule::Irregular,
+        _ => NameRule::TooManyConstructors,
+    }
+}
+
+/// The first rule on names that a file breaks, in the order of their turns, at the least lexeme.
+pub fn first_break(
+    alloc: Global,
+    decls: &[Decl],
+    names: &[Placed],
+    sites: &[Site],
+) -> Result<Option<Broken>, Memory>
+    ghost all: { List DeclPlaces }
+    requires { AreSites decls.now names.now sites.now all }
+    ensures { IfOk result (IsFirstBefore (BreaksInFile all) 7) }
+{
+    for i in 0..7 {
+        let rule = rule_at(i);
+        if let Some(place) = least_break(alloc, rule, decls, names, sites)? {
+            return Ok(Some(Broken { rule, place }));
+        }
+    }
+    Ok(None)
+}
