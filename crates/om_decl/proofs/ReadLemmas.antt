@@ -18,9 +18,10 @@ use Rattle.om_occurrences.specs.CountedFile.{counted_file}
 use Rattle.om_occurrences.specs.InFile.{file_places}
 use Rattle.om_occurrences.proofs.GroupLaws.{files_are_counted}
 use Rattle.om_decl.specs.Answer.{IsAnswer}
-use Rattle.om_decl.specs.Fault.{lexed, parsed, rule_of, broken_at, IsRefused}
-use Rattle.om_decl.specs.declared.fault.NamesRule.{NamesRule}
-use Rattle.om_decl.specs.declared.fault.NamesRule.TheVariants as names
+use Rattle.om_decl.specs.Fault.{lexed, parsed, broken_at, IsRefused}
+use Rattle.om_scope.specs.Breaks.{rule_of}
+use Rattle.om_scope.specs.declared.rule.NameRule.{NameRule}
+use Rattle.om_scope.specs.declared.rule.NameRule.TheVariants as names
 
 module _ {Tree : Type 0} (spelled : Tree → Kinds) (ends : Tree → List ℕ) (Breaks : Tree → Rule → ℕ → Type 0)
     (text : List ℕ) where
@@ -42,13 +43,13 @@ module _ {Tree : Type 0} (spelled : Tree → Kinds) (ends : Tree → List ℕ) (
     grammar_refuses parser.Memory is = tt
 
     pub scope_refuses :
-        (tree : Tree) → IsText spelled ends (kinds_of lexemes) tree → (rule : NamesRule) (k : ℕ)
+        (tree : Tree) → IsText spelled ends (kinds_of lexemes) tree → (rule : NameRule) (k : ℕ)
         → IsFirst (Breaks tree) (rule_of rule) k
         → IsRefused (IsAnswer spelled ends Breaks text) (broken_at rule (byte_of lexemes (length text) k))
     scope_refuses tree reads names.Twice k is = (Ok lexemes, lexes, (text_read tree, reads, (k, is, refl)))
     scope_refuses tree reads names.UnknownName k is = (Ok lexemes, lexes, (text_read tree, reads, (k, is, refl)))
     scope_refuses tree reads names.Arity k is = (Ok lexemes, lexes, (text_read tree, reads, (k, is, refl)))
-    scope_refuses tree reads names.UnboundVar k is = (Ok lexemes, lexes, (text_read tree, reads, (k, is, refl)))
+    scope_refuses tree reads names.UnboundVariable k is = (Ok lexemes, lexes, (text_read tree, reads, (k, is, refl)))
     scope_refuses tree reads names.Cyclic k is = (Ok lexemes, lexes, (text_read tree, reads, (k, is, refl)))
     scope_refuses tree reads names.Irregular k is = (Ok lexemes, lexes, (text_read tree, reads, (k, is, refl)))
     scope_refuses tree reads names.TooManyConstructors k is = (Ok lexemes, lexes, (text_read tree, reads, (k, is, refl)))

@@ -1,9 +1,8 @@
 -- The faults that code answers, and what they tell.
-use Rattle.std.specs.Prelude.{ℕ, ◌<◌, List, Option, Some, None, MatchOption}
+use Rattle.std.specs.Prelude.{ℕ, List, Option, Some, None, MatchOption}
 use Rattle.om_lex.specs.declared.lexeme.Lexeme.{Lexeme}
 use Rattle.om_lex.specs.declared.lexeme.LexFault.{LexFault}
 use Rattle.om_lex.specs.declared.lexeme.LexFault.TheVariants as lexer
-use Rattle.om_types.specs.Scope.{Rule, turn, IsFirst}
 use Rattle.om_types.specs.Scope as scope
 use Rattle.om_parse.specs.declared.refused.Fault.{Fault}
 use Rattle.om_parse.specs.declared.refused.Fault.TheVariants as parser
@@ -11,8 +10,8 @@ use Rattle.om_parse.specs.Parsed.{byte_of}
 use Rattle.om_decl.specs.Answer.{Answer, no_lexemes, no_text, too_deep, broken}
 use Rattle.om_decl.specs.declared.fault.DeclFault.{DeclFault}
 use Rattle.om_decl.specs.declared.fault.DeclFault.TheVariants as faults
-use Rattle.om_decl.specs.declared.fault.NamesRule.{NamesRule}
-use Rattle.om_decl.specs.declared.fault.NamesRule.TheVariants as rules
+use Rattle.om_scope.specs.declared.rule.NameRule.{NameRule}
+use Rattle.om_scope.specs.declared.rule.NameRule.TheVariants as rules
 
 -- ---- faults of each stage
 
@@ -25,34 +24,14 @@ parsed lexemes end (parser.Syntax k) = faults.Syntax (byte_of lexemes end k)
 parsed lexemes end (parser.TooDeep k) = faults.TooDeep (byte_of lexemes end k)
 parsed lexemes end parser.Memory = faults.Memory
 
-abbrev pub rule_of : NamesRule → Rule
-rule_of rules.Twice = scope.twice
-rule_of rules.UnknownName = scope.unknown_name
-rule_of rules.Arity = scope.arity
-rule_of rules.UnboundVar = scope.unbound_variable
-rule_of rules.Cyclic = scope.cyclic
-rule_of rules.Irregular = scope.irregular
-rule_of rules.TooManyConstructors = scope.too_many_constructors
-
-abbrev pub broken_at : NamesRule → ℕ → DeclFault
+abbrev pub broken_at : NameRule → ℕ → DeclFault
 broken_at rules.Twice place = faults.Twice place
 broken_at rules.UnknownName place = faults.UnknownName place
 broken_at rules.Arity place = faults.Arity place
-broken_at rules.UnboundVar place = faults.UnboundVar place
+broken_at rules.UnboundVariable place = faults.UnboundVar place
 broken_at rules.Cyclic place = faults.Cyclic place
 broken_at rules.Irregular place = faults.Irregular place
 broken_at rules.TooManyConstructors place = faults.TooManyConstructors place
-
--- ---- rules one after the other
-
--- the rules whose turn comes before are broken nowhere
-abbrev pub KeepsBefore : (Rule → ℕ → Type 0) → ℕ → Type 0
-KeepsBefore Breaks n = (rule : Rule) (k : ℕ) → turn rule < n → ¬ Breaks rule k
-
--- the first of these rules that is broken, with its least lexeme
-abbrev pub IsFirstBefore : (Rule → ℕ → Type 0) → ℕ → Option (NamesRule × ℕ) → Type 0
-IsFirstBefore Breaks n None = KeepsBefore Breaks n
-IsFirstBefore Breaks n (Some (rule, k)) = IsFirst Breaks (rule_of rule) k
 
 -- ---- what a fault tells
 

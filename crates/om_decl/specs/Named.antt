@@ -9,7 +9,7 @@ use Rattle.om_parse.specs.Parsed.{kinds_of}
 use Rattle.om_parse.specs.Written.{declarations_of}
 use Rattle.om_occurrences.specs.Counted.{marks}
 use Rattle.om_occurrences.specs.InFile.{file_places}
-use Rattle.om_decl.specs.Fault.{KeepsBefore}
+use Rattle.om_scope.specs.First.{KeepsBefore}
 use Rattle.om_decl.specs.declared.read.Named.{Named}
 
 -- the text is a file that keeps the rules on names, and these are its lexemes, marks and declarations

@@ -7,18 +7,7 @@ ghost use Rattle.om_decl.specs.declared.fault.DeclFault.TheVariants as faults;
 use om_lex::lexeme::{LexFault, Lexeme};
 use om_model::Memory;
 use om_parse::{Fault, byte_of};
-
-/// A rule of scope on names, in the order in which they are judged.
-#[derive(Clone, Copy, Debug, PartialEq, Eq)]
-pub enum NamesRule {
-    Twice,
-    UnknownName,
-    Arity,
-    UnboundVar,
-    Cyclic,
-    Irregular,
-    TooManyConstructors,
-}
+use om_scope::NameRule;
 
 /// Why a text is refused, with the number of the byte at which the refused lexeme begins.
 #[derive(Clone, Copy, Debug, PartialEq, Eq)]
@@ -77,16 +66,16 @@ pub fn parse_fault(fault: Fault, lexemes: &[Lexeme], end: usize) -> DeclFault
 }
 
 /// The fault of a rule that is broken at a byte.
-pub fn scope_fault(rule: NamesRule, place: usize) -> DeclFault
+pub fn scope_fault(rule: NameRule, place: usize) -> DeclFault
     ensures { result ≡ broken_at rule place }
 {
     match rule {
-        NamesRule::Twice => DeclFault::Twice(place),
-        NamesRule::UnknownName => DeclFault::UnknownName(place),
-        NamesRule::Arity => DeclFault::Arity(place),
-        NamesRule::UnboundVar => DeclFault::UnboundVar(place),
-        NamesRule::Cyclic => DeclFault::Cyclic(place),
-        NamesRule::Irregular => DeclFault::Irregular(place),
-        NamesRule::TooManyConstructors => DeclFault::TooManyConstructors(place),
+        NameRule::Twice => DeclFault::Twice(place),
+        NameRule::UnknownName => DeclFault::UnknownName(place),
+        NameRule::Arity => DeclFault::Arity(place),
+        NameRule::UnboundVariable => DeclFault::UnboundVar(place),
+        NameRule::Cyclic => DeclFault::Cyclic(place),
+        NameRule::Irregular => DeclFault::Irregular(place),
+        NameRule::TooManyConstructors => DeclFault::TooManyConstructors(place),
     }
 }

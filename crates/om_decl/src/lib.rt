@@ -6,7 +6,7 @@ pub mod laws;
 mod names;
 mod read;
 
-pub use fault::{DeclFault, NamesRule};
+pub use fault::DeclFault;
 pub use read::{Named, read_names};
 
 #[cfg(test)]

@@ -37,9 +37,9 @@ pub fn read_names(alloc: Global, text: &[u8]) -> Result<Named, DeclFault>
         Err(fault) => return Err(parse_fault(fault, lexemes.as_slice(), text.len())),
     };
     let marks = marks(alloc, lexemes.as_slice())?;
-    if let Some((rule, k)) = first_name_break(alloc, marks.as_slice(), decls.as_slice())? {
-        let place = byte_of(lexemes.as_slice(), text.len(), k);
-        return Err(scope_fault(rule, place));
+    if let Some(broken) = first_name_break(alloc, marks.as_slice(), decls.as_slice())? {
+        let place = byte_of(lexemes.as_slice(), text.len(), broken.place);
+        return Err(scope_fault(broken.rule, place));
     }
     Ok(Named {
         lexemes,

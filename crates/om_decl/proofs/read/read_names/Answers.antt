@@ -9,7 +9,9 @@ use Rattle.om_occurrences.specs.Counted.{marks}
 use Rattle.om_occurrences.specs.CountedFile.{counted_file}
 use Rattle.om_occurrences.specs.InFile.{file_places}
 use Rattle.om_decl.specs.Answer.{IsFileAnswer}
-use Rattle.om_decl.specs.Fault.{parsed, rule_of, broken_at, IsRefused, IsFirstBefore}
+use Rattle.om_decl.specs.Fault.{parsed, broken_at, IsRefused}
+use Rattle.om_scope.specs.Breaks.{rule_of}
+use Rattle.om_scope.specs.First.{IsFirstBefore}
 use Rattle.om_decl.proofs.ReadLemmas.{lexer_refuses, grammar_refuses, scope_refuses, places_are}
 use Rattle.om_decl.proofs.read.read_names.Goals as goal
 
@@ -37,8 +39,8 @@ pub returns-in-Some-clause-fault : goal.returns-in-Some-clause-fault
 returns-in-Some-clause-fault c =
     let text = c.args.text.now in
     let lexemes = c.in-Ok.lexemes.items in
-    let rule = c.in-Some.rule in
-    let k = c.in-Some.k in
+    let rule = c.in-Some.broken.rule in
+    let k = c.in-Some.broken.place in
     let declared = subst (λ (ls : List Lexeme). AreDeclarationsOf (kinds_of ls) c.in-Ok-parse_file.decls)
     c.as_slice.ensures.value c.in-Ok-parse_file.ensures.declarations in
     let marked = c.as_slice-3.ensures.value ∙ c.in_ok-marks.ensures
@@ -46,8 +48,8 @@ returns-in-Some-clause-fault c =
     let places = places_are lexemes c.as_slice-4.result.now c.as_slice-3.result.now declared.tree declared.reads.spells
     (c.as_slice-4.ensures ∙ declared.stand) marked in
     let first : IsFirst (BreaksInFile (counted_file c.as_slice-3.result.now c.as_slice-4.result.now)) (rule_of rule) k =
-    subst (IsFirstBefore (BreaksInFile (counted_file c.as_slice-3.result.now c.as_slice-4.result.now)) 7)
-    c.in-Some.is c.in_ok-rule.ensures in
+    (subst (IsFirstBefore (BreaksInFile (counted_file c.as_slice-3.result.now c.as_slice-4.result.now)) 7)
+    c.in-Some.is c.in_ok-broken.ensures).1 in
     subst (IsRefused (IsFileAnswer text))
     (sym (c.scope_fault.ensures ∙ ap (broken_at rule) (c.byte_of-place.ensures
     ∙ ap (λ (ls : List Lexeme). byte_of ls (length text) k) c.as_slice-in-Some.ensures.value)))
@@ -70,5 +72,5 @@ returns-clause-named c =
       declared = declared.stand;
       keeps = subst (λ (all : List DeclPlaces). IsFirstBefore (BreaksInFile all) 7 None) places
           (subst (IsFirstBefore (BreaksInFile (counted_file c.as_slice-3.result.now c.as_slice-4.result.now)) 7)
-          c.in_default.is c.in_ok-rule.ensures);
+          c.in_default.is c.in_ok-broken.ensures);
     }
