@@ -51,7 +51,8 @@ pub fn unfolded(
     Ok(Some(next))
 }
 
-/// The type after all replacements at its head. It takes the steps of each replacement, one after the other.
+/// The type after all replacements at its head, with the steps of each, one after the other. After `Memory` there may be
+/// more types, at the end.
 pub fn expanded(
     alloc: Global,
     types: &mut Types,
