@@ -4,6 +4,7 @@ pub mod ForestLemmas
 pub mod FrameLemmas
 pub mod LawLemmas
 pub mod LeftLemmas
+pub mod MarkLemmas
 pub mod NextLemmas
 pub mod SizeLemmas
 pub mod StringLemmas

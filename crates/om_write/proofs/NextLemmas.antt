@@ -1,5 +1,5 @@
 -- One call of `next`.
-use Rattle.std.proofs.Common.{ℕ, zero, suc, ◌≡◌, ◌≢◌, ◌+◌, ◌*◌, ◌-◌, ◌<◌, ◌≤◌, ◌^◌, ◌∙◌, List, ◌∷◌, length, map, drop, refl, sym, ap, subst, arith, length-drop, ℤ}
+use Rattle.std.proofs.Common.{ℕ, zero, suc, ◌≡◌, ◌≢◌, ◌+◌, ◌*◌, ◌-◌, ◌<◌, ◌≤◌, ◌^◌, ◌∙◌, true, List, ◌∷◌, length, map, drop, refl, sym, ap, subst, arith, length-drop, ℤ}
 use Rattle.std.specs.Prelude.{slice_index, slice_set, All, vec_len, vec_capacity}
 use Rattle.std.proofs.lemmas.Option.{slice_get_within}
 use Rattle.om_model.specs.declared.value.Val.{Val}
@@ -15,12 +15,14 @@ use Rattle.om_canonical.proofs.CanonLemmas.{tokens-le}
 use Rattle.om_canonical.proofs.Walk.{has_one_tree, numbering}
 use Rattle.om_heap.specs.Heap.{object_at, IsHeap}
 use Rattle.om_write.specs.Step.{object_token, token_in}
+use Rattle.om_write.specs.Marks.{marks_of}
 use Rattle.om_write.specs.Walking.{AreLeft, IsAt, IsWalk, IsFrame, IsMet, left_in, pending}
 use Rattle.om_write.specs.declared.walk.Step.{Step}
 use Rattle.om_write.specs.declared.walk.Step.TheVariants as steps
+use Rattle.om_write.specs.declared.marks.Marks.{Marks}
 use Rattle.om_write.specs.declared.walk.Walk.{Walk}
 use Rattle.om_write.proofs.BoundLemmas.{few_words, few_objects, objects-le-words}
-use Rattle.om_write.proofs.LeftLemmas.{object_next}
+use Rattle.om_write.proofs.LeftLemmas.{Meets, object_next}
 use Rattle.om_write.proofs.SizeLemmas.{tree_words, few_bytes}
 use Rattle.om_write.proofs.WalkLemmas.{Advances, Keeps, Enters, advance_integer, advance_atom, advance_reference, advance_object, marks_behind}
 
@@ -57,6 +59,9 @@ module _ (g : List Obj) (walk nv : Walk) (v : Val) (w : IsWalk g walk) (value : 
   same_count : nv.count ≡ walk.count
   same_count = ap (λ (x : Walk). x.count) frame
 
+  same_again : nv.again ≡ walk.again
+  same_again = ap (λ (x : Walk). x.again) frame
+
   same_marks : nv.marks ≡ walk.marks
   same_marks = ap (λ (x : Walk). x.marks) frame
 
@@ -73,7 +78,13 @@ module _ (g : List Obj) (walk nv : Walk) (v : Val) (w : IsWalk g walk) (value : 
   stepped = record nv { given = nv.given + 1 }
 
   keeps : Keeps walk stepped
-  keeps = record { root = same_root; given = ap (λ n. n + 1) same_given; count = same_count; marks = ap (λ ms. ms.items) same_marks }
+  keeps = record { root = same_root; given = ap (λ n. n + 1) same_given; count = same_count; again = same_again; marks = same_marks }
+
+  pub marks_many : length (marks_of nv.marks) ≡ length g
+  marks_many = ap (λ (ms : Marks). length (marks_of ms)) same_marks ∙ w.marks
+
+  pub met_count : nv.marks.ordered ≡ true → nv.marks.met ≡ nv.count
+  met_count ordered = ap (λ (ms : Marks). ms.met) same_marks ∙ w.met (sym (ap (λ (ms : Marks). ms.ordered) same_marks) ∙ ordered) ∙ sym same_count
 
   after : ((tree : Tree) → IsTreeOf g walk.root tree → IsAt g tree stepped) → IsWalk g stepped
   after at = record {
@@ -81,7 +92,8 @@ module _ (g : List Obj) (walk nv : Walk) (v : Val) (w : IsWalk g walk) (value : 
     value = subst (IsValue (length g)) (sym same_root) w.value;
     frames = frames;
     depth = omega (arith, same_count, w.depth);
-    marks = ap (λ ms. vec_len ms) same_marks ∙ w.marks;
+    marks = marks_many;
+    met = met_count;
     room = omega (arith, w.room);
     at = λ tree is_of. at tree (subst (λ r. IsTreeOf g r tree) same_root is_of);
   }
@@ -100,34 +112,44 @@ module _ (g : List Obj) (walk nv : Walk) (v : Val) (w : IsWalk g walk) (value : 
 
   -- ---- before `meet`
 
-  pub mark_behind : (k : ℕ) → slice_index nv.marks.items k ≤ nv.count
+  pub mark_behind : (k : ℕ) → slice_index (marks_of nv.marks) k ≤ nv.count
   mark_behind k =
       let t = has_one_tree g walk.root w.heap.is_graph w.value in
       let at = w.at t.tree t.is in
-      rw (same_count, same_marks) (marks_behind g at.ks walk.count k walk.marks.items at.marked)
+      rw (same_count, same_marks) (marks_behind g at.ks walk.count k (marks_of walk.marks) at.marked)
+
+  meets_next : (tree : Tree) (at : IsAt g tree walk) (k : ℕ) → v ≡ vals.Ref k → slice_index (marks_of walk.marks) k ≡ 0
+      → Meets g tree at.ks walk.count at.forest k (left_in g nv.frames.items)
+  meets_next tree at k is new =
+      let left : AreLeft tree at.ks walk.count at.forest (vals.Ref k ∷ left_in g nv.frames.items) =
+      subst (λ x. AreLeft tree at.ks walk.count at.forest (x ∷ left_in g nv.frames.items)) is (subst (AreLeft tree at.ks walk.count at.forest) value at.left) in
+      object_next g walk.root tree at.ks walk.count k (marks_of walk.marks) at.forest (left_in g nv.frames.items) at.numbering at.marked new left
 
   -- before an object that is met first, fewer were met than there are
-  fewer_met : (k : ℕ) → v ≡ vals.Ref k → slice_index walk.marks.items k ≡ 0 → walk.count < length g
+  fewer_met : (k : ℕ) → v ≡ vals.Ref k → slice_index (marks_of walk.marks) k ≡ 0 → walk.count < length g
   fewer_met k is new =
       let t = has_one_tree g walk.root w.heap.is_graph w.value in
       let at = w.at t.tree t.is in
-      let left : AreLeft t.tree at.ks walk.count at.forest (vals.Ref k ∷ left_in g nv.frames.items) =
-      subst (λ x. AreLeft t.tree at.ks walk.count at.forest (x ∷ left_in g nv.frames.items)) is (subst (AreLeft t.tree at.ks walk.count at.forest) value at.left) in
-      let meets = object_next g walk.root t.tree at.ks walk.count k walk.marks.items at.forest (left_in g nv.frames.items) at.numbering at.marked new left in
+      let meets = meets_next t.tree at k is new in
       let among : walk.count < length at.ks = slice_get_within at.ks walk.count k meets.at_c in
       omega (arith, few_objects g walk.root t.tree at.ks at.numbering)
 
-  mark_is_old : (k n : ℕ) → slice_index nv.marks.items k ≡ n → slice_index walk.marks.items k ≡ n
-  mark_is_old k n is = subst (λ ms. slice_index ms.items k ≡ n) same_marks is
+  mark_is_old : (k n : ℕ) → slice_index (marks_of nv.marks) k ≡ n → slice_index (marks_of walk.marks) k ≡ n
+  mark_is_old k n is = subst (λ ms. slice_index (marks_of ms) k ≡ n) same_marks is
 
-  pub frame_room : (k : ℕ) → v ≡ vals.Ref k → slice_index nv.marks.items k ≡ 0 → vec_len nv.frames < vec_capacity nv.frames
+  -- in a second walk over objects that are in order the next one comes
+  pub next_in_order : (k : ℕ) → v ≡ vals.Ref k → nv.again ≡ true → nv.marks.ordered ≡ true → slice_index (marks_of nv.marks) k ≡ 0 → k ≡ nv.count
+  next_in_order k is again ordered new =
+      let t = has_one_tree g walk.root w.heap.is_graph w.value in
+      let at = w.at t.tree t.is in
+      let meets = meets_next t.tree at k is (mark_is_old k 0 new) in
+      at.order (sym same_again ∙ again) (sym (ap (λ (ms : Marks). ms.ordered) same_marks) ∙ ordered) walk.count k meets.at_c ∙ sym same_count
+
+  pub frame_room : (k : ℕ) → v ≡ vals.Ref k → slice_index (marks_of nv.marks) k ≡ 0 → vec_len nv.frames < vec_capacity nv.frames
   frame_room k is new = omega (arith, fewer_met k is (mark_is_old k 0 new), w.depth, w.room)
 
-  pub count_small : (k : ℕ) → v ≡ vals.Ref k → slice_index nv.marks.items k ≡ 0 → nv.count + 1 < 2 ^ 64
+  pub count_small : (k : ℕ) → v ≡ vals.Ref k → slice_index (marks_of nv.marks) k ≡ 0 → nv.count + 1 < 2 ^ 64
   count_small k is new = omega (arith, fewer_met k is (mark_is_old k 0 new), same_count, objects-le-words g, w.heap.words)
-
-  pub marks_many : vec_len nv.marks ≡ length g
-  marks_many = ap (λ ms. vec_len ms) same_marks ∙ w.marks
 
   -- ---- after `meet`
 
@@ -136,13 +158,15 @@ module _ (g : List Obj) (walk nv : Walk) (v : Val) (w : IsWalk g walk) (value : 
     pub more_given : new.given ≡ walk.given + 1
     pub is_walk : IsWalk g new
 
-  met_first : (k : ℕ) (new : Walk) (step : Step) → v ≡ vals.Ref k → k < length g → slice_index nv.marks.items k ≡ 0 → IsMet g k stepped new step → Follows new step
+  met_first : (k : ℕ) (new : Walk) (step : Step) → v ≡ vals.Ref k → k < length g → slice_index (marks_of nv.marks) k ≡ 0 → IsMet g k stepped new step → Follows new step
   met_first k new step is inside mark met =
       let enters : Enters g k (left_in g nv.frames.items) walk new = record {
         root = met.root ∙ same_root;
         given = met.given ∙ ap (λ n. n + 1) same_given;
         count = met.count ∙ ap (λ n. n + 1) same_count;
-        marks = met.marks ∙ ap (λ ms. slice_set ms.items k (nv.count + 1)) same_marks ∙ ap (λ n. slice_set walk.marks.items k (n + 1)) same_count;
+        again = met.again ∙ same_again;
+        was = λ ordered. sym (ap (λ (ms : Marks). ms.ordered) same_marks) ∙ met.was ordered;
+        marks = met.marks ∙ ap (λ ms. slice_set (marks_of ms) k (nv.count + 1)) same_marks ∙ ap (λ n. slice_set (marks_of walk.marks) k (n + 1)) same_count;
         left = met.left;
       } in
       let goes : (tree : Tree) → IsTreeOf g walk.root tree → Advances g tree walk new (object_token (object_at g k)) = λ tree is_of.
@@ -156,14 +180,15 @@ module _ (g : List Obj) (walk nv : Walk) (v : Val) (w : IsWalk g walk) (value : 
           frames = met.frames;
           depth = omega (arith, met.depth, met.count, same_count, w.depth);
           marks = met.many_marks ∙ marks_many;
+          met = met.met;
           room = omega (arith, w.room, met.capacity);
           at = λ tree is_of. (goes tree (subst (λ r. IsTreeOf g r tree) enters.root is_of)).at;
         };
       }
 
-  met_again : (k i : ℕ) → v ≡ vals.Ref k → slice_index nv.marks.items k ≡ suc i → Follows stepped (steps.Shared (nv.count - (slice_index nv.marks.items k - 1)))
+  met_again : (k i : ℕ) → v ≡ vals.Ref k → slice_index (marks_of nv.marks) k ≡ suc i → Follows stepped (steps.Shared (nv.count - (slice_index (marks_of nv.marks) k - 1)))
   met_again k i is mark =
-      let offset : walk.count - i ≡ nv.count - (slice_index nv.marks.items k - 1) = omega (arith, same_count) in
+      let offset : walk.count - i ≡ nv.count - (slice_index (marks_of nv.marks) k - 1) = omega (arith, same_count) in
       let goes : (tree : Tree) → IsTreeOf g walk.root tree → Advances g tree walk stepped (shared (walk.count - i)) = λ tree is_of.
       advance_reference g tree walk stepped k i (w.at tree is_of) keeps (mark_is_old k (suc i) mark)
       (subst (λ x. pending g walk ≡ x ∷ left_in g nv.frames.items) is value) in record {
@@ -172,10 +197,10 @@ module _ (g : List Obj) (walk nv : Walk) (v : Val) (w : IsWalk g walk) (value : 
         is_walk = after (λ tree is_of. (goes tree is_of).at);
       }
 
-  pub reference_follows : (k : ℕ) (new : Walk) (step : Step) → v ≡ vals.Ref k → k < length g → (slice_index nv.marks.items k ≡ 0 → IsMet g k stepped new step)
-      → (slice_index nv.marks.items k ≢ 0 → (new ≡ stepped) × (step ≡ steps.Shared (nv.count - (slice_index nv.marks.items k - 1)))) → Follows new step
-  reference_follows k new step is inside first again = by_mark (slice_index nv.marks.items k) refl where
-    by_mark : (m : ℕ) → slice_index nv.marks.items k ≡ m → Follows new step
+  pub reference_follows : (k : ℕ) (new : Walk) (step : Step) → v ≡ vals.Ref k → k < length g → (slice_index (marks_of nv.marks) k ≡ 0 → IsMet g k stepped new step)
+      → (slice_index (marks_of nv.marks) k ≢ 0 → (new ≡ stepped) × (step ≡ steps.Shared (nv.count - (slice_index (marks_of nv.marks) k - 1)))) → Follows new step
+  reference_follows k new step is inside first again = by_mark (slice_index (marks_of nv.marks) k) refl where
+    by_mark : (m : ℕ) → slice_index (marks_of nv.marks) k ≡ m → Follows new step
     by_mark zero mark = met_first k new step is inside mark (first mark)
     by_mark (suc i) mark =
         let r = again (λ none. omega arith) in

@@ -1,21 +1,26 @@
 -- A walk from token to token.
-use Rattle.std.proofs.Common.{ℕ, zero, suc, ◌≡◌, ◌≢◌, ◌==◌, false, cond, eqb, eqb-true, ◌+◌, ◌-◌, ◌<◌, ◌≤◌, ◌∙◌, replicate, length-drop, List, [], ◌∷◌, ◌++◌, length, drop, Some, refl, sym, ap, subst, arith, inl, inr, append-nil, add-one, get_or, length-set, get_or-set_same, get_or-set_other, ℤ}
+use Rattle.std.proofs.Common.{ℕ, zero, suc, ◌≡◌, ◌≢◌, ◌==◌, true, false, cond, eqb, eqb-true, ◌+◌, ◌-◌, ◌<◌, ◌≤◌, ◌∙◌, replicate, length-drop, List, [], ◌∷◌, ◌++◌, length, drop, Some, refl, sym, ap, subst, arith, inl, inr, append-nil, add-one, get_or, length-set, get_or-set_same, get_or-set_other, ℤ}
 use Rattle.std.specs.Prelude.{slice_get, slice_index, slice_set, vec_len, vec_capacity}
 use Rattle.std.proofs.lemmas.Bool.{cases_Bool}
-use Rattle.std.proofs.lemmas.List.{length-replicate}
-use Rattle.std.proofs.lemmas.Option.{same_Some}
+use Rattle.std.proofs.lemmas.List.{length-replicate, drop_all}
+use Rattle.std.proofs.lemmas.Option.{same_Some, slice_get_within}
+use Rattle.std.proofs.lemmas.Slice.Zip.{AllZip-long}
 use Rattle.om_model.proofs.Options.{same_or_not}
 use Rattle.om_model.specs.declared.value.Val.{Val}
 use Rattle.om_model.specs.declared.value.Val.TheVariants as vals
 use Rattle.om_model.specs.declared.value.Obj.{Obj}
 use Rattle.om_model.specs.Graph.{IsValue}
 use Rattle.om_format.specs.Token.{Token, integer, atom, shared}
-use Rattle.om_format.specs.Tree.{Tree, none, more, tokens, forest_tokens, objects_of}
-use Rattle.om_canonical.specs.Numbering.{AreDistinct, IsNumbering}
+use Rattle.om_format.specs.Iso.{IsTreeOf}
+use Rattle.om_format.specs.Tree.{Tree, Forest, node, none, more, tokens, forest_tokens, objects_of, all_objects}
+use Rattle.om_canonical.specs.Numbering.{AreDistinct, IsNumbering, Shows}
 use Rattle.om_canonical.proofs.Walk.{numbering}
 use Rattle.om_heap.specs.Heap.{object_at, fields_of, IsHeap}
 use Rattle.om_write.specs.Step.{object_token}
-use Rattle.om_write.specs.Walking.{AreMarked, AreLeft, IsAt, IsWalk, left_in, pending}
+use Rattle.om_write.specs.Marks.{in_order, marks_of}
+use Rattle.om_write.specs.Walking.{AreMarked, AreInOrder, AreLeft, IsAt, IsWalk, left_in, pending}
+use Rattle.om_write.proofs.MarkLemmas.{met_in_order}
+use Rattle.om_write.specs.declared.marks.Marks.{Marks}
 use Rattle.om_write.specs.declared.walk.Walk.{Walk}
 use Rattle.om_write.proofs.LeftLemmas.{Goes, nothing_left, integer_next, atom_next, object_next, reference_next}
 
@@ -68,17 +73,23 @@ marks_behind g ks c k marks marked = behind (slice_index marks k) refl where
 
 -- ---- the first token
 
+-- the numbers of the objects of each tree, in the order of its tokens; and where they are known, whether that order is theirs
+abbrev pub Numbers : List Obj → Walk → Type 0
+Numbers g walk = (tree : Tree) → IsTreeOf g walk.root tree
+    → (ks : List ℕ) × IsNumbering g walk.root tree ks × (walk.again ≡ true → walk.marks.ordered ≡ true → AreInOrder ks)
+
 pub start_walk : (g : List Obj) (walk : Walk) → IsHeap g → IsValue (length g) walk.root → walk.given ≡ 0 → walk.count ≡ 0 → walk.frames.items ≡ [] → vec_len walk.frames ≡ 0
-    → walk.marks.items ≡ replicate (length g) 0 → vec_len walk.marks ≡ length g → length g ≤ vec_capacity walk.frames → IsWalk g walk
-start_walk g walk heap value given count frames depth marks size room = record {
+    → marks_of walk.marks ≡ replicate (length g) 0 → walk.marks.met ≡ 0 → length g ≤ vec_capacity walk.frames → Numbers g walk → IsWalk g walk
+start_walk g walk heap value given count frames depth marks met room numbers = record {
   heap = heap;
   value = value;
   frames = rw frames (λ k d less. absurd (omega arith));
   depth = omega arith;
-  marks = size;
+  marks = ap length marks ∙ length-replicate {A = ℕ} (length g) 0;
+  met = λ ordered. met ∙ sym count;
   room = room;
   at = λ tree is_of.
-      let n = numbering g walk.root tree heap.is_graph value is_of in
+      let n = numbers tree is_of in
       let left : AreLeft tree n.0 0 (more tree none) (walk.root ∷ []) = record {
         are_trees = (is_of.is_tree, tt);
         back = (is_of.refers_back, tt);
@@ -93,10 +104,20 @@ start_walk g walk heap value given count frames depth marks size room = record {
         left = subst (λ m. AreLeft tree n.0 m (more tree none) (pending g walk)) (sym count)
             (subst (AreLeft tree n.0 0 (more tree none)) (sym (only_root g walk given frames)) left);
         marked = rw (count, marks) (no_marks g n.0);
+        order = n.2;
       };
 } where
   only_root : (g : List Obj) (walk : Walk) → walk.given ≡ 0 → walk.frames.items ≡ [] → pending g walk ≡ walk.root ∷ []
   only_root g walk given frames = rw (given, frames) refl
+
+-- before the first walk nothing is known of the order
+pub first_walk : (g : List Obj) (walk : Walk) → IsHeap g → IsValue (length g) walk.root → walk.given ≡ 0 → walk.count ≡ 0 → walk.frames.items ≡ [] → vec_len walk.frames ≡ 0
+    → marks_of walk.marks ≡ replicate (length g) 0 → walk.marks.met ≡ 0 → length g ≤ vec_capacity walk.frames → walk.again ≡ false → IsWalk g walk
+first_walk g walk heap value given count frames depth marks met room first =
+    start_walk g walk heap value given count frames depth marks met room (λ tree is_of.
+    let n = numbering g walk.root tree heap.is_graph value is_of in (n.0, n.1, λ again. absurd (not_both (sym again ∙ first)))) where
+      not_both : true ≡ false → ⊥
+      not_both e = cc
 
 -- ---- the next token
 
@@ -130,8 +151,9 @@ nothing_at_root g walk n given =
     ap (λ b. cond b (walk.root ∷ []) [] ++ left_in g walk.frames.items) test
 
 advance : (g : List Obj) (tree : Tree) (walk new : Walk) (token : Token) (at : IsAt g tree walk) → new.root ≡ walk.root → new.given ≡ walk.given + 1
-    → Goes tree at.ks walk.count at.forest token new.count (left_in g new.frames.items) → AreMarked g at.ks new.count new.marks.items → Advances g tree walk new token
-advance g tree walk new token at root given goes marked =
+    → Goes tree at.ks walk.count at.forest token new.count (left_in g new.frames.items) → AreMarked g at.ks new.count (marks_of new.marks) → new.again ≡ walk.again
+    → (new.marks.ordered ≡ true → walk.marks.ordered ≡ true) → Advances g tree walk new token
+advance g tree walk new token at root given goes marked again was =
     let next = drop_next walk.given (tokens tree) token (forest_tokens goes.rest) (at.tokens_left ∙ goes.tokens_are) in record {
       at_given = next.at_n;
       more_given = next.within;
@@ -143,6 +165,7 @@ advance g tree walk new token at root given goes marked =
         within = omega (arith, next.within);
         left = subst (AreLeft tree at.ks new.count goes.rest) (sym (nothing_at_root g new walk.given given)) goes.left;
         marked = marked;
+        order = λ known ordered. at.order (sym again ∙ known) (was ordered);
       };
     }
 
@@ -151,9 +174,13 @@ pub record Keeps (walk new : Walk) : Type 0 where
   pub root : new.root ≡ walk.root
   pub given : new.given ≡ walk.given + 1
   pub count : new.count ≡ walk.count
-  pub marks : new.marks.items ≡ walk.marks.items
+  pub again : new.again ≡ walk.again
+  pub marks : new.marks ≡ walk.marks
 
-still_marked : (g : List Obj) (ks : List ℕ) (walk new : Walk) → Keeps walk new → AreMarked g ks walk.count walk.marks.items → AreMarked g ks new.count new.marks.items
+still_ordered : (walk new : Walk) → Keeps walk new → new.marks.ordered ≡ true → walk.marks.ordered ≡ true
+still_ordered walk new keeps ordered = sym (ap (λ (m : Marks). m.ordered) keeps.marks) ∙ ordered
+
+still_marked : (g : List Obj) (ks : List ℕ) (walk new : Walk) → Keeps walk new → AreMarked g ks walk.count (marks_of walk.marks) → AreMarked g ks new.count (marks_of new.marks)
 still_marked g ks walk new keeps marked = rw (keeps.count, keeps.marks) marked
 
 pub advance_integer : (g : List Obj) (tree : Tree) (walk new : Walk) (z : ℤ) → IsAt g tree walk → Keeps walk new → pending g walk ≡ vals.Int z ∷ left_in g new.frames.items → Advances g tree walk new (integer z)
@@ -161,39 +188,41 @@ advance_integer g tree walk new z at keeps is =
     let left : AreLeft tree at.ks walk.count at.forest (vals.Int z ∷ left_in g new.frames.items) = subst (AreLeft tree at.ks walk.count at.forest) is at.left in
     advance g tree walk new (integer z) at keeps.root keeps.given
     (rw keeps.count (integer_next tree at.ks walk.count at.forest z (left_in g new.frames.items) left))
-    (still_marked g at.ks walk new keeps at.marked)
+    (still_marked g at.ks walk new keeps at.marked) keeps.again (still_ordered walk new keeps)
 
 pub advance_atom : (g : List Obj) (tree : Tree) (walk new : Walk) (tag : ℕ) → IsAt g tree walk → Keeps walk new → pending g walk ≡ vals.Atom tag ∷ left_in g new.frames.items → Advances g tree walk new (atom tag)
 advance_atom g tree walk new tag at keeps is =
     let left : AreLeft tree at.ks walk.count at.forest (vals.Atom tag ∷ left_in g new.frames.items) = subst (AreLeft tree at.ks walk.count at.forest) is at.left in
     advance g tree walk new (atom tag) at keeps.root keeps.given
     (rw keeps.count (atom_next tree at.ks walk.count at.forest tag (left_in g new.frames.items) left))
-    (still_marked g at.ks walk new keeps at.marked)
+    (still_marked g at.ks walk new keeps at.marked) keeps.again (still_ordered walk new keeps)
 
-pub advance_reference : (g : List Obj) (tree : Tree) (walk new : Walk) (k i : ℕ) → IsAt g tree walk → Keeps walk new → slice_index walk.marks.items k ≡ suc i
+pub advance_reference : (g : List Obj) (tree : Tree) (walk new : Walk) (k i : ℕ) → IsAt g tree walk → Keeps walk new → slice_index (marks_of walk.marks) k ≡ suc i
     → pending g walk ≡ vals.Ref k ∷ left_in g new.frames.items → Advances g tree walk new (shared (walk.count - i))
 advance_reference g tree walk new k i at keeps mark is =
     let left : AreLeft tree at.ks walk.count at.forest (vals.Ref k ∷ left_in g new.frames.items) = subst (AreLeft tree at.ks walk.count at.forest) is at.left in
     advance g tree walk new (shared (walk.count - i)) at keeps.root keeps.given
-    (rw keeps.count (reference_next g walk.root tree at.ks walk.count k i walk.marks.items at.forest (left_in g new.frames.items) at.numbering at.marked mark left))
-    (still_marked g at.ks walk new keeps at.marked)
+    (rw keeps.count (reference_next g walk.root tree at.ks walk.count k i (marks_of walk.marks) at.forest (left_in g new.frames.items) at.numbering at.marked mark left))
+    (still_marked g at.ks walk new keeps at.marked) keeps.again (still_ordered walk new keeps)
 
 -- what a step to an object changes
 pub record Enters (g : List Obj) (k : ℕ) (values : List Val) (walk new : Walk) : Type 0 where
   pub root : new.root ≡ walk.root
   pub given : new.given ≡ walk.given + 1
   pub count : new.count ≡ walk.count + 1
-  pub marks : new.marks.items ≡ slice_set walk.marks.items k (walk.count + 1)
+  pub again : new.again ≡ walk.again
+  pub was : new.marks.ordered ≡ true → walk.marks.ordered ≡ true
+  pub marks : marks_of new.marks ≡ slice_set (marks_of walk.marks) k (walk.count + 1)
   pub left : left_in g new.frames.items ≡ fields_of (object_at g k) ++ values
 
-pub advance_object : (g : List Obj) (tree : Tree) (walk new : Walk) (k : ℕ) (values : List Val) → IsAt g tree walk → Enters g k values walk new → k < length g → slice_index walk.marks.items k ≡ 0
+pub advance_object : (g : List Obj) (tree : Tree) (walk new : Walk) (k : ℕ) (values : List Val) → IsAt g tree walk → Enters g k values walk new → k < length g → slice_index (marks_of walk.marks) k ≡ 0
     → pending g walk ≡ vals.Ref k ∷ values → Advances g tree walk new (object_token (object_at g k))
 advance_object g tree walk new k values at enters inside mark is =
     let left : AreLeft tree at.ks walk.count at.forest (vals.Ref k ∷ values) = subst (AreLeft tree at.ks walk.count at.forest) is at.left in
-    let meets = object_next g walk.root tree at.ks walk.count k walk.marks.items at.forest values at.numbering at.marked mark left in
+    let meets = object_next g walk.root tree at.ks walk.count k (marks_of walk.marks) at.forest values at.numbering at.marked mark left in
     advance g tree walk new (object_token (object_at g k)) at enters.root enters.given
     (rw (enters.count, enters.left) meets.goes)
-    (rw (enters.count, enters.marks) (mark_more g at.ks walk.count k walk.marks.items at.numbering.distinct meets.at_c inside at.marked))
+    (rw (enters.count, enters.marks) (mark_more g at.ks walk.count k (marks_of walk.marks) at.numbering.distinct meets.at_c inside at.marked)) enters.again enters.was
 
 -- ---- the end
 
@@ -202,3 +231,24 @@ all_given g tree walk at is =
     let none_left = nothing_left tree at.ks walk.count at.forest (subst (AreLeft tree at.ks walk.count at.forest) is at.left) in
     let gone : length (drop walk.given (tokens tree)) ≡ 0 = ap length (at.tokens_left ∙ none_left) in
     omega (arith, length-drop walk.given (tokens tree), at.within)
+
+-- ---- the order
+
+no_tokens : (f : Forest) → forest_tokens f ≡ [] → f ≡ none
+no_tokens none is = refl
+no_tokens (more (node t s) f) is = absurd (cc)
+
+-- at the end all objects are met
+all_met : (g : List Obj) (tree : Tree) (walk : Walk) (at : IsAt g tree walk) → walk.given ≡ length (tokens tree) → length at.ks ≤ walk.count
+all_met g tree walk at end =
+    let past : drop walk.given (tokens tree) ≡ [] = drop_all walk.given (tokens tree) (omega arith) in
+    let no_trees : at.forest ≡ none = no_tokens at.forest (sym at.tokens_left ∙ past) in
+    let no_objects : drop walk.count (objects_of tree 0) ≡ [] = at.left.objects ∙ ap (λ f. all_objects f walk.count) no_trees in
+    omega (arith, length-drop walk.count (objects_of tree 0), ap length no_objects, AllZip-long (Shows g at.ks) at.ks (objects_of tree 0) at.numbering.objects)
+
+pub end_in_order : (g : List Obj) (tree : Tree) (walk : Walk) (at : IsAt g tree walk) → walk.given ≡ length (tokens tree) → walk.marks.ordered ≡ true → AreInOrder at.ks
+end_in_order g tree walk at end ordered i k is =
+    let inside : i < length at.ks = slice_get_within at.ks i k is in
+    let mark : slice_index (marks_of walk.marks) k ≡ suc i = at.marked.found i k (omega (arith, all_met g tree walk at end)) is in
+    let view : marks_of walk.marks ≡ in_order walk.marks.met walk.marks.objects = ap (λ b. cond b (in_order walk.marks.met walk.marks.objects) walk.marks.table.items) ordered in
+    met_in_order walk.marks.met walk.marks.objects k i (ap (λ ms. slice_index ms k) (sym view) ∙ mark)

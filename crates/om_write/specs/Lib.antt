@@ -1,4 +1,5 @@
 pub mod Laws
+pub mod Marks
 pub mod Step
 pub mod Sums
 pub mod Tells

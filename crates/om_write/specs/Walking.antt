@@ -1,5 +1,5 @@
 -- Where a walk is among the tokens of a value.
-use Rattle.std.specs.Prelude.{ℕ, suc, ◌+◌, ◌<◌, ◌≤◌, ◌≡◌, ◌==◌, List, [], ◌∷◌, ◌++◌, length, drop, All, Some, slice_get, slice_index, slice_set, vec_len, vec_capacity, if◌then◌else◌}
+use Rattle.std.specs.Prelude.{ℕ, suc, ◌+◌, ◌<◌, ◌≤◌, ◌≡◌, ◌==◌, true, List, [], ◌∷◌, ◌++◌, length, drop, All, Some, slice_get, slice_index, slice_set, vec_len, vec_capacity, if◌then◌else◌}
 use Rattle.std.specs.List.{AllZip}
 use Rattle.om_model.specs.declared.value.Val.{Val}
 use Rattle.om_model.specs.declared.value.Obj.{Obj}
@@ -8,6 +8,7 @@ use Rattle.om_format.specs.Tree.{Tree, Forest, tokens, forest_tokens, AreTrees, 
 use Rattle.om_format.specs.Iso.{AreAlike, IsTreeOf}
 use Rattle.om_canonical.specs.Numbering.{numbered, IsNumbering}
 use Rattle.om_heap.specs.Heap.{object_at, fields_of, IsHeap}
+use Rattle.om_write.specs.Marks.{marks_of}
 use Rattle.om_write.specs.Step.{token_in, object_token}
 use Rattle.om_write.specs.declared.walk.Step.{Step}
 use Rattle.om_write.specs.declared.walk.Frame.{Frame}
@@ -39,10 +40,13 @@ pub record IsMet (g : List Obj) (k : ℕ) (old new : Walk) (step : Step) : Type 
   pub root : new.root ≡ old.root
   pub given : new.given ≡ old.given
   pub count : new.count ≡ old.count + 1
-  pub marks : new.marks.items ≡ slice_set old.marks.items k (old.count + 1)
+  pub marks : marks_of new.marks ≡ slice_set (marks_of old.marks) k (old.count + 1)
+  pub met : new.marks.ordered ≡ true → new.marks.met ≡ new.count
+  pub again : new.again ≡ old.again
+  pub was : new.marks.ordered ≡ true → old.marks.ordered ≡ true
   pub left : left_in g new.frames.items ≡ fields_of (object_at g k) ++ left_in g old.frames.items
   pub frames : All (IsFrame g) new.frames.items
-  pub many_marks : vec_len new.marks ≡ vec_len old.marks
+  pub many_marks : length (marks_of new.marks) ≡ length (marks_of old.marks)
   pub depth : vec_len new.frames ≤ vec_len old.frames + 1
   pub capacity : vec_capacity new.frames ≡ vec_capacity old.frames
   pub token : token_in g step ≡ object_token (object_at g k)
@@ -52,6 +56,10 @@ pub record AreMarked (g : List Obj) (ks : List ℕ) (c : ℕ) (marks : List ℕ)
   pub size : length marks ≡ length g
   pub found : (i k : ℕ) → i < c → slice_get ks i ≡ Some k → slice_index marks k ≡ suc i
   pub named : (i k : ℕ) → slice_index marks k ≡ suc i → (i < c) × (slice_get ks i ≡ Some k)
+
+-- the objects are met in the order of their numbers
+abbrev pub AreInOrder : List ℕ → Type 0
+AreInOrder ks = (i k : ℕ) → slice_get ks i ≡ Some k → k ≡ i
 
 -- ---- the place in the tree
 
@@ -69,7 +77,8 @@ pub record IsAt (g : List Obj) (tree : Tree) (walk : Walk) : Type 0 where
   pub tokens_left : drop walk.given (tokens tree) ≡ forest_tokens forest
   pub within : walk.given ≤ length (tokens tree)
   pub left : AreLeft tree ks walk.count forest (pending g walk)
-  pub marked : AreMarked g ks walk.count walk.marks.items
+  pub marked : AreMarked g ks walk.count (marks_of walk.marks)
+  pub order : walk.again ≡ true → walk.marks.ordered ≡ true → AreInOrder ks
 
 -- the walk is at a place among the tokens of each tree of its root, of which there is one
 pub record IsWalk (g : List Obj) (walk : Walk) : Type 0 where
@@ -77,6 +86,7 @@ pub record IsWalk (g : List Obj) (walk : Walk) : Type 0 where
   pub value : IsValue (length g) walk.root
   pub frames : All (IsFrame g) walk.frames.items
   pub depth : vec_len walk.frames ≤ walk.count
-  pub marks : vec_len walk.marks ≡ length g
+  pub marks : length (marks_of walk.marks) ≡ length g
+  pub met : walk.marks.ordered ≡ true → walk.marks.met ≡ walk.count
   pub room : length g ≤ vec_capacity walk.frames
   pub at : (tree : Tree) → IsTreeOf g walk.root tree → IsAt g tree walk

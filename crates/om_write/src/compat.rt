@@ -1,6 +1,6 @@
 //! What a reader on 32 bits cannot hold (`extern.c`, flag `Compat_32`).
 
-ghost use Rattle.std.specs.Prelude.{◌≡◌, ◌<◌, length, true, false, find, None, IsSomeAnd, MatchOption};
+ghost use Rattle.std.specs.Prelude.{◌≡◌, ◌<◌, length, true, false, find, None, IsNone, IsSomeAnd, MatchOption};
 ghost use Rattle.om_format.specs.Canonical.{is_signed};
 ghost use Rattle.om_format.specs.Compat.{is_large, large_header, token};
 ghost use Rattle.om_format.specs.Iso.{IsTreeOf};
@@ -32,13 +32,15 @@ pub enum Compat {
 pub fn first_large(heap: &Heap, walk: &mut Walk) -> Option<Compat>
     requires walk { IsWalk heap.now walk.old }
     requires first { walk.old.given ≡ 0 }
+    requires again { walk.old.again ≡ true }
     ensures walk { IsWalk heap.now walk.new }
     ensures root { walk.new.root ≡ walk.old.root }
+    ensures end { IsNone result → (tree : Tree) → IsTreeOf heap.now walk.old.root tree → walk.new.given ≡ length (tokens tree) }
     ensures large { (tree : Tree) → IsTreeOf heap.now walk.old.root tree → MatchOption result
         (find is_large (tokens tree) ≡ None)
         (λ compat. IsSomeAnd (find is_large (tokens tree)) (λ t. Tells (token t) compat)) }
 {
-    'tokens: while let Some(step) = walk.next(heap) {
+    'tokens: while let Some(step) = walk.next_again(heap) {
         if let Some(compat) = step_compat(heap, step) {
             return Some(compat);
         }

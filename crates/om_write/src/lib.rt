@@ -3,6 +3,7 @@
 
 mod compat;
 pub mod laws;
+mod marks;
 mod measure;
 mod spell;
 #[cfg(test)]

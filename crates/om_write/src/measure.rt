@@ -1,6 +1,6 @@
 //! What the header states of a value.
 
-ghost use Rattle.std.specs.Prelude.{◌≡◌, ◌<◌, length};
+ghost use Rattle.std.specs.Prelude.{◌≡◌, ◌<◌, length, IfOk, OnOk};
 ghost use Rattle.om_format.specs.Iso.{IsTreeOf};
 ghost use Rattle.om_format.specs.Tree.{Tree, tokens};
 ghost use Rattle.om_format.specs.Token.{leaf};
@@ -15,6 +15,7 @@ use crate::walk::{Step, Walk};
 use om_codes::{spell_block, spell_double_array_len, spell_int, spell_shared, spell_string_len};
 use om_headers::{Head, Measure, words_of};
 use om_heap::{Heap, Kind};
+use om_model::Memory;
 use om_model::code::Custom;
 
 /// The bytes of tokens, their objects, and the words of these on 32 and on 64 bits.
@@ -78,18 +79,19 @@ impl Totals {
 }
 
 /// The header of the value that a walk begins.
-pub fn measure(heap: &Heap, walk: &mut Walk) -> Head
+pub fn measure(heap: &Heap, walk: &mut Walk) -> Result<Head, Memory>
     requires walk { IsWalk heap.now walk.old }
     requires first { walk.old.given ≡ 0 }
-    ensures walk { IsWalk heap.now walk.new }
-    ensures root { walk.new.root ≡ walk.old.root }
-    ensures head { (tree : Tree) → IsTreeOf heap.now walk.old.root tree → result ≡ canonical_head (tokens tree) }
+    ensures walk { OnOk result (IsWalk heap.now walk.new) }
+    ensures root { OnOk result (walk.new.root ≡ walk.old.root) }
+    ensures head { (tree : Tree) → IsTreeOf heap.now walk.old.root tree → IfOk result (λ head. head ≡ canonical_head (tokens tree)) }
+    ensures end { (tree : Tree) → IsTreeOf heap.now walk.old.root tree → OnOk result (walk.new.given ≡ length (tokens tree)) }
 {
     let mut totals = Totals::of_bytes(0);
-    'tokens: while let Some(step) = walk.next(heap) {
+    'tokens: while let Some(step) = walk.next(heap)? {
         totals.add(step_totals(heap, step));
     }
-    totals.head()
+    Ok(totals.head())
 }
 
 // What one token adds.

@@ -1,14 +1,16 @@
 //! The tokens of a value, depth first and fields from left to right: an object where it is met first, and references to
 //! it after that.
 
-ghost use Rattle.std.specs.Prelude.{◌≡◌, ◌≢◌, ◌+◌, ◌-◌, ◌≤◌, ◌<◌, ◌^◌, ◌∷◌, [], length, All, IfSome, IfNone, IfOk, MatchOption, vec_len, vec_capacity, slice_index};
+ghost use Rattle.std.specs.Prelude.{◌≡◌, ◌≢◌, ◌+◌, ◌-◌, ◌≤◌, ◌<◌, ◌^◌, ◌∷◌, ◌++◌, [], length, true, All, IfSome, IfNone, IfOk, IsOk, OnOk, MatchOption, vec_len, vec_capacity, slice_index};
 ghost use Rattle.om_model.specs.Graph.{IsValue};
 ghost use Rattle.om_format.specs.Iso.{IsTreeOf};
 ghost use Rattle.om_format.specs.Tree.{Tree, tokens};
-ghost use Rattle.om_heap.specs.Heap.{IsHeap};
-ghost use Rattle.om_write.specs.Step.{IsNext, IsHeld};
+ghost use Rattle.om_heap.specs.Heap.{IsHeap, object_at, fields_of};
+ghost use Rattle.om_write.specs.Marks.{marks_of};
+ghost use Rattle.om_write.specs.Step.{IsNext, IsHeld, token_in, object_token};
 ghost use Rattle.om_write.specs.Walking.{IsFrame, left_in, pending, IsMet, IsWalk};
 
+use crate::marks::Marks;
 use om_heap::{Heap, Kind};
 use om_model::Memory;
 use om_model::value::Val;
@@ -40,60 +42,84 @@ pub struct Walk {
     // how many tokens were given, and how many objects were met
     given: u64,
     count: u64,
-    // of each object its number among those met, counted from 1, or 0
-    marks: Vec<u64>,
+    // whether all tokens were given before
+    again: bool,
+    marks: Marks,
     frames: Vec<Frame>,
 }
 
 impl Walk {
-    /// Before the first token of a value. All memory is taken here.
+    /// Before the first token of a value.
     pub fn new(alloc: Global, heap: &Heap, root: Val) -> Result<Walk, Memory>
         requires { IsValue (length heap.now) root }
         ensures walk { IfOk result (IsWalk heap.now) }
         ensures root { IfOk result (λ w. w.root ≡ root) }
         ensures given { IfOk result (λ w. w.given ≡ 0) }
     {
-        let objects = heap.count() as usize;
+        let objects = heap.count();
         Ok(Walk {
             root,
             given: 0,
             count: 0,
-            marks: vec![in alloc; 0u64; objects]?,
-            frames: Vec::with_capacity(alloc, objects)?,
+            again: false,
+            marks: Marks::new(alloc, objects),
+            frames: Vec::with_capacity(alloc, objects as usize)?,
         })
     }
 
-    /// Goes back to the first token.
+    /// Goes back from the end to the first token.
     pub fn restart(&mut self, heap: &Heap)
-        requires { IsWalk heap.now self.old }
+        requires walk { IsWalk heap.now self.old }
+        requires end { (tree : Tree) → IsTreeOf heap.now self.old.root tree → self.old.given ≡ length (tokens tree) }
         ensures walk { IsWalk heap.now self.new }
         ensures root { self.new.root ≡ self.old.root }
         ensures given { self.new.given ≡ 0 }
+        ensures again { self.new.again ≡ true }
     {
         let _graph = heap.count();
         self.given = 0;
         self.count = 0;
-        self.marks.fill(0);
+        self.again = true;
+        self.marks.clear();
         self.frames.clear();
     }
 
-    /// The next token.
-    pub fn next(&mut self, heap: &Heap) -> Option<Step>
+    /// The next token. It may take memory where not all tokens were given before.
+    pub fn next(&mut self, heap: &Heap) -> Result<Option<Step>, Memory>
         requires { IsWalk heap.now self.old }
+        ensures walk { OnOk result (IsWalk heap.now self.new) }
+        ensures root { OnOk result (self.new.root ≡ self.old.root) }
+        ensures again { self.new.again ≡ self.old.again }
+        ensures next { (tree : Tree) → IsTreeOf heap.now self.old.root tree
+            → IfOk result (λ step. IsNext heap.now (tokens tree) self.old.given step self.new.given) }
+        ensures held { IfOk result (λ step. IfSome step (IsHeld heap.now)) }
+        ensures succeeds { self.old.again ≡ true → IsOk result }
+    {
+        let Some(v) = self.next_value(heap) else {
+            return Ok(None);
+        };
+        self.given += 1;
+        match v {
+            Val::Int(z) => Ok(Some(Step::Integer(z))),
+            Val::Atom(tag) => Ok(Some(Step::Atom(tag))),
+            Val::Ref(k) => Ok(Some(self.meet(heap, k)?)),
+        }
+    }
+
+    /// The next token, where all were given before.
+    pub fn next_again(&mut self, heap: &Heap) -> Option<Step>
+        requires walk { IsWalk heap.now self.old }
+        requires again { self.old.again ≡ true }
         ensures walk { IsWalk heap.now self.new }
         ensures root { self.new.root ≡ self.old.root }
+        ensures again { self.new.again ≡ true }
         ensures next { (tree : Tree) → IsTreeOf heap.now self.old.root tree
             → IsNext heap.now (tokens tree) self.old.given result self.new.given }
         ensures held { IfSome result (IsHeld heap.now) }
     {
-        let Some(v) = self.next_value(heap) else {
-            return None;
-        };
-        self.given += 1;
-        match v {
-            Val::Int(z) => Some(Step::Integer(z)),
-            Val::Atom(tag) => Some(Step::Atom(tag)),
-            Val::Ref(k) => Some(self.meet(heap, k)),
+        match self.next(heap) {
+            Ok(step) => step,
+            Err(_) => unreachable!(),
         }
     }
 
@@ -118,25 +144,46 @@ impl Walk {
     }
 
     // The token of an object: itself where it was not met before, and then it is from now on.
-    fn meet(&mut self, heap: &Heap, k: u64) -> Step
+    fn meet(&mut self, heap: &Heap, k: u64) -> Result<Step, Memory>
         requires heap { IsHeap heap.now }
         requires inside { k < length heap.now }
-        requires marks { vec_len self.old.marks ≡ length heap.now }
-        requires behind { slice_index self.old.marks.items k ≤ self.old.count }
+        requires marks { length (marks_of self.old.marks) ≡ length heap.now }
+        requires behind { slice_index (marks_of self.old.marks) k ≤ self.old.count }
         requires frames { All (IsFrame heap.now) self.old.frames.items }
-        requires room { slice_index self.old.marks.items k ≡ 0 → vec_len self.old.frames < vec_capacity self.old.frames }
-        requires few { slice_index self.old.marks.items k ≡ 0 → self.old.count + 1 < 2 ^ 64 }
-        ensures met { slice_index self.old.marks.items k ≡ 0 → IsMet heap.now k self.old self.new result }
-        ensures again { slice_index self.old.marks.items k ≢ 0 → (self.new ≡ self.old)
-            × (result ≡ Step.Shared (self.old.count - (slice_index self.old.marks.items k - 1))) }
-        ensures held { IsHeld heap.now result }
+        requires room { slice_index (marks_of self.old.marks) k ≡ 0 → vec_len self.old.frames < vec_capacity self.old.frames }
+        requires few { slice_index (marks_of self.old.marks) k ≡ 0 → self.old.count + 1 < 2 ^ 64 }
+        requires met { self.old.marks.ordered ≡ true → self.old.marks.met ≡ self.old.count }
+        requires order { self.old.again ≡ true → self.old.marks.ordered ≡ true → slice_index (marks_of self.old.marks) k ≡ 0 → k ≡ self.old.count }
+        ensures met { slice_index (marks_of self.old.marks) k ≡ 0 → IfOk result (IsMet heap.now k self.old self.new) }
+        ensures again { slice_index (marks_of self.old.marks) k ≢ 0 → (self.new ≡ self.old)
+            × IfOk result (λ step. step ≡ Step.Shared (self.old.count - (slice_index (marks_of self.old.marks) k - 1))) }
+        ensures same { self.new.again ≡ self.old.again }
+        ensures held { IfOk result (IsHeld heap.now) }
+        ensures succeeds { self.old.again ≡ true → IsOk result }
     {
-        let mark = self.marks[k as usize];
+        let mark = self.marks.get(k);
         if mark != 0 {
-            return Step::Shared(self.count - (mark - 1));
+            return Ok(Step::Shared(self.count - (mark - 1)));
         }
+        self.marks.set(k, self.count + 1)?;
         self.count += 1;
-        self.marks[k as usize] = self.count;
+        Ok(self.enter(heap, k))
+    }
+
+    // The token of an object that is met first. The fields of a block come next.
+    fn enter(&mut self, heap: &Heap, k: u64) -> Step
+        requires heap { IsHeap heap.now }
+        requires inside { k < length heap.now }
+        requires frames { All (IsFrame heap.now) self.old.frames.items }
+        requires room { vec_len self.old.frames < vec_capacity self.old.frames }
+        ensures left { left_in heap.now self.new.frames.items ≡ fields_of (object_at heap.now k) ++ left_in heap.now self.old.frames.items }
+        ensures frames { All (IsFrame heap.now) self.new.frames.items }
+        ensures depth { vec_len self.new.frames ≤ vec_len self.old.frames + 1 }
+        ensures capacity { vec_capacity self.new.frames ≡ vec_capacity self.old.frames }
+        ensures token { token_in heap.now result ≡ object_token (object_at heap.now k) }
+        ensures held { IsHeld heap.now result }
+        ensures frame { self.new ≡ record self.old { frames = self.new.frames } }
+    {
         match heap.kind(k) {
             Kind::Block(tag, size) => {
                 let frame = Frame {

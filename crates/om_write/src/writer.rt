@@ -1,6 +1,6 @@
 //! The bytes of a value.
 
-ghost use Rattle.std.specs.Prelude.{◌≡◌, ◌≤◌, [], length, IsErrOf, MatchResult, vec_capacity};
+ghost use Rattle.std.specs.Prelude.{◌≡◌, ◌≤◌, [], length, true, IsErrOf, MatchResult, vec_capacity};
 ghost use Rattle.om_model.specs.Graph.{IsValue};
 ghost use Rattle.om_format.specs.Canonical.{canon, canonical_head, data_spelling};
 ghost use Rattle.om_format.specs.Iso.{IsTreeOf};
@@ -32,7 +32,7 @@ pub fn write<K: Sink>(alloc: Global, heap: &Heap, root: Val, out: &mut K) -> Res
     let _graph = heap.count();
     let mut walk = Walk::new(alloc, heap, root)?;
     let mut buffer = new_buffer(alloc)?;
-    let head = measure(heap, &mut walk);
+    let head = measure(heap, &mut walk)?;
     walk.restart(heap);
     put_value(heap, head, &mut walk, out, &mut buffer)?;
     Ok(())
@@ -48,6 +48,7 @@ pub fn put_value<K: Sink>(
 ) -> Result<(), Failed>
     requires walk { IsWalk heap.now walk.old }
     requires first { walk.old.given ≡ 0 }
+    requires again { walk.old.again ≡ true }
     requires head { (tree : Tree) → IsTreeOf heap.now walk.old.root tree → head ≡ canonical_head (tokens tree) }
     requires empty { buffer.old.items ≡ [] }
     requires room { LIMIT ≤ vec_capacity buffer.old }
@@ -70,12 +71,13 @@ fn add_tokens<K: Sink>(
 ) -> Result<(), Failed>
     requires walk { IsWalk heap.now walk.old }
     requires first { walk.old.given ≡ 0 }
+    requires again { walk.old.again ≡ true }
     requires room { LIMIT ≤ vec_capacity buffer.old }
     ensures adds { (tree : Tree) → IsTreeOf heap.now walk.old.root tree
         → Adds (K.state out.old) (K.state out.new) buffer.old.items buffer.new.items (data_spelling (tokens tree)) result }
     ensures room { LIMIT ≤ vec_capacity buffer.new }
 {
-    'tokens: while let Some(step) = walk.next(heap) {
+    'tokens: while let Some(step) = walk.next_again(heap) {
         add_step(heap, step, out, buffer)?;
     }
     Ok(())

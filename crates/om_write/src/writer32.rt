@@ -63,11 +63,11 @@ pub fn write32<K: Sink>(
     let _graph = heap.count();
     let mut walk = Walk::new(alloc, heap, root)?;
     let mut buffer = new_buffer(alloc)?;
+    let head = measure(heap, &mut walk)?;
+    walk.restart(heap);
     if let Some(compat) = first_large(heap, &mut walk) {
         return Err(Write32Error::Compat(compat));
     }
-    walk.restart(heap);
-    let head = measure(heap, &mut walk);
     if let Some(compat) = head_compat(head) {
         return Err(Write32Error::Compat(compat));
     }

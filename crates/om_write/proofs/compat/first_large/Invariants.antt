@@ -1,4 +1,4 @@
-use Rattle.std.proofs.Common.{◌≡◌, ◌-◌, ◌^◌, take, None}
+use Rattle.std.proofs.Common.{◌≡◌, true, ◌-◌, ◌^◌, take, None}
 use Rattle.std.specs.Prelude.{find}
 use Rattle.om_format.specs.Compat.{is_large}
 use Rattle.om_format.specs.Iso.{IsTreeOf}
@@ -10,6 +10,7 @@ abbrev pub invariant-tokens : goal.invariant-tokens
 invariant-tokens l = record {
   walk : IsWalk l.heap l.walk;
   root : l.walk.root ≡ l.fn.walk.root;
+  again : l.walk.again ≡ true;
   none : (tree : Tree) → IsTreeOf l.heap l.walk.root tree → find is_large (take l.walk.given (tokens tree)) ≡ None;
 }
 

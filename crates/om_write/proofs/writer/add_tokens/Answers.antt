@@ -10,16 +10,17 @@ use Rattle.om_write.proofs.writer.add_tokens.Goals as goal
 
 pub tokens-smaller : goal.tokens-smaller
 tokens-smaller g c =
-    given_falls c.args.heap.now c.tokens.walk c.next.new.self c.in-Some.step c.tokens.invariant.walk c.in-Some.ensures.walk c.in-Some.ensures.root c.in-Some.ensures.next
+    given_falls c.args.heap.now c.tokens.walk c.next_again.new.self c.in-Some.step c.tokens.invariant.walk c.in-Some.ensures.walk c.in-Some.ensures.root c.in-Some.ensures.next
 
 pub tokens-preserved : goal.tokens-preserved
 tokens-preserved g c = record {
   walk = c.in-Some.ensures.walk;
   root = c.in-Some.ensures.root ∙ c.tokens.invariant.root;
+  again = c.in-Some.ensures.again;
   adds = λ tree is_of.
       let at = subst (λ r. IsTreeOf c.args.heap.now r tree) c.in-Some.ensures.root is_of in
       let gave = c.in-Some.ensures.next tree at in
-      token_more _ _ _ _ _ _ (tokens tree) (token_in c.args.heap.now c.in-Some.step) c.tokens.walk.given c.next.new.self.given gave.0 gave.1 (c.tokens.invariant.adds tree at) c.in_ok-add_step.ensures.adds;
+      token_more _ _ _ _ _ _ (tokens tree) (token_in c.args.heap.now c.in-Some.step) c.tokens.walk.given c.next_again.new.self.given gave.0 gave.1 (c.tokens.invariant.adds tree at) c.in_ok-add_step.ensures.adds;
   room = c.in_ok-add_step.ensures.room;
 }
 

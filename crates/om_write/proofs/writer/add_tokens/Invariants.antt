@@ -1,4 +1,4 @@
-use Rattle.std.proofs.Common.{◌≡◌, ◌-◌, ◌≤◌, ◌^◌, take, vec_capacity}
+use Rattle.std.proofs.Common.{◌≡◌, true, ◌-◌, ◌≤◌, ◌^◌, take, vec_capacity}
 use Rattle.om_format.specs.Canonical.{data_spelling}
 use Rattle.om_format.specs.Iso.{IsTreeOf}
 use Rattle.om_format.specs.Tree.{Tree, tokens}
@@ -11,6 +11,7 @@ abbrev pub invariant-tokens : goal.invariant-tokens
 invariant-tokens g l = record {
   walk : IsWalk l.heap l.walk;
   root : l.walk.root ≡ l.fn.walk.root;
+  again : l.walk.again ≡ true;
   adds : (tree : Tree) → IsTreeOf l.heap l.walk.root tree
       → AddsAll (g.K.Sink.state l.initial.out) (g.K.Sink.state l.out) l.initial.buffer.items l.buffer.items (data_spelling (take l.walk.given (tokens tree)));
   room : LIMIT ≤ vec_capacity l.buffer;

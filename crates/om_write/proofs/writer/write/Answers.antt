@@ -12,13 +12,20 @@ pub returns-in_err-buffer-clause-puts : goal.returns-in_err-buffer-clause-puts
 returns-in_err-buffer-clause-puts g c = for_tree _ _ _ c.count-graph.ensures.heap c.requires (λ tree is_of.
     let p = err_from_is_err_and c.from_residual-in_err-buffer.result c.from_residual-in_err-buffer.ensures.1 in rw (p.1, p.2) tt)
 
+pub returns-in_err-head-clause-puts : goal.returns-in_err-head-clause-puts
+returns-in_err-head-clause-puts g c = for_tree _ _ _ c.count-graph.ensures.heap c.requires (λ tree is_of.
+    let p = err_from_is_err_and c.from_residual-in_err-head.result c.from_residual-in_err-head.ensures.1 in rw (p.1, p.2) tt)
+
+pub restart-requires-clause-end : goal.restart-requires-clause-end
+restart-requires-clause-end g c = λ tree is_of. c.in_ok-head.ensures.end tree (subst (λ r. IsTreeOf c.args.heap.now r tree) c.in_ok-head.ensures.root is_of)
+
 pub returns-in_err-put_value-clause-puts : goal.returns-in_err-put_value-clause-puts
 returns-in_err-put_value-clause-puts g c = for_tree _ _ _ c.count-graph.ensures.heap c.requires (λ tree is_of.
-    let at = subst (λ r. IsTreeOf c.args.heap.now r tree) (sym (c.restart.ensures.root ∙ c.measure-head.ensures.root ∙ c.in_ok-walk.ensures.root)) is_of in
+    let at = subst (λ r. IsTreeOf c.args.heap.now r tree) (sym (c.restart.ensures.root ∙ c.in_ok-head.ensures.root ∙ c.in_ok-walk.ensures.root)) is_of in
     let p = err_from_is_err_and c.from_residual-in_err-put_value.result c.from_residual-in_err-put_value.ensures.1 in
     rw (p.1, p.2) (c.in_err-put_value.ensures tree at))
 
 pub returns-clause-puts : goal.returns-clause-puts
 returns-clause-puts g c = for_tree _ _ _ c.count-graph.ensures.heap c.requires (λ tree is_of.
-    let at = subst (λ r. IsTreeOf c.args.heap.now r tree) (sym (c.restart.ensures.root ∙ c.measure-head.ensures.root ∙ c.in_ok-walk.ensures.root)) is_of in
+    let at = subst (λ r. IsTreeOf c.args.heap.now r tree) (sym (c.restart.ensures.root ∙ c.in_ok-head.ensures.root ∙ c.in_ok-walk.ensures.root)) is_of in
     c.in_ok-put_value.ensures tree at)

@@ -13,33 +13,40 @@ pub returns-in_err-buffer-clause-puts : goal.returns-in_err-buffer-clause-puts
 returns-in_err-buffer-clause-puts g c = for_tree _ _ _ c.count-graph.ensures.heap c.requires (λ tree is_of.
     let p = err_from_is_err_and c.from_residual-in_err-buffer.result c.from_residual-in_err-buffer.ensures.1 in rw (p.1, p.2) tt)
 
+pub returns-in_err-head-clause-puts : goal.returns-in_err-head-clause-puts
+returns-in_err-head-clause-puts g c = for_tree _ _ _ c.count-graph.ensures.heap c.requires (λ tree is_of.
+    let p = err_from_is_err_and c.from_residual-in_err-head.result c.from_residual-in_err-head.ensures.1 in rw (p.1, p.2) tt)
+
+pub restart-requires-clause-end : goal.restart-requires-clause-end
+restart-requires-clause-end g c = λ tree is_of. c.in_ok-head.ensures.end tree (subst (λ r. IsTreeOf c.args.heap.now r tree) c.in_ok-head.ensures.root is_of)
+
 pub returns-in-Some-clause-puts : goal.returns-in-Some-clause-puts
 returns-in-Some-clause-puts g c = for_tree _ _ _ c.count-graph.ensures.heap c.requires (λ tree is_of.
-    let at = subst (λ r. IsTreeOf c.args.heap.now r tree) (sym c.in_ok-walk.ensures.root) is_of in
+    let at = subst (λ r. IsTreeOf c.args.heap.now r tree) (sym (c.restart.ensures.root ∙ c.in_ok-head.ensures.root ∙ c.in_ok-walk.ensures.root)) is_of in
     large_token tree c.in-Some.compat (c.in-Some.ensures.large tree at))
 
 pub returns-in-Some-head_compat-clause-puts : goal.returns-in-Some-head_compat-clause-puts
 returns-in-Some-head_compat-clause-puts g c = for_tree _ _ _ c.count-graph.ensures.heap c.requires (λ tree is_of.
-    let at = subst (λ r. IsTreeOf c.args.heap.now r tree) (sym c.in_ok-walk.ensures.root) is_of in
-    let at_head = subst (λ r. IsTreeOf c.args.heap.now r tree) (sym (c.restart.ensures.root ∙ c.in_default.ensures.root)) at in
-    large_head tree c.measure-head.result c.in-Some-head_compat.compat (c.in_default.ensures.large tree at) (c.measure-head.ensures.head tree at_head) c.in-Some-head_compat.ensures)
+    let at_head = subst (λ r. IsTreeOf c.args.heap.now r tree) (sym c.in_ok-walk.ensures.root) is_of in
+    let at = subst (λ r. IsTreeOf c.args.heap.now r tree) (sym (c.restart.ensures.root ∙ c.in_ok-head.ensures.root)) at_head in
+    large_head tree c.in_ok-head.head c.in-Some-head_compat.compat (c.in_default.ensures.large tree at) (c.in_ok-head.ensures.head tree at_head) c.in-Some-head_compat.ensures)
 
 pub returns-in_err-put_value-clause-puts : goal.returns-in_err-put_value-clause-puts
 returns-in_err-put_value-clause-puts g c = for_tree _ _ _ c.count-graph.ensures.heap c.requires (λ tree is_of.
-    let at = subst (λ r. IsTreeOf c.args.heap.now r tree) (sym c.in_ok-walk.ensures.root) is_of in
-    let at_head = subst (λ r. IsTreeOf c.args.heap.now r tree) (sym (c.restart.ensures.root ∙ c.in_default.ensures.root)) at in
-    let at_put = subst (λ r. IsTreeOf c.args.heap.now r tree) (sym (c.restart-2.ensures.root ∙ c.measure-head.ensures.root)) at_head in
+    let at_head = subst (λ r. IsTreeOf c.args.heap.now r tree) (sym c.in_ok-walk.ensures.root) is_of in
+    let at = subst (λ r. IsTreeOf c.args.heap.now r tree) (sym (c.restart.ensures.root ∙ c.in_ok-head.ensures.root)) at_head in
+    let at_put = subst (λ r. IsTreeOf c.args.heap.now r tree) (sym (c.restart-2.ensures.root ∙ c.in_default.ensures.root)) at in
     let p = err_from_is_err_and c.from_residual-in_err-put_value.result c.from_residual-in_err-put_value.ensures.1 in
     rw (p.1, p.2) (
-      nothing_large tree c.measure-head.result (c.in_default.ensures.large tree at) (c.measure-head.ensures.head tree at_head) c.in_default-head_compat.ensures,
+      nothing_large tree c.in_ok-head.head (c.in_default.ensures.large tree at) (c.in_ok-head.ensures.head tree at_head) c.in_default-head_compat.ensures,
       c.in_err-put_value.ensures tree at_put,
     ))
 
 pub returns-clause-puts : goal.returns-clause-puts
 returns-clause-puts g c = for_tree _ _ _ c.count-graph.ensures.heap c.requires (λ tree is_of.
-    let at = subst (λ r. IsTreeOf c.args.heap.now r tree) (sym c.in_ok-walk.ensures.root) is_of in
-    let at_head = subst (λ r. IsTreeOf c.args.heap.now r tree) (sym (c.restart.ensures.root ∙ c.in_default.ensures.root)) at in
-    let at_put = subst (λ r. IsTreeOf c.args.heap.now r tree) (sym (c.restart-2.ensures.root ∙ c.measure-head.ensures.root)) at_head in (
-      nothing_large tree c.measure-head.result (c.in_default.ensures.large tree at) (c.measure-head.ensures.head tree at_head) c.in_default-head_compat.ensures,
+    let at_head = subst (λ r. IsTreeOf c.args.heap.now r tree) (sym c.in_ok-walk.ensures.root) is_of in
+    let at = subst (λ r. IsTreeOf c.args.heap.now r tree) (sym (c.restart.ensures.root ∙ c.in_ok-head.ensures.root)) at_head in
+    let at_put = subst (λ r. IsTreeOf c.args.heap.now r tree) (sym (c.restart-2.ensures.root ∙ c.in_default.ensures.root)) at in (
+      nothing_large tree c.in_ok-head.head (c.in_default.ensures.large tree at) (c.in_ok-head.ensures.head tree at_head) c.in_default-head_compat.ensures,
       c.in_ok-put_value.ensures tree at_put,
     ))

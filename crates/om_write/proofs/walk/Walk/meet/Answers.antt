@@ -1,29 +1,25 @@
-use Rattle.std.proofs.Common.{◌∙◌, ap, refl, sym, subst, arith}
-use Rattle.std.specs.Prelude.{All}
-use Rattle.std.proofs.lemmas.List.Elements.{All-push}
-use Rattle.om_write.specs.Walking.{IsFrame, left_in}
-use Rattle.om_write.proofs.FrameLemmas.{held_block, block_begun, block_token}
+use Rattle.std.proofs.Common.{◌+◌, ◌∙◌, length, ap, sym, length-set}
+use Rattle.om_write.specs.Marks.{marks_of}
+use Rattle.om_write.specs.declared.walk.Walk.{Walk}
 use Rattle.om_write.proofs.walk.Walk.meet.Goals as goal
 
-pub returns-in-Block-clause-met : goal.returns-in-Block-clause-met
-returns-in-Block-clause-met c =
-    let g = c.args.heap.now in
-    let held = held_block g c.args.k c.in-Block.tag c.in-Block.size c.requires.heap c.requires.inside c.in-Block.ensures.object in
-    λ _. record {
-      root = refl;
-      given = refl;
-      count = refl;
-      marks = refl;
-      left = ap (left_in g) c.push_reserved.ensures.items ∙ block_begun g c.args.self.now.frames.items c.args.k c.in-Block.size;
-      frames = subst (All (IsFrame g)) (sym c.push_reserved.ensures.items)
-          (All-push (IsFrame g) c.args.self.now.frames.items _ c.requires.frames (held.some, c.in-Block.ensures.object.1));
-      many_marks = refl;
-      depth = omega (arith, c.push_reserved.ensures.len);
-      capacity = c.push_reserved.ensures.capacity;
-      token = block_token g c.args.k c.in-Block.tag c.in-Block.size c.in-Block.ensures.object;
+pub returns-clause-met : goal.returns-clause-met
+returns-clause-met c = λ _.
+    let same = c.enter.ensures.frame in
+    let count = ap (λ (w : Walk). w.count) same in
+    let ordered = ap (λ (w : Walk). w.marks.ordered) same in record {
+      root = ap (λ (w : Walk). w.root) same;
+      given = ap (λ (w : Walk). w.given) same;
+      count = count;
+      marks = ap (λ (w : Walk). marks_of w.marks) same ∙ c.in_ok-set.ensures.marks;
+      met = λ is. ap (λ (w : Walk). w.marks.met) same ∙ c.in_ok-set.ensures.met (sym ordered ∙ is) ∙ sym count;
+      again = ap (λ (w : Walk). w.again) same;
+      was = λ is. c.in_ok-set.ensures.was (sym ordered ∙ is);
+      left = c.enter.ensures.left;
+      frames = c.enter.ensures.frames;
+      many_marks = ap (λ (w : Walk). length (marks_of w.marks)) same ∙ ap length c.in_ok-set.ensures.marks
+          ∙ length-set (marks_of c.args.self.now.marks) c.args.k (c.args.self.now.count + 1);
+      depth = c.enter.ensures.depth;
+      capacity = c.enter.ensures.capacity;
+      token = c.enter.ensures.token;
     }
-
-pub returns-in-Block-clause-held : goal.returns-in-Block-clause-held
-returns-in-Block-clause-held c =
-    let held = held_block c.args.heap.now c.args.k c.in-Block.tag c.in-Block.size c.requires.heap c.requires.inside c.in-Block.ensures.object in
-    (held.low, held.small)

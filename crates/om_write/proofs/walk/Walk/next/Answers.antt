@@ -1,7 +1,7 @@
 use Rattle.std.proofs.Common.{◌+◌, ap, subst, arith}
 use Rattle.om_model.specs.Graph.{IsValue}
 use Rattle.om_write.proofs.WalkLemmas.{all_given}
-use Rattle.om_write.proofs.NextLemmas.{given_small, integer_advances, integer_walk, atom_advances, atom_walk, mark_behind, frame_room, count_small, marks_many, reference_follows}
+use Rattle.om_write.proofs.NextLemmas.{given_small, integer_advances, integer_walk, atom_advances, atom_walk, mark_behind, frame_room, count_small, marks_many, met_count, next_in_order, reference_follows}
 use Rattle.om_write.proofs.SizeLemmas.{integer_kept}
 use Rattle.om_write.proofs.walk.Walk.next.Goals as goal
 
@@ -29,19 +29,25 @@ meet-requires-clause-behind c = mark_behind _ _ _ _ c.requires c.in-Some.ensures
 pub meet-requires-clause-marks : goal.meet-requires-clause-marks
 meet-requires-clause-marks c = marks_many _ _ _ _ c.requires c.in-Some.ensures.value c.in-Some.ensures.frames c.in-Some.ensures.depth c.in-Some.ensures.capacity c.in-Some.ensures.frame
 
+pub meet-requires-clause-met : goal.meet-requires-clause-met
+meet-requires-clause-met c = met_count _ _ _ _ c.requires c.in-Some.ensures.value c.in-Some.ensures.frames c.in-Some.ensures.depth c.in-Some.ensures.capacity c.in-Some.ensures.frame
+
+pub meet-requires-clause-order : goal.meet-requires-clause-order
+meet-requires-clause-order c = next_in_order _ _ _ _ c.requires c.in-Some.ensures.value c.in-Some.ensures.frames c.in-Some.ensures.depth c.in-Some.ensures.capacity c.in-Some.ensures.frame c.in-Ref.k c.in-Ref.is
+
 pub meet-requires-clause-room : goal.meet-requires-clause-room
 meet-requires-clause-room c = frame_room _ _ _ _ c.requires c.in-Some.ensures.value c.in-Some.ensures.frames c.in-Some.ensures.depth c.in-Some.ensures.capacity c.in-Some.ensures.frame c.in-Ref.k c.in-Ref.is
 
 pub meet-requires-clause-few : goal.meet-requires-clause-few
 meet-requires-clause-few c = count_small _ _ _ _ c.requires c.in-Some.ensures.value c.in-Some.ensures.frames c.in-Some.ensures.depth c.in-Some.ensures.capacity c.in-Some.ensures.frame c.in-Ref.k c.in-Ref.is
 
-pub returns-in-Ref-clause-walk : goal.returns-in-Ref-clause-walk
-returns-in-Ref-clause-walk c =
-    (reference_follows _ _ _ _ c.requires c.in-Some.ensures.value c.in-Some.ensures.frames c.in-Some.ensures.depth c.in-Some.ensures.capacity c.in-Some.ensures.frame c.in-Ref.k c.meet.new.self c.meet.result c.in-Ref.is
-    (subst (IsValue _) c.in-Ref.is c.in-Some.ensures.valid) c.meet.ensures.met c.meet.ensures.again).is_walk
+pub returns-in_ok-meet-in-Ref-clause-walk : goal.returns-in_ok-meet-in-Ref-clause-walk
+returns-in_ok-meet-in-Ref-clause-walk c =
+    (reference_follows _ _ _ _ c.requires c.in-Some.ensures.value c.in-Some.ensures.frames c.in-Some.ensures.depth c.in-Some.ensures.capacity c.in-Some.ensures.frame c.in-Ref.k c.meet.new.self c.in_ok-meet-in-Ref.field-0 c.in-Ref.is
+    (subst (IsValue _) c.in-Ref.is c.in-Some.ensures.valid) c.in_ok-meet-in-Ref.ensures.met c.in_ok-meet-in-Ref.ensures.again).is_walk
 
-pub returns-in-Ref-clause-next : goal.returns-in-Ref-clause-next
-returns-in-Ref-clause-next c = λ tree is_of.
-    let a = (reference_follows _ _ _ _ c.requires c.in-Some.ensures.value c.in-Some.ensures.frames c.in-Some.ensures.depth c.in-Some.ensures.capacity c.in-Some.ensures.frame c.in-Ref.k c.meet.new.self c.meet.result c.in-Ref.is
-    (subst (IsValue _) c.in-Ref.is c.in-Some.ensures.valid) c.meet.ensures.met c.meet.ensures.again) in
+pub returns-in_ok-meet-in-Ref-clause-next : goal.returns-in_ok-meet-in-Ref-clause-next
+returns-in_ok-meet-in-Ref-clause-next c = λ tree is_of.
+    let a = (reference_follows _ _ _ _ c.requires c.in-Some.ensures.value c.in-Some.ensures.frames c.in-Some.ensures.depth c.in-Some.ensures.capacity c.in-Some.ensures.frame c.in-Ref.k c.meet.new.self c.in_ok-meet-in-Ref.field-0 c.in-Ref.is
+    (subst (IsValue _) c.in-Ref.is c.in-Some.ensures.valid) c.in_ok-meet-in-Ref.ensures.met c.in_ok-meet-in-Ref.ensures.again) in
     ((a.advances tree is_of).at_given, a.more_given)

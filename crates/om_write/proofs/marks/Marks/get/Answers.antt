@@ -1,0 +1,6 @@
+use Rattle.std.proofs.Common.{arith, ◌∙◌, ap}
+use Rattle.om_write.proofs.MarkLemmas.{mark_ordered, marks_table}
+use Rattle.om_write.proofs.marks.Marks.get.Goals as goal
+
+pub returns-then-self : goal.returns-then-self
+returns-then-self c = c.mark_of.ensures ∙ (mark_ordered c.args.self.now c.args.k c.if-self.true c.requires).1
