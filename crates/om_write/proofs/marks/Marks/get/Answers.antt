@@ -1,5 +1,5 @@
-use Rattle.std.proofs.Common.{arith, ◌∙◌, ap}
-use Rattle.om_write.proofs.MarkLemmas.{mark_ordered, marks_table}
+use Rattle.std.proofs.Common.{◌∙◌}
+use Rattle.om_write.proofs.MarkLemmas.{mark_ordered}
 use Rattle.om_write.proofs.marks.Marks.get.Goals as goal
 
 pub returns-then-self : goal.returns-then-self
