@@ -56,12 +56,12 @@ text_is_shallow spelled ends lexemes text even is n among =
     let lexemes_even = ap length is.spells in
     ⊎_elim
     (λ deep.
-      absurd (is.shallow k (record {
-        text = text;
-        rest = drop (suc k) lexemes;
-        within = omega (arith, among.1, even, lexemes_even);
-        begins = is.spells ∙ sym (take-append-drop (suc k) lexemes);
-        deep = inl (omega (arith, here, deep));
-      })))
+    absurd (is.shallow k (record {
+      text = text;
+      rest = drop (suc k) lexemes;
+      within = omega (arith, among.1, even, lexemes_even);
+      begins = is.spells ∙ sym (take-append-drop (suc k) lexemes);
+      deep = inl (omega (arith, here, deep));
+    })))
     (λ shallow. shallow)
     (cases_lt 200 n)

@@ -73,11 +73,14 @@ spread_among :
     → (j : ℕ) × Within (of j x) (spread size of k xs)
 spread_among size of k [] x among = absurd (Contains-none x among)
 spread_among size of k (z ∷ xs) x among = ⊎_elim
-    (λ here. (k + 1, λ y there.
-      Contains-append_left (of (k + 1) z) (spread size of (k + 1 + size z) xs) y (subst (λ w. Contains (of (k + 1) w) y) (sym here) there)))
+    (λ here. (
+      k + 1,
+      λ y there.
+          Contains-append_left (of (k + 1) z) (spread size of (k + 1 + size z) xs) y (subst (λ w. Contains (of (k + 1) w) y) (sym here) there),
+    ))
     (λ later.
-      let r = spread_among size of (k + 1 + size z) xs x later in
-      (r.0, λ y there. Contains-append_right (of (k + 1) z) (spread size of (k + 1 + size z) xs) y (r.1 y there)))
+    let r = spread_among size of (k + 1 + size z) xs x later in
+    (r.0, λ y there. Contains-append_right (of (k + 1) z) (spread size of (k + 1 + size z) xs) y (r.1 y there)))
     (Contains-cases z xs x among)
 
 spread_origin :
@@ -87,7 +90,7 @@ spread_origin size of k [] y among = absurd (Contains-none y among)
 spread_origin size of k (z ∷ xs) y among = ⊎_elim
     (λ here. (k + 1, z, Contains-first z xs, here))
     (λ later.
-      let r = spread_origin size of (k + 1 + size z) xs y later in (r.0, r.1, Contains-later z xs r.1 r.2, r.3))
+    let r = spread_origin size of (k + 1 + size z) xs y later in (r.0, r.1, Contains-later z xs r.1 r.2, r.3))
     (Contains-append_cases (of (k + 1) z) (spread size of (k + 1 + size z) xs) y among)
 
 each_among : {X : Type 0} (between : Kinds) (ends : X → List ℕ) (xs : List X) (x : X) → Contains xs x → Within (ends x) (each_ends between ends xs)
@@ -104,14 +107,14 @@ row_spot size of between ends first more j k t x among spot =
     let later_ends = each_ends between ends more in
     ⊎_elim
     (λ here.
-      wider (spot j)
-      (λ o there. Contains-append_left (of j first) occurrences o (subst (λ w. Contains (of j w) o) (sym here) there))
-      (λ n there. Contains-append_left (ends first) later_ends n (subst (λ w. Contains (ends w) n) (sym here) there)))
+    wider (spot j)
+    (λ o there. Contains-append_left (of j first) occurrences o (subst (λ w. Contains (of j w) o) (sym here) there))
+    (λ n there. Contains-append_left (ends first) later_ends n (subst (λ w. Contains (ends w) n) (sym here) there)))
     (λ later.
-      let r = spread_among size of k more x later in
-      wider (spot r.0)
-      (λ o there. Contains-append_right (of j first) occurrences o (r.1 o there))
-      (λ n there. Contains-append_right (ends first) later_ends n (each_among between ends more x later n there)))
+    let r = spread_among size of k more x later in
+    wider (spot r.0)
+    (λ o there. Contains-append_right (of j first) occurrences o (r.1 o there))
+    (λ n there. Contains-append_right (ends first) later_ends n (each_among between ends more x later n there)))
     (Contains-cases first more x among)
 
 -- ---- the types of a body
@@ -145,16 +148,16 @@ record_spot k r t among =
     let third = second ++ silent (mark_if r.closed symbols.Semicolon) in
     let last = third ++ silent (mark symbols.CloseBrace) in
     let outer : Within second last = λ n here.
-          first_part third (silent (mark symbols.CloseBrace)) n (first_part second (silent (mark_if r.closed symbols.Semicolon)) n here) in
+    first_part third (silent (mark symbols.CloseBrace)) n (first_part second (silent (mark_if r.closed symbols.Semicolon)) n here) in
     renamed (ap (λ (f : Field). f.ty) tree.2 ∙ field.2)
     (wider
-      (row_spot field_size field_occurrences (mark symbols.Semicolon) field_ends r.first r.more (k + 1) (k + 1 + field_size r.first)
-      (type_of_texpr tree.0.type) tree.0 tree.1 (field_spot tree.0))
-      (itself (in_fields field_occurrences k r))
-      (both_parts (field_ends r.first) (each_ends (mark symbols.Semicolon) field_ends r.more) last
-      (λ n here.
-        outer n (first_part first (each_ends (mark symbols.Semicolon) field_ends r.more) n (last_part opened (field_ends r.first) n here)))
-      (λ n here. outer n (last_part first (each_ends (mark symbols.Semicolon) field_ends r.more) n here))))
+    (row_spot field_size field_occurrences (mark symbols.Semicolon) field_ends r.first r.more (k + 1) (k + 1 + field_size r.first)
+    (type_of_texpr tree.0.type) tree.0 tree.1 (field_spot tree.0))
+    (itself (in_fields field_occurrences k r))
+    (both_parts (field_ends r.first) (each_ends (mark symbols.Semicolon) field_ends r.more) last
+    (λ n here.
+    outer n (first_part first (each_ends (mark symbols.Semicolon) field_ends r.more) n (last_part opened (field_ends r.first) n here)))
+    (λ n here. outer n (last_part first (each_ends (mark symbols.Semicolon) field_ends r.more) n here))))
 
 arguments_spot :
     (k : ℕ) (arguments : ArgumentsTree) (t : Ty) → Contains (types_of_arguments (arguments_of_tree arguments)) t
@@ -168,11 +171,11 @@ arguments_spot k (trees.listed a others) t among =
     let begun = silent (word keywords.Of) ++ app_ends a in
     renamed part.2
     (wider
-      (row_spot (λ x. length (app x)) (λ j x. in_app j false x) (mark symbols.Star) app_ends a others k (k + length (app a)) (type_of_app part.0)
-      part.0 part.1 (app_spot part.0))
-      (itself (arguments_occurrences k (trees.listed a others)))
-      (both_parts (app_ends a) more (begun ++ more)
-      (λ n here. first_part begun more n (last_part (silent (word keywords.Of)) (app_ends a) n here)) (last_part begun more)))
+    (row_spot (λ x. length (app x)) (λ j x. in_app j false x) (mark symbols.Star) app_ends a others k (k + length (app a)) (type_of_app part.0)
+    part.0 part.1 (app_spot part.0))
+    (itself (arguments_occurrences k (trees.listed a others)))
+    (both_parts (app_ends a) more (begun ++ more)
+    (λ n here. first_part begun more n (last_part (silent (word keywords.Of)) (app_ends a) n here)) (last_part begun more)))
 
 constr_spot :
     (c : ConstrTree) (t : Ty) → Contains (types_of_arguments (arguments_of_tree c.arguments)) t → (k : ℕ)
@@ -186,7 +189,7 @@ body_spot k (variant_body bar c cs) t among =
     let made = flat_map-Contains (λ (constructor : Constructor). types_of_arguments constructor.arguments) (map constructor_of_tree (c ∷ cs)) t among in
     let tree = map-Contains constructor_of_tree (c ∷ cs) made.0 made.1 in
     let has : Contains (types_of_arguments (arguments_of_tree tree.0.arguments)) t =
-          subst (λ (x : Constructor). Contains (types_of_arguments x.arguments) t) (sym tree.2) made.2 in
+    subst (λ (x : Constructor). Contains (types_of_arguments x.arguments) t) (sym tree.2) made.2 in
     let begun = silent (mark_if bar symbols.Bar) in
     let more = each_ends (mark symbols.Bar) constr_ends cs in
     wider
@@ -220,25 +223,25 @@ group_spot group k g d among =
     let ended = silent (mark_if g.ended symbols.DoubleSemicolon) in
     ⊎_elim
     (λ here.
-      record {
-        tree = g.first;
-        group = group;
-        place = k + 1;
-        same = here;
-        ended = λ n there.
+    record {
+      tree = g.first;
+      group = group;
+      place = k + 1;
+      same = here;
+      ended = λ n there.
           first_part (begun ++ more) ended n
           (first_part begun more n (last_part (silent (word keywords.Type)) (decl_ends g.first) n there));
-      })
+    })
     (λ later.
-      let r = spread_origin decl_size (λ j x. decl_places group j x ∷ []) (k + 1 + decl_size g.first) g.more d later in
-      record {
-        tree = r.1;
-        group = group;
-        place = r.0;
-        same = ⊎_elim (λ here. here) (λ none. absurd (Contains-none d none)) (Contains-cases (decl_places group r.0 r.1) [] d r.3);
-        ended = λ n there.
+    let r = spread_origin decl_size (λ j x. decl_places group j x ∷ []) (k + 1 + decl_size g.first) g.more d later in
+    record {
+      tree = r.1;
+      group = group;
+      place = r.0;
+      same = ⊎_elim (λ here. here) (λ none. absurd (Contains-none d none)) (Contains-cases (decl_places group r.0 r.1) [] d r.3);
+      ended = λ n there.
           first_part (begun ++ more) ended n (last_part begun more n (each_among (word keywords.And) decl_ends g.more r.1 r.2 n there));
-      })
+    })
     (Contains-cases (decl_places group (k + 1) g.first)
     (spread decl_size (λ j x. decl_places group j x ∷ []) (k + 1 + decl_size g.first) g.more) d among)
 
@@ -258,8 +261,8 @@ files_spot before k (g ∷ groups) d among =
     ⊎_elim
     (λ here. later_spot (group_spot before k g d here) (first_part (group_ends g) (file_ends groups)))
     (λ later.
-      later_spot (files_spot (before + length (g.first ∷ g.more)) (k + length (group_kinds g)) groups d later)
-      (last_part (group_ends g) (file_ends groups)))
+    later_spot (files_spot (before + length (g.first ∷ g.more)) (k + length (group_kinds g)) groups d later)
+    (last_part (group_ends g) (file_ends groups)))
     (Contains-append_cases (group_places before k g) places d among)
 
 -- each type of each declaration has a spot
@@ -272,8 +275,8 @@ type_spot {ends} d t spot among =
     let has : Contains (types_of_body made.decl.body) t = subst (λ (e : DeclPlaces). Contains (types_of_body e.decl.body) t) (sym spot.same) among in
     let front = silent (params_kinds x.params ++ lower x.name ++ mark symbols.Equals) in
     let one : Spot made.occurrences ends t =
-          wider (body_spot (name + 2) x.body t has) (itself made.occurrences)
-          (λ n there. spot.ended n (last_part front (body_ends x.body) n there)) in
+    wider (body_spot (name + 2) x.body t has) (itself made.occurrences)
+    (λ n there. spot.ended n (last_part front (body_ends x.body) n there)) in
     subst (λ (e : DeclPlaces). Spot e.occurrences ends t) spot.same one
 
 -- ---- told
@@ -282,7 +285,7 @@ spot_tells : (occurrences : List Occurrence) (ends : List ℕ) (t : Ty) → Spot
 spot_tells occurrences ends t spot =
     subst (TellsAll occurrences) spot.same
     (λ thing among.
-      let told = types_told spot.place false spot.tree thing among in (told.0, spot.among told.0 told.1, told.2))
+    let told = types_told spot.place false spot.tree thing among in (told.0, spot.among told.0 told.1, told.2))
 
 spot_written : (occurrences : List Occurrence) (ends : List ℕ) (t : Ty) → Spot occurrences ends t → ((n : ℕ) → Contains ends n → n ≤ 200) → IsWritten t
 spot_written occurrences ends t spot shallow =

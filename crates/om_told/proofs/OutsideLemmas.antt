@@ -41,8 +41,12 @@ first_used :
     (place : ℕ) (name : List ℕ) (arguments : List Ty) (rest : List Occurrence) (names : List (List ℕ)) → AreUsed rest names
     → AreUsed (use_of place name arguments false ∷ rest) (name ∷ names)
 first_used place name arguments rest names later x among = ⊎_elim
-    (λ here. (place, arguments, subst (λ y. Contains (use_of place name arguments false ∷ rest) (use_of place y arguments false)) here
-    (Contains-first (use_of place name arguments false) rest)))
+    (λ here. (
+      place,
+      arguments,
+      subst (λ y. Contains (use_of place name arguments false ∷ rest) (use_of place y arguments false)) here
+          (Contains-first (use_of place name arguments false) rest),
+    ))
     (λ more. used_later (use_of place name arguments false) rest x (later x more))
     (Contains-cases name names x among)
 
@@ -80,8 +84,12 @@ mutual
       let rest = in_texprs (k + 1) false ts ++ in_texpr (k + length (texprs ts) + 2) false t in
       ⊎_elim
       (λ before. ⊎_elim
-      (λ own. (place, arguments, subst (λ y. Contains (use_of place name arguments false ∷ rest) (use_of place y arguments false)) own
-      (Contains-first (use_of place name arguments false) rest)))
+      (λ own. (
+        place,
+        arguments,
+        subst (λ y. Contains (use_of place name arguments false ∷ rest) (use_of place y arguments false)) own
+            (Contains-first (use_of place name arguments false) rest),
+      ))
       (λ inside. used_later (use_of place name arguments false) rest x
       (used_left (in_texprs (k + 1) false ts) (in_texpr (k + length (texprs ts) + 2) false t) x inside))
       (texprs_used (k + 1) name ts x before))

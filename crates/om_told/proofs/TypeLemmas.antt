@@ -164,9 +164,9 @@ mutual
   simple_told k in_tag (trees.arguments ts t name) =
       let after = k + length (texprs ts) in
       let own : begins_as (parts (type_of_simple (trees.arguments ts t name))) [] (applied_to name ts)
-              ≡ use_thing name (types_of_texprs ts ++ type_of_texpr t ∷ []) ∷ [] =
-          applied_begins (parts (type_of_simple (trees.arguments ts t name))) [] name ts
-          ∙ ap (λ us. use_thing name (us ++ type_of_texpr t ∷ []) ∷ []) (applied_parts name ts) in
+      ≡ use_thing name (types_of_texprs ts ++ type_of_texpr t ∷ []) ∷ [] =
+      applied_begins (parts (type_of_simple (trees.arguments ts t name))) [] name ts
+      ∙ ap (λ us. use_thing name (us ++ type_of_texpr t ∷ []) ∷ []) (applied_parts name ts) in
       subst (λ o. Tells (in_simple k in_tag (trees.arguments ts t name)) (o ++ (things_inside (applied_to name ts) ++ things_in (type_of_texpr t)))) (sym own)
       (first_told (use_of (k + length (texprs ts) + length (texpr t) + 3) name (types_of_texprs ts ++ type_of_texpr t ∷ []) in_tag)
       (in_texprs (k + 1) in_tag ts ++ in_texpr (after + 2) in_tag t) (use_thing name (types_of_texprs ts ++ type_of_texpr t ∷ []))
