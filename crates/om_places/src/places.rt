@@ -161,4 +161,19 @@ mod tests {
         assert_eq!(rt; places.number(5), 2);
         Ok(())
     }
+
+    // Room is there once places were dropped, and each place below 2^32 goes into it.
+    #[test]
+    fn places_go_into_room(rt: HostRuntime) -> Result<(), Fail> {
+        let mut places = Places::new(rt.alloc());
+        assert!(rt; !places.push_in_room(0));
+        places.push(0)?;
+        places.push(3)?;
+        places.truncate(1);
+        assert!(rt; !places.push_in_room(1 << 32));
+        assert!(rt; places.push_in_room(5));
+        assert_eq!(rt; places.len(), 2);
+        assert_eq!(rt; places.number(5), 1);
+        Ok(())
+    }
 }
