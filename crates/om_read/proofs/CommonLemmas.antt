@@ -1,8 +1,7 @@
 -- Tokens that are taken without the judge.
-use Rattle.std.proofs.Common.{ℕ, suc, ◌≡◌, ◌+◌, ◌-◌, ◌<◌, ◌≤◌, List, [], ◌∷◌, ◌++◌, length, take, drop, get_or, Option, Some, Ok, None, true, arith, ap, ◌∙◌, subst, subst₂, ◌≢◌}
+use Rattle.std.proofs.Common.{ℕ, suc, ◌≡◌, ◌+◌, ◌-◌, ◌<◌, ◌≤◌, List, [], ◌∷◌, ◌++◌, length, take, drop, get_or, Option, Some, Ok, None, true, arith, ap, ◌∙◌, subst, subst₂}
 use Rattle.om_model.specs.Bytes.{AreBytes}
 use Rattle.om_model.specs.declared.code.CodeKind.{CodeKind}
-use Rattle.om_model.specs.declared.code.CodeKind.TheVariants as kinds
 use Rattle.om_model.specs.declared.code.Measure.{Measure}
 use Rattle.om_format.specs.Code.{kind_of}
 use Rattle.om_format.specs.Raw.{fixed_bytes, variable_bytes, measure_after, raw_length}

@@ -3,15 +3,13 @@ use Rattle.std.proofs.Common.{ℕ, ◌≡◌, ◌+◌, ◌-◌, ◌^◌, ◌<◌
 use Rattle.om_model.specs.declared.header.Head.{Head}
 use Rattle.om_model.specs.declared.code.Measure.{Measure}
 use Rattle.om_format.specs.Words.{of_object, fields, words32, words64}
-use Rattle.om_format.specs.Step.{Context}
 use Rattle.om_format.specs.Front.{context}
 use Rattle.om_read.specs.declared.totals.Totals.{Totals}
 use Rattle.om_read.specs.declared.left.Left.{Left}
-use Rattle.om_read.specs.Totals.{AreTotals, AreFew, Advances, context_of, moved}
+use Rattle.om_read.specs.Totals.{AreTotals, AreFew, Advances, context_of}
 use Rattle.om_read.specs.Build.{Bounded}
-use Rattle.om_read.specs.Reading.{Builds}
-use Rattle.om_read.specs.Pieces.{LeadsAs, TakesCommon}
-use Rattle.om_read.specs.Left.{Leaves, Spends, Stands, limit_of}
+use Rattle.om_read.specs.Pieces.{LeadsAs}
+use Rattle.om_read.specs.Left.{Leaves, Spends, limit_of}
 use Rattle.om_read.proofs.TotalsLemmas.{totals_are}
 
 -- a token makes one object at most

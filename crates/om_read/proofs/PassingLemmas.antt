@@ -1,5 +1,5 @@
 -- A token that surely passes is the next one.
-use Rattle.std.proofs.Common.{ℕ, ◌≡◌, ◌≢◌, ◌+◌, ◌<◌, ◌≤◌, List, [], ◌∷◌, length, take, drop, get_or, Option, Some, Ok, arith, refl, ap, sym, ◌∙◌, subst}
+use Rattle.std.proofs.Common.{ℕ, ◌≡◌, ◌+◌, ◌<◌, ◌≤◌, List, [], ◌∷◌, length, take, drop, get_or, Option, Some, Ok, arith, ap, sym, ◌∙◌, subst}
 use Rattle.om_model.specs.declared.code.CodeKind.{CodeKind}
 use Rattle.om_model.specs.declared.code.CodeKind.TheVariants as kinds
 use Rattle.om_model.specs.declared.code.CustomKind.{CustomKind}

@@ -1,5 +1,5 @@
 -- How many words on 64 bits the objects have that tokens build.
-use Rattle.std.proofs.Common.{◌≡◌, ℕ, ◌+◌, ◌<◌, ◌≤◌, List, [], ◌∷◌, ◌++◌, length, map, take, pos, Option, arith, ap, sym, ◌∙◌, refl, length-set, length-append}
+use Rattle.std.proofs.Common.{◌≡◌, ℕ, ◌+◌, ◌<◌, ◌≤◌, List, [], ◌∷◌, ◌++◌, length, map, take, pos, Option, arith, ap, sym, ◌∙◌, refl, length-append}
 use Rattle.std.specs.List.{AllZip, concat}
 use Rattle.std.specs.Prelude.{All}
 use Rattle.std.proofs.lemmas.List.{length-replicate, length-take, take_at}

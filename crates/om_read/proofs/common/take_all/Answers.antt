@@ -1,8 +1,7 @@
-use Rattle.std.proofs.Common.{rules, ℕ, List, [], Some, ◌+◌, ◌<◌, ◌^◌, ◌++◌, length, arith, sym, subst, subst₂, append-nil}
-use Rattle.om_read.specs.declared.totals.Totals.{Totals}
+use Rattle.std.proofs.Common.{rules, ℕ, List, [], Some, ◌+◌, ◌<◌, ◌^◌, length, arith, sym, subst, subst₂, append-nil}
 use Rattle.om_read.specs.declared.left.Left.{Left}
 use Rattle.om_read.specs.Build.{Bounded}
-use Rattle.om_read.specs.Pieces.{LeadsAs, TakesCommon}
+use Rattle.om_read.specs.Pieces.{LeadsAs}
 use Rattle.om_read.specs.Left.{Leaves, TakesAll}
 use Rattle.om_read.proofs.CommonLemmas.{one_more_taken}
 use Rattle.om_read.proofs.common.take_all.Goals as goal

@@ -1,7 +1,7 @@
-use Rattle.std.proofs.Common.{ℕ, List, [], Some, ◌≡◌, ◌+◌, ◌++◌, take, arith, sym, subst, ◌∙◌}
+use Rattle.std.proofs.Common.{ℕ, List, [], Some, ◌≡◌, ◌++◌, take, arith, subst, ◌∙◌}
 use Rattle.om_read.specs.declared.totals.Totals.{Totals}
 use Rattle.om_read.specs.Pieces.{LeadsAs, TakesCommon}
-use Rattle.om_read.specs.Left.{Leaves, TakesAll}
+use Rattle.om_read.specs.Left.{Leaves}
 use Rattle.om_read.proofs.LeftLemmas.{same_place}
 use Rattle.om_read.proofs.NextLemmas.{objects_built}
 use Rattle.om_read.proofs.common.take_common.Goals as goal

@@ -1,5 +1,4 @@
-use Rattle.std.proofs.Common.{rules, ◌≡◌, ◌≢◌, ℕ, ◌+◌, ◌≤◌, ◌<◌, List, None, true, length, take, drop, get_or, sym, subst, ap, ◌∙◌, arith, refl}
-use Rattle.om_model.specs.declared.code.CodeKind.TheVariants as kinds
+use Rattle.std.proofs.Common.{rules, ◌≡◌, ℕ, ◌+◌, ◌≤◌, ◌<◌, List, None, true, length, take, drop, get_or, sym, subst, ap, ◌∙◌, arith, refl}
 use Rattle.om_model.specs.declared.header.Head.{Head}
 use Rattle.om_model.proofs.Numbers.{are_bytes}
 use Rattle.om_format.specs.Raw.{fixed_bytes, variable_bytes, measure_after}

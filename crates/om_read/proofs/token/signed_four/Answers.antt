@@ -1,8 +1,7 @@
-use Rattle.std.proofs.Common.{rules, ℕ, ◌≡◌, ◌+◌, ◌*◌, ◌-◌, ◌^◌, ◌<◌, ◌≤◌, suc, List, [], ◌∷◌, length, get_or, ℤ, pos, negsuc, true, false, inl, inr, arith, refl, ap, ap₂, sym, ◌∙◌}
-use Rattle.std.proofs.lemmas.Bool.{cases_lt}
+use Rattle.std.proofs.Common.{rules, ℕ, ◌≡◌, ◌^◌, ◌<◌, List, [], ◌∷◌, length, get_or, arith, refl, ap, ap₂, sym, ◌∙◌}
 use Rattle.std.proofs.lemmas.Int.{to_z-of_z}
 use Rattle.std.specs.Int.{w32, w64, from_be_bytes, cast_signed}
-use Rattle.om_model.specs.Bytes.{number, twos_complement, signed}
+use Rattle.om_model.specs.Bytes.{number, twos_complement}
 use Rattle.om_read.proofs.token.signed_four.Goals as goal
 
 -- four bytes, in both readings
