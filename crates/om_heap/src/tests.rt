@@ -117,3 +117,18 @@ fn words_are_put(rt: HostRuntime) -> Result<(), Fail> {
     assert_eq!(rt; copy.field(0, 0), Val::Int(21));
     Ok(())
 }
+
+// Room is there once objects were dropped, and without it nothing is appended.
+#[test]
+fn objects_go_into_room(rt: HostRuntime) -> Result<(), Fail> {
+    let mut heap = Heap::new(rt.alloc());
+    assert_eq!(rt; heap.add_block_in_room(0, 2), None);
+    heap.add_bytes(40)?;
+    heap.clear();
+    assert_eq!(rt; heap.add_block_in_room(0, 2), Some(0));
+    assert_eq!(rt; heap.add_double_in_room(7), Some(24));
+    assert_eq!(rt; heap.add_bytes_in_room(&[0; 200]), None);
+    assert_eq!(rt; heap.count(), 2);
+    assert_eq!(rt; heap.double(1, 0), 7);
+    Ok(())
+}
