@@ -1,13 +1,13 @@
 -- A text has one answer at most: it has one outcome of the lexer, its lexemes one reading, and of
 -- the rules that are broken one comes first, at one place.
-use Rattle.std.proofs.Common.{ℕ, ◌≡◌, ◌∙◌, ⊎_elim, List, [], ◌∷◌, length, refl, sym, ap, subst, slice_index_or}
+use Rattle.std.proofs.Common.{ℕ, ◌≡◌, ◌∙◌, ⊎_elim, List, length, sym, ap, subst}
 use Rattle.std.specs.Prelude.{Result, Ok, Err}
 use Rattle.std.proofs.lemmas.Bool.{cases_order}
 use Rattle.om_lex.specs.declared.lexeme.Lexeme.{Lexeme}
 use Rattle.om_lex.specs.declared.lexeme.LexFault.{LexFault}
 use Rattle.om_lex.proofs.PartLaws.{has_one_outcome}
-use Rattle.om_types.specs.Scope.{Rule, turn, IsFirst, KeepsAll}
-use Rattle.om_types.specs.Scope as rules
+use Rattle.om_types.specs.Scope.{Rule, turn, IsFirst}
+use Rattle.om_scope.proofs.FirstLemmas.{same_turn}
 use Rattle.om_grammar.specs.Grammar.{Kinds}
 use Rattle.om_grammar.specs.Refusals.{Reading, text_read, syntax_at, too_deep_at, IsReading}
 use Rattle.om_grammar.specs.Laws.{HasOneReading}
@@ -15,31 +15,7 @@ use Rattle.om_parse.specs.Parsed.{kinds_of, byte_of}
 use Rattle.om_decl.specs.Answer.{Answer, accepted, no_lexemes, no_text, too_deep, broken}
 use Rattle.om_decl.specs.Answer.{IsJudged, IsRead, IsLexed, IsAnswer, HasOneAnswer}
 
--- ---- rules have turns of their own
-
-abbrev all_rules : List Rule
-all_rules = rules.twice ∷ rules.unknown_name ∷ rules.arity ∷ rules.unbound_variable ∷ rules.cyclic
-    ∷ rules.irregular ∷ rules.too_many_constructors ∷ rules.not_variant ∷ rules.tag_clash ∷ rules.hash_clash
-    ∷ rules.float_in_group ∷ []
-
-abbrev rule_at : ℕ → Rule
-rule_at n = slice_index_or all_rules n rules.twice
-
-rule_of_turn : (rule : Rule) → rule_at (turn rule) ≡ rule
-rule_of_turn rules.twice = refl
-rule_of_turn rules.unknown_name = refl
-rule_of_turn rules.arity = refl
-rule_of_turn rules.unbound_variable = refl
-rule_of_turn rules.cyclic = refl
-rule_of_turn rules.irregular = refl
-rule_of_turn rules.too_many_constructors = refl
-rule_of_turn rules.not_variant = refl
-rule_of_turn rules.tag_clash = refl
-rule_of_turn rules.hash_clash = refl
-rule_of_turn rules.float_in_group = refl
-
-pub same_turn : (one other : Rule) → turn one ≡ turn other → one ≡ other
-same_turn one other same = sym (rule_of_turn one) ∙ ap rule_at same ∙ rule_of_turn other
+-- ---- one rule comes first
 
 module _ (Breaks : Rule → ℕ → Type 0) where
   one_first_rule : (one other : Rule) (j k : ℕ) → IsFirst Breaks one j → IsFirst Breaks other k → one ≡ other

@@ -7,16 +7,19 @@ use Rattle.om_lex.specs.declared.lexeme.LexFault.TheVariants as lexer
 use Rattle.om_lex.specs.LexText.{Lexes, Faults, UnlessMemory}
 use Rattle.om_types.specs.Scope.{Rule, IsFirst}
 use Rattle.om_types.specs.declared.decl.Decl.{Decl}
-use Rattle.om_grammar.specs.Grammar.{Kinds, FileTree, file_kinds}
+use Rattle.om_grammar.specs.Grammar.{Kinds, FileTree, file_kinds, Texpr, texpr}
 use Rattle.om_grammar.specs.Refusals.{IsText, text_read, syntax_at, too_deep_at}
 use Rattle.om_parse.specs.declared.refused.Fault.{Fault}
 use Rattle.om_parse.specs.declared.refused.Fault.TheVariants as parser
 use Rattle.om_parse.specs.Parsed.{kinds_of, byte_of, IsFault}
-use Rattle.om_parse.specs.Written.{declarations_of}
-use Rattle.om_occurrences.specs.Counted.{marks}
+use Rattle.om_parse.specs.Written.{declarations_of, type_of_texpr}
+use Rattle.om_occurrences.specs.Counted.{marks, in_type}
 use Rattle.om_occurrences.specs.CountedFile.{counted_file}
 use Rattle.om_occurrences.specs.InFile.{file_places}
+use Rattle.om_occurrences.specs.InText.{in_texpr}
+use Rattle.om_types.specs.Ty.{Ty}
 use Rattle.om_occurrences.proofs.GroupLaws.{files_are_counted}
+use Rattle.om_occurrences.proofs.TypeLaws.{types_are_counted}
 use Rattle.om_decl.specs.Answer.{IsAnswer}
 use Rattle.om_decl.specs.Fault.{lexed, parsed, broken_at, IsRefused}
 use Rattle.om_scope.specs.Breaks.{rule_of}
@@ -62,3 +65,11 @@ pub places_are :
 places_are lexemes decls places tree spells stand marked =
     ap (λ ms. counted_file ms decls) (marked ∙ ap (marks 0 false) (sym spells))
     ∙ ap (counted_file (marks 0 false (file_kinds tree))) stand ∙ files_are_counted.counted tree
+
+pub occurrences_are :
+    (lexemes : List Lexeme) (t : Ty) (places : List ℕ) (tree : Texpr)
+    → texpr tree ≡ kinds_of lexemes → t ≡ type_of_texpr tree
+    → places ≡ marks 0 false (kinds_of lexemes) → in_type places false t ≡ in_texpr 0 false tree
+occurrences_are lexemes t places tree spells stands marked =
+    ap (λ ms. in_type ms false t) (marked ∙ ap (marks 0 false) (sym spells))
+    ∙ ap (in_type (marks 0 false (texpr tree)) false) stands ∙ types_are_counted 0 false tree

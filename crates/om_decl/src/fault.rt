@@ -1,13 +1,14 @@
 //! Why a text of declarations, or of a type, is refused.
 
 ghost use Rattle.std.specs.Prelude.{◌≡◌};
+ghost use Rattle.om_parse.specs.Parsed.{byte_of};
 ghost use Rattle.om_decl.specs.Fault.{lexed, parsed, broken_at};
 ghost use Rattle.om_decl.specs.declared.fault.DeclFault.TheVariants as faults;
 
 use om_lex::lexeme::{LexFault, Lexeme};
 use om_model::Memory;
 use om_parse::{Fault, byte_of};
-use om_scope::NameRule;
+use om_scope::{Broken, NameRule};
 
 /// Why a text is refused, with the number of the byte at which the refused lexeme begins.
 #[derive(Clone, Copy, Debug, PartialEq, Eq)]
@@ -65,11 +66,12 @@ pub fn parse_fault(fault: Fault, lexemes: &[Lexeme], end: usize) -> DeclFault
     }
 }
 
-/// The fault of a rule that is broken at a byte.
-pub fn scope_fault(rule: NameRule, place: usize) -> DeclFault
-    ensures { result ≡ broken_at rule place }
+/// The fault of a rule that is broken, in a text of so many bytes with these lexemes.
+pub fn scope_fault(broken: Broken, lexemes: &[Lexeme], end: usize) -> DeclFault
+    ensures { result ≡ broken_at broken.rule (byte_of lexemes.now end broken.place) }
 {
-    match rule {
+    let place = byte_of(lexemes, end, broken.place);
+    match broken.rule {
         NameRule::Twice => DeclFault::Twice(place),
         NameRule::UnknownName => DeclFault::UnknownName(place),
         NameRule::Arity => DeclFault::Arity(place),

@@ -7,7 +7,7 @@ mod names;
 mod read;
 
 pub use fault::DeclFault;
-pub use read::{Named, read_names};
+pub use read::{Named, NamedType, read_names, read_type_names};
 
 #[cfg(test)]
 mod tests;

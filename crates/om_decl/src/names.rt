@@ -1,16 +1,18 @@
-//! The rules of scope on names, over declarations and the marks of their text.
+//! The rules of scope on names, over declarations or a type and the marks of their text.
 
-ghost use Rattle.std.specs.Prelude.{◌≡◌, IfOk, List};
-ghost use Rattle.om_types.specs.Occurrence.{DeclPlaces};
-ghost use Rattle.om_types.specs.Scope.{BreaksInFile};
+ghost use Rattle.std.specs.Prelude.{◌≡◌, IfOk, List, false};
+ghost use Rattle.om_types.specs.Occurrence.{DeclPlaces, Occurrence};
+ghost use Rattle.om_types.specs.Scope.{BreaksInFile, BreaksInType};
+ghost use Rattle.om_occurrences.specs.Counted.{in_type};
 ghost use Rattle.om_occurrences.specs.CountedFile.{counted_file};
 ghost use Rattle.om_scope.specs.First.{IsFirstBefore};
-ghost use Rattle.om_scope.specs.Sites.{AreSites};
+ghost use Rattle.om_scope.specs.Sites.{AreSites, IsTypeSite};
 
 use om_model::Memory;
-use om_scope::{Broken, Placed, Site, first_break};
-use om_sites::{FileSites, file_sites};
+use om_scope::{Broken, Placed, Site, TypeSite, first_break, first_break_in_type};
+use om_sites::{FileSites, file_sites, type_site};
 use om_types::decl::Decl;
+use om_types::ty::Ty;
 use std::alloc::Global;
 
 /// The first rule that is broken, over what stands where.
@@ -39,4 +41,33 @@ pub fn first_name_break(
 {
     let FileSites { names, sites } = file_sites(alloc, marks, decls)?;
     first_of_sites(alloc, marks, decls, names.as_slice(), sites.as_slice())
+}
+
+/// The first rule that is broken, over what stands where.
+fn first_of_type_site(
+    alloc: Global,
+    _marks: &[usize],
+    _ty: &Ty,
+    decls: &[Decl],
+    site: &TypeSite,
+) -> Result<Option<Broken>, Memory>
+    ghost occurrences: { List Occurrence }
+    requires marks { occurrences ≡ in_type _marks.now false _ty.now }
+    requires site { IsTypeSite site.now occurrences }
+    ensures { IfOk result (IsFirstBefore (BreaksInType decls.now occurrences) 7) }
+{
+    first_break_in_type(alloc, decls, site)
+}
+
+/// The first rule on names that a type with these marks breaks, with the least lexeme at which it does.
+pub fn first_type_break(
+    alloc: Global,
+    marks: &[usize],
+    ty: &Ty,
+    decls: &[Decl],
+) -> Result<Option<Broken>, Memory>
+    ensures { IfOk result (IsFirstBefore (BreaksInType decls.now (in_type marks.now false ty.now)) 7) }
+{
+    let site = type_site(alloc, marks, ty)?;
+    first_of_type_site(alloc, marks, ty, decls, &site)
 }

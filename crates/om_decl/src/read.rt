@@ -1,18 +1,19 @@
-//! Declarations from their text.
+//! Declarations and types from their texts.
 
 ghost use Rattle.std.specs.Prelude.{IfOk, IfErr};
-ghost use Rattle.om_decl.specs.Answer.{IsFileAnswer};
+ghost use Rattle.om_decl.specs.Answer.{IsFileAnswer, IsTypeAnswer};
 ghost use Rattle.om_decl.specs.Fault.{IsRefused};
-ghost use Rattle.om_decl.specs.Named.{IsNamed};
+ghost use Rattle.om_decl.specs.Named.{IsNamed, IsNamedType};
 
 use crate::fault::{DeclFault, lex_fault, parse_fault, scope_fault};
-use crate::names::first_name_break;
+use crate::names::{first_name_break, first_type_break};
 use om_lex::lexeme::Lexeme;
 use om_lex::tokens;
 use om_model::list::List;
 use om_occurrences::marks;
-use om_parse::{byte_of, parse_file};
+use om_parse::{parse_file, parse_type};
 use om_types::decl::Decl;
+use om_types::ty::Ty;
 use std::alloc::Global;
 
 /// Declarations whose names keep the rules, with the lexemes and the marks of their text.
@@ -38,12 +39,39 @@ pub fn read_names(alloc: Global, text: &[u8]) -> Result<Named, DeclFault>
     };
     let marks = marks(alloc, lexemes.as_slice())?;
     if let Some(broken) = first_name_break(alloc, marks.as_slice(), decls.as_slice())? {
-        let place = byte_of(lexemes.as_slice(), text.len(), broken.place);
-        return Err(scope_fault(broken.rule, place));
+        return Err(scope_fault(broken, lexemes.as_slice(), text.len()));
     }
     Ok(Named {
         lexemes,
         marks,
         decls,
     })
+}
+
+/// A type whose names keep the rules, with the lexemes and the marks of its text.
+#[derive(Drop)]
+pub struct NamedType {
+    pub lexemes: Vec<Lexeme>,
+    pub marks: Vec<usize>,
+    pub ty: Ty,
+}
+
+/// Reads a type over declarations, and judges the rules on names.
+pub fn read_type_names(alloc: Global, decls: &[Decl], text: &[u8]) -> Result<NamedType, DeclFault>
+    ensures named { IfOk result (IsNamedType decls.now text.now) }
+    ensures fault { IfErr result (IsRefused (IsTypeAnswer decls.now text.now)) }
+{
+    let lexemes = match tokens(alloc, text) {
+        Ok(lexemes) => lexemes,
+        Err(fault) => return Err(lex_fault(fault)),
+    };
+    let ty = match parse_type(alloc, lexemes.as_slice()) {
+        Ok(ty) => ty,
+        Err(fault) => return Err(parse_fault(fault, lexemes.as_slice(), text.len())),
+    };
+    let marks = marks(alloc, lexemes.as_slice())?;
+    if let Some(broken) = first_type_break(alloc, marks.as_slice(), &ty, decls)? {
+        return Err(scope_fault(broken, lexemes.as_slice(), text.len()));
+    }
+    Ok(NamedType { lexemes, marks, ty })
 }

@@ -1,6 +1,7 @@
 use super::*;
 use crate::laws::one_answer;
 use om_lex::lexeme::LexFault;
+use om_types::decl::Decl;
 use std::test::Fail;
 
 // A text, and why it is refused, if it is.
@@ -77,6 +78,58 @@ fn faults_have_their_places(rt: HostRuntime) -> Result<(), Fail> {
     ];
     for row in &rows {
         assert!(rt; holds(rt.alloc(), row)?);
+    }
+    Ok(())
+}
+
+fn type_holds(alloc: std::alloc::Global, decls: &[Decl], row: &Row) -> Result<bool, DeclFault> {
+    match read_type_names(alloc, decls, row.text) {
+        Ok(_) => Ok(row.fault.is_none()),
+        Err(DeclFault::Memory) => Err(DeclFault::Memory),
+        Err(fault) => Ok(row.fault == Some(fault)),
+    }
+}
+
+// By the same program.
+#[test]
+fn faults_of_types_have_their_places(rt: HostRuntime) -> Result<(), Fail> {
+    let alloc = rt.alloc();
+    let named = read_names(
+        alloc,
+        b"type 'a box = { x : 'a } type t = [ `A | `B of int ]",
+    )?;
+    let rows = [
+        Row {
+            text: b"(int * 'a) box list",
+            fault: None,
+        },
+        Row {
+            text: b"",
+            fault: Some(DeclFault::Syntax(0)),
+        },
+        Row {
+            text: b"int (*",
+            fault: Some(DeclFault::Lex(LexFault::OpenComment(4))),
+        },
+        Row {
+            text: b"[ t | `A | `A ]",
+            fault: Some(DeclFault::Twice(11)),
+        },
+        Row {
+            text: b"[ `A of foo | int ]",
+            fault: Some(DeclFault::UnknownName(8)),
+        },
+        Row {
+            text: b"int int",
+            fault: Some(DeclFault::Arity(4)),
+        },
+        Row {
+            text: b"(int, int) box",
+            fault: Some(DeclFault::Arity(11)),
+        },
+    ];
+    for row in &rows {
+        assert!(rt; type_holds(alloc, named.decls.as_slice(), row)?);
     }
     Ok(())
 }

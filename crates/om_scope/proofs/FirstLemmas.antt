@@ -38,7 +38,7 @@ turn_back scope.tag_clash = refl
 turn_back scope.hash_clash = refl
 turn_back scope.float_in_group = refl
 
-same_turn : (rule other : Rule) → turn rule ≡ turn other → rule ≡ other
+pub same_turn : (rule other : Rule) → turn rule ≡ turn other → rule ≡ other
 same_turn rule other e = sym (turn_back rule) ∙ ap rule_of_turn e ∙ turn_back other
 
 pub keeps_more :

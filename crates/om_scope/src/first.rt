@@ -1,15 +1,15 @@
-//! The first rule on names that a file breaks.
+//! The first rule on names that a file, or a type, breaks.
 
 ghost use Rattle.std.specs.Prelude.{◌≡◌, ◌<◌, IfOk, List};
-ghost use Rattle.om_types.specs.Occurrence.{DeclPlaces};
-ghost use Rattle.om_types.specs.Scope.{BreaksInFile, turn};
+ghost use Rattle.om_types.specs.Occurrence.{DeclPlaces, Occurrence};
+ghost use Rattle.om_types.specs.Scope.{BreaksInFile, BreaksInType, turn};
 ghost use Rattle.om_scope.specs.Breaks.{rule_of};
 ghost use Rattle.om_scope.specs.First.{IsFirstBefore};
-ghost use Rattle.om_scope.specs.Sites.{AreSites};
+ghost use Rattle.om_scope.specs.Sites.{AreSites, IsTypeSite};
 
 use crate::rule::NameRule;
-use crate::site::{Placed, Site};
-use crate::sites::least_break;
+use crate::site::{Placed, Site, TypeSite};
+use crate::sites::{least_break, least_break_in_type};
 use om_model::Memory;
 use om_types::decl::Decl;
 use std::alloc::Global;
@@ -51,6 +51,25 @@ pub fn first_break(
     for i in 0..7 {
         let rule = rule_at(i);
         if let Some(place) = least_break(alloc, rule, decls, names, sites)? {
+            return Ok(Some(Broken { rule, place }));
+        }
+    }
+    Ok(None)
+}
+
+/// The first rule on names that the text of a type breaks, at the least lexeme.
+pub fn first_break_in_type(
+    alloc: Global,
+    decls: &[Decl],
+    site: &TypeSite,
+) -> Result<Option<Broken>, Memory>
+    ghost occurrences: { List Occurrence }
+    requires { IsTypeSite site.now occurrences }
+    ensures { IfOk result (IsFirstBefore (BreaksInType decls.now occurrences) 7) }
+{
+    for n in 0..7 {
+        let rule = rule_at(n);
+        if let Some(place) = least_break_in_type(alloc, rule, decls, site)? {
             return Ok(Some(Broken { rule, place }));
         }
     }

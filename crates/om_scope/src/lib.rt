@@ -18,7 +18,7 @@ pub mod table;
 mod uses;
 mod variables;
 
-pub use first::{Broken, first_break};
+pub use first::{Broken, first_break, first_break_in_type};
 pub use least::{place_if, sooner};
 pub use rule::NameRule;
 pub use site::{Placed, Site, TypeSite, Use};

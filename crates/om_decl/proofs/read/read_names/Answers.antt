@@ -51,8 +51,8 @@ returns-in-Some-clause-fault c =
     (subst (IsFirstBefore (BreaksInFile (counted_file c.as_slice-3.result.now c.as_slice-4.result.now)) 7)
     c.in-Some.is c.in_ok-broken.ensures).1 in
     subst (IsRefused (IsFileAnswer text))
-    (sym (c.scope_fault.ensures ∙ ap (broken_at rule) (c.byte_of-place.ensures
-    ∙ ap (λ (ls : List Lexeme). byte_of ls (length text) k) c.as_slice-in-Some.ensures.value)))
+    (sym (c.scope_fault.ensures
+    ∙ ap (λ (ls : List Lexeme). broken_at rule (byte_of ls (length text) k)) c.as_slice-in-Some.ensures.value))
     (scope_refuses file_kinds file_ends Breaks text lexemes c.in-Ok.ensures.lexemes declared.tree declared.reads rule k
     (subst (λ (all : List DeclPlaces). IsFirst (BreaksInFile all) (rule_of rule) k) places first))
 
