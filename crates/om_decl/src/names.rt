@@ -39,7 +39,7 @@ pub fn first_name_break(
 ) -> Result<Option<Broken>, Memory>
     ensures { IfOk result (IsFirstBefore (BreaksInFile (counted_file marks.now decls.now)) 7) }
 {
-    let FileSites { names, sites } = file_sites(alloc, marks, decls)?;
+    let FileSites { names, sites, .. } = file_sites(alloc, marks, decls)?;
     first_of_sites(alloc, marks, decls, names.as_slice(), sites.as_slice())
 }
 

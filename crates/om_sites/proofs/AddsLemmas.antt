@@ -22,7 +22,7 @@ then_list :
 then_list a b c more last first second =
     second ∙ ap (λ l. l ++ last) first ∙ append_assoc a more last
 
-then_mapped :
+pub then_mapped :
     {X Y : Type 0} (h : X → Option Y) (a b c : List Y) (more last : List X)
     → b ≡ a ++ filter_map h more → c ≡ b ++ filter_map h last → c ≡ a ++ filter_map h (more ++ last)
 then_mapped h a b c more last first second =
@@ -172,21 +172,3 @@ Adds-bracket old new row items is same =
       uses_are = sym (append-nil old.uses);
       variables_are = sym (append-nil old.variables);
     })
-
--- ---- what was added, and one thing more
-
-pub then_row :
-    (a b c : Site) (rows : List (List Placed)) (carrying : List ℕ) (all : List Occurrence) (row : List Placed)
-    → Adds a b rows carrying all → c ≡ record b { rows = b.rows ++ row ∷ [] }
-    → Adds a c (rows ++ row ∷ []) carrying all
-then_row a b c rows carrying all row adds is =
-    subst (λ l. Adds a c (rows ++ row ∷ []) l all) (append-nil carrying)
-    (subst (λ l. Adds a c (rows ++ row ∷ []) (carrying ++ []) l) (append-nil all)
-    (Adds-then a b c rows (row ∷ []) carrying [] all [] adds (Adds-row b c row is)))
-
-pub carrying_then :
-    (a b c : Site) (rows : List (List Placed)) (carrying : List ℕ) (all : List Occurrence)
-    → b ≡ record a { carrying = a.carrying ++ carrying } → Adds b c rows [] all → Adds a c rows carrying all
-carrying_then a b c rows carrying all is adds =
-    subst (λ l. Adds a c rows l all) (append-nil carrying)
-    (Adds-then a b c [] rows carrying [] [] all (Adds-carrying a b carrying is) adds)

@@ -8,41 +8,43 @@ use Rattle.om_types.specs.declared.decl.Body.{Body}
 use Rattle.om_types.specs.declared.decl.Body.TheVariants as bodies
 use Rattle.om_types.specs.declared.decl.Decl.{Decl}
 use Rattle.om_types.specs.Occurrence.{Placed}
-use Rattle.om_scope.specs.declared.site.Site.{Site}
 use Rattle.om_scope.specs.Sites.{IsSite}
 use Rattle.om_occurrences.specs.Counted.{in_type}
 use Rattle.om_occurrences.specs.CountedFile.{along, field_count, names_of_fields, in_field, constructor_count}
 use Rattle.om_occurrences.specs.CountedFile.{records_in, in_body, body_count, parameters_in, decl_count, counted_places}
+use Rattle.om_sites.specs.declared.found.Found.{Found}
+use Rattle.om_sites.specs.Brackets.{AreBrackets}
 use Rattle.om_sites.specs.Adds.{Adds}
+use Rattle.om_sites.specs.Found.{AddsFound}
 use Rattle.om_sites.specs.Bodies.{records_of, carrying_of, occurrences_of, constructor_names, names_in, carrying_body}
-use Rattle.om_sites.proofs.AddsLemmas.{Adds-then, Adds-row, then_row}
+use Rattle.om_sites.proofs.FoundLemmas.{AddsFound-then, AddsFound-row, then_row, AreBrackets-added}
 use Rattle.om_sites.proofs.SiteLemmas.{nothing, IsSite-added}
 
 -- what is added of a body with the row of its constructors
-abbrev pub AddsBody : List ℕ → Body → Site → Site → Type 0
+abbrev pub AddsBody : List ℕ → Body → Found → Found → Type 0
 AddsBody ms body a b =
-    Adds a b (records_in ms body ++ names_in ms body ∷ []) (carrying_body ms body) (in_body ms body)
+    AddsFound a b (records_in ms body ++ names_in ms body ∷ []) (carrying_body ms body) (in_body ms body)
 
 module _ (ms : List ℕ) (body : Body) where
   pub adds_abbreviation :
-      (t : Ty) (a b c : Site) (row : List Placed) → body ≡ bodies.Abbreviation t
-      → Adds a b [] [] (in_type ms false t) → row ≡ [] → c ≡ record b { rows = b.rows ++ row ∷ [] }
+      (t : Ty) (a b c : Found) (row : List Placed) → body ≡ bodies.Abbreviation t
+      → AddsFound a b [] [] (in_type ms false t) → row ≡ [] → c ≡ record b { site = record b.site { rows = b.site.rows ++ row ∷ [] } }
       → AddsBody ms body a c
   adds_abbreviation t a b c row is adds empty put = subst (λ (x : Body). AddsBody ms x a c) (sym is)
-      (subst (λ r. Adds a c (r ∷ []) [] (in_type ms false t)) empty
+      (subst (λ r. AddsFound a c (r ∷ []) [] (in_type ms false t)) empty
       (then_row a b c [] [] (in_type ms false t) row adds put))
 
   pub adds_record :
-      (fields : List Field) (a b c : Site) (row : List Placed) → body ≡ bodies.Record fields
-      → Adds a b (names_of_fields ms fields ∷ []) [] (along field_count in_field ms fields) → row ≡ []
-      → c ≡ record b { rows = b.rows ++ row ∷ [] } → AddsBody ms body a c
+      (fields : List Field) (a b c : Found) (row : List Placed) → body ≡ bodies.Record fields
+      → AddsFound a b (names_of_fields ms fields ∷ []) [] (along field_count in_field ms fields) → row ≡ []
+      → c ≡ record b { site = record b.site { rows = b.site.rows ++ row ∷ [] } } → AddsBody ms body a c
   adds_record fields a b c row is adds empty put = subst (λ (x : Body). AddsBody ms x a c) (sym is)
-      (subst (λ r. Adds a c (names_of_fields ms fields ∷ r ∷ []) [] (along field_count in_field ms fields)) empty
+      (subst (λ r. AddsFound a c (names_of_fields ms fields ∷ r ∷ []) [] (along field_count in_field ms fields)) empty
       (then_row a b c (names_of_fields ms fields ∷ []) [] (along field_count in_field ms fields) row adds put))
 
   pub adds_variant :
-      (all : List Constructor) (a b : Site) → body ≡ bodies.Variant all
-      → Adds a b (along constructor_count records_of ms all ++ constructor_names ms all ∷ [])
+      (all : List Constructor) (a b : Found) → body ≡ bodies.Variant all
+      → AddsFound a b (along constructor_count records_of ms all ++ constructor_names ms all ∷ [])
       (along constructor_count carrying_of ms all) (along constructor_count occurrences_of ms all)
       → AddsBody ms body a b
   adds_variant all a b is adds = subst (λ (x : Body). AddsBody ms x a b) (sym is) adds
@@ -57,17 +59,34 @@ module _ (ms name body : List ℕ) (d : Decl) (count : ℕ) (counted : count ≡
   decl_rest rest is = is ∙ ap (drop (body_count d.body)) behind_name
       ∙ drop-drop (body_count d.body) (length d.parameters + 1) ms
 
-  pub decl_told :
-      (start first site : Site) (row : List Placed) → start ≡ nothing → row ≡ parameters_in ms d.parameters
-      → first ≡ record start { rows = start.rows ++ row ∷ [] } → AddsBody body d.body first site
-      → IsSite site (counted_places ms d)
-  decl_told start first site row empty row_is put adds =
-      let behind = drop (length d.parameters + 1) ms in
-      let here : AddsBody behind d.body first site = subst (λ l. AddsBody l d.body first site) behind_name adds in
-      let parameters : Adds nothing first (parameters_in ms d.parameters ∷ []) [] [] =
-      subst (λ r. Adds nothing first (r ∷ []) [] []) row_is
-      (subst (λ s. Adds s first (row ∷ []) [] []) empty (Adds-row start first row put)) in
-      IsSite-added site (counted_places ms d)
-      (Adds-then nothing first site (parameters_in ms d.parameters ∷ [])
-      (records_in behind d.body ++ names_in behind d.body ∷ []) [] (carrying_body behind d.body) []
-      (in_body behind d.body) parameters here)
+  -- what is found of a declaration, from nothing
+  module _ (start first found : Found) (row : List Placed) (empty : start ≡ record { site = nothing; brackets = [] })
+      (row_is : row ≡ parameters_in ms d.parameters)
+      (put : first ≡ record start { site = record start.site { rows = start.site.rows ++ row ∷ [] } })
+      (adds : AddsBody body d.body first found) where
+    abbrev behind : List ℕ
+    behind = drop (length d.parameters + 1) ms
+
+    abbrev all_added : Type 0
+    all_added = AddsFound start found (parameters_in ms d.parameters ∷ (records_in behind d.body ++ names_in behind d.body ∷ []))
+        (carrying_body behind d.body) (in_body behind d.body)
+
+    added : all_added
+    added =
+        let here : AddsBody behind d.body first found = subst (λ l. AddsBody l d.body first found) behind_name adds in
+        let parameters : AddsFound start first (parameters_in ms d.parameters ∷ []) [] [] =
+        subst (λ r. AddsFound start first (r ∷ []) [] []) row_is (AddsFound-row start first row put) in
+        AddsFound-then start first found (parameters_in ms d.parameters ∷ [])
+        (records_in behind d.body ++ names_in behind d.body ∷ []) [] (carrying_body behind d.body) []
+        (in_body behind d.body) parameters here
+
+    pub decl_told : IsSite found.site (counted_places ms d)
+    decl_told = IsSite-added found.site (counted_places ms d)
+        (subst (λ (f : Found). Adds f.site found.site
+        (parameters_in ms d.parameters ∷ (records_in behind d.body ++ names_in behind d.body ∷ []))
+        (carrying_body behind d.body) (in_body behind d.body)) empty added.site)
+
+    pub decl_brackets : AreBrackets found.brackets (in_body behind d.body)
+    decl_brackets = AreBrackets-added start found
+        (parameters_in ms d.parameters ∷ (records_in behind d.body ++ names_in behind d.body ∷ []))
+        (carrying_body behind d.body) (in_body behind d.body) (ap (λ (f : Found). f.brackets) empty) added

@@ -15,11 +15,13 @@ use Rattle.om_scope.specs.declared.site.Site.{Site}
 use Rattle.om_scope.specs.declared.site.TypeSite.{TypeSite}
 use Rattle.om_scope.specs.Sites.{IsSite, AreSites, IsTypeSite}
 use Rattle.om_occurrences.specs.Counted.{marks, in_type}
-use Rattle.om_occurrences.specs.CountedFile.{placed, decl_count, counted_places, counted_file}
+use Rattle.om_occurrences.specs.CountedFile.{placed, in_body, decl_count, counted_places, counted_file}
 use Rattle.om_occurrences.specs.InFile.{file_places}
 use Rattle.om_occurrences.specs.InText.{in_texpr}
 use Rattle.om_occurrences.proofs.TypeLaws.{types_are_counted}
 use Rattle.om_occurrences.proofs.GroupLaws.{files_are_counted}
+use Rattle.om_sites.specs.declared.brackets.TypeBrackets.{TypeBrackets}
+use Rattle.om_sites.specs.Brackets.{AreBrackets, AreFileBrackets}
 use Rattle.om_sites.proofs.LoopLemmas.{left_is}
 
 AreSites-none : AreSites [] [] [] []
@@ -105,24 +107,98 @@ pub FileFollows-end :
 FileFollows-end ms decls names sites rest i past follows = FileFollows-last ms decls names sites rest
     (subst (FileFollows ms decls names sites rest) (drop_all i decls past) follows)
 
+-- ---- the brackets of declarations
+
+AreFileBrackets-none : AreFileBrackets [] []
+AreFileBrackets-none = record {
+  counted = refl;
+  stand = λ i brackets d is d_is. absurd (none-some brackets is);
+}
+
+AreFileBrackets-cons :
+    (found : List (List TypeBrackets)) (all : List DeclPlaces) (brackets : List TypeBrackets) (d : DeclPlaces)
+    → AreBrackets brackets d.occurrences → AreFileBrackets found all → AreFileBrackets (brackets ∷ found) (d ∷ all)
+AreFileBrackets-cons found all brackets d is are = record { counted = ap suc are.counted; stand = stand } where
+  stand :
+      (i : ℕ) (b : List TypeBrackets) (e : DeclPlaces) → slice_get (brackets ∷ found) i ≡ Some b
+      → slice_get (d ∷ all) i ≡ Some e → AreBrackets b e.occurrences
+  stand zero b e b_is e_is =
+      subst (λ x. AreBrackets x e.occurrences) (same_Some brackets b b_is)
+      (subst (λ (x : DeclPlaces). AreBrackets brackets x.occurrences) (same_Some d e e_is) is)
+  stand (suc i) b e b_is e_is = are.stand i b e b_is e_is
+
+-- with those of what is left, those so far are the brackets of all
+pub record BracketsFollow (ms : List ℕ) (decls : List Decl) (found : List (List TypeBrackets)) (rest : List ℕ)
+    (left : List Decl) : Type 0 where
+  pub are :
+      (more : List (List TypeBrackets)) → AreFileBrackets more (counted_file rest left)
+      → AreFileBrackets (found ++ more) (counted_file ms decls)
+
+pub BracketsFollow-first : (ms : List ℕ) (decls : List Decl) → BracketsFollow ms decls [] ms decls
+BracketsFollow-first ms decls = record { are = λ more h. h }
+
+pub BracketsFollow-step :
+    (ms : List ℕ) (decls : List Decl) (found found' : List (List TypeBrackets)) (brackets : List TypeBrackets)
+    (rest rest' : List ℕ) (d : Decl) (i : ℕ) → i < length decls → d ≡ get_or decls i d
+    → BracketsFollow ms decls found rest (drop i decls)
+    → AreBrackets brackets (in_body (drop (length d.parameters + 1) rest) d.body)
+    → found' ≡ found ++ brackets ∷ [] → rest' ≡ drop (decl_count d) rest
+    → BracketsFollow ms decls found' rest' (drop (i + 1) decls)
+BracketsFollow-step ms decls found found' brackets rest rest' d i below read follows is found_is rest_is =
+    let all = counted_file ms decls in
+    let left = drop (i + 1) decls in
+    let so_far : BracketsFollow ms decls found rest (d ∷ left) =
+    subst (BracketsFollow ms decls found rest) (left_is decls i d below read) follows in
+    subst (λ l. BracketsFollow ms decls found' l left) (sym rest_is) (record {
+      are = λ more h.
+          subst (λ l. AreFileBrackets l all) (sym (ap (λ l. l ++ more) found_is ∙ append_assoc found (brackets ∷ []) more))
+          (so_far.are (brackets ∷ more)
+          (AreFileBrackets-cons more (counted_file (drop (decl_count d) rest) left) brackets (counted_places rest d) is h));
+    })
+
+pub BracketsFollow-end :
+    (ms : List ℕ) (decls : List Decl) (found : List (List TypeBrackets)) (rest : List ℕ) (i : ℕ)
+    → length decls ≤ i → BracketsFollow ms decls found rest (drop i decls)
+    → AreFileBrackets found (counted_file ms decls)
+BracketsFollow-end ms decls found rest i past follows =
+    let so_far : BracketsFollow ms decls found rest [] =
+    subst (BracketsFollow ms decls found rest) (drop_all i decls past) follows in
+    subst (λ l. AreFileBrackets l (counted_file ms decls)) (append-nil found) (so_far.are [] AreFileBrackets-none)
+
 -- ---- the text whose tree is known
 
-pub file_text :
-    (lexemes : List Lexeme) (decls : List Decl) (places : List ℕ) (names : List Placed) (sites : List Site)
-    (tree : FileTree) → file_kinds tree ≡ kinds_of lexemes → decls ≡ declarations_of tree
-    → places ≡ marks 0 false (kinds_of lexemes) → AreSites decls names sites (counted_file places decls)
-    → AreSites decls names sites (file_places tree)
-file_text lexemes decls places names sites tree spelled stand marked are =
-    subst (λ ds. AreSites ds names sites (file_places tree)) (sym stand)
-    (subst (AreSites (declarations_of tree) names sites) (files_are_counted.counted tree)
-    (subst (λ ds. AreSites ds names sites (counted_file (marks 0 false (file_kinds tree)) ds)) stand
-    (subst (λ ms. AreSites decls names sites (counted_file ms decls)) (marked ∙ ap (marks 0 false) (sym spelled)) are)))
+module _ (lexemes : List Lexeme) (decls : List Decl) (places : List ℕ) (tree : FileTree)
+    (spelled : file_kinds tree ≡ kinds_of lexemes) (stand : decls ≡ declarations_of tree)
+    (marked : places ≡ marks 0 false (kinds_of lexemes)) where
+  file_is : counted_file places decls ≡ file_places tree
+  file_is =
+      ap (λ ms. counted_file ms decls) (marked ∙ ap (marks 0 false) (sym spelled))
+      ∙ ap (λ ds. counted_file (marks 0 false (file_kinds tree)) ds) stand
+      ∙ files_are_counted.counted tree
 
-pub type_text :
-    (lexemes : List Lexeme) (t : Ty) (places : List ℕ) (site : TypeSite) (tree : Texpr)
-    → texpr tree ≡ kinds_of lexemes → t ≡ type_of_texpr tree → places ≡ marks 0 false (kinds_of lexemes)
-    → IsTypeSite site (in_type places false t) → IsTypeSite site (in_texpr 0 false tree)
-type_text lexemes t places site tree spelled stands marked is =
-    subst (IsTypeSite site) (types_are_counted 0 false tree)
-    (subst (λ u. IsTypeSite site (in_type (marks 0 false (texpr tree)) false u)) stands
-    (subst (λ ms. IsTypeSite site (in_type ms false t)) (marked ∙ ap (marks 0 false) (sym spelled)) is))
+  pub file_text :
+      (names : List Placed) (sites : List Site) → AreSites decls names sites (counted_file places decls)
+      → AreSites decls names sites (file_places tree)
+  file_text names sites are = subst (AreSites decls names sites) file_is are
+
+  pub file_text_brackets :
+      (found : List (List TypeBrackets)) → AreFileBrackets found (counted_file places decls)
+      → AreFileBrackets found (file_places tree)
+  file_text_brackets found are = subst (AreFileBrackets found) file_is are
+
+module _ (lexemes : List Lexeme) (t : Ty) (places : List ℕ) (tree : Texpr) (spelled : texpr tree ≡ kinds_of lexemes)
+    (stands : t ≡ type_of_texpr tree) (marked : places ≡ marks 0 false (kinds_of lexemes)) where
+  type_is : in_type places false t ≡ in_texpr 0 false tree
+  type_is =
+      ap (λ ms. in_type ms false t) (marked ∙ ap (marks 0 false) (sym spelled))
+      ∙ ap (λ u. in_type (marks 0 false (texpr tree)) false u) stands
+      ∙ types_are_counted 0 false tree
+
+  pub type_text :
+      (site : TypeSite) → IsTypeSite site (in_type places false t) → IsTypeSite site (in_texpr 0 false tree)
+  type_text site is = subst (IsTypeSite site) type_is is
+
+  pub type_text_brackets :
+      (found : List TypeBrackets) → AreBrackets found (in_type places false t)
+      → AreBrackets found (in_texpr 0 false tree)
+  type_text_brackets found are = subst (AreBrackets found) type_is are

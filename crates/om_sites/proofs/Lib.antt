@@ -2,6 +2,8 @@ pub mod AddsLemmas
 pub mod BodyLemmas
 pub mod FactLemmas
 pub mod FileLemmas
+pub mod FoundLemmas
+pub mod ItemLemmas
 pub mod LoopLemmas
 pub mod OwnLemmas
 pub mod SiteLemmas

@@ -3,10 +3,10 @@ use Rattle.std.proofs.Common.{ℕ, ◌+◌, ◌<◌, ◌≤◌, ◌≡◌, ◌�
 use Rattle.std.proofs.Common.{refl, sym, ap, subst, append_assoc}
 use Rattle.std.proofs.lemmas.List.{append-nil, drop-drop, drop_more, drop_all}
 use Rattle.om_types.specs.Occurrence.{Placed, Occurrence}
-use Rattle.om_scope.specs.declared.site.Site.{Site}
+use Rattle.om_sites.specs.declared.found.Found.{Found}
 use Rattle.om_occurrences.specs.CountedFile.{along, count_all}
-use Rattle.om_sites.specs.Adds.{Adds}
-use Rattle.om_sites.proofs.AddsLemmas.{Adds-none, Adds-then}
+use Rattle.om_sites.specs.Found.{AddsFound}
+use Rattle.om_sites.proofs.FoundLemmas.{AddsFound-none, AddsFound-then}
 
 -- what is left begins with the element at hand
 pub left_is :
@@ -20,15 +20,15 @@ pub along_none :
 along_none count ms [] = refl
 along_none count ms (x ∷ xs) = along_none count (drop (count x) ms) xs
 
--- From the site at hand, what is left leads to where all leads from the start; and the places that
+-- From what is found at hand, what is left leads to where all leads from the start; and the places that
 -- are left are those behind all.
 pub record Follows {X : Type 0} (count : X → ℕ) (rows : List ℕ → X → List (List Placed))
-    (carrying : List ℕ → X → List ℕ) (seen : List ℕ → X → List Occurrence) (start : Site) (ms : List ℕ)
-    (all : List X) (site : Site) (rest : List ℕ) (left : List X) : Type 0 where
+    (carrying : List ℕ → X → List ℕ) (seen : List ℕ → X → List Occurrence) (start : Found) (ms : List ℕ)
+    (all : List X) (found : Found) (rest : List ℕ) (left : List X) : Type 0 where
   pub adds :
-      (last : Site)
-      → Adds site last (along count rows rest left) (along count carrying rest left) (along count seen rest left)
-      → Adds start last (along count rows ms all) (along count carrying ms all) (along count seen ms all)
+      (last : Found)
+      → AddsFound found last (along count rows rest left) (along count carrying rest left) (along count seen rest left)
+      → AddsFound start last (along count rows ms all) (along count carrying ms all) (along count seen ms all)
   pub rest_is : drop (count_all count left) rest ≡ drop (count_all count all) ms
 
 -- the row of names, and what is left
@@ -75,54 +75,54 @@ RowFollows-end count name ms all row rest i past follows = RowFollows-last count
     (subst (RowFollows count name ms all row rest) (drop_all i all past) follows)
 
 module _ {X : Type 0} (count : X → ℕ) (rows : List ℕ → X → List (List Placed))
-    (carrying : List ℕ → X → List ℕ) (seen : List ℕ → X → List Occurrence) (start : Site) (ms : List ℕ)
+    (carrying : List ℕ → X → List ℕ) (seen : List ℕ → X → List Occurrence) (start : Found) (ms : List ℕ)
     (all : List X) where
   pub Follows-first : Follows count rows carrying seen start ms all start ms all
   Follows-first = record { adds = λ last h. h; rest_is = refl }
 
   pub Follows-next :
-      (site site' : Site) (rest rest' : List ℕ) (x : X) (left : List X)
-      → Follows count rows carrying seen start ms all site rest (x ∷ left)
-      → Adds site site' (rows rest x) (carrying rest x) (seen rest x) → rest' ≡ drop (count x) rest
-      → Follows count rows carrying seen start ms all site' rest' left
-  Follows-next site site' rest rest' x left follows step is =
+      (found found' : Found) (rest rest' : List ℕ) (x : X) (left : List X)
+      → Follows count rows carrying seen start ms all found rest (x ∷ left)
+      → AddsFound found found' (rows rest x) (carrying rest x) (seen rest x) → rest' ≡ drop (count x) rest
+      → Follows count rows carrying seen start ms all found' rest' left
+  Follows-next found found' rest rest' x left follows step is =
       let next = drop (count x) rest in
-      subst (λ l. Follows count rows carrying seen start ms all site' l left) (sym is) (record {
-        adds = λ last h. follows.adds last (Adds-then site site' last
+      subst (λ l. Follows count rows carrying seen start ms all found' l left) (sym is) (record {
+        adds = λ last h. follows.adds last (AddsFound-then found found' last
             (rows rest x) (along count rows next left) (carrying rest x) (along count carrying next left)
             (seen rest x) (along count seen next left) step h);
         rest_is = drop-drop (count_all count left) (count x) rest ∙ follows.rest_is;
       })
 
   pub Follows-last :
-      (site : Site) (rest : List ℕ) → Follows count rows carrying seen start ms all site rest []
-      → Adds start site (along count rows ms all) (along count carrying ms all) (along count seen ms all)
-  Follows-last site rest follows = follows.adds site (Adds-none site)
+      (found : Found) (rest : List ℕ) → Follows count rows carrying seen start ms all found rest []
+      → AddsFound start found (along count rows ms all) (along count carrying ms all) (along count seen ms all)
+  Follows-last found rest follows = follows.adds found (AddsFound-none found)
 
   pub Follows-step :
-      (site site' : Site) (rest rest' : List ℕ) (x : X) (i : ℕ) → i < length all → x ≡ get_or all i x
-      → Follows count rows carrying seen start ms all site rest (drop i all)
-      → Adds site site' (rows rest x) (carrying rest x) (seen rest x) → rest' ≡ drop (count x) rest
-      → Follows count rows carrying seen start ms all site' rest' (drop (i + 1) all)
-  Follows-step site site' rest rest' x i below read follows step is =
-      Follows-next site site' rest rest' x (drop (i + 1) all)
-      (subst (Follows count rows carrying seen start ms all site rest) (left_is all i x below read) follows) step is
+      (found found' : Found) (rest rest' : List ℕ) (x : X) (i : ℕ) → i < length all → x ≡ get_or all i x
+      → Follows count rows carrying seen start ms all found rest (drop i all)
+      → AddsFound found found' (rows rest x) (carrying rest x) (seen rest x) → rest' ≡ drop (count x) rest
+      → Follows count rows carrying seen start ms all found' rest' (drop (i + 1) all)
+  Follows-step found found' rest rest' x i below read follows step is =
+      Follows-next found found' rest rest' x (drop (i + 1) all)
+      (subst (Follows count rows carrying seen start ms all found rest) (left_is all i x below read) follows) step is
 
   pub Follows-end :
-      (site : Site) (rest : List ℕ) (i : ℕ) → length all ≤ i
-      → Follows count rows carrying seen start ms all site rest (drop i all)
-      → Adds start site (along count rows ms all) (along count carrying ms all) (along count seen ms all)
-  Follows-end site rest i past follows = Follows-last site rest
-      (subst (Follows count rows carrying seen start ms all site rest) (drop_all i all past) follows)
+      (found : Found) (rest : List ℕ) (i : ℕ) → length all ≤ i
+      → Follows count rows carrying seen start ms all found rest (drop i all)
+      → AddsFound start found (along count rows ms all) (along count carrying ms all) (along count seen ms all)
+  Follows-end found rest i past follows = Follows-last found rest
+      (subst (Follows count rows carrying seen start ms all found rest) (drop_all i all past) follows)
 
 -- the same where no row and no lexeme of a constructor is added
 pub Follows-plain :
-    {X : Type 0} (count : X → ℕ) (seen : List ℕ → X → List Occurrence) (start : Site) (ms : List ℕ)
-    (all : List X) (site : Site) (rest : List ℕ) (i : ℕ) → length all ≤ i
-    → Follows count (λ at x. []) (λ at x. []) seen start ms all site rest (drop i all)
-    → Adds start site [] [] (along count seen ms all)
-Follows-plain count seen start ms all site rest i past follows =
-    subst (λ rows. Adds start site rows [] (along count seen ms all)) (along_none count ms all)
-    (subst (λ carrying. Adds start site (along count (λ at x. []) ms all) carrying (along count seen ms all))
+    {X : Type 0} (count : X → ℕ) (seen : List ℕ → X → List Occurrence) (start : Found) (ms : List ℕ)
+    (all : List X) (found : Found) (rest : List ℕ) (i : ℕ) → length all ≤ i
+    → Follows count (λ at x. []) (λ at x. []) seen start ms all found rest (drop i all)
+    → AddsFound start found [] [] (along count seen ms all)
+Follows-plain count seen start ms all found rest i past follows =
+    subst (λ rows. AddsFound start found rows [] (along count seen ms all)) (along_none count ms all)
+    (subst (λ carrying. AddsFound start found (along count (λ at x. []) ms all) carrying (along count seen ms all))
     (along_none count ms all)
-    (Follows-end count (λ at x. []) (λ at x. []) seen start ms all site rest i past follows))
+    (Follows-end count (λ at x. []) (λ at x. []) seen start ms all found rest i past follows))

@@ -1,12 +1,9 @@
--- The tags that a bracket writes, read from its last item to its first.
-use Rattle.std.specs.Prelude.{ℕ, Option, Some, None, List, [], ◌∷◌}
-use Rattle.std.specs.List.{filter_map}
-use Rattle.om_types.specs.Ty.{Ty}
+-- The items of a bracket, and the tags that it writes, node by node.
+use Rattle.std.specs.Prelude.{ℕ, Option, Some, None, List, [], ◌∷◌, slice_get}
 use Rattle.om_types.specs.declared.ty.Node.{Node}
 use Rattle.om_types.specs.declared.ty.Node.TheVariants as nodes
 use Rattle.om_types.specs.Occurrence.{Placed}
-use Rattle.om_types.specs.Scope.{written_tag}
-use Rattle.om_occurrences.specs.Counted.{items_in}
+use Rattle.om_sites.specs.declared.brackets.BracketItem.{BracketItem}
 
 -- the bracket without its last item
 abbrev pub without_item : Node → Option ℕ
@@ -21,5 +18,11 @@ tag_at place (nodes.Tag w x) = (place, x) ∷ []
 tag_at place (nodes.TagOf w x a) = (place, x) ∷ []
 tag_at place node = []
 
-abbrev pub row_in : List ℕ → Ty → List Placed
-row_in ms t = filter_map written_tag (items_in ms t)
+-- the tag that a node writes, if it is there
+abbrev pub tag_if : ℕ → Option Node → List Placed
+tag_if place (Some node) = tag_at place node
+tag_if place None = []
+
+-- the tag that an item writes
+abbrev pub tag_there : List Node → BracketItem → List Placed
+tag_there all item = tag_if item.place (slice_get all item.node)

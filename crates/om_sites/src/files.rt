@@ -1,11 +1,14 @@
 //! What stands where in the text of declarations.
 
-ghost use Rattle.std.specs.Prelude.{◌≡◌, IfOk, drop};
-ghost use Rattle.om_occurrences.specs.CountedFile.{parameters_in, counted_places, decl_count, counted_file};
+ghost use Rattle.std.specs.Prelude.{◌≡◌, ◌+◌, IfOk, drop, length};
+ghost use Rattle.om_occurrences.specs.CountedFile.{parameters_in, counted_places, decl_count, counted_file, in_body};
+ghost use Rattle.om_sites.specs.Brackets.{AreBrackets, AreFileBrackets};
 ghost use Rattle.om_scope.specs.Sites.{IsSite, AreSites};
 
 use crate::bodies::put_body;
-use crate::mark::{none, placed, put_row, skip};
+use crate::brackets::TypeBrackets;
+use crate::found::{Found, nothing, put_names};
+use crate::mark::{placed, skip};
 use om_model::Memory;
 use om_model::list::List;
 use om_scope::{Placed, Site};
@@ -14,10 +17,12 @@ use std::alloc::Global;
 
 /// What stands where in declarations.
 #[derive(Drop)]
-pub struct FileSites {
+pub struct FileSites<'a> {
     /// The declared names.
     pub names: List<Placed>,
     pub sites: List<Site>,
+    /// The brackets of each declaration, type by type.
+    pub brackets: List<List<TypeBrackets<'a>>>,
 }
 
 /// The row of a declaration's parameters.
@@ -38,37 +43,53 @@ fn parameters_row(
 }
 
 /// What stands where in a declaration, and the places that are left.
-fn decl_site<'a>(
+fn decl_found<'m, 'a>(
     alloc: Global,
-    marks: &'a [usize],
-    decl: &Decl,
-) -> Result<(Site, &'a [usize]), Memory>
-    ensures site { IfOk result (λ found. IsSite found.0 (counted_places marks.now decl.now)) }
+    marks: &'m [usize],
+    decl: &'a Decl,
+) -> Result<(Found<'a>, &'m [usize]), Memory>
+    ensures site { IfOk result (λ found. IsSite found.0.site (counted_places marks.now decl.now)) }
+    ensures brackets { IfOk result (λ found. AreBrackets found.0.brackets (in_body (drop (length decl.now.parameters + 1) marks.now) decl.now.body)) }
     ensures rest { IfOk result (λ found. found.1.now ≡ drop (decl_count decl.now) marks.now) }
 {
-    let mut site = none(alloc);
-    put_row(
-        &mut site,
+    let mut found = nothing(alloc);
+    put_names(
+        &mut found,
         parameters_row(alloc, marks, decl.parameters.as_slice())?,
     )?;
     let name = skip(marks, decl.parameters.len());
-    let rest = put_body(alloc, &mut site, skip(name, 1), &decl.body)?;
-    Ok((site, rest))
+    let rest = put_body(alloc, &mut found, skip(name, 1), &decl.body)?;
+    Ok((found, rest))
 }
 
 /// What stands where in declarations with these marks.
-pub fn file_sites(alloc: Global, marks: &[usize], decls: &[Decl]) -> Result<FileSites, Memory>
-    ensures { IfOk result (λ found. AreSites decls.now found.names found.sites (counted_file marks.now decls.now)) }
+pub fn file_sites<'a>(
+    alloc: Global,
+    marks: &[usize],
+    decls: &'a [Decl],
+) -> Result<FileSites<'a>, Memory>
+    ensures sites { IfOk result (λ found. AreSites decls.now found.names found.sites (counted_file marks.now decls.now)) }
+    ensures brackets { IfOk result (λ found. AreFileBrackets found.brackets (counted_file marks.now decls.now)) }
 {
     let mut rest = marks;
     let mut names = List::new(alloc);
     let mut sites = List::new(alloc);
+    let mut brackets = List::new(alloc);
     for decl in decls {
         let name = skip(rest, decl.parameters.len());
         names.push(placed(alloc, name, &decl.name)?)?;
-        let (site, left) = decl_site(alloc, rest, decl)?;
+        let (found, left) = decl_found(alloc, rest, decl)?;
+        let Found {
+            site,
+            brackets: inside,
+        } = found;
         sites.push(site)?;
+        brackets.push(inside)?;
         rest = left;
     }
-    Ok(FileSites { names, sites })
+    Ok(FileSites {
+        names,
+        sites,
+        brackets,
+    })
 }

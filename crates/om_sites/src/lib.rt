@@ -2,8 +2,11 @@
 #![tactic(auto)]
 
 mod bodies;
+mod brackets;
 mod fact;
 mod files;
+mod found;
+mod items;
 mod mark;
 mod own;
 mod row;
@@ -11,9 +14,10 @@ mod texts;
 mod types;
 mod walk;
 
+pub use brackets::{BracketItem, TypeBrackets};
 pub use files::{FileSites, file_sites};
 pub use texts::{file_text_sites, type_text_site};
-pub use types::type_site;
+pub use types::{TypeFound, type_site};
 
 #[cfg(test)]
 mod tests;

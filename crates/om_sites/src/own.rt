@@ -1,12 +1,18 @@
 //! What a type begins with.
 
-ghost use Rattle.std.specs.Prelude.{◌≡◌, ◌<◌, ◌++◌, ◌∷◌, [], OnOk, length};
-ghost use Rattle.om_types.specs.Nodes.{types_of, AreOrdered};
+ghost use Rattle.std.specs.Prelude.{◌≡◌, ◌<◌, ◌++◌, ◌∷◌, [], OnOk, length, drop};
+ghost use Rattle.std.specs.List.{filter_map};
+ghost use Rattle.om_types.specs.Nodes.{types_of, type_at, AreOrdered};
+ghost use Rattle.om_types.specs.Scope.{written_tag};
+ghost use Rattle.om_occurrences.specs.Counted.{items_in};
 ghost use Rattle.om_sites.specs.Adds.{Adds};
+ghost use Rattle.om_sites.specs.Brackets.{brackets_among, brackets_told};
 ghost use Rattle.om_sites.specs.Facts.{AreFacts};
 ghost use Rattle.om_sites.specs.Walk.{task_own};
 
+use crate::brackets::BracketItem;
 use crate::fact::{Facts, fact_at};
+use crate::items::items_of;
 use crate::mark::{copied, place_at, put_row};
 use crate::row::row_of;
 use crate::walk::Task;
@@ -31,10 +37,11 @@ fn put_use(site: &mut Site, used: Use) -> Result<(), Memory>
     site.uses.push(used)
 }
 
-/// Adds what a task's type begins with, where this is asked for.
-pub fn put_own(
+/// Adds the bracket of a task's type.
+fn put_bracket(
     alloc: Global,
     site: &mut Site,
+    brackets: &mut List<List<BracketItem>>,
     nodes: &[Node],
     facts: &[Facts],
     marks: &[usize],
@@ -43,7 +50,29 @@ pub fn put_own(
     requires ordered { AreOrdered nodes.now }
     requires facts { AreFacts (types_of nodes.now) (length nodes.now) facts.now }
     requires task { task.node < length nodes.now }
-    ensures { OnOk result (Adds site.old site.new [] [] (task_own (types_of nodes.now) marks.now task)) }
+    ensures site { OnOk result (site.new ≡ record site.old { rows = site.old.rows ++ filter_map written_tag (items_in (drop task.first marks.now) (type_at (types_of nodes.now) task.node)) ∷ [] }) }
+    ensures brackets { OnOk result (brackets_told (types_of nodes.now) brackets.new ≡ brackets_told (types_of nodes.now) brackets.old ++ items_in (drop task.first marks.now) (type_at (types_of nodes.now) task.node) ∷ []) }
+{
+    let items = items_of(alloc, nodes, facts, marks, task.node, task.first)?;
+    put_row(site, row_of(alloc, nodes, items.as_slice())?)?;
+    brackets.push(items)
+}
+
+/// Adds what a task's type begins with, where this is asked for.
+pub fn put_own(
+    alloc: Global,
+    site: &mut Site,
+    brackets: &mut List<List<BracketItem>>,
+    nodes: &[Node],
+    facts: &[Facts],
+    marks: &[usize],
+    task: Task,
+) -> Result<(), Memory>
+    requires ordered { AreOrdered nodes.now }
+    requires facts { AreFacts (types_of nodes.now) (length nodes.now) facts.now }
+    requires task { task.node < length nodes.now }
+    ensures site { OnOk result (Adds site.old site.new [] [] (task_own (types_of nodes.now) marks.now task)) }
+    ensures brackets { OnOk result (brackets_told (types_of nodes.now) brackets.new ≡ brackets_told (types_of nodes.now) brackets.old ++ brackets_among (task_own (types_of nodes.now) marks.now task)) }
 {
     if !task.whole {
         return Ok(());
@@ -62,10 +91,7 @@ pub fn put_own(
             };
             put_use(site, used)
         }
-        Node::Bracket => {
-            let row = row_of(alloc, nodes, facts, marks, task.node, task.first)?;
-            put_row(site, row)
-        }
+        Node::Bracket => put_bracket(alloc, site, brackets, nodes, facts, marks, task),
         _ => Ok(()),
     }
 }

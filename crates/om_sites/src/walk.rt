@@ -5,13 +5,18 @@ ghost use Rattle.om_types.specs.Nodes.{types_of, AreOrdered};
 ghost use Rattle.om_occurrences.specs.Counted.{in_type};
 ghost use Rattle.om_occurrences.specs.CountedFile.{type_count};
 ghost use Rattle.om_sites.specs.Adds.{Adds};
+ghost use Rattle.om_sites.specs.Brackets.{brackets_among, brackets_told};
 ghost use Rattle.om_sites.specs.Facts.{AreFacts};
+ghost use Rattle.om_sites.specs.Found.{AddsFound};
 ghost use Rattle.om_sites.specs.Walk.{behind, tasks_of, task_seen};
 
+use crate::brackets::BracketItem;
 use crate::fact::{Facts, all_facts, fact_at, total};
+use crate::found::{Found, put_brackets};
 use crate::mark::skip;
 use crate::own::put_own;
 use om_model::Memory;
+use om_model::list::List;
 use om_scope::Site;
 use om_types::ty::{Node, Ty};
 use std::alloc::Global;
@@ -97,6 +102,7 @@ fn push_parts(tasks: &mut Vec<Task>, facts: &[Facts], task: Task, node: &Node) -
 fn walk(
     alloc: Global,
     site: &mut Site,
+    brackets: &mut List<List<BracketItem>>,
     nodes: &[Node],
     facts: &[Facts],
     marks: &[usize],
@@ -105,25 +111,26 @@ fn walk(
     requires ordered { AreOrdered nodes.now }
     requires facts { AreFacts (types_of nodes.now) (length nodes.now) facts.now }
     requires top { top.node < length nodes.now }
-    ensures { OnOk result (Adds site.old site.new [] [] (task_seen (types_of nodes.now) marks.now top)) }
+    ensures site { OnOk result (Adds site.old site.new [] [] (task_seen (types_of nodes.now) marks.now top)) }
+    ensures brackets { OnOk result (brackets_told (types_of nodes.now) brackets.new ≡ brackets_told (types_of nodes.now) brackets.old ++ brackets_among (task_seen (types_of nodes.now) marks.now top)) }
 {
     let mut tasks = Vec::new(alloc);
     tasks.push(top)?;
     while let Some(task) = tasks.pop() {
-        put_own(alloc, site, nodes, facts, marks, task)?;
+        put_own(alloc, site, brackets, nodes, facts, marks, task)?;
         push_parts(&mut tasks, facts, task, &nodes[task.node])?;
     }
     Ok(())
 }
 
 /// Adds what stands in a type, whose marks are the first of these. Gives those that are left.
-pub fn put_type<'a>(
+pub fn put_type<'m, 'a>(
     alloc: Global,
-    site: &mut Site,
-    marks: &'a [usize],
-    ty: &Ty,
-) -> Result<&'a [usize], Memory>
-    ensures adds { OnOk result (Adds site.old site.new [] [] (in_type marks.now false ty.now)) }
+    found: &mut Found<'a>,
+    marks: &'m [usize],
+    ty: &'a Ty,
+) -> Result<&'m [usize], Memory>
+    ensures adds { OnOk result (AddsFound found.old found.new [] [] (in_type marks.now false ty.now)) }
     ensures rest { IfOk result (λ rest. rest.now ≡ drop (type_count ty.now) marks.now) }
 {
     let nodes = ty.nodes();
@@ -137,6 +144,16 @@ pub fn put_type<'a>(
         in_tag: false,
         whole: true,
     };
-    walk(alloc, site, nodes, facts.as_slice(), marks, top)?;
+    let mut brackets = List::new(alloc);
+    walk(
+        alloc,
+        &mut found.site,
+        &mut brackets,
+        nodes,
+        facts.as_slice(),
+        marks,
+        top,
+    )?;
+    put_brackets(found, nodes, brackets)?;
     Ok(skip(marks, total(fact_at(facts.as_slice(), top.node))))
 }

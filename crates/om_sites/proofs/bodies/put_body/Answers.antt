@@ -3,32 +3,32 @@ use Rattle.std.proofs.lemmas.Result.{on_ok_weaker}
 use Rattle.om_types.specs.declared.decl.Field.{Field}
 use Rattle.om_types.specs.declared.decl.Constructor.{Constructor}
 use Rattle.om_occurrences.specs.CountedFile.{along, field_count, in_field, names_of_fields, constructor_count}
-use Rattle.om_sites.specs.Adds.{Adds}
+use Rattle.om_sites.specs.Found.{AddsFound}
 use Rattle.om_sites.specs.Bodies.{records_of, carrying_of, occurrences_of, constructor_names}
 use Rattle.om_sites.proofs.BodyLemmas.{adds_abbreviation, adds_record, adds_variant}
 use Rattle.om_sites.proofs.bodies.put_body.Goals as goal
 
-pub returns-in_ok-put_row-in-Abbreviation-clause-adds : goal.returns-in_ok-put_row-in-Abbreviation-clause-adds
-returns-in_ok-put_row-in-Abbreviation-clause-adds c =
-    adds_abbreviation c.args.marks.now c.args.body.now c.in-Abbreviation.ty c.args.site.now c.put_type.new.site
-    c.put_row.new.site c.new.result c.in-Abbreviation.is c.in_ok-rest-in-Abbreviation.ensures.adds c.new.ensures
-    c.in_ok-put_row-in-Abbreviation.ensures
+pub returns-in_ok-put_names-in-Abbreviation-clause-adds : goal.returns-in_ok-put_names-in-Abbreviation-clause-adds
+returns-in_ok-put_names-in-Abbreviation-clause-adds c =
+    adds_abbreviation c.args.marks.now c.args.body.now c.in-Abbreviation.ty c.args.found.now c.put_type.new.found
+    c.put_names.new.found c.new.result c.in-Abbreviation.is c.in_ok-rest-in-Abbreviation.ensures.adds c.new.ensures
+    c.in_ok-put_names-in-Abbreviation.ensures
 
-pub returns-in_ok-put_row-in-Record-clause-adds : goal.returns-in_ok-put_row-in-Record-clause-adds
-returns-in_ok-put_row-in-Record-clause-adds c =
+pub returns-in_ok-put_names-in-Record-clause-adds : goal.returns-in_ok-put_names-in-Record-clause-adds
+returns-in_ok-put_names-in-Record-clause-adds c =
     let ms = c.args.marks.now in
-    adds_record ms c.args.body.now c.in-Record.fields c.args.site.now c.put_fields.new.site c.put_row-in-Record.new.site
+    adds_record ms c.args.body.now c.in-Record.fields c.args.found.now c.put_fields.new.found c.put_names-in-Record.new.found
     c.new-in-Record.result c.in-Record.is
-    (subst (λ (fields : List Field). Adds c.args.site.now c.put_fields.new.site (names_of_fields ms fields ∷ []) []
+    (subst (λ (fields : List Field). AddsFound c.args.found.now c.put_fields.new.found (names_of_fields ms fields ∷ []) []
     (along field_count in_field ms fields)) c.as_slice.ensures c.in_ok-rest-in-Record.ensures.adds)
-    c.new-in-Record.ensures c.in_ok-put_row-in-Record.ensures
+    c.new-in-Record.ensures c.in_ok-put_names-in-Record.ensures
 
 pub returns-in-Variant-clause-adds : goal.returns-in-Variant-clause-adds
 returns-in-Variant-clause-adds c =
     let ms = c.args.marks.now in
     on_ok_weaker c.put_constructors.result (λ h.
-    adds_variant ms c.args.body.now c.in-Variant.all c.args.site.now c.put_constructors.new.site c.in-Variant.is
-    (subst (λ (all : List Constructor). Adds c.args.site.now c.put_constructors.new.site
+    adds_variant ms c.args.body.now c.in-Variant.all c.args.found.now c.put_constructors.new.found c.in-Variant.is
+    (subst (λ (all : List Constructor). AddsFound c.args.found.now c.put_constructors.new.found
     (along constructor_count records_of ms all ++ constructor_names ms all ∷ [])
     (along constructor_count carrying_of ms all) (along constructor_count occurrences_of ms all))
     c.as_slice-in-Variant.ensures h)) c.put_constructors.ensures.adds

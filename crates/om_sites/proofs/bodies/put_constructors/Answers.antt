@@ -1,9 +1,9 @@
 use Rattle.std.proofs.Common.{◌∙◌, ◌++◌, ◌∷◌, List, [], ap, subst}
 use Rattle.om_types.specs.Occurrence.{Placed}
 use Rattle.om_occurrences.specs.CountedFile.{along, constructor_count}
-use Rattle.om_sites.specs.Adds.{Adds}
+use Rattle.om_sites.specs.Found.{AddsFound}
 use Rattle.om_sites.specs.Bodies.{name_of_constructor, records_of, carrying_of, occurrences_of}
-use Rattle.om_sites.proofs.AddsLemmas.{then_row}
+use Rattle.om_sites.proofs.FoundLemmas.{then_row}
 use Rattle.om_sites.proofs.LoopLemmas.{Follows-step, Follows-end, RowFollows-step, RowFollows-end}
 use Rattle.om_sites.proofs.bodies.put_constructors.Goals as goal
 
@@ -19,9 +19,9 @@ loop-constructor-preserved c =
           c.in_ok-rest.rest.now d i c.loop-constructor-test.true c.constructor-item.is c.loop-constructor.invariant.row
           (c.in_ok-push.ensures.ok ∙ ap (λ (p : Placed). c.loop-constructor.row ++ p ∷ []) c.in_ok-placed.ensures)
           c.in_ok-rest.ensures.rest;
-      site = Follows-step constructor_count records_of carrying_of occurrences_of c.args.site.now ms all
-          c.loop-constructor.site c.put_constructor.new.site rest c.in_ok-rest.rest.now d i c.loop-constructor-test.true
-          c.constructor-item.is c.loop-constructor.invariant.site c.in_ok-rest.ensures.adds c.in_ok-rest.ensures.rest;
+      found = Follows-step constructor_count records_of carrying_of occurrences_of c.args.found.now ms all
+          c.loop-constructor.found c.put_constructor.new.found rest c.in_ok-rest.rest.now d i c.loop-constructor-test.true
+          c.constructor-item.is c.loop-constructor.invariant.found c.in_ok-rest.ensures.adds c.in_ok-rest.ensures.rest;
     }
 
 pub returns-clause-adds : goal.returns-clause-adds
@@ -31,10 +31,10 @@ returns-clause-adds c =
     let rows = along constructor_count records_of ms all in
     let carrying = along constructor_count carrying_of ms all in
     let seen = along constructor_count occurrences_of ms all in
-    subst (λ (row : List Placed). Adds c.args.site.now c.put_row.new.site (rows ++ row ∷ []) carrying seen)
+    subst (λ (row : List Placed). AddsFound c.args.found.now c.put_names.new.found (rows ++ row ∷ []) carrying seen)
     (RowFollows-end constructor_count name_of_constructor ms all c.loop-constructor.row c.loop-constructor.rest.now
     c.loop-constructor.constructor-index c.loop-constructor-test.false c.loop-constructor.invariant.row)
-    (then_row c.args.site.now c.loop-constructor.site c.put_row.new.site rows carrying seen c.loop-constructor.row
-    (Follows-end constructor_count records_of carrying_of occurrences_of c.args.site.now ms all c.loop-constructor.site
+    (then_row c.args.found.now c.loop-constructor.found c.put_names.new.found rows carrying seen c.loop-constructor.row
+    (Follows-end constructor_count records_of carrying_of occurrences_of c.args.found.now ms all c.loop-constructor.found
     c.loop-constructor.rest.now c.loop-constructor.constructor-index c.loop-constructor-test.false
-    c.loop-constructor.invariant.site) c.in_ok-put_row.ensures)
+    c.loop-constructor.invariant.found) c.in_ok-put_names.ensures)

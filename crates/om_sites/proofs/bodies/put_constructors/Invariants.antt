@@ -9,7 +9,7 @@ invariant-loop-constructor l = record {
   row :
       RowFollows constructor_count name_of_constructor l.marks l.constructors
       l.row l.rest (drop l.constructor-index l.constructors);
-  site :
-      Follows constructor_count records_of carrying_of occurrences_of l.initial.site l.marks l.constructors
-      l.site l.rest (drop l.constructor-index l.constructors);
+  found :
+      Follows constructor_count records_of carrying_of occurrences_of l.initial.found l.marks l.constructors
+      l.found l.rest (drop l.constructor-index l.constructors);
 }

@@ -4,8 +4,8 @@ use Rattle.om_types.specs.declared.decl.Field.{Field}
 use Rattle.om_types.specs.Occurrence.{Placed}
 use Rattle.om_occurrences.specs.Counted.{in_type}
 use Rattle.om_occurrences.specs.CountedFile.{along, field_count, in_field, placed, type_count}
-use Rattle.om_sites.specs.Adds.{Adds}
-use Rattle.om_sites.proofs.AddsLemmas.{then_row}
+use Rattle.om_sites.specs.Found.{AddsFound}
+use Rattle.om_sites.proofs.FoundLemmas.{then_row}
 use Rattle.om_sites.proofs.LoopLemmas.{Follows-step, Follows-plain, RowFollows-step, RowFollows-end}
 use Rattle.om_sites.proofs.bodies.put_fields.Goals as goal
 
@@ -20,20 +20,20 @@ loop-field-preserved c =
           c.loop-field.row c.push.new.self rest c.in_ok-rest.rest.now f c.loop-field.field-index c.loop-field-test.true
           c.field-item.is c.loop-field.invariant.row
           (c.in_ok-push.ensures.ok ∙ ap (λ (p : Placed). c.loop-field.row ++ p ∷ []) c.in_ok-placed.ensures) left;
-      site = Follows-step field_count (λ at x. []) (λ at x. []) in_field c.args.site.now c.args.marks.now
-          c.args.fields.now c.loop-field.site c.put_type.new.site rest c.in_ok-rest.rest.now f c.loop-field.field-index
-          c.loop-field-test.true c.field-item.is c.loop-field.invariant.site
-          (subst (λ (ms : List ℕ). Adds c.loop-field.site c.put_type.new.site [] [] (in_type ms false f.ty))
+      found = Follows-step field_count (λ at x. []) (λ at x. []) in_field c.args.found.now c.args.marks.now
+          c.args.fields.now c.loop-field.found c.put_type.new.found rest c.in_ok-rest.rest.now f c.loop-field.field-index
+          c.loop-field-test.true c.field-item.is c.loop-field.invariant.found
+          (subst (λ (ms : List ℕ). AddsFound c.loop-field.found c.put_type.new.found [] [] (in_type ms false f.ty))
           c.skip.ensures c.in_ok-rest.ensures.adds) left;
     }
 
 pub returns-clause-adds : goal.returns-clause-adds
 returns-clause-adds c =
     let seen = along field_count in_field c.args.marks.now c.args.fields.now in
-    subst (λ (row : List Placed). Adds c.args.site.now c.put_row.new.site (row ∷ []) [] seen)
+    subst (λ (row : List Placed). AddsFound c.args.found.now c.put_names.new.found (row ∷ []) [] seen)
     (RowFollows-end field_count (λ at (f : Field). placed at f.name ∷ []) c.args.marks.now c.args.fields.now
     c.loop-field.row c.loop-field.rest.now c.loop-field.field-index c.loop-field-test.false c.loop-field.invariant.row)
-    (then_row c.args.site.now c.loop-field.site c.put_row.new.site [] [] seen c.loop-field.row
-    (Follows-plain field_count in_field c.args.site.now c.args.marks.now c.args.fields.now c.loop-field.site
-    c.loop-field.rest.now c.loop-field.field-index c.loop-field-test.false c.loop-field.invariant.site)
-    c.in_ok-put_row.ensures)
+    (then_row c.args.found.now c.loop-field.found c.put_names.new.found [] [] seen c.loop-field.row
+    (Follows-plain field_count in_field c.args.found.now c.args.marks.now c.args.fields.now c.loop-field.found
+    c.loop-field.rest.now c.loop-field.field-index c.loop-field-test.false c.loop-field.invariant.found)
+    c.in_ok-put_names.ensures)

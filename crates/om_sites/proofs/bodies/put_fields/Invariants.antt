@@ -9,7 +9,7 @@ invariant-loop-field l = record {
   row :
       RowFollows field_count (λ at (f : Field). placed at f.name ∷ []) l.marks l.fields
       l.row l.rest (drop l.field-index l.fields);
-  site :
-      Follows field_count (λ at x. []) (λ at x. []) in_field l.initial.site l.marks l.fields
-      l.site l.rest (drop l.field-index l.fields);
+  found :
+      Follows field_count (λ at x. []) (λ at x. []) in_field l.initial.found l.marks l.fields
+      l.found l.rest (drop l.field-index l.fields);
 }

@@ -6,12 +6,12 @@ use Rattle.om_sites.proofs.bodies.put_types.Goals as goal
 
 pub loop-ty-preserved : goal.loop-ty-preserved
 loop-ty-preserved c =
-    Follows-step type_count (λ at x. []) (λ at x. []) (λ at t. in_type at false t) c.args.site.now c.args.marks.now
-    c.args.types.now c.loop-ty.site c.put_type.new.site c.loop-ty.rest.now c.in_ok-rest.rest.now c.ty-item.result
+    Follows-step type_count (λ at x. []) (λ at x. []) (λ at t. in_type at false t) c.args.found.now c.args.marks.now
+    c.args.types.now c.loop-ty.found c.put_type.new.found c.loop-ty.rest.now c.in_ok-rest.rest.now c.ty-item.result
     c.loop-ty.ty-index c.loop-ty-test.true c.ty-item.is c.loop-ty.invariant c.in_ok-rest.ensures.adds
     c.in_ok-rest.ensures.rest
 
 pub returns-clause-adds : goal.returns-clause-adds
 returns-clause-adds c =
-    Follows-plain type_count (λ at t. in_type at false t) c.args.site.now c.args.marks.now c.args.types.now c.loop-ty.site
+    Follows-plain type_count (λ at t. in_type at false t) c.args.found.now c.args.marks.now c.args.types.now c.loop-ty.found
     c.loop-ty.rest.now c.loop-ty.ty-index c.loop-ty-test.false c.loop-ty.invariant

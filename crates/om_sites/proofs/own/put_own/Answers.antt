@@ -1,43 +1,90 @@
 use Rattle.std.proofs.Common.{◌≡◌, ◌<◌, ◌∙◌, true, length, ap, arith}
 use Rattle.std.specs.Prelude.{slice_index}
 use Rattle.std.proofs.lemmas.Result.{on_ok_weaker}
-use Rattle.om_sites.proofs.OwnLemmas.{puts_variable, puts_use, puts_bracket, puts_nothing}
+use Rattle.om_types.specs.Nodes.{types_of}
+use Rattle.om_sites.specs.Brackets.{brackets_told}
+use Rattle.om_sites.proofs.OwnLemmas.{puts_variable, puts_use, puts_bracket, puts_nothing, skipped_brackets}
+use Rattle.om_sites.proofs.OwnLemmas.{variable_brackets, use_brackets, bracket_brackets, nothing_brackets}
 use Rattle.om_sites.proofs.own.put_own.Goals as goal
 
-pub returns-in-Variable : goal.returns-in-Variable
-returns-in-Variable c =
+pub returns-then-not-task-clause-brackets : goal.returns-then-not-task-clause-brackets
+returns-then-not-task-clause-brackets c =
     let small : length c.args.marks.now < 18446744073709551616 = omega arith in
-    let whole : c.args.task.whole ≡ true = c.if-not-task.false in
-    on_ok_weaker c.put_variable.result (λ put. puts_variable c.args.nodes.now c.requires.ordered c.args.facts.now c.requires.facts c.args.marks.now small c.args.task
-    c.requires.task c.fact_at-known.result c.fact_at-known.ensures c.index-nodes-known.result c.index-nodes-known.is whole
-    c.place_at-place.result (c.place_at-place.ensures ∙ ap (slice_index c.args.marks.now) c.saturating_add.ensures)
-    c.args.site.now c.put_variable.new.site c.in-Variable.x c.in-Variable.is put) c.put_variable.ensures
+    skipped_brackets (types_of c.args.nodes.now) (length c.args.nodes.now) c.args.facts.now c.requires.facts
+    c.args.marks.now small c.args.task c.requires.task (brackets_told (types_of c.args.nodes.now) c.args.brackets.now)
+    c.if-not-task.true
 
-pub returns-in_ok-copied-in-Named : goal.returns-in_ok-copied-in-Named
-returns-in_ok-copied-in-Named c =
+pub returns-in-Variable-clause-site : goal.returns-in-Variable-clause-site
+returns-in-Variable-clause-site c =
     let small : length c.args.marks.now < 18446744073709551616 = omega arith in
     let whole : c.args.task.whole ≡ true = c.if-not-task.false in
-    on_ok_weaker c.put_use.result (λ put. puts_use c.args.nodes.now c.requires.ordered c.args.facts.now c.requires.facts c.args.marks.now small c.args.task
-    c.requires.task c.fact_at-known.result c.fact_at-known.ensures c.index-nodes-known.result c.index-nodes-known.is whole
-    c.place_at-place.result (c.place_at-place.ensures ∙ ap (slice_index c.args.marks.now) c.saturating_add.ensures)
-    c.args.site.now c.put_use.new.site c.in-Named.x c.in_ok-copied-in-Named.field-0 c.in-Named.is
+    on_ok_weaker c.put_variable.result (λ put. puts_variable c.args.nodes.now c.requires.ordered c.args.facts.now c.requires.facts c.args.marks.now small
+    c.args.task c.requires.task c.fact_at-known.result c.fact_at-known.ensures c.index-nodes-known.result
+    c.index-nodes-known.is whole c.place_at-place.result
+    (c.place_at-place.ensures ∙ ap (slice_index c.args.marks.now) c.saturating_add.ensures) c.args.site.now c.put_variable.new.site c.in-Variable.x c.in-Variable.is put) c.put_variable.ensures
+
+pub returns-in-Variable-clause-brackets : goal.returns-in-Variable-clause-brackets
+returns-in-Variable-clause-brackets c =
+    let small : length c.args.marks.now < 18446744073709551616 = omega arith in
+    let whole : c.args.task.whole ≡ true = c.if-not-task.false in
+    on_ok_weaker c.put_variable.result (λ put. variable_brackets c.args.nodes.now c.requires.ordered c.args.facts.now c.requires.facts c.args.marks.now small
+    c.args.task c.requires.task c.fact_at-known.result c.fact_at-known.ensures c.index-nodes-known.result
+    c.index-nodes-known.is whole c.place_at-place.result
+    (c.place_at-place.ensures ∙ ap (slice_index c.args.marks.now) c.saturating_add.ensures) c.args.site.now c.put_variable.new.site c.in-Variable.x (brackets_told (types_of c.args.nodes.now) c.args.brackets.now) c.in-Variable.is) c.put_variable.ensures
+
+pub returns-in_ok-copied-in-Named-clause-site : goal.returns-in_ok-copied-in-Named-clause-site
+returns-in_ok-copied-in-Named-clause-site c =
+    let small : length c.args.marks.now < 18446744073709551616 = omega arith in
+    let whole : c.args.task.whole ≡ true = c.if-not-task.false in
+    on_ok_weaker c.put_use.result (λ put. puts_use c.args.nodes.now c.requires.ordered c.args.facts.now c.requires.facts c.args.marks.now small
+    c.args.task c.requires.task c.fact_at-known.result c.fact_at-known.ensures c.index-nodes-known.result
+    c.index-nodes-known.is whole c.place_at-place.result
+    (c.place_at-place.ensures ∙ ap (slice_index c.args.marks.now) c.saturating_add.ensures) c.args.site.now c.put_use.new.site c.in-Named.x c.in_ok-copied-in-Named.field-0 c.in-Named.is
     c.in_ok-copied-in-Named.ensures put) c.put_use.ensures
 
-pub returns-in_ok-row-in-Bracket : goal.returns-in_ok-row-in-Bracket
-returns-in_ok-row-in-Bracket c =
+pub returns-in_ok-copied-in-Named-clause-brackets : goal.returns-in_ok-copied-in-Named-clause-brackets
+returns-in_ok-copied-in-Named-clause-brackets c =
     let small : length c.args.marks.now < 18446744073709551616 = omega arith in
     let whole : c.args.task.whole ≡ true = c.if-not-task.false in
-    on_ok_weaker c.put_row.result (λ put. puts_bracket c.args.nodes.now c.requires.ordered c.args.facts.now c.requires.facts c.args.marks.now small c.args.task
-    c.requires.task c.fact_at-known.result c.fact_at-known.ensures c.index-nodes-known.result c.index-nodes-known.is whole
-    c.place_at-place.result (c.place_at-place.ensures ∙ ap (slice_index c.args.marks.now) c.saturating_add.ensures)
-    c.args.site.now c.put_row.new.site c.in_ok-row-in-Bracket.row c.in-Bracket.is
-    c.in_ok-row-in-Bracket.ensures put) c.put_row.ensures
+    on_ok_weaker c.put_use.result (λ put. use_brackets c.args.nodes.now c.requires.ordered c.args.facts.now c.requires.facts c.args.marks.now small
+    c.args.task c.requires.task c.fact_at-known.result c.fact_at-known.ensures c.index-nodes-known.result
+    c.index-nodes-known.is whole c.place_at-place.result
+    (c.place_at-place.ensures ∙ ap (slice_index c.args.marks.now) c.saturating_add.ensures) c.args.site.now c.put_use.new.site c.in-Named.x (brackets_told (types_of c.args.nodes.now) c.args.brackets.now) c.in-Named.is) c.put_use.ensures
 
-pub returns-in_default : goal.returns-in_default
-returns-in_default c =
+pub returns-in-Bracket-clause-site : goal.returns-in-Bracket-clause-site
+returns-in-Bracket-clause-site c =
     let small : length c.args.marks.now < 18446744073709551616 = omega arith in
     let whole : c.args.task.whole ≡ true = c.if-not-task.false in
-    puts_nothing c.args.nodes.now c.requires.ordered c.args.facts.now c.requires.facts c.args.marks.now small c.args.task
-    c.requires.task c.fact_at-known.result c.fact_at-known.ensures c.index-nodes-known.result c.index-nodes-known.is whole
-    c.place_at-place.result (c.place_at-place.ensures ∙ ap (slice_index c.args.marks.now) c.saturating_add.ensures)
-    c.args.site.now c.args.site.now c.in_default.not-Variable c.in_default.not-Named c.in_default.not-Bracket
+    on_ok_weaker c.put_bracket.result (λ put. puts_bracket c.args.nodes.now c.requires.ordered c.args.facts.now c.requires.facts c.args.marks.now small
+    c.args.task c.requires.task c.fact_at-known.result c.fact_at-known.ensures c.index-nodes-known.result
+    c.index-nodes-known.is whole c.place_at-place.result
+    (c.place_at-place.ensures ∙ ap (slice_index c.args.marks.now) c.saturating_add.ensures) c.args.site.now c.put_bracket.new.site c.in-Bracket.is put) c.put_bracket.ensures.site
+
+pub returns-in-Bracket-clause-brackets : goal.returns-in-Bracket-clause-brackets
+returns-in-Bracket-clause-brackets c =
+    let small : length c.args.marks.now < 18446744073709551616 = omega arith in
+    let whole : c.args.task.whole ≡ true = c.if-not-task.false in
+    on_ok_weaker c.put_bracket.result (λ put. bracket_brackets c.args.nodes.now c.requires.ordered c.args.facts.now c.requires.facts c.args.marks.now small
+    c.args.task c.requires.task c.fact_at-known.result c.fact_at-known.ensures c.index-nodes-known.result
+    c.index-nodes-known.is whole c.place_at-place.result
+    (c.place_at-place.ensures ∙ ap (slice_index c.args.marks.now) c.saturating_add.ensures) c.args.site.now c.put_bracket.new.site (brackets_told (types_of c.args.nodes.now) c.args.brackets.now)
+    (brackets_told (types_of c.args.nodes.now) c.put_bracket.new.brackets) c.in-Bracket.is put) c.put_bracket.ensures.brackets
+
+pub returns-in_default-clause-site : goal.returns-in_default-clause-site
+returns-in_default-clause-site c =
+    let small : length c.args.marks.now < 18446744073709551616 = omega arith in
+    let whole : c.args.task.whole ≡ true = c.if-not-task.false in
+    puts_nothing c.args.nodes.now c.requires.ordered c.args.facts.now c.requires.facts c.args.marks.now small
+    c.args.task c.requires.task c.fact_at-known.result c.fact_at-known.ensures c.index-nodes-known.result
+    c.index-nodes-known.is whole c.place_at-place.result
+    (c.place_at-place.ensures ∙ ap (slice_index c.args.marks.now) c.saturating_add.ensures) c.args.site.now c.args.site.now c.in_default.not-Variable c.in_default.not-Named c.in_default.not-Bracket
+
+pub returns-in_default-clause-brackets : goal.returns-in_default-clause-brackets
+returns-in_default-clause-brackets c =
+    let small : length c.args.marks.now < 18446744073709551616 = omega arith in
+    let whole : c.args.task.whole ≡ true = c.if-not-task.false in
+    nothing_brackets c.args.nodes.now c.requires.ordered c.args.facts.now c.requires.facts c.args.marks.now small
+    c.args.task c.requires.task c.fact_at-known.result c.fact_at-known.ensures c.index-nodes-known.result
+    c.index-nodes-known.is whole c.place_at-place.result
+    (c.place_at-place.ensures ∙ ap (slice_index c.args.marks.now) c.saturating_add.ensures) c.args.site.now c.args.site.now c.in_default.not-Variable c.in_default.not-Named c.in_default.not-Bracket
+    (brackets_told (types_of c.args.nodes.now) c.args.brackets.now)

@@ -1,17 +1,12 @@
-use Rattle.std.proofs.Common.{◌≡◌, ◌<◌, ◌++◌, length, drop}
-use Rattle.std.specs.Prelude.{reverse}
-use Rattle.om_types.specs.Nodes.{types_of, type_at}
-use Rattle.om_sites.specs.Rows.{row_in}
+use Rattle.std.proofs.Common.{◌≡◌, ◌++◌, drop}
+use Rattle.std.specs.List.{filter_map}
+use Rattle.om_types.specs.Nodes.{types_of}
+use Rattle.om_types.specs.Scope.{written_tag}
+use Rattle.om_sites.specs.Brackets.{items_told}
 use Rattle.om_sites.proofs.row.row_of.Given as goal
 
--- the tags of the items that are left, and those so far, the last one first
-abbrev pub invariant-loop-w : goal.invariant-loop-w
-invariant-loop-w l = record {
-  below : l.n < length l.nodes;
-  left :
-      row_in (drop l.first l.marks) (type_at (types_of l.nodes) l.n) ++ reverse l.row.items
-      ≡ row_in (drop l.first l.marks) (type_at (types_of l.nodes) l.node);
-}
-
-abbrev pub decreases-loop-w : goal.decreases-loop-w
-decreases-loop-w l = l.n
+-- the tags so far, and those of the items that are left
+abbrev pub invariant-loop-item : goal.invariant-loop-item
+invariant-loop-item l =
+    l.row ++ filter_map written_tag (items_told (types_of l.nodes) (drop l.item-index l.items))
+    ≡ filter_map written_tag (items_told (types_of l.nodes) l.items)

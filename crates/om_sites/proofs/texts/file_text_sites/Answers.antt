@@ -1,11 +1,17 @@
 use Rattle.std.proofs.Common.{◌∙◌}
 use Rattle.std.proofs.lemmas.Result.{IfOk-weaker}
 use Rattle.om_sites.specs.declared.files.FileSites.{FileSites}
-use Rattle.om_sites.proofs.FileLemmas.{file_text}
+use Rattle.om_sites.proofs.FileLemmas.{file_text, file_text_brackets}
 use Rattle.om_sites.proofs.texts.file_text_sites.Goals as goal
 
-pub returns : goal.returns
-returns g c =
+pub returns-clause-sites : goal.returns-clause-sites
+returns-clause-sites g c =
     IfOk-weaker c.file_sites.result _ _ (λ (found : FileSites) h.
-    file_text c.args.lexemes.now c.args.decls.now c.as_slice.result.now found.names found.sites g.tree c.requires.0
-    c.requires.1 (c.as_slice.ensures.value ∙ c.in_ok-places.ensures) h) c.file_sites.ensures
+    file_text c.args.lexemes.now c.args.decls.now c.as_slice.result.now g.tree c.requires.0 c.requires.1
+    (c.as_slice.ensures.value ∙ c.in_ok-places.ensures) found.names found.sites h) c.file_sites.ensures.sites
+
+pub returns-clause-brackets : goal.returns-clause-brackets
+returns-clause-brackets g c =
+    IfOk-weaker c.file_sites.result _ _ (λ (found : FileSites) h.
+    file_text_brackets c.args.lexemes.now c.args.decls.now c.as_slice.result.now g.tree c.requires.0 c.requires.1
+    (c.as_slice.ensures.value ∙ c.in_ok-places.ensures) found.brackets h) c.file_sites.ensures.brackets

@@ -1,11 +1,17 @@
 use Rattle.std.proofs.Common.{◌∙◌}
 use Rattle.std.proofs.lemmas.Result.{IfOk-weaker}
-use Rattle.om_scope.specs.declared.site.TypeSite.{TypeSite}
-use Rattle.om_sites.proofs.FileLemmas.{type_text}
+use Rattle.om_sites.specs.declared.types.TypeFound.{TypeFound}
+use Rattle.om_sites.proofs.FileLemmas.{type_text, type_text_brackets}
 use Rattle.om_sites.proofs.texts.type_text_site.Goals as goal
 
-pub returns : goal.returns
-returns g c =
-    IfOk-weaker c.type_site.result _ _ (λ (site : TypeSite) h.
-    type_text c.args.lexemes.now c.args.ty.now c.as_slice.result.now site g.tree c.requires.0 c.requires.1
-    (c.as_slice.ensures.value ∙ c.in_ok-places.ensures) h) c.type_site.ensures
+pub returns-clause-site : goal.returns-clause-site
+returns-clause-site g c =
+    IfOk-weaker c.type_site.result _ _ (λ (found : TypeFound) h.
+    type_text c.args.lexemes.now c.args.ty.now c.as_slice.result.now g.tree c.requires.0 c.requires.1
+    (c.as_slice.ensures.value ∙ c.in_ok-places.ensures) found.site h) c.type_site.ensures.site
+
+pub returns-clause-brackets : goal.returns-clause-brackets
+returns-clause-brackets g c =
+    IfOk-weaker c.type_site.result _ _ (λ (found : TypeFound) h.
+    type_text_brackets c.args.lexemes.now c.args.ty.now c.as_slice.result.now g.tree c.requires.0 c.requires.1
+    (c.as_slice.ensures.value ∙ c.in_ok-places.ensures) found.brackets h) c.type_site.ensures.brackets

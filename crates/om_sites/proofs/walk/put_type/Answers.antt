@@ -1,13 +1,17 @@
-use Rattle.std.proofs.Common.{◌≡◌, ◌<◌, ◌-◌, ◌∙◌, false, [], length, drop, sym, ap, subst, arith}
+use Rattle.std.proofs.Common.{◌≡◌, ◌<◌, ◌-◌, ◌∙◌, ◌++◌, List, false, [], length, drop, sym, ap, subst, arith}
 use Rattle.std.proofs.lemmas.Bool.{eqb-true}
 use Rattle.om_types.specs.Ty.{Ty, tuple}
 use Rattle.om_types.specs.Nodes.{types_of, type_at}
 use Rattle.om_occurrences.specs.Counted.{in_type}
 use Rattle.om_occurrences.specs.CountedFile.{type_count}
 use Rattle.om_sites.specs.declared.fact.Facts.{Facts}
+use Rattle.om_scope.specs.declared.site.Site.{Site}
+use Rattle.om_sites.specs.declared.brackets.BracketItem.{BracketItem}
 use Rattle.om_sites.specs.Adds.{Adds}
+use Rattle.om_sites.specs.Brackets.{brackets_told, brackets_among}
+use Rattle.om_sites.specs.Found.{AddsFound}
 use Rattle.om_sites.specs.Facts.{total_of, fact_at}
-use Rattle.om_sites.proofs.AddsLemmas.{Adds-none}
+use Rattle.om_sites.proofs.FoundLemmas.{AddsFound-none, AddsFound-type}
 use Rattle.om_sites.proofs.FactLemmas.{total_is}
 use Rattle.om_sites.proofs.WalkLemmas.{no_nodes, last_type, drop_capped}
 use Rattle.om_sites.proofs.walk.put_type.Goals as goal
@@ -16,8 +20,8 @@ pub returns-then-is_empty-clause-adds : goal.returns-then-is_empty-clause-adds
 returns-then-is_empty-clause-adds c =
     let none = eqb-true (length c.nodes-nodes.result.now) 0 (sym c.if-is_empty.ensures) in
     let is : c.args.ty.now ≡ tuple = no_nodes c.nodes-nodes.result.now c.args.ty.now none c.nodes-nodes.ensures.last in
-    subst (λ (t : Ty). Adds c.args.site.now c.args.site.now [] [] (in_type c.args.marks.now false t)) (sym is)
-    (Adds-none c.args.site.now)
+    subst (λ (t : Ty). AddsFound c.args.found.now c.args.found.now [] [] (in_type c.args.marks.now false t)) (sym is)
+    (AddsFound-none c.args.found.now)
 
 pub returns-then-is_empty-clause-rest : goal.returns-then-is_empty-clause-rest
 returns-then-is_empty-clause-rest c =
@@ -27,8 +31,15 @@ returns-then-is_empty-clause-rest c =
 
 pub returns-clause-adds : goal.returns-clause-adds
 returns-clause-adds c =
-    subst (λ (t : Ty). Adds c.args.site.now c.walk.new.site [] [] (in_type c.args.marks.now false t))
-    (last_type c.nodes-nodes.result.now c.args.ty.now c.nodes-nodes.ensures.last) c.in_ok-walk.ensures
+    let types = types_of c.nodes-nodes.result.now in
+    let seen = in_type c.args.marks.now false (type_at types (length c.nodes-nodes.result.now - 1)) in
+    subst (λ (t : Ty). AddsFound c.args.found.now c.put_brackets.new.found [] [] (in_type c.args.marks.now false t))
+    (last_type c.nodes-nodes.result.now c.args.ty.now c.nodes-nodes.ensures.last)
+    (AddsFound-type c.args.found.now c.put_brackets.new.found types c.walk.new.brackets seen
+    (subst (λ (s : Site). Adds c.args.found.now.site s [] [] seen) (sym c.in_ok-put_brackets.ensures.site) c.in_ok-walk.ensures.site)
+    (c.in_ok-walk.ensures.brackets
+    ∙ ap (λ (l : List (List BracketItem)). brackets_told types l ++ brackets_among seen) c.new-brackets.ensures)
+    c.in_ok-put_brackets.ensures.ordered c.in_ok-put_brackets.ensures.brackets)
 
 pub returns-clause-rest : goal.returns-clause-rest
 returns-clause-rest c =

@@ -1,17 +1,23 @@
-use Rattle.std.proofs.Common.{length, []}
+use Rattle.std.proofs.Common.{◌≡◌, ◌++◌, length, []}
 use Rattle.om_types.specs.Nodes.{types_of}
 use Rattle.om_scope.specs.declared.site.Site.{Site}
 use Rattle.om_sites.specs.Adds.{Adds}
+use Rattle.om_sites.specs.Brackets.{brackets_told, brackets_among}
 use Rattle.om_sites.specs.Walk.{task_seen, stack_seen, stack_weight, AreBelow}
 use Rattle.om_sites.proofs.walk.walk.Given as goal
 
--- from the site at hand, the tasks lead to where the first one leads from the start
+-- from what is there at hand, the tasks lead to where the first one leads from the start
 abbrev pub invariant-loop-task : goal.invariant-loop-task
 invariant-loop-task l = record {
   below : AreBelow (length l.nodes) l.tasks.items;
   left :
       (last : Site) → Adds l.site last [] [] (stack_seen (types_of l.nodes) l.marks l.tasks.items)
       → Adds l.initial.site last [] [] (task_seen (types_of l.nodes) l.marks l.fn.top);
+  told :
+      brackets_told (types_of l.nodes) l.brackets
+      ++ brackets_among (stack_seen (types_of l.nodes) l.marks l.tasks.items)
+      ≡ brackets_told (types_of l.nodes) l.initial.brackets
+      ++ brackets_among (task_seen (types_of l.nodes) l.marks l.fn.top);
 }
 
 abbrev pub decreases-loop-task : goal.decreases-loop-task

@@ -1,0 +1,18 @@
+use Rattle.std.proofs.Common.{◌≡◌, ◌<◌, ◌++◌, length, drop}
+use Rattle.std.specs.Prelude.{reverse}
+use Rattle.om_types.specs.Nodes.{types_of, type_at}
+use Rattle.om_occurrences.specs.Counted.{items_in}
+use Rattle.om_sites.specs.Brackets.{items_told}
+use Rattle.om_sites.proofs.items.items_of.Given as goal
+
+-- the items that are left, and those so far, the last one first
+abbrev pub invariant-loop-w : goal.invariant-loop-w
+invariant-loop-w l = record {
+  below : l.n < length l.nodes;
+  left :
+      items_in (drop l.first l.marks) (type_at (types_of l.nodes) l.n) ++ items_told (types_of l.nodes) (reverse l.items.items)
+      ≡ items_in (drop l.first l.marks) (type_at (types_of l.nodes) l.node);
+}
+
+abbrev pub decreases-loop-w : goal.decreases-loop-w
+decreases-loop-w l = l.n

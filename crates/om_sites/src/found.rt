@@ -1,0 +1,74 @@
+//! What is found of declarations and types.
+
+ghost use Rattle.std.specs.Prelude.{◌≡◌, ◌++◌, ◌∷◌, [], All, OnOk, slice_index};
+ghost use Rattle.om_occurrences.specs.CountedFile.{carrying_in};
+ghost use Rattle.om_types.specs.Nodes.{types_of, AreOrdered};
+ghost use Rattle.om_sites.specs.Brackets.{brackets_told, all_told, IsOrdered};
+
+use crate::brackets::{BracketItem, TypeBrackets};
+use crate::mark::{none, place_at, put_row};
+use om_model::Memory;
+use om_model::list::List;
+use om_scope::{Placed, Site};
+use om_types::decl::Arguments;
+use om_types::ty::Node;
+use std::alloc::Global;
+
+/// What is found so far.
+#[derive(Drop)]
+pub struct Found<'a> {
+    /// What the rules on names ask.
+    pub site: Site,
+    /// The brackets, type by type.
+    pub brackets: List<TypeBrackets<'a>>,
+}
+
+/// Nothing yet.
+pub fn nothing<'a>(alloc: Global) -> Found<'a>
+    ensures { result ≡ record { site = record { rows = []; carrying = []; uses = []; variables = [] }; brackets = [] } }
+{
+    Found {
+        site: none(alloc),
+        brackets: List::new(alloc),
+    }
+}
+
+/// Adds a row of names that have to differ.
+pub fn put_names<'a>(found: &mut Found<'a>, row: List<Placed>) -> Result<(), Memory>
+    ensures { OnOk result (found.new ≡ record found.old { site = record found.old.site { rows = found.old.site.rows ++ row ∷ [] } }) }
+{
+    put_row(&mut found.site, row)
+}
+
+/// Adds the lexeme of a constructor, if it has arguments.
+pub fn put_carrying<'a>(
+    found: &mut Found<'a>,
+    marks: &[usize],
+    arguments: &Arguments,
+) -> Result<(), Memory>
+    ensures { OnOk result (found.new ≡ record found.old { site = record found.old.site { carrying = found.old.site.carrying ++ carrying_in marks.now arguments.now } }) }
+{
+    match arguments {
+        Arguments::Constant => Ok(()),
+        Arguments::Listed(_) | Arguments::Inline(_) => {
+            found.site.carrying.push(place_at(marks, 0))
+        }
+    }
+}
+
+/// Adds the brackets of a type, if there are any.
+pub fn put_brackets<'a>(
+    found: &mut Found<'a>,
+    nodes: &'a [Node],
+    brackets: List<List<BracketItem>>,
+) -> Result<(), Memory>
+    requires { AreOrdered nodes.now }
+    ensures site { OnOk result (found.new.site ≡ found.old.site) }
+    ensures ordered { OnOk result (All IsOrdered found.old.brackets → All IsOrdered found.new.brackets) }
+    ensures brackets { OnOk result (all_told found.new.brackets ≡ all_told found.old.brackets ++ brackets_told (types_of nodes.now) brackets) }
+{
+    if brackets.len() == 0 {
+        return Ok(());
+    }
+    found.brackets.push(TypeBrackets { nodes, brackets })
+}
