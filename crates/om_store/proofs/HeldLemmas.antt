@@ -1,13 +1,13 @@
 -- What stands once in a set, and where.
-use Rattle.std.proofs.Common.{ℕ, ◌<◌, ◌≡◌, ◌∙◌, ⊎_elim, ◌⊎◌, inl, inr, Bool, true, false, cond, List, [], ◌∷◌, ◌++◌, length, map, Some, refl, sym, ap, true≢false, arith}
+use Rattle.std.proofs.Common.{ℕ, ◌+◌, ◌<◌, ◌≡◌, ◌∙◌, ⊎_elim, ◌⊎◌, inl, inr, Bool, true, false, cond, List, [], ◌∷◌, ◌++◌, length, map, Some, refl, sym, ap, true≢false, arith, length-append}
 use Rattle.std.specs.Prelude.{slice_get, position, option_map, nat_eq}
 use Rattle.std.specs.Global.{Vec}
 use Rattle.std.specs.List.{IsDistinct, list_any}
 use Rattle.std.specs.Cmp.Lexicographic.{pointwise, bytes_decides}
-use Rattle.std.proofs.lemmas.List.{map-append, append_assoc}
+use Rattle.std.proofs.lemmas.List.{map-append, append_assoc, append-nil, get_or_append_left}
 use Rattle.std.proofs.lemmas.List.Quantifiers.{position-Some}
 use Rattle.std.proofs.lemmas.Map.Keys.{apart_from_distinct}
-use Rattle.std.proofs.lemmas.Option.{none-some, same_Some, slice_get-map, slice_get_within, get_or_from_slice_get}
+use Rattle.std.proofs.lemmas.Option.{none-some, same_Some, slice_get-map, slice_get_within, slice_get-get_or, get_or_from_slice_get}
 use Rattle.om_model.proofs.Options.{none_or_some, slice_get_there}
 use Rattle.indexmap.specs.IndexSet.{insert_key}
 use Rattle.om_store.specs.Held.{AreDistinct, Adds, Holds, Grows}
@@ -109,3 +109,27 @@ Grows-held old now new x i grown held = record {
   added = grown.added ++ held.added;
   kept = held.kept ∙ ap (λ ts. ts ++ held.added) grown.kept ∙ append_assoc old grown.added held.added;
 }
+
+pub Grows-none : {T : Type 0} (xs : List T) → Grows xs xs
+Grows-none xs = record { added = []; kept = sym (append-nil xs) }
+
+pub Grows-then : {T : Type 0} (xs ys zs : List T) → Grows xs ys → Grows ys zs → Grows xs zs
+Grows-then xs ys zs first second = record {
+  added = first.added ++ second.added;
+  kept = second.kept ∙ ap (λ ts. ts ++ second.added) first.kept ∙ append_assoc xs first.added second.added;
+}
+
+pub Holds-grows : {T : Type 0} (xs ys : List T) (x : T) (i : ℕ) → Holds xs ys x i → Grows xs ys
+Holds-grows xs ys x i held = record { added = held.added; kept = held.kept }
+
+-- what is there stays, where elements are added
+pub there_kept :
+    {T : Type 0} (xs ys : List T) (i : ℕ) (x : T) → Grows xs ys → slice_get xs i ≡ Some x → slice_get ys i ≡ Some x
+there_kept xs ys i x grown is =
+    let all = xs ++ grown.added in
+    let within : i < length xs = slice_get_within xs i x is in
+    let more : length all ≡ length xs + length grown.added = length-append xs grown.added in
+    let below : i < length all = omega arith in
+    ap (λ ts. slice_get ts i) grown.kept
+    ∙ slice_get-get_or all i x below
+    ∙ ap Some (get_or_append_left xs grown.added x i within ∙ get_or_from_slice_get xs i x x is)

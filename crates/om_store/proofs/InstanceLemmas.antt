@@ -2,7 +2,7 @@
 use Rattle.std.proofs.Common.{ℕ, zero, suc, ◌+◌, ◌-◌, ◌<◌, ◌≤◌, ◌≡◌, ◌∙◌, List, [], ◌∷◌, ◌++◌, length, map, take, drop, Bool, false, cond, Some, None, refl, sym, ap, subst, length-append, All, Contains, min, Result, Ok, Err, IfOk, arith}
 use Rattle.std.specs.Prelude.{slice_get}
 use Rattle.std.specs.Str.{bytes_eq}
-use Rattle.std.proofs.lemmas.List.{map-append, length-map, append-nil, append_assoc, length-take-le}
+use Rattle.std.proofs.lemmas.List.{map-append, length-map, append-nil, length-take-le}
 use Rattle.std.proofs.Math.Seq.{take-length}
 use Rattle.std.proofs.lemmas.List.Elements.{All-nil, All-head, All-tail, All-push, All-weaker}
 use Rattle.std.proofs.lemmas.Option.{none-some, same_Some, slice_get_within, get_or_from_slice_get, slice_get-get_or}
@@ -14,7 +14,7 @@ use Rattle.om_types.specs.declared.ty.Node.TheVariants as nodes
 use Rattle.om_types.specs.Nodes.{type_at, type_of_node, types_of, type_of}
 use Rattle.om_types.proofs.NodeLemmas.{types_of-push, types_of-length, at_kept}
 use Rattle.om_store.specs.Held.{Holds, Grows}
-use Rattle.om_store.specs.Instance.{instance_of_node, argument_at}
+use Rattle.om_store.specs.Instance.{instance_of_node, argument_at, AreInstances, HasNumbers, HoldsEach}
 
 -- ---- types that stay
 
@@ -65,12 +65,6 @@ node_instance value types (nodes.Including whole included) =
     λ k. including (type_at-instance value types whole k) (type_at-instance value types included k)
 
 -- ---- the loop over the nodes
-
--- the numbers are those of the instances of the first k nodes, and old types stayed
-pub record AreInstances (old types : List Ty) (value : List ℕ → Ty) (all : List Node) (k : ℕ) (numbers : List ℕ) : Type 0 where
-  pub grown : Grows old types
-  pub below : All (λ i. i < length types) numbers
-  pub are : map (type_at types) numbers ≡ map (instance value) (types_of (take k all))
 
 pub AreInstances-none :
     (old : List Ty) (value : List ℕ → Ty) (all : List Node) → AreInstances old old value all 0 []
@@ -237,3 +231,40 @@ instance_itself value same (part t u) = λ k. part (instance_itself value same t
 instance_itself value same (tag t x) = λ k. tag (instance_itself value same t k) x
 instance_itself value same (tag_of t x u) = λ k. tag_of (instance_itself value same t k) x (instance_itself value same u k)
 instance_itself value same (including t u) = λ k. including (instance_itself value same t k) (instance_itself value same u k)
+
+instances_themselves :
+    (value : List ℕ → Ty) → ((x : List ℕ) → value x ≡ variable x) → (ts : List Ty) → map (instance value) ts ≡ ts
+instances_themselves value same [] = refl
+instances_themselves value same (t ∷ ts) = λ k. instance_itself value same t k ∷ instances_themselves value same ts k
+
+pub each_there :
+    (old types : List Ty) (value : List ℕ → Ty) (all : List Node) (numbers : List ℕ)
+    → ((x : List ℕ) → value x ≡ variable x) → AreInstances old types value all (length all) numbers
+    → HoldsEach old types (types_of all) numbers
+each_there old types value all numbers same are = record {
+  grown = are.grown;
+  has = record {
+    below = are.below;
+    are = are.are ∙ instances_themselves value same (types_of (take (length all) all)) ∙ ap types_of (take-length all);
+  };
+}
+
+-- a number of them
+pub number_there :
+    (types all : List Ty) (numbers : List ℕ) (i n : ℕ) → HasNumbers types all numbers → slice_get numbers i ≡ Some n
+    → type_at types n ≡ type_at all i
+number_there types all numbers i n has is =
+    sym (get_or_from_slice_get all i (type_at types n) tuple
+    (ap (λ ts. slice_get ts i) (sym has.are) ∙ get-map (type_at types) numbers i n is))
+
+pub numbers_many : (types all : List Ty) (numbers : List ℕ) → HasNumbers types all numbers → length numbers ≡ length all
+numbers_many types all numbers has = sym (length-map numbers (type_at types)) ∙ ap length has.are
+
+-- numbers stay, where types are added
+pub numbers_kept :
+    (types new all : List Ty) (numbers : List ℕ) → HasNumbers types all numbers → Grows types new
+    → HasNumbers new all numbers
+numbers_kept types new all numbers has grown = record {
+  below = below_kept types new grown.added numbers grown.kept has.below;
+  are = types_at-kept types new grown.added numbers grown.kept has.below ∙ has.are;
+}

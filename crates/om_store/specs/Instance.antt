@@ -1,9 +1,10 @@
 -- Instances, node by node.
-use Rattle.std.specs.Prelude.{ℕ, List, Option, Some, None, map}
-use Rattle.om_types.specs.Ty.{Ty, variable, argument_for}
+use Rattle.std.specs.Prelude.{ℕ, ◌<◌, ◌≡◌, List, Option, Some, None, All, length, map, take}
+use Rattle.om_types.specs.Ty.{Ty, variable, argument_for, instance}
 use Rattle.om_types.specs.declared.ty.Node.{Node}
 use Rattle.om_types.specs.declared.ty.Node.TheVariants as nodes
-use Rattle.om_types.specs.Nodes.{type_at, type_of_node}
+use Rattle.om_types.specs.Nodes.{type_at, types_of, type_of_node}
+use Rattle.om_store.specs.Held.{Grows}
 
 -- what a node stands for after these types, each variable replaced
 abbrev pub instance_of_node : (List ℕ → Ty) → List Ty → Node → Ty
@@ -18,3 +19,20 @@ argument_at types parameters arguments = argument_for parameters (map (type_at t
 abbrev pub type_or_variable : List Ty → List ℕ → Option ℕ → Ty
 type_or_variable types name (Some number) = type_at types number
 type_or_variable types name None = variable name
+
+-- the numbers are those of the instances of the first k nodes, and old types stayed
+pub record AreInstances (old types : List Ty) (value : List ℕ → Ty) (all : List Node) (k : ℕ)
+    (numbers : List ℕ) : Type 0 where
+  pub grown : Grows old types
+  pub below : All (λ i. i < length types) numbers
+  pub are : map (type_at types) numbers ≡ map (instance value) (types_of (take k all))
+
+-- the types of these numbers
+pub record HasNumbers (types all : List Ty) (numbers : List ℕ) : Type 0 where
+  pub below : All (λ i. i < length types) numbers
+  pub are : map (type_at types) numbers ≡ all
+
+-- new is old with types at its end, or none, and has these at these numbers
+pub record HoldsEach (old new all : List Ty) (numbers : List ℕ) : Type 0 where
+  pub grown : Grows old new
+  pub has : HasNumbers new all numbers

@@ -2,9 +2,9 @@
 
 ghost use Rattle.std.specs.Prelude.{◌≡◌, ◌<◌, List, Some, length, slice_get, map, All, Contains, IfOk, IfSome, OnErr};
 ghost use Rattle.om_types.specs.Ty.{Ty, instance};
-ghost use Rattle.om_types.specs.Nodes.{type_at, IsBelow};
+ghost use Rattle.om_types.specs.Nodes.{type_at, types_of, IsBelow, AreOrdered};
 ghost use Rattle.om_store.specs.Held.{Grows, Holds};
-ghost use Rattle.om_store.specs.Instance.{instance_of_node, argument_at, type_or_variable};
+ghost use Rattle.om_store.specs.Instance.{instance_of_node, argument_at, type_or_variable, AreInstances, HoldsEach};
 
 use crate::types::Types;
 use om_model::Memory;
@@ -36,6 +36,22 @@ impl Types {
         }
     }
 
+    /// The number of each node's type.
+    pub fn add_nodes(&mut self, alloc: Global, nodes: &[Node]) -> Result<Vec<usize>, Memory>
+        requires { AreOrdered nodes.now }
+        ensures ok { IfOk result (λ numbers. HoldsEach self.old self.new (types_of nodes.now) numbers.items) }
+        ensures err { OnErr result (self.new ≡ self.old) }
+    {
+        let count = self.len();
+        match numbers_of(self, alloc, nodes, &[], &[]) {
+            Ok(numbers) => Ok(numbers),
+            Err(error) => {
+                self.truncate(count);
+                Err(error)
+            }
+        }
+    }
+
     /// The number of a type.
     pub fn add(&mut self, alloc: Global, t: &Ty) -> Result<usize, Memory>
         ensures ok { IfOk result (Holds self.old self.new t.now) }
@@ -45,7 +61,7 @@ impl Types {
     }
 }
 
-ghost use Rattle.om_types.specs.Nodes.{type_of, AreOrdered};
+ghost use Rattle.om_types.specs.Nodes.{type_of};
 ghost use Rattle.om_types.specs.declared.ty.Node.{Node as Written};
 
 /// Adds the instances of these nodes, and answers the number of the last.
@@ -61,15 +77,32 @@ fn grow(
     ensures grown { Grows types.old types.new }
     ensures ok { IfOk result (λ i. slice_get types.new i ≡ Some (instance (argument_at types.old parameters.now arguments.now) (type_of nodes.now))) }
 {
+    let numbers = numbers_of(types, alloc, nodes, parameters, arguments)?;
+    match numbers.last() {
+        Some(number) => Ok(*number),
+        None => types.add_tuple(),
+    }
+}
+
+/// Adds the instances of these nodes, and answers their numbers.
+fn numbers_of(
+    types: &mut Types,
+    alloc: Global,
+    nodes: &[Node],
+    parameters: &[List<u8>],
+    arguments: &[usize],
+) -> Result<Vec<usize>, Memory>
+    requires among { All (λ i. i < length types.old) arguments.now }
+    requires ordered { AreOrdered nodes.now }
+    ensures grown { Grows types.old types.new }
+    ensures ok { IfOk result (λ numbers. AreInstances types.old types.new (argument_at types.old parameters.now arguments.now) nodes.now (length nodes.now) numbers.items) }
+{
     let mut numbers = Vec::new(alloc);
     for node in nodes {
         let number = add_node(types, node, numbers.as_slice(), parameters, arguments)?;
         numbers.push(number)?;
     }
-    match numbers.last() {
-        Some(number) => Ok(*number),
-        None => types.add_tuple(),
-    }
+    Ok(numbers)
 }
 
 /// Adds the instance of a node over the instances of earlier ones.

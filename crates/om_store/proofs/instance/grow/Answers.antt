@@ -1,44 +1,17 @@
-use Rattle.std.proofs.Common.{sym, ap, ◌∙◌, subst, refl, ◌≡◌, length, arith, slice_get, ◌-◌}
-use Rattle.std.proofs.lemmas.Option.{slice_get_read}
-use Rattle.om_types.specs.Nodes.{IsBelow}
+use Rattle.std.proofs.Common.{sym, ap, ◌∙◌, length, slice_get, ◌-◌}
 use Rattle.om_store.specs.Instance.{argument_at}
-use Rattle.om_store.proofs.InstanceLemmas.{AreInstances, AreInstances-none, AreInstances-many, AreInstances-next, grown_next, last_instance, no_instance, held_is}
+use Rattle.om_store.proofs.InstanceLemmas.{last_instance, no_instance, held_is}
 use Rattle.om_store.proofs.instance.grow.Goals as goal
-
-pub loop-node-init : goal.loop-node-init
-loop-node-init c = rw c.new-numbers.ensures.items (AreInstances-none _ _ _)
-
-pub add_node-requires-clause-below : goal.add_node-requires-clause-below
-add_node-requires-clause-below c =
-    let there = slice_get_read _ _ _ _ refl c.loop-node-test.true c.node-item.is in
-    let many : length c.as_slice.result.now ≡ c.loop-node.node-index =
-    ap length c.as_slice.ensures.value
-    ∙ AreInstances-many _ _ _ _ _ _ c.loop-node.invariant c.loop-node.auto.node-index-end in
-    subst (λ n. IsBelow n c.node-item.result) (sym many) (c.requires.ordered c.loop-node.node-index c.node-item.result there)
-
-pub returns-in_err-push-clause-grown : goal.returns-in_err-push-clause-grown
-returns-in_err-push-clause-grown c =
-    grown_next _ _ _ _ _ _ _ c.loop-node.invariant c.requires.among c.node-item.result _ c.as_slice.ensures.value _ _ c.in_ok-number.ensures.ok
-
-pub loop-node-preserved : goal.loop-node-preserved
-loop-node-preserved c =
-    rw c.in_ok-push.ensures.items
-    (AreInstances-next _ _ _ _ _ _ _ c.loop-node.invariant c.requires.among c.node-item.result _ c.as_slice.ensures.value _ _ c.in_ok-number.ensures.ok
-    (slice_get_read _ _ _ _ refl c.loop-node-test.true c.node-item.is))
 
 pub returns-in-Some-clause-ok : goal.returns-in-Some-clause-ok
 returns-in-Some-clause-ok c =
-    let end : c.loop-node.node-index ≡ length c.args.nodes.now = omega arith in
     let value = argument_at c.args.types.now c.args.parameters.now c.args.arguments.now in
-    let whole = subst (λ k. AreInstances c.args.types.now c.loop-node.types value c.args.nodes.now k c.loop-node.numbers.items) end c.loop-node.invariant in
-    last_instance _ _ value _ _ whole c.in-Some.number.now
+    last_instance _ _ value _ _ c.in_ok-numbers.ensures.ok c.in-Some.number.now
     (sym (c.in-Some.ensures.value ∙ ap (λ ns. slice_get ns (length ns - 1)) c.deref.ensures.value))
 
 pub returns-clause-ok : goal.returns-clause-ok
 returns-clause-ok c =
-    let end : c.loop-node.node-index ≡ length c.args.nodes.now = omega arith in
     let value = argument_at c.args.types.now c.args.parameters.now c.args.arguments.now in
-    let whole = subst (λ k. AreInstances c.args.types.now c.loop-node.types value c.args.nodes.now k c.loop-node.numbers.items) end c.loop-node.invariant in
-    let same = no_instance _ _ value _ _ whole
+    let same = no_instance _ _ value _ _ c.in_ok-numbers.ensures.ok
     (sym (c.in-None.ensures.value ∙ ap (λ ns. slice_get ns (length ns - 1)) c.deref.ensures.value)) in
     held_is c.add_tuple.result _ _ _ _ (sym same) c.add_tuple.ensures.ok

@@ -1,6 +1,5 @@
-use Rattle.om_store.specs.Instance.{argument_at}
-use Rattle.om_store.proofs.InstanceLemmas.{AreInstances}
-use Rattle.om_store.proofs.instance.grow.Given as goal
+use Rattle.om_store.specs.Instance.{argument_at, AreInstances}
+use Rattle.om_store.proofs.instance.numbers_of.Given as goal
 
 abbrev pub invariant-loop-node : goal.invariant-loop-node
 invariant-loop-node l =
