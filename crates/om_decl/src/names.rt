@@ -10,7 +10,7 @@ ghost use Rattle.om_scope.specs.Sites.{AreSites, IsTypeSite};
 
 use om_model::Memory;
 use om_scope::{Broken, Placed, Site, TypeSite, first_break, first_break_in_type};
-use om_sites::{FileSites, file_sites, type_site};
+use om_sites::{FileSites, TypeFound, file_sites, type_site};
 use om_types::decl::Decl;
 use om_types::ty::Ty;
 use std::alloc::Global;
@@ -68,6 +68,6 @@ pub fn first_type_break(
 ) -> Result<Option<Broken>, Memory>
     ensures { IfOk result (IsFirstBefore (BreaksInType decls.now (in_type marks.now false ty.now)) 7) }
 {
-    let site = type_site(alloc, marks, ty)?;
+    let TypeFound { site, .. } = type_site(alloc, marks, ty)?;
     first_of_type_site(alloc, marks, ty, decls, &site)
 }
