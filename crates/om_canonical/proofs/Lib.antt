@@ -5,4 +5,5 @@ pub mod IsoLemmas
 pub mod ListLemmas
 pub mod SameTree
 pub mod SpellingLemmas
+pub mod TreeGraphs
 pub mod Walk

@@ -1,5 +1,5 @@
--- What is written is read again.
-use Rattle.std.specs.Prelude.{ℕ, ◌^◌, ◌<◌, ◌≤◌, List, length, map}
+-- What is written is read again, and what is read is written again.
+use Rattle.std.specs.Prelude.{ℕ, ◌≡◌, ◌^◌, ◌<◌, ◌≤◌, List, length, map}
 use Rattle.om_model.specs.declared.value.Val.{Val}
 use Rattle.om_model.specs.declared.value.Obj.{Obj}
 use Rattle.om_format.specs.Words.{all_words64}
@@ -16,3 +16,9 @@ WrittenIsRead =
     (limit : ℕ) (g : List Obj) (v : Val) (tree : Tree) → limit < 2 ^ 64 → IsTreeOf g v tree
     → all_words64 (map measure_of (tokens tree)) ≤ limit → length (data_spelling (tokens tree)) < 2 ^ 48
     → SpelledUnder limit (canon tree) tree × Iso g v (objects_of tree 0) (root tree 0)
+
+-- bytes that are the canonical ones of the tree that they spell are written again as they were read
+abbrev pub ReadIsWritten : Type 0
+ReadIsWritten =
+    (limit : ℕ) (bytes : List ℕ) (tree other : Tree) → SpelledUnder limit bytes tree → canon tree ≡ bytes
+    → IsTreeOf (objects_of tree 0) (root tree 0) other → canon other ≡ bytes
