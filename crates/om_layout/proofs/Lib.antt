@@ -1,3 +1,6 @@
 pub mod SpineLemmas
 pub mod ReplacedLemmas
 pub mod PlainLemmas
+pub mod BracketLemmas
+pub mod GatherLemmas
+pub mod EntryLemmas

@@ -1,2 +1,3 @@
 pub mod Unfolded
 pub mod Plain
+pub mod Tags

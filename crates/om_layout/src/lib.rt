@@ -1,10 +1,14 @@
 //! What declared types come to: heads by numbers.
 #![tactic(auto)]
 
+mod bracket;
+mod head;
 mod plain;
 mod replaced;
 mod spine;
 
+pub use bracket::bracket_head;
+pub use head::head_of;
 pub use plain::plain as plain_head;
 pub use replaced::{expanded, unfolded};
 pub use spine::{name, parts, root};

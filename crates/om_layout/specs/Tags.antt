@@ -1,0 +1,87 @@
+-- The tags of a bracket, item by item, and by numbers.
+use Rattle.std.specs.Prelude.{ℕ, ◌<◌, ◌≡◌, Bool, true, false, List, [], ◌∷◌, ◌++◌, Option, Some, None, length, map, reverse, fold, All, IfSome, if◌then◌else◌, slice_get}
+use Rattle.std.specs.List.{list_any}
+use Rattle.std.specs.Str.{bytes_eq}
+use Rattle.std.specs.Global.{Vec}
+use Rattle.om_types.specs.declared.decl.Decl.{Decl}
+use Rattle.om_types.specs.declared.head.TagOf.{TagOf}
+use Rattle.om_types.specs.declared.head.HeadOf.{HeadOf}
+use Rattle.om_types.specs.Ty.{Ty, bracket, tag, tag_of, including}
+use Rattle.om_types.specs.Nodes.{type_at}
+use Rattle.om_types.specs.Head.{head, tags_in, joined, bare_tag, carrying_tag}
+use Rattle.om_types.specs.Table.{tag_with_part, head_with_parts}
+
+-- ---- items
+
+-- items are added to a bracket, and to nothing else
+abbrev pub has_bracket : Ty → Bool
+has_bracket bracket = true
+has_bracket (tag whole name) = has_bracket whole
+has_bracket (tag_of whole name argument) = has_bracket whole
+has_bracket (including whole included) = has_bracket whole
+has_bracket t = false
+
+-- the items of a bracket from the left, each as the type that ends with it
+abbrev pub items : Ty → List Ty
+items (tag whole name) = items whole ++ tag whole name ∷ []
+items (tag_of whole name argument) = items whole ++ tag_of whole name argument ∷ []
+items (including whole included) = items whole ++ including whole included ∷ []
+items t = []
+
+-- the bracket before its last item
+abbrev pub before_item : Ty → Option Ty
+before_item (tag whole name) = Some whole
+before_item (tag_of whole name argument) = Some whole
+before_item (including whole included) = Some whole
+before_item t = None
+
+-- the tags that the last item brings
+abbrev pub tags_of_item : (Ty → HeadOf Ty) → Ty → List (TagOf Ty)
+tags_of_item head (tag whole name) = bare_tag name ∷ []
+tags_of_item head (tag_of whole name argument) = carrying_tag name argument ∷ []
+tags_of_item head (including whole included) = tags_in (head included)
+tags_of_item head t = []
+
+abbrev pub with_item : (Ty → HeadOf Ty) → List (TagOf Ty) → Ty → List (TagOf Ty)
+with_item head tags t = joined tags (tags_of_item head t)
+
+abbrev pub with_items : (Ty → HeadOf Ty) → List (TagOf Ty) → List Ty → List (TagOf Ty)
+with_items head tags ts = fold (with_item head) tags ts
+
+-- ---- by numbers
+
+abbrev pub tags_at : List Ty → List (TagOf ℕ) → List (TagOf Ty)
+tags_at types tags = map (tag_with_part (type_at types)) tags
+
+-- its argument is the number of a type
+abbrev pub IsTagWithin : List Ty → TagOf ℕ → Type 0
+IsTagWithin types item = IfSome item.argument (λ i. i < length types)
+
+abbrev pub has_name : List (TagOf ℕ) → List ℕ → Bool
+has_name tags name = list_any (λ (other : TagOf ℕ). bytes_eq other.name name) tags
+
+-- of a tag that comes twice the first stays
+abbrev pub with_tag : List (TagOf ℕ) → List ℕ → Option ℕ → List (TagOf ℕ)
+with_tag tags name argument =
+    if has_name tags name then tags else tags ++ record { name = name; argument = argument } ∷ []
+
+-- the tags of a map's entries
+abbrev pub tag_of_entry : Vec ℕ × Option ℕ → TagOf ℕ
+tag_of_entry entry = record { name = entry.0.items; argument = entry.1 }
+
+abbrev pub tags_of_entries : List (Vec ℕ × Option ℕ) → List (TagOf ℕ)
+tags_of_entries entries = map tag_of_entry entries
+
+-- These tags, and then those of the items that wait, are all. The last that waits comes first.
+pub record AreGathered (decls : List Decl) (types : List Ty) (found : List (TagOf ℕ)) (waiting : List ℕ) (all : List (TagOf Ty)) : Type 0 where
+  pub found_within : All (IsTagWithin types) found
+  pub waiting_within : All (λ i. i < length types) waiting
+  pub tags :
+      with_items (head decls) (tags_at types found) (map (type_at types) (reverse waiting)) ≡ all
+
+-- ---- heads
+
+-- by numbers it is the head of the type
+abbrev pub IsHeadOf : List Decl → List Ty → Ty → HeadOf ℕ → Type 0
+IsHeadOf decls types t h =
+    head_with_parts (slice_get types) h ≡ head_with_parts Some (head decls t)

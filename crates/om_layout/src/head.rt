@@ -1,0 +1,41 @@
+//! The head of a type, by numbers.
+
+ghost use Rattle.std.specs.Prelude.{◌≡◌, ◌<◌, length, IfOk};
+ghost use Rattle.om_types.specs.Nodes.{type_at};
+ghost use Rattle.om_types.specs.Accepted.{AreSound};
+ghost use Rattle.om_scope.specs.Breaks.{names_of_decls};
+ghost use Rattle.om_scope.specs.Names.{number_of, ArePlaces};
+ghost use Rattle.om_store.specs.Held.{Grows};
+ghost use Rattle.om_layout.specs.Tags.{IsHeadOf};
+
+use crate::bracket::bracket_head;
+use crate::plain::plain;
+use crate::replaced::expanded;
+use om_model::Memory;
+use om_scope::table::Table;
+use om_store::Types;
+use om_types::decl::Decl;
+use om_types::head::HeadOf;
+use std::alloc::Global;
+
+/// The head of a type: abbreviations at it are replaced, and the tags of included types stand in their places. After
+/// `Memory` there may be more types, at the end.
+pub fn head_of(
+    alloc: Global,
+    types: &mut Types,
+    decls: &[Decl],
+    table: &Table<'_>,
+    number: usize,
+) -> Result<HeadOf<usize>, Memory>
+    requires places { ArePlaces (names_of_decls decls.now) (length decls.now) (number_of table.now) }
+    requires number { number < length types.old }
+    requires sound { AreSound decls.now }
+    ensures ok { IfOk result (IsHeadOf decls.now types.new (type_at types.old number)) }
+    ensures grown { Grows types.old types.new }
+{
+    let at = expanded(alloc, types, decls, table, number)?;
+    match plain(alloc, types, at)? {
+        Some(head) => Ok(head),
+        None => bracket_head(alloc, types, decls, table, at),
+    }
+}
