@@ -23,3 +23,4 @@ pub mod NumberLemmas
 pub mod InstanceLemmas
 pub mod HeadInstance
 pub mod SoundLemmas
+pub mod HeadVariable

@@ -35,3 +35,10 @@ HeadsCommute =
     (decls : List Decl) (value : List ℕ → Ty) (t : Ty) → AreWellFormed decls → IsSoundType decls t
     → ((x : List ℕ) → head decls t ≢ heads.Variable x)
     → head decls (instance value t) ≡ head_with_parts (instance value) (head decls t)
+
+-- where a variable is at the head, an instance has the head of what stands for the variable
+abbrev pub VariablesComeThrough : Type 0
+VariablesComeThrough =
+    (decls : List Decl) (value : List ℕ → Ty) (t : Ty) (x : List ℕ) → AreWellFormed decls
+    → IsSoundType decls t → head decls t ≡ heads.Variable x
+    → head decls (instance value t) ≡ head decls (value x)

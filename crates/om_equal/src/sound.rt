@@ -1,7 +1,7 @@
 //! Sound types over well-formed declarations.
 
 ghost use Rattle.om_equal.specs.SoundLaws.{ReachedAreSound, ReachedAreKnownByHash};
-ghost use Rattle.om_equal.specs.SoundLaws.{ReplacementsCommute, HeadsCommute};
+ghost use Rattle.om_equal.specs.SoundLaws.{ReplacementsCommute, HeadsCommute, VariablesComeThrough};
 
 /// What a sound type reaches is sound, and its tags are known by their hashes.
 pub fn reached_types_are_sound()
@@ -13,4 +13,5 @@ pub fn reached_types_are_sound()
 pub fn heads_commute_with_instances()
     ensures replacements { ReplacementsCommute }
     ensures heads { HeadsCommute }
+    ensures variables { VariablesComeThrough }
 {}
