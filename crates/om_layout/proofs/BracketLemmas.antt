@@ -117,7 +117,7 @@ module _ (head : Ty → HeadOf Ty) where
   name_takes_no_tags (Some base) name more = refl
   name_takes_no_tags None name more = refl
 
-  takes_no_tags : (t : Ty) (more : List (TagOf Ty)) → has_bracket t ≡ false → with_tags (plain_head head t) more ≡ heads.Absent
+  pub takes_no_tags : (t : Ty) (more : List (TagOf Ty)) → has_bracket t ≡ false → with_tags (plain_head head t) more ≡ heads.Absent
   takes_no_tags (variable x) more is = refl
   takes_no_tags (named n) more is = name_takes_no_tags (predeclared n) n more
   takes_no_tags tuple more is = refl

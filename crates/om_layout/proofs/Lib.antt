@@ -4,3 +4,5 @@ pub mod PlainLemmas
 pub mod BracketLemmas
 pub mod GatherLemmas
 pub mod EntryLemmas
+pub mod KindLemmas
+pub mod ExampleLemmas

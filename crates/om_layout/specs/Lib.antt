@@ -1,3 +1,4 @@
 pub mod Unfolded
 pub mod Plain
 pub mod Tags
+pub mod Kind

@@ -120,7 +120,7 @@ fn listed(alloc: Global, mut tags: Tags) -> Result<Vec<TagOf<usize>>, Memory>
 }
 
 /// Whether a bracket is what items are added to.
-fn has_bracket(types: &Types, number: usize) -> bool
+pub(crate) fn has_bracket(types: &Types, number: usize) -> bool
     requires { number < length types.now }
     ensures { result ≡ has_bracket (type_at types.now number) }
 {

@@ -1,4 +1,7 @@
-use crate::{plain_head, unfolded};
+ghost use Rattle.std.specs.Prelude.{◌≡◌, ◌<◌, length, IfOk};
+ghost use Rattle.om_types.specs.Accepted.{AreSound};
+
+use crate::{head_of, is_float, is_polymorphic_variant, plain_head, unfolded};
 use om_model::list::List;
 use om_scope::declared::table_of;
 use om_store::{TypeNode, Types};
@@ -37,6 +40,76 @@ fn lists(alloc: Global) -> Result<Vec<Decl>, AllocError> {
     Ok(vec![in alloc; decl]?)
 }
 
+// type 'a t = [ `B of 'a | `A ]
+fn variants(alloc: Global) -> Result<Vec<Decl>, AllocError>
+    ensures { IfOk result (λ decls. AreSound decls.items) }
+{
+    let b = name(alloc, b"B")?;
+    let a = name(alloc, b"A")?;
+    let x = name(alloc, b"a")?;
+    let body = Ty::of(vec![in alloc;
+        Node::Bracket,
+        Node::Variable(x),
+        Node::TagOf(0, b, 1),
+        Node::Tag(2, a),
+    ]?);
+    let parameters = List::of(vec![in alloc; name(alloc, b"a")?]?);
+    let decl = Decl {
+        name: name(alloc, b"t")?,
+        parameters,
+        body: Body::Abbreviation(body),
+        group: 0,
+    };
+    Ok(vec![in alloc; decl]?)
+}
+
+// [ `A | int t | `C ]
+fn around(alloc: Global) -> Result<Ty, AllocError> {
+    let nodes = vec![in alloc;
+        Node::Named(name(alloc, b"t")?),
+        Node::Named(name(alloc, b"int")?),
+        Node::Part(0, 1),
+        Node::Bracket,
+        Node::Tag(3, name(alloc, b"A")?),
+        Node::Including(4, 2),
+        Node::Tag(5, name(alloc, b"C")?),
+    ]?;
+    Ok(Ty::of(nodes))
+}
+
+// [ `A | `A of int ]
+fn twice(alloc: Global) -> Result<Ty, AllocError> {
+    let nodes = vec![in alloc;
+        Node::Bracket,
+        Node::Tag(0, name(alloc, b"A")?),
+        Node::Named(name(alloc, b"int")?),
+        Node::TagOf(1, name(alloc, b"A")?, 2),
+    ]?;
+    Ok(Ty::of(nodes))
+}
+
+// The tags at the head of a type, with a mark where they have an argument.
+fn tags(alloc: Global, decls: &[Decl], t: &Ty) -> Result<Vec<u8>, Fail>
+    requires { AreSound decls.now }
+{
+    let table = table_of(alloc, decls)?;
+    let mut types = Types::new(alloc);
+    let number = types.add(alloc, t)?;
+    if number >= types.len() {
+        return Err("no type".into());
+    }
+    let mut text = Vec::new(alloc);
+    if let HeadOf::Variants(tags) = head_of(alloc, &mut types, decls, &table, number)? {
+        for tag in tags.as_slice() {
+            text.extend_from_slice(tag.name.as_slice())?;
+            if tag.argument.is_some() {
+                text.push(b'+')?;
+            }
+        }
+    }
+    Ok(text)
+}
+
 // By hand: int list has the head list.
 #[test]
 fn heads_are_read_off(rt: HostRuntime) -> Result<(), Fail> {
@@ -63,5 +136,50 @@ fn an_abbreviation_is_replaced(rt: HostRuntime) -> Result<(), Fail> {
     let next = unfolded(alloc, &mut types, &decls, &table, number)?.ok_or("left")?;
     assert!(rt; next < types.len());
     assert!(rt; matches!(types.node(next), TypeNode::Part(3, 1)));
+    Ok(())
+}
+
+// By hand: what is included stands in its place, and of a tag that comes twice the first stays.
+#[test]
+fn tags_are_gathered(rt: HostRuntime) -> Result<(), Fail> {
+    let alloc = rt.alloc();
+    let decls = variants(alloc)?;
+    assert_eq!(rt;
+        tags(alloc, &decls, &at_int(alloc, b"t")?)?.as_slice(),
+        b"B+A".as_slice()
+    );
+    assert_eq!(rt;
+        tags(alloc, &decls, &around(alloc)?)?.as_slice(),
+        b"AB+C".as_slice()
+    );
+    assert_eq!(rt;
+        tags(alloc, &decls, &twice(alloc)?)?.as_slice(),
+        b"A".as_slice()
+    );
+    assert_eq!(rt;
+        tags(alloc, &decls, &at_int(alloc, b"list")?)?.as_slice(),
+        b"".as_slice()
+    );
+    Ok(())
+}
+
+// By hand: int t is a polymorphic variant and no float.
+#[test]
+fn kinds_are_told(rt: HostRuntime) -> Result<(), Fail> {
+    let alloc = rt.alloc();
+    let decls = variants(alloc)?;
+    let table = table_of(alloc, &decls)?;
+    let t = at_int(alloc, b"t")?;
+    let mut types = Types::new(alloc);
+    let float = types.add_named(b"float")?;
+    assert!(rt; float < types.len());
+    assert!(rt; is_float(alloc, &mut types, &decls, &table, float)?);
+    assert!(rt; float < types.len());
+    assert!(rt; !is_polymorphic_variant(alloc, &mut types, &decls, &table, float)?);
+    let number = types.add(alloc, &t)?;
+    assert!(rt; number < types.len());
+    assert!(rt; !is_float(alloc, &mut types, &decls, &table, number)?);
+    assert!(rt; number < types.len());
+    assert!(rt; is_polymorphic_variant(alloc, &mut types, &decls, &table, number)?);
     Ok(())
 }
