@@ -4,7 +4,7 @@ use Rattle.om_types.specs.declared.head.TagOf.{TagOf}
 use Rattle.om_types.specs.declared.head.HeadOf.TheVariants as heads
 use Rattle.om_types.specs.Nodes.{type_at}
 use Rattle.om_types.specs.Head.{head}
-use Rattle.om_store.proofs.HeldLemmas.{Grows-grown, Grows-same}
+use Rattle.om_store.proofs.HeldLemmas.{Grows-then, Grows-none}
 use Rattle.om_layout.specs.Tags.{items, with_items, tags_of_entries, AreGathered, IsHeadOf}
 use Rattle.om_layout.proofs.GatherLemmas.{none_gathered, all_gathered, nothing_gathered}
 use Rattle.om_layout.proofs.bracket.bracket_head.Goals as goal
@@ -19,7 +19,7 @@ loop-turn-init c =
     let types = c.args.types.now in
     let t = type_at types c.args.number in
     let pushed = c.in_ok-push_items.ensures in (
-      Grows-same types,
+      Grows-none types,
       subst (λ (es : List (Vec ℕ × Option ℕ)). AreGathered c.args.decls.now types (tags_of_entries es) c.push_items.new.waiting.items
           (with_items (head c.args.decls.now) [] (items t))) (sym c.new-tags.ensures.empty)
           (none_gathered c.args.decls.now types t c.push_items.new.waiting.items pushed.within
@@ -28,11 +28,11 @@ loop-turn-init c =
 
 pub returns-in_err-gather-in-Some-clause-grown : goal.returns-in_err-gather-in-Some-clause-grown
 returns-in_err-gather-in-Some-clause-grown c =
-    Grows-grown c.args.types.now c.loop-turn.types c.gather.new.types c.loop-turn.invariant.0 c.gather.ensures.grown
+    Grows-then c.args.types.now c.loop-turn.types c.gather.new.types c.loop-turn.invariant.0 c.gather.ensures.grown
 
 pub loop-turn-preserved : goal.loop-turn-preserved
 loop-turn-preserved c = (
-  Grows-grown c.args.types.now c.loop-turn.types c.gather.new.types c.loop-turn.invariant.0 c.gather.ensures.grown,
+  Grows-then c.args.types.now c.loop-turn.types c.gather.new.types c.loop-turn.invariant.0 c.gather.ensures.grown,
   c.in_ok-gather-in-Some.ensures.gathered _
       (subst (λ (ns : List ℕ). AreGathered c.args.decls.now c.loop-turn.types (tags_of_entries c.loop-turn.tags.entries) ns
       (with_items (head c.args.decls.now) [] (items (type_at c.args.types.now c.args.number)))) c.in-Some.ensures.items c.loop-turn.invariant.1),
