@@ -13,13 +13,13 @@ use Rattle.om_parse.specs.declared.refused.Fault.{Fault}
 use Rattle.om_parse.specs.declared.refused.Fault.TheVariants as parser
 use Rattle.om_parse.specs.Parsed.{kinds_of, byte_of, IsFault}
 use Rattle.om_parse.specs.Written.{declarations_of, type_of_texpr}
-use Rattle.om_occurrences.specs.Counted.{marks, in_type}
-use Rattle.om_occurrences.specs.CountedFile.{counted_file}
-use Rattle.om_occurrences.specs.InFile.{file_places}
-use Rattle.om_occurrences.specs.InText.{in_texpr}
+use Rattle.om_sites.specs.Counted.{marks, in_type}
+use Rattle.om_sites.specs.CountedFile.{counted_file}
+use Rattle.om_sites.specs.InFile.{file_places}
+use Rattle.om_sites.specs.InText.{in_texpr}
 use Rattle.om_types.specs.Ty.{Ty}
-use Rattle.om_occurrences.proofs.GroupLaws.{files_are_counted}
-use Rattle.om_occurrences.proofs.TypeLaws.{types_are_counted}
+use Rattle.om_sites.proofs.GroupLaws.{files_are_counted}
+use Rattle.om_sites.proofs.TypeLaws.{types_are_counted}
 use Rattle.om_decl.specs.Answer.{IsAnswer}
 use Rattle.om_decl.specs.Fault.{lexed, parsed, broken_at, IsRefused}
 use Rattle.om_scope.specs.Breaks.{rule_of}

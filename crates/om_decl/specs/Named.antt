@@ -8,9 +8,9 @@ use Rattle.om_grammar.specs.Depths.{file_ends, texpr_ends}
 use Rattle.om_grammar.specs.Refusals.{IsText}
 use Rattle.om_parse.specs.Parsed.{kinds_of}
 use Rattle.om_parse.specs.Written.{declarations_of, type_of_texpr}
-use Rattle.om_occurrences.specs.Counted.{marks}
-use Rattle.om_occurrences.specs.InFile.{file_places}
-use Rattle.om_occurrences.specs.InText.{in_texpr}
+use Rattle.om_sites.specs.Counted.{marks}
+use Rattle.om_sites.specs.InFile.{file_places}
+use Rattle.om_sites.specs.InText.{in_texpr}
 use Rattle.om_scope.specs.First.{KeepsBefore}
 use Rattle.om_decl.specs.declared.read.Named.{Named}
 use Rattle.om_decl.specs.declared.read.NamedType.{NamedType}

@@ -3,8 +3,8 @@
 ghost use Rattle.std.specs.Prelude.{◌≡◌, IfOk, List, false};
 ghost use Rattle.om_types.specs.Occurrence.{DeclPlaces, Occurrence};
 ghost use Rattle.om_types.specs.Scope.{BreaksInFile, BreaksInType};
-ghost use Rattle.om_occurrences.specs.Counted.{in_type};
-ghost use Rattle.om_occurrences.specs.CountedFile.{counted_file};
+ghost use Rattle.om_sites.specs.Counted.{in_type};
+ghost use Rattle.om_sites.specs.CountedFile.{counted_file};
 ghost use Rattle.om_scope.specs.First.{IsFirstBefore};
 ghost use Rattle.om_scope.specs.Sites.{AreSites, IsTypeSite};
 

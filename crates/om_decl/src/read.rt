@@ -10,7 +10,7 @@ use crate::names::{first_name_break, first_type_break};
 use om_lex::lexeme::Lexeme;
 use om_lex::tokens;
 use om_model::list::List;
-use om_occurrences::marks;
+use om_sites::marks;
 use om_parse::{parse_file, parse_type};
 use om_types::decl::Decl;
 use om_types::ty::Ty;

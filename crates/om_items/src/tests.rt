@@ -1,6 +1,6 @@
 use super::*;
 use om_lex::tokens;
-use om_occurrences::marks;
+use om_sites::marks;
 use om_parse::parse_type;
 use om_sites::type_site;
 use om_store::{TypeNode, Types};

@@ -9,9 +9,9 @@ use Rattle.om_types.specs.declared.decl.Body.TheVariants as bodies
 use Rattle.om_types.specs.declared.decl.Decl.{Decl}
 use Rattle.om_types.specs.Occurrence.{Placed}
 use Rattle.om_scope.specs.Sites.{IsSite}
-use Rattle.om_occurrences.specs.Counted.{in_type}
-use Rattle.om_occurrences.specs.CountedFile.{along, field_count, names_of_fields, in_field, constructor_count}
-use Rattle.om_occurrences.specs.CountedFile.{records_in, in_body, body_count, parameters_in, decl_count, counted_places}
+use Rattle.om_sites.specs.Counted.{in_type}
+use Rattle.om_sites.specs.CountedFile.{along, field_count, names_of_fields, in_field, constructor_count}
+use Rattle.om_sites.specs.CountedFile.{records_in, in_body, body_count, parameters_in, decl_count, counted_places}
 use Rattle.om_sites.specs.declared.found.Found.{Found}
 use Rattle.om_sites.specs.Brackets.{AreBrackets}
 use Rattle.om_sites.specs.Adds.{Adds}

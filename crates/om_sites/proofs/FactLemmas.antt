@@ -11,7 +11,7 @@ use Rattle.om_types.specs.Nodes.{type_at, types_of, type_of_node, IsBelow, AreOr
 use Rattle.om_types.specs.declared.ty.Node.{Node}
 use Rattle.om_types.specs.declared.ty.Node.TheVariants as nodes
 use Rattle.om_types.proofs.NodeLemmas.{types_of-at}
-use Rattle.om_occurrences.specs.Counted.{inner_count, own_count, begins}
+use Rattle.om_sites.specs.Counted.{inner_count, own_count, begins}
 use Rattle.om_sites.specs.declared.fact.Facts.{Facts}
 use Rattle.om_sites.specs.Facts.{holds, is_alone, some_grow, capped, nothing, fact_at, facts_of, total_of, whole, leaf}
 use Rattle.om_sites.specs.Facts.{IsLeaf, IsFacts, AreFacts}

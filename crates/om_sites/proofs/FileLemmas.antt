@@ -14,12 +14,12 @@ use Rattle.om_types.specs.Occurrence.{Placed, DeclPlaces}
 use Rattle.om_scope.specs.declared.site.Site.{Site}
 use Rattle.om_scope.specs.declared.site.TypeSite.{TypeSite}
 use Rattle.om_scope.specs.Sites.{IsSite, AreSites, IsTypeSite}
-use Rattle.om_occurrences.specs.Counted.{marks, in_type}
-use Rattle.om_occurrences.specs.CountedFile.{placed, in_body, decl_count, counted_places, counted_file}
-use Rattle.om_occurrences.specs.InFile.{file_places}
-use Rattle.om_occurrences.specs.InText.{in_texpr}
-use Rattle.om_occurrences.proofs.TypeLaws.{types_are_counted}
-use Rattle.om_occurrences.proofs.GroupLaws.{files_are_counted}
+use Rattle.om_sites.specs.Counted.{marks, in_type}
+use Rattle.om_sites.specs.CountedFile.{placed, in_body, decl_count, counted_places, counted_file}
+use Rattle.om_sites.specs.InFile.{file_places}
+use Rattle.om_sites.specs.InText.{in_texpr}
+use Rattle.om_sites.proofs.TypeLaws.{types_are_counted}
+use Rattle.om_sites.proofs.GroupLaws.{files_are_counted}
 use Rattle.om_sites.specs.declared.brackets.TypeBrackets.{TypeBrackets}
 use Rattle.om_sites.specs.Brackets.{AreBrackets, AreFileBrackets}
 use Rattle.om_sites.proofs.LoopLemmas.{left_is}

@@ -15,7 +15,7 @@ use Rattle.om_types.specs.Nodes.{type_at, types_of, type_of_node, IsBelow, AreOr
 use Rattle.om_types.specs.Occurrence.{Placed, PlacedItem}
 use Rattle.om_types.specs.Scope.{written_tag}
 use Rattle.om_types.proofs.NodeLemmas.{types_of-at, types_of-length}
-use Rattle.om_occurrences.specs.Counted.{inner_count, items_in}
+use Rattle.om_sites.specs.Counted.{inner_count, items_in}
 use Rattle.om_sites.specs.declared.brackets.BracketItem.{BracketItem}
 use Rattle.om_sites.specs.declared.fact.Facts.{Facts}
 use Rattle.om_sites.specs.Brackets.{item_of, item_told, items_told, brackets_told}

@@ -8,3 +8,9 @@ pub mod LoopLemmas
 pub mod OwnLemmas
 pub mod SiteLemmas
 pub mod WalkLemmas
+pub mod StandLemmas
+pub mod TypeLaws
+pub mod FileLaws
+pub mod DeclLaws
+pub mod GroupLaws
+pub mod MarkLemmas

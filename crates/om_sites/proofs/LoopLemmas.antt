@@ -4,7 +4,7 @@ use Rattle.std.proofs.Common.{refl, sym, ap, subst, append_assoc}
 use Rattle.std.proofs.lemmas.List.{append-nil, drop-drop, drop_more, drop_all}
 use Rattle.om_types.specs.Occurrence.{Placed, Occurrence}
 use Rattle.om_sites.specs.declared.found.Found.{Found}
-use Rattle.om_occurrences.specs.CountedFile.{along, count_all}
+use Rattle.om_sites.specs.CountedFile.{along, count_all}
 use Rattle.om_sites.specs.Found.{AddsFound}
 use Rattle.om_sites.proofs.FoundLemmas.{AddsFound-none, AddsFound-then}
 

@@ -10,7 +10,7 @@ use Rattle.om_types.specs.declared.ty.Node.TheVariants as nodes
 use Rattle.om_types.specs.Nodes.{type_at, types_of, type_of_node, AreOrdered}
 use Rattle.om_types.specs.Occurrence.{PlacedItem, Occurrence, use_of, variable_at}
 use Rattle.om_types.specs.Scope.{written_tag}
-use Rattle.om_occurrences.specs.Counted.{inner_count, items_in, begins, own}
+use Rattle.om_sites.specs.Counted.{inner_count, items_in, begins, own}
 use Rattle.om_sites.specs.declared.fact.Facts.{Facts}
 use Rattle.om_sites.specs.declared.walk.Task.{Task}
 use Rattle.om_sites.specs.Brackets.{brackets_among}

@@ -10,7 +10,7 @@ use Rattle.om_types.specs.declared.ty.Node.{Node}
 use Rattle.om_types.specs.declared.ty.Node.TheVariants as nodes
 use Rattle.om_types.specs.Nodes.{type_at, types_of, type_of, type_of_node, IsBelow, AreOrdered}
 use Rattle.om_types.proofs.NodeLemmas.{types_of-at}
-use Rattle.om_occurrences.specs.Counted.{inner_count, inner, own}
+use Rattle.om_sites.specs.Counted.{inner_count, inner, own}
 use Rattle.om_sites.specs.declared.fact.Facts.{Facts}
 use Rattle.om_sites.specs.declared.walk.Task.{Task}
 use Rattle.om_sites.specs.Facts.{capped, fact_at, AreFacts}

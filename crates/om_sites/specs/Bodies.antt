@@ -3,8 +3,8 @@ use Rattle.std.specs.Prelude.{ℕ, List, [], ◌∷◌, drop}
 use Rattle.om_types.specs.declared.decl.Constructor.{Constructor}
 use Rattle.om_types.specs.declared.decl.Body.{Body}
 use Rattle.om_types.specs.Occurrence.{Placed, Occurrence}
-use Rattle.om_occurrences.specs.CountedFile.{along, placed, record_in_arguments, in_arguments}
-use Rattle.om_occurrences.specs.CountedFile.{carrying_in, constructor_count, of_constructors}
+use Rattle.om_sites.specs.CountedFile.{along, placed, record_in_arguments, in_arguments}
+use Rattle.om_sites.specs.CountedFile.{carrying_in, constructor_count, of_constructors}
 
 abbrev pub records_of : List ℕ → Constructor → List (List Placed)
 records_of at c = record_in_arguments (drop 1 at) c.arguments

@@ -6,7 +6,7 @@ use Rattle.om_types.specs.Nodes.{type_at}
 use Rattle.om_types.specs.declared.ty.Node.{Node}
 use Rattle.om_types.specs.declared.ty.Node.TheVariants as nodes
 use Rattle.om_types.specs.Occurrence.{PlacedItem}
-use Rattle.om_occurrences.specs.Counted.{own_count, inner_count, begins}
+use Rattle.om_sites.specs.Counted.{own_count, inner_count, begins}
 use Rattle.om_sites.specs.declared.fact.Facts.{Facts}
 
 -- ---- tests on types

@@ -5,3 +5,8 @@ pub mod Facts
 pub mod Found
 pub mod Rows
 pub mod Walk
+pub mod InText
+pub mod Counted
+pub mod InFile
+pub mod CountedFile
+pub mod Laws

@@ -6,7 +6,7 @@ use Rattle.om_types.specs.declared.ty.Node.{Node}
 use Rattle.om_types.specs.declared.ty.Node.TheVariants as nodes
 use Rattle.om_types.specs.Nodes.{type_at}
 use Rattle.om_types.specs.Occurrence.{Occurrence}
-use Rattle.om_occurrences.specs.Counted.{inner, own}
+use Rattle.om_sites.specs.Counted.{inner, own}
 use Rattle.om_sites.specs.declared.fact.Facts.{Facts}
 use Rattle.om_sites.specs.Facts.{fact_at, capped}
 use Rattle.om_sites.specs.declared.walk.Task.{Task}

@@ -3,10 +3,10 @@
 ghost use Rattle.std.specs.Prelude.{◌≡◌, ◌++◌, ◌∷◌, [], IfOk, OnOk, drop, false};
 ghost use Rattle.om_types.specs.declared.decl.Constructor.{Constructor as Declared};
 ghost use Rattle.om_types.specs.Ty.{Ty as Tree};
-ghost use Rattle.om_occurrences.specs.Counted.{in_type};
-ghost use Rattle.om_occurrences.specs.CountedFile.{along, count_all, type_count, field_count, in_field};
-ghost use Rattle.om_occurrences.specs.CountedFile.{names_of_fields, record_in_arguments, in_arguments, arguments_count};
-ghost use Rattle.om_occurrences.specs.CountedFile.{constructor_count, records_in, in_body, body_count};
+ghost use Rattle.om_sites.specs.Counted.{in_type};
+ghost use Rattle.om_sites.specs.CountedFile.{along, count_all, type_count, field_count, in_field};
+ghost use Rattle.om_sites.specs.CountedFile.{names_of_fields, record_in_arguments, in_arguments, arguments_count};
+ghost use Rattle.om_sites.specs.CountedFile.{constructor_count, records_in, in_body, body_count};
 ghost use Rattle.om_sites.specs.Found.{AddsFound};
 ghost use Rattle.om_sites.specs.Bodies.{constructor_names, records_of, carrying_of, occurrences_of, names_in, carrying_body};
 

@@ -1,7 +1,7 @@
 //! What stands where in the text of declarations.
 
 ghost use Rattle.std.specs.Prelude.{◌≡◌, ◌+◌, IfOk, drop, length};
-ghost use Rattle.om_occurrences.specs.CountedFile.{parameters_in, counted_places, decl_count, counted_file, in_body};
+ghost use Rattle.om_sites.specs.CountedFile.{parameters_in, counted_places, decl_count, counted_file, in_body};
 ghost use Rattle.om_sites.specs.Brackets.{AreBrackets, AreFileBrackets};
 ghost use Rattle.om_scope.specs.Sites.{IsSite, AreSites};
 

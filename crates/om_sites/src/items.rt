@@ -2,7 +2,7 @@
 
 ghost use Rattle.std.specs.Prelude.{◌≡◌, ◌<◌, ◌++◌, ◌∷◌, [], IfOk, OnOk, length, drop, reverse};
 ghost use Rattle.om_types.specs.Nodes.{types_of, type_at, AreOrdered};
-ghost use Rattle.om_occurrences.specs.Counted.{items_in};
+ghost use Rattle.om_sites.specs.Counted.{items_in};
 ghost use Rattle.om_sites.specs.Brackets.{items_told};
 ghost use Rattle.om_sites.specs.Facts.{AreFacts};
 ghost use Rattle.om_sites.specs.Rows.{without_item};

@@ -1,4 +1,5 @@
-//! What stands where in types and declarations, as the rules of scope read it.
+//! What stands where in a text of types and declarations: names, variables and brackets, each with the number of its
+//! lexeme; the same told from the types and declarations themselves, by counting; and as the rules of scope read it.
 #![tactic(auto)]
 
 mod bodies;
@@ -7,7 +8,9 @@ mod fact;
 mod files;
 mod found;
 mod items;
+pub mod laws;
 mod mark;
+mod marked;
 mod own;
 mod row;
 mod texts;
@@ -16,8 +19,11 @@ mod walk;
 
 pub use brackets::{BracketItem, TypeBrackets};
 pub use files::{FileSites, file_sites};
+pub use marked::marks;
 pub use texts::{file_text_sites, type_text_site};
 pub use types::{TypeFound, type_site};
 
+#[cfg(test)]
+mod mark_tests;
 #[cfg(test)]
 mod tests;

@@ -1,7 +1,7 @@
 //! Marks, one after another: the places of names, tags, variables and included types.
 
 ghost use Rattle.std.specs.Prelude.{◌≡◌, ◌∷◌, ◌++◌, [], IfOk, OnOk, drop, slice_index};
-ghost use Rattle.om_occurrences.specs.CountedFile.{placed};
+ghost use Rattle.om_sites.specs.CountedFile.{placed};
 
 use om_model::Memory;
 use om_model::list::List;

@@ -4,7 +4,7 @@ ghost use Rattle.std.specs.Prelude.{◌≡◌, ◌<◌, ◌++◌, ◌∷◌, [],
 ghost use Rattle.std.specs.List.{filter_map};
 ghost use Rattle.om_types.specs.Nodes.{types_of, type_at, AreOrdered};
 ghost use Rattle.om_types.specs.Scope.{written_tag};
-ghost use Rattle.om_occurrences.specs.Counted.{items_in};
+ghost use Rattle.om_sites.specs.Counted.{items_in};
 ghost use Rattle.om_sites.specs.Adds.{Adds};
 ghost use Rattle.om_sites.specs.Brackets.{brackets_among, brackets_told};
 ghost use Rattle.om_sites.specs.Facts.{AreFacts};

@@ -1,7 +1,6 @@
 use super::*;
 use om_lex::tokens;
 use om_model::list::List;
-use om_occurrences::marks;
 use om_parse::{parse_file, parse_type};
 use om_scope::{Placed, Site, Use};
 use om_types::ty::Node;

@@ -2,8 +2,8 @@
 
 ghost use Rattle.std.specs.Prelude.{◌≡◌, IfOk, false};
 ghost use Rattle.om_grammar.specs.Grammar.{Texpr, texpr, FileTree, file_kinds};
-ghost use Rattle.om_occurrences.specs.InFile.{file_places};
-ghost use Rattle.om_occurrences.specs.InText.{in_texpr};
+ghost use Rattle.om_sites.specs.InFile.{file_places};
+ghost use Rattle.om_sites.specs.InText.{in_texpr};
 ghost use Rattle.om_parse.specs.Parsed.{kinds_of};
 ghost use Rattle.om_parse.specs.Written.{type_of_texpr, declarations_of};
 ghost use Rattle.om_scope.specs.Sites.{IsTypeSite, AreSites};
@@ -13,7 +13,7 @@ use crate::files::{FileSites, file_sites};
 use crate::types::{TypeFound, type_site};
 use om_lex::lexeme::Lexeme;
 use om_model::Memory;
-use om_occurrences::marks;
+use crate::marked::marks;
 use om_types::decl::Decl;
 use om_types::ty::Ty;
 use std::alloc::Global;

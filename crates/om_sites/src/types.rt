@@ -1,7 +1,7 @@
 //! What stands where in the text of a type.
 
 ghost use Rattle.std.specs.Prelude.{IfOk, false};
-ghost use Rattle.om_occurrences.specs.Counted.{in_type};
+ghost use Rattle.om_sites.specs.Counted.{in_type};
 ghost use Rattle.om_scope.specs.Sites.{IsTypeSite};
 ghost use Rattle.om_sites.specs.Brackets.{AreBrackets};
 

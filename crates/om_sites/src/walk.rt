@@ -2,8 +2,8 @@
 
 ghost use Rattle.std.specs.Prelude.{◌≡◌, ◌<◌, ◌++◌, ◌∷◌, [], IfOk, OnOk, length, drop, false};
 ghost use Rattle.om_types.specs.Nodes.{types_of, AreOrdered};
-ghost use Rattle.om_occurrences.specs.Counted.{in_type};
-ghost use Rattle.om_occurrences.specs.CountedFile.{type_count};
+ghost use Rattle.om_sites.specs.Counted.{in_type};
+ghost use Rattle.om_sites.specs.CountedFile.{type_count};
 ghost use Rattle.om_sites.specs.Adds.{Adds};
 ghost use Rattle.om_sites.specs.Brackets.{brackets_among, brackets_told};
 ghost use Rattle.om_sites.specs.Facts.{AreFacts};

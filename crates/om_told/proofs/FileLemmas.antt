@@ -20,9 +20,9 @@ use Rattle.om_types.specs.Scope.{BreaksInFile, KeepsAll}
 use Rattle.om_types.specs.Shape.{types_of_fields}
 use Rattle.om_types.specs.Ty.{Ty}
 use Rattle.om_parse.specs.Written.{type_of_texpr, type_of_app, field_of_tree, fields_of_tree, arguments_of_tree, constructor_of_tree, body_of_tree, declarations_of}
-use Rattle.om_occurrences.specs.InText.{in_texpr, in_app}
-use Rattle.om_occurrences.specs.InFile.{spread, field_size, in_fields, field_occurrences, constr_size, arguments_occurrences, constr_occurrences, body_occurrences, decl_places, decl_size, group_places, places_after, file_places}
-use Rattle.om_occurrences.proofs.GroupLaws.{files_are_counted}
+use Rattle.om_sites.specs.InText.{in_texpr, in_app}
+use Rattle.om_sites.specs.InFile.{spread, field_size, in_fields, field_occurrences, constr_size, arguments_occurrences, constr_occurrences, body_occurrences, decl_places, decl_size, group_places, places_after, file_places}
+use Rattle.om_sites.proofs.GroupLaws.{files_are_counted}
 use Rattle.om_accepted.specs.Told.{TellsAll}
 use Rattle.om_accepted.specs.Accepted.{IsWritten, AreToldWhole}
 use Rattle.om_accepted.proofs.AcceptedLemmas.{well_formed}

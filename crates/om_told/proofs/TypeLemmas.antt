@@ -10,7 +10,7 @@ use Rattle.om_types.specs.Ty.{Ty, bracket}
 use Rattle.om_types.specs.Ty.{parts}
 use Rattle.om_parse.specs.Written.{type_of_texpr, tuple_of, type_of_app, type_of_simple, applied_to, type_of_items, with_item}
 use Rattle.om_parse.specs.TypeShown.{types_of_texprs}
-use Rattle.om_occurrences.specs.InText.{placed_items, in_texpr, in_app, in_simple, in_texprs, in_items, in_item}
+use Rattle.om_sites.specs.InText.{placed_items, in_texpr, in_app, in_simple, in_texprs, in_items, in_item}
 use Rattle.om_accepted.specs.Told.{Thing, use_thing, variable_thing, bracket_thing, HasParts, HasItems, IsProper, items_of, begins_as, things_inside, things_in, thing_of, IsTold, TellsAll}
 
 -- ---- proper types

@@ -7,8 +7,8 @@ use Rattle.om_types.specs.declared.decl.Decl.{Decl}
 use Rattle.om_types.specs.Accepted.{AreWellFormed, IsSoundType}
 use Rattle.om_types.specs.Scope.{BreaksInFile, BreaksInType, KeepsAll}
 use Rattle.om_parse.specs.Written.{type_of_texpr, declarations_of}
-use Rattle.om_occurrences.specs.InFile.{file_places}
-use Rattle.om_occurrences.specs.InText.{in_texpr}
+use Rattle.om_sites.specs.InFile.{file_places}
+use Rattle.om_sites.specs.InText.{in_texpr}
 
 abbrev pub FilesAreWellFormed : Type 0
 FilesAreWellFormed =

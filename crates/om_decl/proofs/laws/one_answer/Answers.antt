@@ -5,8 +5,8 @@ use Rattle.om_grammar.proofs.FileTable.{file_table}
 use Rattle.om_grammar.specs.Grammar.{texpr, file_kinds}
 use Rattle.om_grammar.specs.Depths.{texpr_ends, file_ends}
 use Rattle.om_types.specs.Scope.{BreaksInFile, BreaksInType}
-use Rattle.om_occurrences.specs.InFile.{file_places}
-use Rattle.om_occurrences.specs.InText.{in_texpr}
+use Rattle.om_sites.specs.InFile.{file_places}
+use Rattle.om_sites.specs.InText.{in_texpr}
 use Rattle.om_decl.proofs.AnswerLaws.{one_answer}
 use Rattle.om_decl.proofs.laws.one_answer.Goals as goal
 

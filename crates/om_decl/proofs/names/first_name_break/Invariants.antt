@@ -1,4 +1,4 @@
-use Rattle.om_occurrences.specs.CountedFile.{counted_file}
+use Rattle.om_sites.specs.CountedFile.{counted_file}
 use Rattle.om_decl.proofs.names.first_name_break.Given as goal
 
 abbrev pub ghost-first_of_sites : goal.ghost-first_of_sites

@@ -1,5 +1,5 @@
 use Rattle.std.proofs.Common.{false}
-use Rattle.om_occurrences.specs.Counted.{in_type}
+use Rattle.om_sites.specs.Counted.{in_type}
 use Rattle.om_decl.proofs.names.first_type_break.Given as goal
 
 abbrev pub ghost-first_of_type_site : goal.ghost-first_of_type_site

@@ -5,9 +5,9 @@ use Rattle.om_types.specs.Occurrence.{DeclPlaces}
 use Rattle.om_grammar.specs.Grammar.{FileTree, file_kinds}
 use Rattle.om_grammar.specs.Depths.{file_ends}
 use Rattle.om_parse.specs.Parsed.{kinds_of, byte_of, IsFault, AreDeclarationsOf}
-use Rattle.om_occurrences.specs.Counted.{marks}
-use Rattle.om_occurrences.specs.CountedFile.{counted_file}
-use Rattle.om_occurrences.specs.InFile.{file_places}
+use Rattle.om_sites.specs.Counted.{marks}
+use Rattle.om_sites.specs.CountedFile.{counted_file}
+use Rattle.om_sites.specs.InFile.{file_places}
 use Rattle.om_decl.specs.Answer.{IsFileAnswer}
 use Rattle.om_decl.specs.Fault.{parsed, broken_at, IsRefused}
 use Rattle.om_scope.specs.Breaks.{rule_of}

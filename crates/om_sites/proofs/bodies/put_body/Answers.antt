@@ -2,7 +2,7 @@ use Rattle.std.proofs.Common.{List, ◌∷◌, ◌++◌, [], subst}
 use Rattle.std.proofs.lemmas.Result.{on_ok_weaker}
 use Rattle.om_types.specs.declared.decl.Field.{Field}
 use Rattle.om_types.specs.declared.decl.Constructor.{Constructor}
-use Rattle.om_occurrences.specs.CountedFile.{along, field_count, in_field, names_of_fields, constructor_count}
+use Rattle.om_sites.specs.CountedFile.{along, field_count, in_field, names_of_fields, constructor_count}
 use Rattle.om_sites.specs.Found.{AddsFound}
 use Rattle.om_sites.specs.Bodies.{records_of, carrying_of, occurrences_of, constructor_names}
 use Rattle.om_sites.proofs.BodyLemmas.{adds_abbreviation, adds_record, adds_variant}

@@ -1,6 +1,6 @@
 use Rattle.std.proofs.Common.{[], List, ℕ, subst}
 use Rattle.std.proofs.lemmas.Result.{on_ok_weaker}
-use Rattle.om_occurrences.specs.CountedFile.{record_in_arguments, in_arguments}
+use Rattle.om_sites.specs.CountedFile.{record_in_arguments, in_arguments}
 use Rattle.om_sites.specs.Found.{AddsFound}
 use Rattle.om_sites.specs.Bodies.{records_of, carrying_of, occurrences_of}
 use Rattle.om_sites.proofs.FoundLemmas.{carrying_then}

@@ -1,6 +1,6 @@
 use Rattle.std.proofs.Common.{◌∙◌, ◌++◌, ◌∷◌, List, [], ap, subst}
 use Rattle.om_types.specs.Occurrence.{Placed}
-use Rattle.om_occurrences.specs.CountedFile.{along, constructor_count}
+use Rattle.om_sites.specs.CountedFile.{along, constructor_count}
 use Rattle.om_sites.specs.Found.{AddsFound}
 use Rattle.om_sites.specs.Bodies.{name_of_constructor, records_of, carrying_of, occurrences_of}
 use Rattle.om_sites.proofs.FoundLemmas.{then_row}

@@ -1,5 +1,5 @@
 use Rattle.std.proofs.Common.{drop}
-use Rattle.om_occurrences.specs.CountedFile.{constructor_count}
+use Rattle.om_sites.specs.CountedFile.{constructor_count}
 use Rattle.om_sites.specs.Bodies.{name_of_constructor, records_of, carrying_of, occurrences_of}
 use Rattle.om_sites.proofs.LoopLemmas.{Follows, RowFollows}
 use Rattle.om_sites.proofs.bodies.put_constructors.Given as goal

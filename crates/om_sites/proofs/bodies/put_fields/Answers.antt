@@ -2,8 +2,8 @@ use Rattle.std.proofs.Common.{◌≡◌, ◌∙◌, ◌++◌, ◌∷◌, List, �
 use Rattle.std.proofs.lemmas.List.{drop-drop}
 use Rattle.om_types.specs.declared.decl.Field.{Field}
 use Rattle.om_types.specs.Occurrence.{Placed}
-use Rattle.om_occurrences.specs.Counted.{in_type}
-use Rattle.om_occurrences.specs.CountedFile.{along, field_count, in_field, placed, type_count}
+use Rattle.om_sites.specs.Counted.{in_type}
+use Rattle.om_sites.specs.CountedFile.{along, field_count, in_field, placed, type_count}
 use Rattle.om_sites.specs.Found.{AddsFound}
 use Rattle.om_sites.proofs.FoundLemmas.{then_row}
 use Rattle.om_sites.proofs.LoopLemmas.{Follows-step, Follows-plain, RowFollows-step, RowFollows-end}

@@ -1,6 +1,6 @@
 use Rattle.std.proofs.Common.{[], ◌∷◌, drop}
 use Rattle.om_types.specs.declared.decl.Field.{Field}
-use Rattle.om_occurrences.specs.CountedFile.{field_count, in_field, placed}
+use Rattle.om_sites.specs.CountedFile.{field_count, in_field, placed}
 use Rattle.om_sites.proofs.LoopLemmas.{Follows, RowFollows}
 use Rattle.om_sites.proofs.bodies.put_fields.Given as goal
 

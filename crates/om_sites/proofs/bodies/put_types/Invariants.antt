@@ -1,6 +1,6 @@
 use Rattle.std.proofs.Common.{[], drop, false}
-use Rattle.om_occurrences.specs.Counted.{in_type}
-use Rattle.om_occurrences.specs.CountedFile.{type_count}
+use Rattle.om_sites.specs.Counted.{in_type}
+use Rattle.om_sites.specs.CountedFile.{type_count}
 use Rattle.om_sites.proofs.LoopLemmas.{Follows}
 use Rattle.om_sites.proofs.bodies.put_types.Given as goal
 

@@ -1,5 +1,5 @@
 use Rattle.std.proofs.Common.{List, ℕ, ◌∙◌, ap}
-use Rattle.om_occurrences.specs.CountedFile.{parameters_in}
+use Rattle.om_sites.specs.CountedFile.{parameters_in}
 use Rattle.om_sites.proofs.BodyLemmas.{decl_rest, decl_told, decl_brackets}
 use Rattle.om_sites.proofs.files.decl_found.Goals as goal
 

@@ -1,6 +1,6 @@
 use Rattle.std.proofs.Common.{List, ℕ, ◌∙◌, ◌++◌, ◌∷◌, [], drop, ap}
 use Rattle.om_types.specs.Occurrence.{Placed}
-use Rattle.om_occurrences.specs.CountedFile.{placed}
+use Rattle.om_sites.specs.CountedFile.{placed}
 use Rattle.om_sites.proofs.FileLemmas.{FileFollows-step, FileFollows-end, BracketsFollow-step, BracketsFollow-end}
 use Rattle.om_sites.proofs.files.file_sites.Goals as goal
 

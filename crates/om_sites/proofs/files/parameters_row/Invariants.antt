@@ -1,5 +1,5 @@
 use Rattle.std.proofs.Common.{ℕ, List, [], ◌∷◌, drop}
-use Rattle.om_occurrences.specs.CountedFile.{placed}
+use Rattle.om_sites.specs.CountedFile.{placed}
 use Rattle.om_sites.proofs.LoopLemmas.{RowFollows}
 use Rattle.om_sites.proofs.files.parameters_row.Given as goal
 

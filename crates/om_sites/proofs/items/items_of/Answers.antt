@@ -2,7 +2,7 @@ use Rattle.std.proofs.Common.{List, ◌≡◌, ◌<◌, ◌∙◌, ◌+◌, leng
 use Rattle.std.specs.Prelude.{slice_index}
 use Rattle.std.proofs.lemmas.Result.{IfOk-weaker}
 use Rattle.om_types.specs.Nodes.{types_of, type_at}
-use Rattle.om_occurrences.specs.Counted.{items_in}
+use Rattle.om_sites.specs.Counted.{items_in}
 use Rattle.om_sites.specs.declared.brackets.BracketItem.{BracketItem}
 use Rattle.om_sites.specs.declared.fact.Facts.{Facts}
 use Rattle.om_sites.specs.Brackets.{items_told}

@@ -1,5 +1,5 @@
 use Rattle.std.proofs.Common.{[], false, ap, subst}
-use Rattle.om_occurrences.specs.Counted.{in_type}
+use Rattle.om_sites.specs.Counted.{in_type}
 use Rattle.om_sites.specs.declared.found.Found.{Found}
 use Rattle.om_sites.specs.Adds.{Adds}
 use Rattle.om_sites.proofs.FoundLemmas.{AreBrackets-added}

@@ -2,8 +2,8 @@ use Rattle.std.proofs.Common.{◌≡◌, ◌<◌, ◌-◌, ◌∙◌, ◌++◌, 
 use Rattle.std.proofs.lemmas.Bool.{eqb-true}
 use Rattle.om_types.specs.Ty.{Ty, tuple}
 use Rattle.om_types.specs.Nodes.{types_of, type_at}
-use Rattle.om_occurrences.specs.Counted.{in_type}
-use Rattle.om_occurrences.specs.CountedFile.{type_count}
+use Rattle.om_sites.specs.Counted.{in_type}
+use Rattle.om_sites.specs.CountedFile.{type_count}
 use Rattle.om_sites.specs.declared.fact.Facts.{Facts}
 use Rattle.om_scope.specs.declared.site.Site.{Site}
 use Rattle.om_sites.specs.declared.brackets.BracketItem.{BracketItem}

@@ -1,6 +1,6 @@
 use Rattle.std.proofs.Common.{false}
 use Rattle.om_accepted.proofs.AcceptedLemmas.{sound_type}
-use Rattle.om_occurrences.specs.InText.{in_texpr}
+use Rattle.om_sites.specs.InText.{in_texpr}
 use Rattle.om_parse.specs.Written.{type_of_texpr}
 use Rattle.om_told.proofs.OutsideLemmas.{types_are_types}
 use Rattle.om_told.proofs.TypeLemmas.{types_told, types_proper}

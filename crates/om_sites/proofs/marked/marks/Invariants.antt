@@ -1,5 +1,5 @@
-use Rattle.om_occurrences.proofs.MarkLemmas.{AreMarksTo}
-use Rattle.om_occurrences.proofs.marked.marks.Given as goal
+use Rattle.om_sites.proofs.MarkLemmas.{AreMarksTo}
+use Rattle.om_sites.proofs.marked.marks.Given as goal
 
 abbrev pub invariant-loop-i : goal.invariant-loop-i
 invariant-loop-i l = AreMarksTo l.lexemes l.i l.fresh l.marked.items

@@ -10,7 +10,7 @@ use Rattle.om_types.specs.declared.decl.Body.TheVariants as bodies
 use Rattle.om_types.specs.declared.decl.Decl.{Decl}
 use Rattle.om_types.specs.Ty.{Ty}
 use Rattle.om_types.specs.Occurrence.{Placed, Occurrence, DeclPlaces}
-use Rattle.om_occurrences.specs.Counted.{own_count, inner_count, in_type}
+use Rattle.om_sites.specs.Counted.{own_count, inner_count, in_type}
 
 -- of each of these, where each takes as many lexemes as are counted
 abbrev pub along : {X Y : Type 0} → (X → ℕ) → (List ℕ → X → List Y) → List ℕ → List X → List Y

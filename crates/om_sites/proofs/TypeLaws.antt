@@ -13,13 +13,13 @@ use Rattle.om_types.specs.Occurrence.{Occurrence, PlacedItem, use_of, bracket_of
 use Rattle.om_parse.specs.Written.{type_of_texpr, tuple_of, type_of_app, applied_to, type_of_items}
 use Rattle.om_parse.specs.Written.{with_item, type_of_simple}
 use Rattle.om_parse.specs.TypeShown.{types_of_texprs}
-use Rattle.om_occurrences.specs.InText.{placed_items, in_texpr, in_app, in_simple, in_texprs, in_items}
-use Rattle.om_occurrences.specs.InText.{in_item}
-use Rattle.om_occurrences.specs.Counted.{marks, own_count, inner_count, items_in, begins, inner, in_type}
-use Rattle.om_occurrences.specs.Laws.{TypesAreCounted}
-use Rattle.om_occurrences.proofs.StandLemmas.{IsSilent, IsClosed, closed_last, marks_append, marks_before}
-use Rattle.om_occurrences.proofs.StandLemmas.{marks_over, Stands, Inside, Writes, first_part, next_part, alone}
-use Rattle.om_occurrences.proofs.StandLemmas.{with_name, next_tag, next_item, written_last}
+use Rattle.om_sites.specs.InText.{placed_items, in_texpr, in_app, in_simple, in_texprs, in_items}
+use Rattle.om_sites.specs.InText.{in_item}
+use Rattle.om_sites.specs.Counted.{marks, own_count, inner_count, items_in, begins, inner, in_type}
+use Rattle.om_sites.specs.Laws.{TypesAreCounted}
+use Rattle.om_sites.proofs.StandLemmas.{IsSilent, IsClosed, closed_last, marks_append, marks_before}
+use Rattle.om_sites.proofs.StandLemmas.{marks_over, Stands, Inside, Writes, first_part, next_part, alone}
+use Rattle.om_sites.proofs.StandLemmas.{with_name, next_tag, next_item, written_last}
 
 -- ---- what types begin with
 

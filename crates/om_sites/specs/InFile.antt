@@ -10,7 +10,7 @@ use Rattle.om_grammar.specs.Grammar.{params_kinds, field_kinds, constr_kinds, de
 use Rattle.om_grammar.specs.Grammar as trees
 use Rattle.om_types.specs.Occurrence.{Placed, Occurrence, DeclPlaces}
 use Rattle.om_parse.specs.Written.{declaration_of_tree}
-use Rattle.om_occurrences.specs.InText.{in_texpr, in_app}
+use Rattle.om_sites.specs.InText.{in_texpr, in_app}
 
 -- of each of these, where lexeme k stands in front of the first, and one in front of each other
 abbrev pub spread : {X Y : Type 0} → (X → ℕ) → (ℕ → X → List Y) → ℕ → List X → List Y

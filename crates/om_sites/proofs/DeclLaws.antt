@@ -19,20 +19,20 @@ use Rattle.om_types.specs.declared.decl.Decl.{Decl}
 use Rattle.om_types.specs.Occurrence.{Placed, Occurrence, DeclPlaces}
 use Rattle.om_parse.specs.Written.{type_of_app, type_of_texpr, parameters_of, field_of_tree, fields_of_tree}
 use Rattle.om_parse.specs.Written.{arguments_of_tree, constructor_of_tree, body_of_tree, declaration_of_tree}
-use Rattle.om_occurrences.specs.Counted.{after, marks, in_type}
-use Rattle.om_occurrences.specs.CountedFile.{along, count_all, type_count, placed, parameters_in, field_count}
-use Rattle.om_occurrences.specs.CountedFile.{names_of_fields, in_field, arguments_count, constructor_count}
-use Rattle.om_occurrences.specs.CountedFile.{record_in_arguments, in_arguments, carrying_in, of_constructors}
-use Rattle.om_occurrences.specs.CountedFile.{body_count, records_in, in_body, decl_count, counted_places}
-use Rattle.om_occurrences.specs.InText.{in_app}
-use Rattle.om_occurrences.specs.InFile.{spread, placed_parameters, in_fields, field_name}
-use Rattle.om_occurrences.specs.InFile.{field_occurrences, constr_name, carrying_if, carrying_constr}
-use Rattle.om_occurrences.specs.InFile.{arguments_record, constr_record, arguments_occurrences}
-use Rattle.om_occurrences.specs.InFile.{constr_occurrences, in_constrs, body_records, body_occurrences}
-use Rattle.om_occurrences.specs.InFile.{decl_places}
-use Rattle.om_occurrences.proofs.StandLemmas.{IsSilent, IsClosed, closed_last, after_append, marks_append, marks_before, marks_after}
-use Rattle.om_occurrences.proofs.TypeLaws.{texpr_stands, app_stands, texpr_closed, app_closed}
-use Rattle.om_occurrences.proofs.FileLaws.{IsCounted, row_counted, row_seen, row_closed}
+use Rattle.om_sites.specs.Counted.{after, marks, in_type}
+use Rattle.om_sites.specs.CountedFile.{along, count_all, type_count, placed, parameters_in, field_count}
+use Rattle.om_sites.specs.CountedFile.{names_of_fields, in_field, arguments_count, constructor_count}
+use Rattle.om_sites.specs.CountedFile.{record_in_arguments, in_arguments, carrying_in, of_constructors}
+use Rattle.om_sites.specs.CountedFile.{body_count, records_in, in_body, decl_count, counted_places}
+use Rattle.om_sites.specs.InText.{in_app}
+use Rattle.om_sites.specs.InFile.{spread, placed_parameters, in_fields, field_name}
+use Rattle.om_sites.specs.InFile.{field_occurrences, constr_name, carrying_if, carrying_constr}
+use Rattle.om_sites.specs.InFile.{arguments_record, constr_record, arguments_occurrences}
+use Rattle.om_sites.specs.InFile.{constr_occurrences, in_constrs, body_records, body_occurrences}
+use Rattle.om_sites.specs.InFile.{decl_places}
+use Rattle.om_sites.proofs.StandLemmas.{IsSilent, IsClosed, closed_last, after_append, marks_append, marks_before, marks_after}
+use Rattle.om_sites.proofs.TypeLaws.{texpr_stands, app_stands, texpr_closed, app_closed}
+use Rattle.om_sites.proofs.FileLaws.{IsCounted, row_counted, row_seen, row_closed}
 
 map_same : {X : Type 0} (xs : List X) → map (λ (x : X). x) xs ≡ xs
 map_same [] = refl

@@ -12,13 +12,13 @@ use Rattle.om_types.specs.declared.decl.Decl.{Decl}
 use Rattle.om_types.specs.Occurrence.{DeclPlaces}
 use Rattle.om_types.specs.Scope.{decls_of}
 use Rattle.om_parse.specs.Written.{declaration_of_tree, declarations_after}
-use Rattle.om_occurrences.specs.Counted.{after, marks}
-use Rattle.om_occurrences.specs.CountedFile.{along, count_all, decl_count, counted_places, counted_file}
-use Rattle.om_occurrences.specs.InFile.{spread, decl_places, decl_size, group_places, places_after}
-use Rattle.om_occurrences.specs.Laws.{FilesAreCounted}
-use Rattle.om_occurrences.proofs.StandLemmas.{IsSilent, after_append, marks_append, marks_before}
-use Rattle.om_occurrences.proofs.FileLaws.{IsCounted, row_counted, row_seen, row_closed}
-use Rattle.om_occurrences.proofs.DeclLaws.{decl_closed, decl_counted, decl_seen}
+use Rattle.om_sites.specs.Counted.{after, marks}
+use Rattle.om_sites.specs.CountedFile.{along, count_all, decl_count, counted_places, counted_file}
+use Rattle.om_sites.specs.InFile.{spread, decl_places, decl_size, group_places, places_after}
+use Rattle.om_sites.specs.Laws.{FilesAreCounted}
+use Rattle.om_sites.proofs.StandLemmas.{IsSilent, after_append, marks_append, marks_before}
+use Rattle.om_sites.proofs.FileLaws.{IsCounted, row_counted, row_seen, row_closed}
+use Rattle.om_sites.proofs.DeclLaws.{decl_closed, decl_counted, decl_seen}
 
 an_and : IsSilent (word keywords.And)
 an_and j fresh = refl

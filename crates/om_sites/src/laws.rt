@@ -1,6 +1,6 @@
 //! Occurrences by their numbers among the marks.
 
-ghost use Rattle.om_occurrences.specs.Laws.{TypesAreCounted, FilesAreCounted};
+ghost use Rattle.om_sites.specs.Laws.{TypesAreCounted, FilesAreCounted};
 
 /// A type, as a tree of its own, tells which mark of its text each name, tag, variable and included type is. The function
 /// does nothing.

@@ -1,7 +1,7 @@
 use Rattle.std.proofs.Common.{arith, ap, ◌∙◌, ◌++◌}
-use Rattle.om_occurrences.specs.Counted.{one_if}
-use Rattle.om_occurrences.proofs.MarkLemmas.{marks_next}
-use Rattle.om_occurrences.proofs.marked.marks.Goals as goal
+use Rattle.om_sites.specs.Counted.{one_if}
+use Rattle.om_sites.proofs.MarkLemmas.{marks_next}
+use Rattle.om_sites.proofs.marked.marks.Goals as goal
 
 pub loop-i-preserved : goal.loop-i-preserved
 loop-i-preserved c = let i = c.loop-i.i in let so_far = c.loop-i.marked.items in let first = c.push_if.new.marked.items in

@@ -3,10 +3,10 @@ use Rattle.std.specs.Prelude.{ℕ, ◌≡◌, Bool, false}
 use Rattle.om_grammar.specs.Grammar.{Texpr, texpr, FileTree, file_kinds}
 use Rattle.om_types.specs.Scope.{decls_of}
 use Rattle.om_parse.specs.Written.{type_of_texpr, declarations_of}
-use Rattle.om_occurrences.specs.InText.{in_texpr}
-use Rattle.om_occurrences.specs.InFile.{file_places}
-use Rattle.om_occurrences.specs.CountedFile.{counted_file}
-use Rattle.om_occurrences.specs.Counted.{marks, in_type}
+use Rattle.om_sites.specs.InText.{in_texpr}
+use Rattle.om_sites.specs.InFile.{file_places}
+use Rattle.om_sites.specs.CountedFile.{counted_file}
+use Rattle.om_sites.specs.Counted.{marks, in_type}
 
 -- what stands in a type by its own tree is what stands in its text
 abbrev pub TypesAreCounted : Type 0

@@ -6,8 +6,8 @@ use Rattle.std.proofs.lemmas.List.{length-take-le, append-nil}
 use Rattle.om_lex.specs.declared.lexeme.Lexeme.{Lexeme}
 use Rattle.om_parse.specs.Parsed.{kinds_of}
 use Rattle.om_parse.proofs.LexemeLemmas.{kinds_length, kinds_next}
-use Rattle.om_occurrences.specs.Counted.{is_marked, opens_item, begins_type, after, one_if, marks}
-use Rattle.om_occurrences.proofs.StandLemmas.{after_append, marks_append}
+use Rattle.om_sites.specs.Counted.{is_marked, opens_item, begins_type, after, one_if, marks}
+use Rattle.om_sites.proofs.StandLemmas.{after_append, marks_append}
 
 -- what the loop over the lexemes knows before lexeme i
 pub record AreMarksTo (lexemes : List Lexeme) (i : ℕ) (fresh : Bool) (so_far : List ℕ) : Type 0 where

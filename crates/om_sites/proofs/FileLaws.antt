@@ -5,10 +5,10 @@ use Rattle.std.specs.Prelude.{map}
 use Rattle.std.proofs.lemmas.List.{drop_at}
 use Rattle.om_lex.specs.declared.lexeme.LexemeKind.{LexemeKind}
 use Rattle.om_grammar.specs.Grammar.{Kinds, each_after}
-use Rattle.om_occurrences.specs.Counted.{opens_item, after, marks}
-use Rattle.om_occurrences.specs.CountedFile.{along, count_all}
-use Rattle.om_occurrences.specs.InFile.{spread}
-use Rattle.om_occurrences.proofs.StandLemmas.{IsSilent, IsClosed, closed_last, after_append, marks_append}
+use Rattle.om_sites.specs.Counted.{opens_item, after, marks}
+use Rattle.om_sites.specs.CountedFile.{along, count_all}
+use Rattle.om_sites.specs.InFile.{spread}
+use Rattle.om_sites.proofs.StandLemmas.{IsSilent, IsClosed, closed_last, after_append, marks_append}
 
 -- ---- rows
 

@@ -8,8 +8,8 @@ use Rattle.om_lex.specs.declared.lexeme.LexemeKind.{LexemeKind}
 use Rattle.om_grammar.specs.Grammar.{Name, Kinds}
 use Rattle.om_types.specs.Ty.{Ty, part, tag, parts}
 use Rattle.om_types.specs.Occurrence.{Occurrence, PlacedItem, use_of}
-use Rattle.om_occurrences.specs.Counted.{is_marked, opens_item, begins_type, after, one_if, marks}
-use Rattle.om_occurrences.specs.Counted.{own_count, inner_count, items_in, begins, inner, in_type}
+use Rattle.om_sites.specs.Counted.{is_marked, opens_item, begins_type, after, one_if, marks}
+use Rattle.om_sites.specs.Counted.{own_count, inner_count, items_in, begins, inner, in_type}
 
 -- ---- marks
 
