@@ -1,0 +1,34 @@
+-- What a table of types is made of.
+use Rattle.std.specs.Prelude.{ℕ, ◌<◌, ◌≤◌, ◌≡◌, List, length, map, All}
+use Rattle.om_types.specs.declared.decl.Decl.{Decl}
+use Rattle.om_types.specs.Ty.{Ty}
+use Rattle.om_types.specs.Nodes.{type_at}
+use Rattle.om_types.specs.Lawful.{AreLawful, Everything}
+use Rattle.om_types.specs.Names.{names_of}
+use Rattle.om_types.specs.Reached.{IsReached, named_in}
+use Rattle.om_types.specs.Table.{Table, table_shapes, IsTableOf}
+use Rattle.om_type_table.specs.declared.table.TypeTable.{TypeTable}
+
+-- the types, by their numbers
+abbrev pub types_of : TypeTable → List Ty
+types_of t = map (type_at t.store) t.stored
+
+-- the shapes and the classes
+abbrev pub table_of : TypeTable → Table
+table_of t = record { nodes = t.nodes; classes = t.classes }
+
+-- The table of the types that t reaches over the declarations, at most 65,536.
+pub record IsTypeTable (decls : List Decl) (t : Ty) (table : TypeTable) : Type 0 where
+  pub within : All (λ i. i < length table.store) table.stored
+  pub reached : IsReached decls t (types_of table)
+  pub made : IsTableOf decls (types_of table) (table_of table)
+  pub named : table.names ≡ map (names_of decls) (types_of table)
+  pub few : length table.stored ≤ 65536
+
+-- A table that values can be checked by: numbers of one class mean the same, and each shape is over
+-- numbers of the table.
+pub record IsLawful (table : Table) : Type 0 where
+  pub lawful : AreLawful (table_shapes table) Everything
+  pub rooted : 0 < length table.nodes
+  pub closed : All (λ node. All (λ i. i < length table.nodes) (named_in node)) table.nodes
+  pub classed : length table.classes ≡ length table.nodes

@@ -1,0 +1,6 @@
+//! The table of the types that a type reaches: for each number a shape over numbers, a class, names and a text.
+#![tactic(auto)]
+
+mod table;
+
+pub use table::TypeTable;
