@@ -1,0 +1,103 @@
+#!/bin/sh
+# Checks files that OCaml itself wrote with omarshal, at the type files of examples/: each compiled interface of the
+# standard library, each .cmo, .cma, .cmx and .cmxa there, and a map, a set, a hash table and a queue. Each value has
+# its type; with a byte of it damaged it is refused, or does not have the type, or is another value of it, and omarshal
+# ends with 0, 1 or 4 all the same. The argument is the program; with none it is the one that `./omarshal` built.
+set -eu
+export LC_ALL=C
+for needed in ocaml ocamlc; do
+    if ! command -v "$needed" > /dev/null 2>&1; then
+        echo "skipped: no $needed"
+        exit 0
+    fi
+done
+case $(ocamlc -version) in
+    4.13.*) ;;
+    *) echo "skipped: OCaml is $(ocamlc -version), and the type files are those of 4.13"; exit 0 ;;
+esac
+here=$(cd "$(dirname "$0")" && pwd)
+examples=$here/../examples
+program=${1:-$here/../crates/omarshal/out/omarshal}
+if [ ! -x "$program" ]; then
+    echo "there is no program $program: ./omarshal builds it"
+    exit 2
+fi
+library=$(ocamlc -where)
+work=$(mktemp -d)
+trap 'rm -rf "$work"' EXIT
+checked=0
+failures=0
+
+# Twelve bytes of magic come before the first value of a .cmi, .cmx or .cmxa, and 16 bytes of a checksum after that of a
+# .cmx; a .cmo or .cma has its value at the place that the four bytes after the magic tell.
+after_magic() { tail -c +13 "$1"; }
+before_checksum() { tail -c +13 "$1" | head -c -16; }
+descriptor() {
+    place=$(($(head -c 16 "$1" | tail -c 4 | od -An -tu1 | awk '{ print (($1 * 256 + $2) * 256 + $3) * 256 + $4 }')))
+    tail -c "+$((place + 1))" "$1"
+}
+
+# value WHAT TYPES TYPE LINE: line LINE of the check of $work/values at a type is yes.
+value() {
+    checked=$((checked + 1))
+    "$program" check "$examples/$2" "$3" < "$work/values" > "$work/lines" 2> "$work/told" || true
+    found=$(sed -n "$4p" "$work/lines")
+    if [ "$found" != yes ]; then
+        echo "FAILED: $1 at $3: $found $(cat "$work/told")"
+        failures=$((failures + 1))
+    fi
+}
+
+for file in "$library"/*.cmi; do
+    [ -f "$file" ] || continue
+    after_magic "$file" > "$work/values"
+    value "$file" cmi.types 'string * types_signature' 1
+    value "$file" cmi.types misc_crcs 2
+    value "$file" cmi.types 'cmi_format_pers_flags list' 3
+done
+for file in "$library"/*.cmo; do
+    [ -f "$file" ] || continue
+    descriptor "$file" > "$work/values"
+    value "$file" cmo.types cmo_format_compilation_unit 1
+done
+for file in "$library"/*.cma; do
+    [ -f "$file" ] || continue
+    descriptor "$file" > "$work/values"
+    value "$file" cmo.types cmo_format_library 1
+done
+for file in "$library"/*.cmx; do
+    [ -f "$file" ] || continue
+    before_checksum "$file" > "$work/values"
+    value "$file" cmx.types cmx_format_unit_infos 1
+done
+for file in "$library"/*.cmxa; do
+    [ -f "$file" ] || continue
+    after_magic "$file" > "$work/values"
+    value "$file" cmx.types cmx_format_library_infos 1
+done
+
+ocaml "$examples/containers.ml" "$work"
+cp "$work/map.bin" "$work/values" && value 'a map' map.types 'int map_make_string_t' 1
+cp "$work/set.bin" "$work/values" && value 'a set' set.types set_make_string_t 1
+cp "$work/hashtbl.bin" "$work/values" && value 'a hash table' hashtbl.types '(string, int) hashtbl_t' 1
+cp "$work/queue.bin" "$work/values" && value 'a queue' queue.types 'int queue_t' 1
+
+# A map is no set, and a damaged interface ends a run in order: byte after byte of the first value of a small one.
+"$program" check "$examples/set.types" set_make_string_t < "$work/map.bin" > "$work/lines" || true
+checked=$((checked + 1))
+grep -q '^no ' "$work/lines" || { echo "FAILED: a map is taken for a set"; failures=$((failures + 1)); }
+after_magic "$library/stdlib.cmi" | head -c 20000 > "$work/whole"
+for place in 0 3 5 11 19 20 25 100 1000 10000; do
+    checked=$((checked + 1))
+    { head -c "$place" "$work/whole"; printf '\377'; tail -c "+$((place + 2))" "$work/whole"; } > "$work/values"
+    status=0
+    "$program" check "$examples/cmi.types" 'string * types_signature' < "$work/values" > "$work/lines" 2> "$work/told" ||
+        status=$?
+    case $status in
+        0 | 1 | 4) ;;
+        *) echo "FAILED: byte $place damaged: status $status"; failures=$((failures + 1)) ;;
+    esac
+done
+
+echo "$((checked - failures)) passed, $failures failed"
+[ "$failures" -eq 0 ]
