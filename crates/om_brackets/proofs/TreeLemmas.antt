@@ -34,7 +34,7 @@ at_both f g xs ys j x same is = same_at g (slice_get ys j) (f x)
     (sym (ap (option_map f) is) ∙ sym (slice_get-map f xs j)
     ∙ ap (λ zs. slice_get zs j) same ∙ slice_get-map g ys j)
 
-in_both :
+pub in_both :
     {X Y Z : Type 0} (f : X → Z) (g : Y → Z) (xs : List X) (ys : List Y) (x : X)
     → map f xs ≡ map g ys → Contains xs x → (y : Y) × Contains ys y × (g y ≡ f x)
 in_both f g xs ys x same there =
@@ -162,7 +162,7 @@ module _ (types : List Ty) where
           other.2,
         )
 
-    clash_written : (k : ℕ) → ClashesIn items k → ClashesAt decls all k
+    pub clash_written : (k : ℕ) → ClashesIn items k → ClashesAt decls all k
     clash_written k (i, j, one, other, brings, less, named, apart) =
         let w = to_written k i j one other brings in (
           i,
@@ -175,7 +175,7 @@ module _ (types : List Ty) where
           λ e. apart (equal_numbers one other w.0 w.1 are.distinct w.3 w.4 e),
         )
 
-    clash_numbered : (k : ℕ) → ClashesAt decls all k → ClashesIn items k
+    pub clash_numbered : (k : ℕ) → ClashesAt decls all k → ClashesIn items k
     clash_numbered k (i, j, a, b, has, less, named, apart) =
         let n = to_numbers k i j a b has in (
           i,
@@ -188,14 +188,14 @@ module _ (types : List Ty) where
           λ e. apart (equal_types n.0 n.1 a b n.3 n.4 e),
         )
 
-    names_written :
+    pub names_written :
         (k : ℕ) (one_name other_name : List ℕ) → CollideIn items k one_name other_name
         → NamesHashAt decls all k one_name other_name
     names_written k one_name other_name (i, j, one, other, brings, le, share) =
         let w = to_written k i j one other brings in
         (i, j, w.0, w.1, w.2, le, same_hash one other w.0 w.1 one_name other_name w.3 w.4 share)
 
-    hash_written : (k : ℕ) → CollidesIn items k → HashesAt decls all k
+    pub hash_written : (k : ℕ) → CollidesIn items k → HashesAt decls all k
     hash_written k (one_name, other_name, collide) =
         let w = names_written k one_name other_name collide in
         let share = w.6 in (
@@ -209,7 +209,7 @@ module _ (types : List Ty) where
           ap tag_hash share.one_named ∙ share.alike ∙ sym (ap tag_hash share.other_named),
         )
 
-    hash_numbered : (k : ℕ) → HashesAt decls all k → CollidesIn items k
+    pub hash_numbered : (k : ℕ) → HashesAt decls all k → CollidesIn items k
     hash_numbered k (i, j, a, b, has, le, unlike, alike) =
         let n = to_numbers k i j a b has in (
           a.name,

@@ -8,7 +8,7 @@ mod spellings;
 
 pub use arguments::least_clash;
 pub use item::Item;
-pub use spellings::{Collision, least_collision};
+pub use spellings::{Collision, least_collision, nearer};
 
 #[cfg(test)]
 mod tests;

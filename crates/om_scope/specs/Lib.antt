@@ -1,3 +1,4 @@
+pub mod Brackets
 pub mod Breaks
 pub mod Cyclic
 pub mod First

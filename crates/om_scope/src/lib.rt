@@ -1,6 +1,7 @@
 //! The rules of scope on names, over what stands where in a text of declarations.
 #![tactic(auto)]
 
+mod brackets;
 mod cyclic;
 pub mod declared;
 mod first;
@@ -18,6 +19,7 @@ pub mod table;
 mod uses;
 mod variables;
 
+pub use brackets::{BracketItem, TypeBrackets};
 pub use first::{Broken, first_break, first_break_in_type};
 pub use least::{place_if, sooner};
 pub use rule::NameRule;

@@ -13,7 +13,7 @@ use Rattle.om_sites.specs.Counted.{in_type}
 use Rattle.om_sites.specs.CountedFile.{along, field_count, names_of_fields, in_field, constructor_count}
 use Rattle.om_sites.specs.CountedFile.{records_in, in_body, body_count, parameters_in, decl_count, counted_places}
 use Rattle.om_sites.specs.declared.found.Found.{Found}
-use Rattle.om_sites.specs.Brackets.{AreBrackets}
+use Rattle.om_scope.specs.Brackets.{AreBrackets}
 use Rattle.om_sites.specs.Adds.{Adds}
 use Rattle.om_sites.specs.Found.{AddsFound}
 use Rattle.om_sites.specs.Bodies.{records_of, carrying_of, occurrences_of, constructor_names, names_in, carrying_body}

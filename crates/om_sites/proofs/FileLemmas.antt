@@ -20,8 +20,8 @@ use Rattle.om_sites.specs.InFile.{file_places}
 use Rattle.om_sites.specs.InText.{in_texpr}
 use Rattle.om_sites.proofs.TypeLaws.{types_are_counted}
 use Rattle.om_sites.proofs.GroupLaws.{files_are_counted}
-use Rattle.om_sites.specs.declared.brackets.TypeBrackets.{TypeBrackets}
-use Rattle.om_sites.specs.Brackets.{AreBrackets, AreFileBrackets}
+use Rattle.om_scope.specs.declared.brackets.TypeBrackets.{TypeBrackets}
+use Rattle.om_scope.specs.Brackets.{AreBrackets, AreFileBrackets}
 use Rattle.om_sites.proofs.LoopLemmas.{left_is}
 
 AreSites-none : AreSites [] [] [] []

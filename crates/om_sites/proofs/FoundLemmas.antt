@@ -7,11 +7,11 @@ use Rattle.std.proofs.lemmas.List.Elements.{All-nil, filter_map-append}
 use Rattle.om_types.specs.Ty.{Ty}
 use Rattle.om_types.specs.Occurrence.{Placed, PlacedItem, Occurrence}
 use Rattle.om_scope.specs.declared.site.Site.{Site}
-use Rattle.om_sites.specs.declared.brackets.BracketItem.{BracketItem}
-use Rattle.om_sites.specs.declared.brackets.TypeBrackets.{TypeBrackets}
+use Rattle.om_scope.specs.declared.brackets.BracketItem.{BracketItem}
+use Rattle.om_scope.specs.declared.brackets.TypeBrackets.{TypeBrackets}
 use Rattle.om_sites.specs.declared.found.Found.{Found}
 use Rattle.om_sites.specs.Adds.{Adds}
-use Rattle.om_sites.specs.Brackets.{as_bracket, brackets_among, brackets_told, type_told, all_told, IsOrdered, AreBrackets}
+use Rattle.om_scope.specs.Brackets.{as_bracket, brackets_among, brackets_told, type_told, all_told, IsOrdered, AreBrackets}
 use Rattle.om_sites.specs.Found.{AddsFound}
 use Rattle.om_sites.proofs.AddsLemmas.{Adds-none, Adds-then, Adds-row, Adds-carrying, then_mapped}
 

@@ -13,7 +13,7 @@ use Rattle.om_types.specs.Scope.{written_tag}
 use Rattle.om_sites.specs.Counted.{inner_count, items_in, begins, own}
 use Rattle.om_sites.specs.declared.fact.Facts.{Facts}
 use Rattle.om_sites.specs.declared.walk.Task.{Task}
-use Rattle.om_sites.specs.Brackets.{brackets_among}
+use Rattle.om_scope.specs.Brackets.{brackets_among}
 use Rattle.om_sites.specs.Facts.{capped, fact_at, AreFacts, IsLeaf}
 use Rattle.om_sites.specs.Walk.{task_own}
 use Rattle.om_scope.specs.declared.site.Site.{Site}

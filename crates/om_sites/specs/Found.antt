@@ -3,7 +3,7 @@ use Rattle.std.specs.Prelude.{ℕ, ◌≡◌, List, ◌++◌, All}
 use Rattle.om_types.specs.Occurrence.{Placed, Occurrence}
 use Rattle.om_sites.specs.declared.found.Found.{Found}
 use Rattle.om_sites.specs.Adds.{Adds}
-use Rattle.om_sites.specs.Brackets.{brackets_among, all_told, IsOrdered}
+use Rattle.om_scope.specs.Brackets.{brackets_among, all_told, IsOrdered}
 
 -- What is found has these rows more, these lexemes of constructors, and of these occurrences what
 -- the rules on names read, and the brackets.

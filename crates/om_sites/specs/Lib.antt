@@ -1,6 +1,5 @@
 pub mod Adds
 pub mod Bodies
-pub mod Brackets
 pub mod Facts
 pub mod Found
 pub mod Rows

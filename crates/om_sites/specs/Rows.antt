@@ -3,7 +3,7 @@ use Rattle.std.specs.Prelude.{ℕ, Option, Some, None, List, [], ◌∷◌, slic
 use Rattle.om_types.specs.declared.ty.Node.{Node}
 use Rattle.om_types.specs.declared.ty.Node.TheVariants as nodes
 use Rattle.om_types.specs.Occurrence.{Placed}
-use Rattle.om_sites.specs.declared.brackets.BracketItem.{BracketItem}
+use Rattle.om_scope.specs.declared.brackets.BracketItem.{BracketItem}
 
 -- the bracket without its last item
 abbrev pub without_item : Node → Option ℕ

@@ -2,16 +2,15 @@
 
 ghost use Rattle.std.specs.Prelude.{◌≡◌, ◌+◌, IfOk, drop, length};
 ghost use Rattle.om_sites.specs.CountedFile.{parameters_in, counted_places, decl_count, counted_file, in_body};
-ghost use Rattle.om_sites.specs.Brackets.{AreBrackets, AreFileBrackets};
+ghost use Rattle.om_scope.specs.Brackets.{AreBrackets, AreFileBrackets};
 ghost use Rattle.om_scope.specs.Sites.{IsSite, AreSites};
 
 use crate::bodies::put_body;
-use crate::brackets::TypeBrackets;
 use crate::found::{Found, nothing, put_names};
 use crate::mark::{placed, skip};
 use om_model::Memory;
 use om_model::list::List;
-use om_scope::{Placed, Site};
+use om_scope::{Placed, Site, TypeBrackets};
 use om_types::decl::Decl;
 use std::alloc::Global;
 

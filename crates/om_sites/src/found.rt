@@ -3,13 +3,12 @@
 ghost use Rattle.std.specs.Prelude.{◌≡◌, ◌++◌, ◌∷◌, [], All, OnOk, slice_index};
 ghost use Rattle.om_sites.specs.CountedFile.{carrying_in};
 ghost use Rattle.om_types.specs.Nodes.{types_of, AreOrdered};
-ghost use Rattle.om_sites.specs.Brackets.{brackets_told, all_told, IsOrdered};
+ghost use Rattle.om_scope.specs.Brackets.{brackets_told, all_told, IsOrdered};
 
-use crate::brackets::{BracketItem, TypeBrackets};
 use crate::mark::{none, place_at, put_row};
 use om_model::Memory;
 use om_model::list::List;
-use om_scope::{Placed, Site};
+use om_scope::{BracketItem, Placed, Site, TypeBrackets};
 use om_types::decl::Arguments;
 use om_types::ty::Node;
 use std::alloc::Global;

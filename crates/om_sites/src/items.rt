@@ -3,15 +3,15 @@
 ghost use Rattle.std.specs.Prelude.{◌≡◌, ◌<◌, ◌++◌, ◌∷◌, [], IfOk, OnOk, length, drop, reverse};
 ghost use Rattle.om_types.specs.Nodes.{types_of, type_at, AreOrdered};
 ghost use Rattle.om_sites.specs.Counted.{items_in};
-ghost use Rattle.om_sites.specs.Brackets.{items_told};
+ghost use Rattle.om_scope.specs.Brackets.{items_told};
 ghost use Rattle.om_sites.specs.Facts.{AreFacts};
 ghost use Rattle.om_sites.specs.Rows.{without_item};
 
-use crate::brackets::BracketItem;
 use crate::fact::{Facts, fact_at};
 use crate::mark::place_at;
 use om_model::Memory;
 use om_model::list::List;
+use om_scope::BracketItem;
 use om_types::ty::Node;
 use std::alloc::Global;
 

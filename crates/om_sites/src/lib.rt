@@ -3,7 +3,6 @@
 #![tactic(auto)]
 
 mod bodies;
-mod brackets;
 mod fact;
 mod files;
 mod found;
@@ -17,7 +16,6 @@ mod texts;
 mod types;
 mod walk;
 
-pub use brackets::{BracketItem, TypeBrackets};
 pub use files::{FileSites, file_sites};
 pub use marked::marks;
 pub use texts::{file_text_sites, type_text_site};

@@ -6,11 +6,10 @@ ghost use Rattle.om_types.specs.Nodes.{types_of, type_at, AreOrdered};
 ghost use Rattle.om_types.specs.Scope.{written_tag};
 ghost use Rattle.om_sites.specs.Counted.{items_in};
 ghost use Rattle.om_sites.specs.Adds.{Adds};
-ghost use Rattle.om_sites.specs.Brackets.{brackets_among, brackets_told};
+ghost use Rattle.om_scope.specs.Brackets.{brackets_among, brackets_told};
 ghost use Rattle.om_sites.specs.Facts.{AreFacts};
 ghost use Rattle.om_sites.specs.Walk.{task_own};
 
-use crate::brackets::BracketItem;
 use crate::fact::{Facts, fact_at};
 use crate::items::items_of;
 use crate::mark::{copied, place_at, put_row};
@@ -18,7 +17,7 @@ use crate::row::row_of;
 use crate::walk::Task;
 use om_model::Memory;
 use om_model::list::List;
-use om_scope::{Placed, Site, Use};
+use om_scope::{BracketItem, Placed, Site, Use};
 use om_types::ty::Node;
 use std::alloc::Global;
 

@@ -4,14 +4,13 @@ ghost use Rattle.std.specs.Prelude.{◌≡◌, ◌<◌, ◌++◌, IfOk, OnOk, le
 ghost use Rattle.std.specs.List.{filter_map};
 ghost use Rattle.om_types.specs.Nodes.{types_of, AreOrdered};
 ghost use Rattle.om_types.specs.Scope.{written_tag};
-ghost use Rattle.om_sites.specs.Brackets.{items_told};
+ghost use Rattle.om_scope.specs.Brackets.{items_told};
 ghost use Rattle.om_sites.specs.Rows.{tag_at, tag_there};
 
-use crate::brackets::BracketItem;
 use crate::mark::copied;
 use om_model::Memory;
 use om_model::list::List;
-use om_scope::Placed;
+use om_scope::{BracketItem, Placed};
 use om_types::ty::Node;
 use std::alloc::Global;
 

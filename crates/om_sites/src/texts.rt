@@ -7,7 +7,7 @@ ghost use Rattle.om_sites.specs.InText.{in_texpr};
 ghost use Rattle.om_parse.specs.Parsed.{kinds_of};
 ghost use Rattle.om_parse.specs.Written.{type_of_texpr, declarations_of};
 ghost use Rattle.om_scope.specs.Sites.{IsTypeSite, AreSites};
-ghost use Rattle.om_sites.specs.Brackets.{AreBrackets, AreFileBrackets};
+ghost use Rattle.om_scope.specs.Brackets.{AreBrackets, AreFileBrackets};
 
 use crate::files::{FileSites, file_sites};
 use crate::types::{TypeFound, type_site};

@@ -3,14 +3,13 @@
 ghost use Rattle.std.specs.Prelude.{IfOk, false};
 ghost use Rattle.om_sites.specs.Counted.{in_type};
 ghost use Rattle.om_scope.specs.Sites.{IsTypeSite};
-ghost use Rattle.om_sites.specs.Brackets.{AreBrackets};
+ghost use Rattle.om_scope.specs.Brackets.{AreBrackets};
 
-use crate::brackets::TypeBrackets;
 use crate::found::{Found, nothing};
 use crate::walk::put_type;
 use om_model::Memory;
 use om_model::list::List;
-use om_scope::{Site, TypeSite};
+use om_scope::{Site, TypeBrackets, TypeSite};
 use om_types::ty::Ty;
 use std::alloc::Global;
 

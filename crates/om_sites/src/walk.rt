@@ -5,19 +5,18 @@ ghost use Rattle.om_types.specs.Nodes.{types_of, AreOrdered};
 ghost use Rattle.om_sites.specs.Counted.{in_type};
 ghost use Rattle.om_sites.specs.CountedFile.{type_count};
 ghost use Rattle.om_sites.specs.Adds.{Adds};
-ghost use Rattle.om_sites.specs.Brackets.{brackets_among, brackets_told};
+ghost use Rattle.om_scope.specs.Brackets.{brackets_among, brackets_told};
 ghost use Rattle.om_sites.specs.Facts.{AreFacts};
 ghost use Rattle.om_sites.specs.Found.{AddsFound};
 ghost use Rattle.om_sites.specs.Walk.{behind, tasks_of, task_seen};
 
-use crate::brackets::BracketItem;
 use crate::fact::{Facts, all_facts, fact_at, total};
 use crate::found::{Found, put_brackets};
 use crate::mark::skip;
 use crate::own::put_own;
 use om_model::Memory;
 use om_model::list::List;
-use om_scope::Site;
+use om_scope::{BracketItem, Site};
 use om_types::ty::{Node, Ty};
 use std::alloc::Global;
 

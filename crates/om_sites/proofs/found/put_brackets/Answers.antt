@@ -4,9 +4,9 @@ use Rattle.std.proofs.lemmas.List.{append-nil, nil_from_length}
 use Rattle.std.proofs.lemmas.List.Elements.{All-push}
 use Rattle.std.proofs.lemmas.Result.{on_ok_weaker}
 use Rattle.om_types.specs.Nodes.{types_of}
-use Rattle.om_sites.specs.declared.brackets.BracketItem.{BracketItem}
-use Rattle.om_sites.specs.declared.brackets.TypeBrackets.{TypeBrackets}
-use Rattle.om_sites.specs.Brackets.{IsOrdered, brackets_told, all_told}
+use Rattle.om_scope.specs.declared.brackets.BracketItem.{BracketItem}
+use Rattle.om_scope.specs.declared.brackets.TypeBrackets.{TypeBrackets}
+use Rattle.om_scope.specs.Brackets.{IsOrdered, brackets_told, all_told}
 use Rattle.om_sites.proofs.FoundLemmas.{told_more}
 use Rattle.om_sites.proofs.found.put_brackets.Goals as goal
 

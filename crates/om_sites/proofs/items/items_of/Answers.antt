@@ -3,9 +3,9 @@ use Rattle.std.specs.Prelude.{slice_index}
 use Rattle.std.proofs.lemmas.Result.{IfOk-weaker}
 use Rattle.om_types.specs.Nodes.{types_of, type_at}
 use Rattle.om_sites.specs.Counted.{items_in}
-use Rattle.om_sites.specs.declared.brackets.BracketItem.{BracketItem}
+use Rattle.om_scope.specs.declared.brackets.BracketItem.{BracketItem}
 use Rattle.om_sites.specs.declared.fact.Facts.{Facts}
-use Rattle.om_sites.specs.Brackets.{items_told}
+use Rattle.om_scope.specs.Brackets.{items_told}
 use Rattle.om_sites.specs.Facts.{capped}
 use Rattle.om_sites.proofs.ItemLemmas.{items_fall, items_turn, items_end}
 use Rattle.om_sites.proofs.WalkLemmas.{type_at-node}

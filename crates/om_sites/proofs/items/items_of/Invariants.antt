@@ -2,7 +2,7 @@ use Rattle.std.proofs.Common.{◌≡◌, ◌<◌, ◌++◌, length, drop}
 use Rattle.std.specs.Prelude.{reverse}
 use Rattle.om_types.specs.Nodes.{types_of, type_at}
 use Rattle.om_sites.specs.Counted.{items_in}
-use Rattle.om_sites.specs.Brackets.{items_told}
+use Rattle.om_scope.specs.Brackets.{items_told}
 use Rattle.om_sites.proofs.items.items_of.Given as goal
 
 -- the items that are left, and those so far, the last one first

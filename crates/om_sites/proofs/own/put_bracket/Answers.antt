@@ -5,7 +5,7 @@ use Rattle.om_types.specs.Nodes.{types_of, type_at}
 use Rattle.om_types.specs.Occurrence.{Placed}
 use Rattle.om_types.specs.Scope.{written_tag}
 use Rattle.om_sites.specs.Counted.{items_in}
-use Rattle.om_sites.specs.Brackets.{items_told}
+use Rattle.om_scope.specs.Brackets.{items_told}
 use Rattle.om_sites.proofs.ItemLemmas.{brackets_more}
 use Rattle.om_sites.proofs.own.put_bracket.Goals as goal
 

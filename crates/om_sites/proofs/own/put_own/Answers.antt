@@ -2,7 +2,7 @@ use Rattle.std.proofs.Common.{◌≡◌, ◌<◌, ◌∙◌, true, length, ap, a
 use Rattle.std.specs.Prelude.{slice_index}
 use Rattle.std.proofs.lemmas.Result.{on_ok_weaker}
 use Rattle.om_types.specs.Nodes.{types_of}
-use Rattle.om_sites.specs.Brackets.{brackets_told}
+use Rattle.om_scope.specs.Brackets.{brackets_told}
 use Rattle.om_sites.proofs.OwnLemmas.{puts_variable, puts_use, puts_bracket, puts_nothing, skipped_brackets}
 use Rattle.om_sites.proofs.OwnLemmas.{variable_brackets, use_brackets, bracket_brackets, nothing_brackets}
 use Rattle.om_sites.proofs.own.put_own.Goals as goal

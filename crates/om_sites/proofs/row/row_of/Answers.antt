@@ -3,7 +3,7 @@ use Rattle.std.specs.List.{filter_map}
 use Rattle.std.proofs.lemmas.List.{append-nil, drop_all}
 use Rattle.om_types.specs.Nodes.{types_of}
 use Rattle.om_types.specs.Scope.{written_tag}
-use Rattle.om_sites.specs.Brackets.{items_told}
+use Rattle.om_scope.specs.Brackets.{items_told}
 use Rattle.om_sites.proofs.ItemLemmas.{tags_turn}
 use Rattle.om_sites.proofs.row.row_of.Goals as goal
 

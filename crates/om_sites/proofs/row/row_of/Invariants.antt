@@ -2,7 +2,7 @@ use Rattle.std.proofs.Common.{◌≡◌, ◌++◌, drop}
 use Rattle.std.specs.List.{filter_map}
 use Rattle.om_types.specs.Nodes.{types_of}
 use Rattle.om_types.specs.Scope.{written_tag}
-use Rattle.om_sites.specs.Brackets.{items_told}
+use Rattle.om_scope.specs.Brackets.{items_told}
 use Rattle.om_sites.proofs.row.row_of.Given as goal
 
 -- the tags so far, and those of the items that are left

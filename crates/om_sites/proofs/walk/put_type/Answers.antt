@@ -6,9 +6,9 @@ use Rattle.om_sites.specs.Counted.{in_type}
 use Rattle.om_sites.specs.CountedFile.{type_count}
 use Rattle.om_sites.specs.declared.fact.Facts.{Facts}
 use Rattle.om_scope.specs.declared.site.Site.{Site}
-use Rattle.om_sites.specs.declared.brackets.BracketItem.{BracketItem}
+use Rattle.om_scope.specs.declared.brackets.BracketItem.{BracketItem}
 use Rattle.om_sites.specs.Adds.{Adds}
-use Rattle.om_sites.specs.Brackets.{brackets_told, brackets_among}
+use Rattle.om_scope.specs.Brackets.{brackets_told, brackets_among}
 use Rattle.om_sites.specs.Found.{AddsFound}
 use Rattle.om_sites.specs.Facts.{total_of, fact_at}
 use Rattle.om_sites.proofs.FoundLemmas.{AddsFound-none, AddsFound-type}

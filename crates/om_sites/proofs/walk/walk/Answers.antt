@@ -3,7 +3,7 @@ use Rattle.std.specs.Prelude.{vec_len}
 use Rattle.std.proofs.lemmas.List.{append-nil}
 use Rattle.om_types.specs.Nodes.{types_of}
 use Rattle.om_sites.specs.Adds.{Adds}
-use Rattle.om_sites.specs.Brackets.{brackets_told, brackets_among}
+use Rattle.om_scope.specs.Brackets.{brackets_told, brackets_among}
 use Rattle.om_sites.specs.Walk.{task_own, task_seen, stack_seen}
 use Rattle.om_sites.proofs.AddsLemmas.{Adds-none, Adds-then}
 use Rattle.om_sites.proofs.FoundLemmas.{told_next}

@@ -2,7 +2,7 @@ use Rattle.std.proofs.Common.{◌≡◌, ◌++◌, length, []}
 use Rattle.om_types.specs.Nodes.{types_of}
 use Rattle.om_scope.specs.declared.site.Site.{Site}
 use Rattle.om_sites.specs.Adds.{Adds}
-use Rattle.om_sites.specs.Brackets.{brackets_told, brackets_among}
+use Rattle.om_scope.specs.Brackets.{brackets_told, brackets_among}
 use Rattle.om_sites.specs.Walk.{task_seen, stack_seen, stack_weight, AreBelow}
 use Rattle.om_sites.proofs.walk.walk.Given as goal
 

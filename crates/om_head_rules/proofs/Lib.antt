@@ -1,0 +1,10 @@
+pub mod NumberedLemmas
+pub mod FirstLemmas
+pub mod LoopLemmas
+pub mod VariantLemmas
+pub mod TagLemmas
+pub mod JoinedLemmas
+pub mod ThroughLemmas
+pub mod FlatLemmas
+pub mod TextLemmas
+pub mod WrittenLemmas

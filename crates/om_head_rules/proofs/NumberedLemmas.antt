@@ -1,0 +1,231 @@
+-- Numbers of items, where types are added, and one item after another.
+use Rattle.std.proofs.Common.{ℕ, ◌+◌, ◌<◌, ◌≡◌, ◌∙◌, List, [], ◌∷◌, ◌++◌, Some, map, take, length, get_or, sym, ap, subst, refl, append_assoc, arith, ◌≤◌, Result, IfOk}
+use Rattle.std.specs.Prelude.{slice_get}
+use Rattle.std.specs.List.{AllZip, flat_map}
+use Rattle.std.proofs.lemmas.Grind.{flat_map-append}
+use Rattle.std.proofs.lemmas.List.{map-append, append-nil, take_more, take_all, get_or_past}
+use Rattle.std.proofs.lemmas.List.Elements.{All-get_or}
+use Rattle.std.proofs.lemmas.Option.{get_or_from_slice_get}
+use Rattle.std.proofs.lemmas.Option.{slice_get-get_or, slice_get_read}
+use Rattle.std.proofs.lemmas.Result.{IfOk-weaker}
+use Rattle.om_types.specs.Ty.{Ty, tuple, bracket, tag, tag_of, including}
+use Rattle.om_types.specs.declared.ty.Node.{Node}
+use Rattle.om_types.specs.declared.ty.Node.TheVariants as nodes
+use Rattle.om_types.specs.Nodes.{type_at, types_of, type_of_node, IsBelow, AreOrdered}
+use Rattle.om_types.specs.Occurrence.{PlacedItem}
+use Rattle.om_types.proofs.NodeLemmas.{types_of-length, types_of-at}
+use Rattle.om_scope.specs.declared.brackets.BracketItem.{BracketItem}
+use Rattle.om_scope.specs.Brackets.{item_of, item_told, items_told, brackets_told}
+use Rattle.om_store.specs.Held.{Grows, Holds}
+use Rattle.om_store.specs.Instance.{HasNumbers}
+use Rattle.om_store.proofs.HeldLemmas.{there_kept}
+use Rattle.om_store.proofs.InstanceLemmas.{number_there, numbers_many}
+use Rattle.om_head_rules.specs.declared.item.NumberedItem.{NumberedItem}
+use Rattle.om_head_rules.specs.Numbered.{IsNumbered, AreNumbered, AreAllNumbered}
+
+-- ---- two lists, place by place
+
+zip_push :
+    {A B : Type 0} (R : A → B → Type 0) (xs : List A) (ys : List B) (x : A) (y : B)
+    → AllZip R xs ys → R x y → AllZip R (xs ++ x ∷ []) (ys ++ y ∷ [])
+zip_push R [] [] x y zip one = (one, zip)
+zip_push R [] (b ∷ ys) x y zip one = absurd zip
+zip_push R (a ∷ xs) [] x y zip one = absurd zip
+zip_push R (a ∷ xs) (b ∷ ys) x y zip one = (zip.0, zip_push R xs ys x y zip.1 one)
+
+zip_weaker :
+    {A B : Type 0} (R S : A → B → Type 0) (weaker : (a : A) (b : B) → R a b → S a b) (xs : List A) (ys : List B)
+    → AllZip R xs ys → AllZip S xs ys
+zip_weaker R S weaker [] [] zip = zip
+zip_weaker R S weaker [] (b ∷ ys) zip = absurd zip
+zip_weaker R S weaker (a ∷ xs) [] zip = absurd zip
+zip_weaker R S weaker (a ∷ xs) (b ∷ ys) zip = (weaker a b zip.0, zip_weaker R S weaker xs ys zip.1)
+
+-- ---- numbers stay
+
+item_kept :
+    (types new : List Ty) (i : NumberedItem) (item : PlacedItem) → Grows types new → IsNumbered types i item
+    → IsNumbered new i item
+item_kept types new i item grown is =
+    record { placed = is.placed; there = there_kept types new i.number item.1 grown is.there }
+
+items_kept :
+    (types new : List Ty) (items : List NumberedItem) (all : List PlacedItem) → Grows types new
+    → AreNumbered types items all → AreNumbered new items all
+items_kept types new items all grown are =
+    zip_weaker (IsNumbered types) (IsNumbered new) (λ i item is. item_kept types new i item grown is) items all are
+
+pub brackets_kept :
+    (types new : List Ty) (brackets : List (List NumberedItem)) (all : List (List PlacedItem)) → Grows types new
+    → AreAllNumbered types brackets all → AreAllNumbered new brackets all
+brackets_kept types new brackets all grown are =
+    zip_weaker (AreNumbered types) (AreNumbered new) (λ items told is. items_kept types new items told grown is)
+    brackets all are
+
+-- ---- one more
+
+-- the next turn of the loop over a bracket's items
+pub items_turn :
+    (types new tree : List Ty) (out next : List NumberedItem) (items : List BracketItem) (k : ℕ) (e : BracketItem)
+    (i : NumberedItem) → Grows types new → k < length items → next ≡ out ++ i ∷ []
+    → IsNumbered new i (item_told tree (get_or items k e))
+    → AreNumbered types out (items_told tree (take k items))
+    → AreNumbered new next (items_told tree (take (k + 1) items))
+items_turn types new tree out next items k e i grown below next_is here so_far =
+    let told = items_told tree (take k items) in
+    let same : items_told tree (take (k + 1) items) ≡ told ++ item_told tree (get_or items k e) ∷ [] =
+    ap (items_told tree) (take_more items k e below)
+    ∙ map-append (item_told tree) (take k items) (get_or items k e ∷ []) in
+    subst (λ l. AreNumbered new l (items_told tree (take (k + 1) items))) (sym next_is)
+    (subst (AreNumbered new (out ++ i ∷ [])) (sym same)
+    (zip_push (IsNumbered new) out told i (item_told tree (get_or items k e))
+    (items_kept types new out told grown so_far) here))
+
+-- the next turn of the loop over a type's brackets
+pub brackets_turn :
+    (types new tree : List Ty) (out next : List (List NumberedItem)) (brackets : List (List BracketItem)) (k : ℕ)
+    (inside e : List BracketItem) (items : List NumberedItem) (all : List (List PlacedItem)) → Grows types new
+    → k < length brackets → inside ≡ get_or brackets k e → next ≡ out ++ items ∷ []
+    → AreNumbered new items (items_told tree inside)
+    → AreAllNumbered types out (all ++ brackets_told tree (take k brackets))
+    → AreAllNumbered new next (all ++ brackets_told tree (take (k + 1) brackets))
+brackets_turn types new tree out next brackets k inside e items all grown below read next_is here so_far =
+    let told = all ++ brackets_told tree (take k brackets) in
+    let more = items_told tree inside in
+    let same : all ++ brackets_told tree (take (k + 1) brackets) ≡ told ++ more ∷ [] =
+    ap (λ l. all ++ brackets_told tree l) (take_more brackets k e below)
+    ∙ ap (λ l. all ++ l) (map-append (items_told tree) (take k brackets) (get_or brackets k e ∷ []))
+    ∙ ap (λ b. all ++ (brackets_told tree (take k brackets) ++ items_told tree b ∷ [])) (sym read)
+    ∙ sym (append_assoc all (brackets_told tree (take k brackets)) (more ∷ [])) in
+    subst (λ l. AreAllNumbered new l (all ++ brackets_told tree (take (k + 1) brackets))) (sym next_is)
+    (subst (AreAllNumbered new (out ++ items ∷ [])) (sym same)
+    (zip_push (AreNumbered new) out told items more (brackets_kept types new out told grown so_far) here))
+
+-- the next turn of a loop over lists of brackets
+pub lists_turn :
+    {X : Type 0} (told : X → List (List PlacedItem)) (types : List Ty) (out : List (List NumberedItem)) (xs : List X)
+    (k : ℕ) (x e : X) (all : List (List PlacedItem)) → k < length xs → x ≡ get_or xs k e
+    → AreAllNumbered types out ((all ++ flat_map told (take k xs)) ++ told x)
+    → AreAllNumbered types out (all ++ flat_map told (take (k + 1) xs))
+lists_turn {X} told types out xs k x e all below read are =
+    subst (AreAllNumbered types out)
+    (ap (λ (y : X). (all ++ flat_map told (take k xs)) ++ told y) read
+    ∙ append_assoc all (flat_map told (take k xs)) (told (get_or xs k e))
+    ∙ ap (λ l. all ++ (flat_map told (take k xs) ++ l)) (sym (append-nil (told (get_or xs k e))))
+    ∙ ap (λ l. all ++ l) (sym (flat_map-append told (take k xs) (get_or xs k e ∷ [])))
+    ∙ ap (λ ys. all ++ flat_map told ys) (sym (take_more xs k e below))) are
+
+-- ---- the item that a node adds
+
+module _ (types : List Ty) (all : List Node) (ordered : AreOrdered all) (numbers : List ℕ)
+    (has : HasNumbers types (types_of all) numbers) where
+  many : length numbers ≡ length all
+  many = numbers_many types (types_of all) numbers has ∙ types_of-length all
+
+  pub number_below : (i : ℕ) → i < length all → i < length numbers
+  number_below i below = let e = many in omega arith
+
+  pub entry_below : (i : ℕ) → i < length all → get_or numbers i 0 < length types
+  entry_below i below = All-get_or (λ k. k < length types) numbers i 0 (number_below i below) has.below
+
+  entry_is : (i : ℕ) → i < length all → type_at types (get_or numbers i 0) ≡ type_at (types_of all) i
+  entry_is i below =
+      number_there types (types_of all) numbers i (get_or numbers i 0) has
+      (slice_get-get_or numbers i 0 (number_below i below))
+
+  module _ (n : ℕ) (node : Node) (below : n < length all) (read : node ≡ get_or all n node) where
+    there : slice_get all n ≡ Some node
+    there = slice_get_read all (length all) n node refl below read
+
+    at : type_at (types_of all) n ≡ type_of_node (types_of all) node
+    at = get_or_from_slice_get (types_of all) n (type_of_node (types_of all) node) tuple
+        (types_of-at all n node ordered there)
+
+    part_below : (other : Node) → node ≡ other → IsBelow n other
+    part_below other is = subst (IsBelow n) is (ordered n node there)
+
+    item_is :
+        (other : Node) → node ≡ other
+        → item_of (type_at (types_of all) n) ≡ item_of (type_of_node (types_of all) other)
+    item_is other is = ap item_of (at ∙ ap (type_of_node (types_of all)) is)
+
+    pub argument_below : (w a : ℕ) (x : List ℕ) → node ≡ nodes.TagOf w x a → a < length all
+    argument_below w a x is = let h = (part_below (nodes.TagOf w x a) is).1 in omega arith
+
+    pub included_below : (w u : ℕ) → node ≡ nodes.Including w u → u < length all
+    included_below w u is = let h = (part_below (nodes.Including w u) is).1 in omega arith
+
+    pub tag_item :
+        (w : ℕ) (x : List ℕ) → node ≡ nodes.Tag w x → tag bracket x ≡ item_of (type_at (types_of all) n)
+    tag_item w x is = sym (item_is (nodes.Tag w x) is)
+
+    pub tag_of_item :
+        (w a : ℕ) (x : List ℕ) → node ≡ nodes.TagOf w x a
+        → tag_of bracket x (type_at types (get_or numbers a 0)) ≡ item_of (type_at (types_of all) n)
+    tag_of_item w a x is =
+        ap (λ t. tag_of bracket x t) (entry_is a (argument_below w a x is)) ∙ sym (item_is (nodes.TagOf w x a) is)
+
+    pub including_item :
+        (w u : ℕ) → node ≡ nodes.Including w u
+        → including bracket (type_at types (get_or numbers u 0)) ≡ item_of (type_at (types_of all) n)
+    including_item w u is =
+        ap (λ t. including bracket t) (entry_is u (included_below w u is)) ∙ sym (item_is (nodes.Including w u) is)
+
+    pub other_item :
+        ((w : ℕ) (x : List ℕ) → node ≡ nodes.Tag w x → ⊥)
+        → ((w : ℕ) (x : List ℕ) (a : ℕ) → node ≡ nodes.TagOf w x a → ⊥)
+        → ((w u : ℕ) → node ≡ nodes.Including w u → ⊥)
+        → slice_get types (get_or numbers n 0) ≡ Some (item_of (type_at (types_of all) n))
+    other_item no_tag no_tag_of no_including =
+        slice_get-get_or types (get_or numbers n 0) tuple (entry_below n below)
+        ∙ ap Some (entry_is n below ∙ itself node refl) where
+          itself : (other : Node) → node ≡ other → type_at (types_of all) n ≡ item_of (type_at (types_of all) n)
+          itself (nodes.Variable x) is = at ∙ ap (type_of_node (types_of all)) is ∙ sym (item_is (nodes.Variable x) is)
+          itself (nodes.Named x) is = at ∙ ap (type_of_node (types_of all)) is ∙ sym (item_is (nodes.Named x) is)
+          itself nodes.Tuple is = at ∙ ap (type_of_node (types_of all)) is ∙ sym (item_is nodes.Tuple is)
+          itself nodes.Bracket is = at ∙ ap (type_of_node (types_of all)) is ∙ sym (item_is nodes.Bracket is)
+          itself (nodes.Part w a) is = at ∙ ap (type_of_node (types_of all)) is ∙ sym (item_is (nodes.Part w a) is)
+          itself (nodes.Tag w x) is = absurd (no_tag w x is)
+          itself (nodes.TagOf w x a) is = absurd (no_tag_of w x a is)
+          itself (nodes.Including w u) is = absurd (no_including w u is)
+
+-- no node, no item
+pub none_item : (all : List Node) (n : ℕ) → length all ≤ n → tuple ≡ item_of (type_at (types_of all) n)
+none_item all n past =
+    let long = types_of-length all in
+    let at : type_at (types_of all) n ≡ tuple = get_or_past (types_of all) n tuple (omega arith) in
+    ap item_of (sym at)
+
+pub held_item :
+    {E : Type 0} (r : Result ℕ E) (new : List Ty) (t u : Ty) → t ≡ u → IfOk r (λ i. slice_get new i ≡ Some t)
+    → IfOk r (λ i. slice_get new i ≡ Some u)
+held_item r new t u same held = subst (λ v. IfOk r (λ i. slice_get new i ≡ Some v)) same held
+
+pub held_there :
+    {E : Type 0} (r : Result ℕ E) (old new : List Ty) (t : Ty) → IfOk r (Holds old new t)
+    → IfOk r (λ i. slice_get new i ≡ Some t)
+held_there r old new t held = IfOk-weaker r _ _ (λ i h. h.there) held
+
+-- ---- the whole of a list
+
+pub all_items :
+    (types tree : List Ty) (out : List NumberedItem) (items : List BracketItem) (k : ℕ) → length items ≤ k
+    → AreNumbered types out (items_told tree (take k items)) → AreNumbered types out (items_told tree items)
+all_items types tree out items k past are =
+    subst (λ l. AreNumbered types out (items_told tree l)) (take_all k items past) are
+
+pub all_brackets :
+    (types tree : List Ty) (out : List (List NumberedItem)) (brackets : List (List BracketItem)) (k : ℕ)
+    (all : List (List PlacedItem)) → length brackets ≤ k
+    → AreAllNumbered types out (all ++ brackets_told tree (take k brackets))
+    → AreAllNumbered types out (all ++ brackets_told tree brackets)
+all_brackets types tree out brackets k all past are =
+    subst (λ l. AreAllNumbered types out (all ++ brackets_told tree l)) (take_all k brackets past) are
+
+pub all_lists :
+    {X : Type 0} (told : X → List (List PlacedItem)) (types : List Ty) (out : List (List NumberedItem)) (xs : List X)
+    (k : ℕ) (all : List (List PlacedItem)) → length xs ≤ k
+    → AreAllNumbered types out (all ++ flat_map told (take k xs))
+    → AreAllNumbered types out (all ++ flat_map told xs)
+all_lists told types out xs k all past are =
+    subst (λ l. AreAllNumbered types out (all ++ flat_map told l)) (take_all k xs past) are

@@ -1,0 +1,30 @@
+use Rattle.std.proofs.Common.{◌≡◌, ◌∙◌, length, take, sym, ap, subst, arith}
+use Rattle.om_types.specs.Nodes.{types_of}
+use Rattle.om_scope.specs.Brackets.{items_told}
+use Rattle.om_store.proofs.HeldLemmas.{Grows-none, Grows-then}
+use Rattle.om_store.proofs.InstanceLemmas.{numbers_kept}
+use Rattle.om_head_rules.specs.Numbered.{AreNumbered}
+use Rattle.om_head_rules.proofs.NumberedLemmas.{items_turn, all_items}
+use Rattle.om_head_rules.proofs.brackets.number_items.Goals as goal
+
+pub number_item-requires-clause-numbers : goal.number_item-requires-clause-numbers
+number_item-requires-clause-numbers c =
+    numbers_kept c.args.types.now c.loop-item.types (types_of c.args.nodes.now) c.args.numbers.now c.requires.numbers
+    c.loop-item.invariant.grown
+
+pub loop-item-preserved : goal.loop-item-preserved
+loop-item-preserved c =
+    let tree = types_of c.args.nodes.now in
+    record {
+      grown = Grows-then c.args.types.now c.loop-item.types c.number_item.new.types c.loop-item.invariant.grown
+          c.in_ok-number_item.ensures.grown;
+      told = items_turn c.loop-item.types c.number_item.new.types tree c.loop-item.all c.push.new.self c.args.items.now
+          c.loop-item.item-index (record { place = 0; node = 0 }) c.in_ok-number_item.field-0
+          c.in_ok-number_item.ensures.grown c.loop-item-test.true c.in_ok-push.ensures.ok c.in_ok-number_item.ensures.ok
+          c.loop-item.invariant.told;
+    }
+
+pub returns-clause-ok : goal.returns-clause-ok
+returns-clause-ok c =
+    all_items c.loop-item.types (types_of c.args.nodes.now) c.loop-item.all c.args.items.now c.loop-item.item-index
+    c.loop-item-test.false c.loop-item.invariant.told

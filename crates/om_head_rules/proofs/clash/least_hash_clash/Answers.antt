@@ -1,0 +1,29 @@
+use Rattle.std.proofs.Common.{ℕ, List, subst, arith}
+use Rattle.std.specs.Prelude.{IfSome}
+use Rattle.om_scope.specs.Least.{IsLeast}
+use Rattle.om_scope.proofs.LeastLemmas.{more_items, all_items}
+use Rattle.om_brackets.specs.declared.item.Item.{Item}
+use Rattle.om_brackets.specs.Collisions.{place_of, IsCollision, IsLeastCollision}
+use Rattle.om_brackets.specs.Items.{CollidesIn}
+use Rattle.om_head_rules.proofs.LoopLemmas.{more_names}
+use Rattle.om_head_rules.proofs.clash.least_hash_clash.Goals as goal
+
+pub loop-items-preserved : goal.loop-items-preserved
+loop-items-preserved c =
+    let here = subst (λ (items : List Item). IsLeastCollision items c.in_ok-least_collision.field-0) c.as_slice.ensures
+    c.in_ok-least_collision.ensures.least in
+    record {
+      least = more_items c.args.brackets.now CollidesIn c.loop-items.items-index c.items-item.result
+          (place_of c.loop-items.best) (place_of c.in_ok-least_collision.field-0) (place_of c.nearer-best.result)
+          c.loop-items-test.true c.items-item.is c.loop-items.invariant.least here.least c.nearer-best.ensures.place;
+      names = more_names c.args.brackets.now c.loop-items.items-index c.items-item.result c.loop-items.best
+          c.in_ok-least_collision.field-0 c.nearer-best.result c.loop-items-test.true c.items-item.is
+          c.nearer-best.ensures.either c.loop-items.invariant.names here.names;
+    }
+
+pub returns : goal.returns
+returns c = record {
+  least = all_items c.args.brackets.now CollidesIn c.loop-items.items-index (place_of c.loop-items.best) (omega arith)
+      c.loop-items-test.false c.loop-items.invariant.least;
+  names = c.loop-items.invariant.names;
+}

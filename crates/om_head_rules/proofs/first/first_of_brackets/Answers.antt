@@ -1,0 +1,32 @@
+use Rattle.std.proofs.Common.{ℕ, List, Option, Some, None, subst, sym}
+use Rattle.std.proofs.lemmas.Result.{IfOk-weaker}
+use Rattle.om_scope.specs.Least.{IsLeast}
+use Rattle.om_brackets.specs.declared.item.Item.{Item}
+use Rattle.om_head_rules.specs.Broken.{IsFirstOfHeads}
+use Rattle.om_head_rules.specs.Rules.{SomeBreaks, ItemsInclude, AreTagged, TagsBreak, CollideAmong, BracketsBreak, BracketsHash, brackets_at}
+use Rattle.om_head_rules.proofs.FirstLemmas.{is_none}
+use Rattle.om_head_rules.proofs.JoinedLemmas.{variant_first, tags_first}
+use Rattle.om_head_rules.proofs.first.first_of_brackets.Goals as goal
+
+pub returns-in-Some : goal.returns-in-Some
+returns-in-Some c =
+    variant_first c.args.decls.now c.args.types.now c.args.brackets.now c.in-Some.place
+    (subst (IsLeast (SomeBreaks c.args.brackets.now (ItemsInclude c.args.decls.now c.args.types.now))) c.in-Some.is
+    c.in_ok-place.ensures.ok)
+
+pub returns : goal.returns
+returns c =
+    let all = brackets_at c.args.types.now c.args.brackets.now in
+    IfOk-weaker c.first_of_tags.result
+    (IsFirstOfHeads (TagsBreak c.as_slice.result.now) (CollideAmong c.as_slice.result.now))
+    (IsFirstOfHeads (BracketsBreak c.args.decls.now all) (BracketsHash c.args.decls.now all))
+    (λ found first. tags_first c.args.decls.now c.args.types.now c.args.brackets.now c.least_not_variant.new.types
+    c.tagged_brackets.new.types c.as_slice.result.now found c.in_ok-place.ensures.grown c.requires.within
+    (subst (IsLeast (SomeBreaks c.args.brackets.now (ItemsInclude c.args.decls.now c.args.types.now)))
+    (is_none c.in_ok-place.field-0 c.in_default.not-Some) c.in_ok-place.ensures.ok)
+    (subst
+    (λ (tagged : List (List Item)). AreTagged c.tagged_brackets.new.types c.args.decls.now tagged
+    (brackets_at c.least_not_variant.new.types c.args.brackets.now))
+    (sym c.as_slice.ensures) c.in_ok-tagged.ensures.ok)
+    first)
+    c.first_of_tags.ensures

@@ -1,0 +1,10 @@
+use Rattle.om_store.proofs.HeldLemmas.{Grows-none}
+use Rattle.om_head_rules.proofs.VariantLemmas.{included_other, none_included}
+use Rattle.om_head_rules.proofs.variant.includes_other.Goals as goal
+
+pub returns-in_default : goal.returns-in_default
+returns-in_default c = record {
+  ok = none_included c.args.decls.now c.args.types.now c.args.number c.node.result c.node.ensures.is
+      c.in_default.not-Including;
+  grown = Grows-none c.args.types.now;
+}

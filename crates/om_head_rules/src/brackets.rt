@@ -1,0 +1,112 @@
+//! Brackets by the numbers of their items.
+
+ghost use Rattle.std.specs.Prelude.{◌≡◌, ◌++◌, All, IfOk, OnOk, List as Seq};
+ghost use Rattle.std.specs.List.{flat_map};
+ghost use Rattle.om_types.specs.Nodes.{types_of, AreOrdered};
+ghost use Rattle.om_types.specs.Occurrence.{PlacedItem};
+ghost use Rattle.om_scope.specs.Brackets.{items_told, type_told, all_told, IsOrdered};
+ghost use Rattle.om_store.specs.Held.{Grows};
+ghost use Rattle.om_store.specs.Instance.{HasNumbers};
+ghost use Rattle.om_head_rules.specs.Numbered.{AreNumbered, AreAllNumbered};
+
+use crate::item::{NumberedItem, number_item};
+use om_model::Memory;
+use om_model::list::List;
+use om_scope::{BracketItem, TypeBrackets};
+use om_store::Types;
+use om_types::ty::Node;
+use std::alloc::Global;
+
+/// The items of a bracket.
+fn number_items(
+    alloc: Global,
+    types: &mut Types,
+    nodes: &[Node],
+    numbers: &[usize],
+    items: &[BracketItem],
+) -> Result<List<NumberedItem>, Memory>
+    requires ordered { AreOrdered nodes.now }
+    requires numbers { HasNumbers types.old (types_of nodes.now) numbers.now }
+    ensures grown { Grows types.old types.new }
+    ensures ok { IfOk result (λ all. AreNumbered types.new all (items_told (types_of nodes.now) items.now)) }
+{
+    let mut all = List::new(alloc);
+    for item in items {
+        all.push(number_item(types, nodes, numbers, item)?)?;
+    }
+    Ok(all)
+}
+
+/// Adds the brackets of a type.
+fn put_type(
+    alloc: Global,
+    types: &mut Types,
+    brackets: &mut List<List<NumberedItem>>,
+    found: &TypeBrackets<'_>,
+) -> Result<(), Memory>
+    requires { IsOrdered found.now }
+    ensures grown { Grows types.old types.new }
+    ensures ok { OnOk result ((all : Seq (Seq PlacedItem)) → AreAllNumbered types.old brackets.old all → AreAllNumbered types.new brackets.new (all ++ type_told found.now)) }
+{
+    let numbers = types.add_nodes(alloc, found.nodes)?;
+    for items in found.brackets.as_slice() {
+        brackets.push(number_items(
+            alloc,
+            types,
+            found.nodes,
+            numbers.as_slice(),
+            items.as_slice(),
+        )?)?;
+    }
+    Ok(())
+}
+
+/// Adds the brackets of types.
+fn put_types(
+    alloc: Global,
+    types: &mut Types,
+    brackets: &mut List<List<NumberedItem>>,
+    found: &[TypeBrackets<'_>],
+) -> Result<(), Memory>
+    requires { All IsOrdered found.now }
+    ensures grown { Grows types.old types.new }
+    ensures ok { OnOk result ((all : Seq (Seq PlacedItem)) → AreAllNumbered types.old brackets.old all → AreAllNumbered types.new brackets.new (all ++ all_told found.now)) }
+{
+    for inside in found {
+        put_type(alloc, types, brackets, inside)?;
+    }
+    Ok(())
+}
+
+/// The brackets of types, one after another, each item with the number of the bracket that has it alone. Each node of
+/// these types is added once.
+pub fn number_brackets(
+    alloc: Global,
+    types: &mut Types,
+    found: &[TypeBrackets<'_>],
+) -> Result<List<List<NumberedItem>>, Memory>
+    requires { All IsOrdered found.now }
+    ensures grown { Grows types.old types.new }
+    ensures ok { IfOk result (λ all. AreAllNumbered types.new all (all_told found.now)) }
+{
+    let mut brackets = List::new(alloc);
+    put_types(alloc, types, &mut brackets, found)?;
+    Ok(brackets)
+}
+
+/// The brackets of the types of declarations, in the same way.
+pub fn number_declared(
+    alloc: Global,
+    types: &mut Types,
+    found: &[List<TypeBrackets<'_>>],
+) -> Result<List<List<NumberedItem>>, Memory>
+    requires { All (All IsOrdered) found.now }
+    ensures grown { Grows types.old types.new }
+    ensures ok { IfOk result (λ all. AreAllNumbered types.new all (flat_map all_told found.now)) }
+{
+    let mut brackets = List::new(alloc);
+    for inside in found {
+        put_types(alloc, types, &mut brackets, inside.as_slice())?;
+    }
+    Ok(brackets)
+}

@@ -1,0 +1,68 @@
+//! Tags of one bracket that clash, over the brackets of a text.
+
+ghost use Rattle.std.specs.Prelude.{◌≡◌, IfOk};
+ghost use Rattle.om_scope.specs.Least.{IsLeast};
+ghost use Rattle.om_brackets.specs.Items.{ClashesIn};
+ghost use Rattle.om_head_rules.specs.Broken.{IsFirstOfHeads};
+ghost use Rattle.om_head_rules.specs.Rules.{SomeBreaks, CollideAmong, IsLeastAmong, TagsBreak};
+
+use crate::broken::HeadBreak;
+use om_brackets::{Collision, Item, least_clash, least_collision, nearer};
+use om_model::Memory;
+use om_model::list::List;
+use om_scope::sooner;
+use std::alloc::Global;
+
+/// The least place of a tag that comes with two arguments in one bracket.
+fn least_tag_clash(alloc: Global, brackets: &[List<Item>]) -> Result<Option<usize>, Memory>
+    ensures { IfOk result (IsLeast (SomeBreaks brackets.now ClashesIn)) }
+{
+    let mut best = None;
+    for items in brackets {
+        best = sooner(best, least_clash(alloc, items.as_slice())?);
+    }
+    Ok(best)
+}
+
+/// The least place of two tags of one bracket that have one hash, with their names.
+fn least_hash_clash<'a>(
+    alloc: Global,
+    brackets: &'a [List<Item>],
+) -> Result<Option<Collision<'a>>, Memory>
+    ensures { IfOk result (IsLeastAmong brackets.now) }
+{
+    let mut best = None;
+    for items in brackets {
+        best = nearer(best, least_collision(alloc, items.as_slice())?);
+    }
+    Ok(best)
+}
+
+/// The same bytes.
+fn copied(alloc: Global, name: &[u8]) -> Result<List<u8>, Memory>
+    ensures { IfOk result (λ l. l ≡ name.now) }
+{
+    Ok(List::of(Vec::from_slice(alloc, name)?))
+}
+
+/// Two tags with one hash, as a rule that is broken.
+fn hash_break(alloc: Global, found: Collision<'_>) -> Result<HeadBreak, Memory>
+    ensures { IfOk result (λ b. b ≡ HeadBreak.HashClash found.entry.place found.entry.one.now found.entry.other.now) }
+{
+    let one = copied(alloc, found.one)?;
+    let other = copied(alloc, found.other)?;
+    Ok(HeadBreak::HashClash(found.place, one, other))
+}
+
+/// The first rule on tags that a bracket breaks, at the least lexeme.
+pub fn first_of_tags(alloc: Global, tagged: &[List<Item>]) -> Result<Option<HeadBreak>, Memory>
+    ensures { IfOk result (IsFirstOfHeads (TagsBreak tagged.now) (CollideAmong tagged.now)) }
+{
+    if let Some(place) = least_tag_clash(alloc, tagged)? {
+        return Ok(Some(HeadBreak::TagClash(place)));
+    }
+    match least_hash_clash(alloc, tagged)? {
+        Some(found) => Ok(Some(hash_break(alloc, found)?)),
+        None => Ok(None),
+    }
+}

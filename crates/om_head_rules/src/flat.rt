@@ -1,0 +1,160 @@
+//! Records that lie flat through an abbreviation of their own group.
+
+ghost use Rattle.std.specs.Prelude.{◌≡◌, ◌<◌, ◌↔◌, true, length, Contains, IfOk, IsTrue};
+ghost use Rattle.om_types.specs.Nodes.{type_at};
+ghost use Rattle.om_types.specs.Accepted.{AreSound};
+ghost use Rattle.om_types.specs.Scope.{IsThrough, IsFlatThroughGroup};
+ghost use Rattle.om_types.specs.declared.decl.Field.{Field as Member};
+ghost use Rattle.om_types.specs.Shape.{is_float};
+ghost use Rattle.om_scope.specs.Breaks.{names_of_decls};
+ghost use Rattle.om_scope.specs.Least.{IsLeast};
+ghost use Rattle.om_scope.specs.Names.{number_of, ArePlaces};
+ghost use Rattle.om_store.specs.Held.{Grows};
+ghost use Rattle.om_head_rules.specs.Rules.{IsOwn, SomeFlat};
+
+use om_layout::{is_float, name, unfolded};
+use om_model::Memory;
+use om_scope::declared::declared;
+use om_scope::table::Table;
+use om_scope::{Placed, place_if, sooner};
+use om_store::Types;
+use om_types::decl::{Body, Decl, Field};
+use std::alloc::Global;
+
+/// Whether an abbreviation of this group is at the head of a type.
+fn is_own(
+    types: &Types,
+    decls: &[Decl],
+    table: &Table<'_>,
+    group: usize,
+    number: usize,
+) -> bool
+    requires places { ArePlaces (names_of_decls decls.now) (length decls.now) (number_of table.now) }
+    requires number { number < length types.now }
+    ensures { IsTrue result ↔ IsOwn decls.now group (type_at types.now number) }
+{
+    let decl = match name(types, number) {
+        Some(name) => declared(decls, table, name),
+        None => None,
+    };
+    match decl {
+        Some(decl) => match &decl.body {
+            Body::Abbreviation(_) => decl.group == group,
+            _ => false,
+        },
+        None => false,
+    }
+}
+
+/// Whether an abbreviation of this group is among those that are replaced at the head of a type.
+fn is_through(
+    alloc: Global,
+    types: &mut Types,
+    decls: &[Decl],
+    table: &Table<'_>,
+    group: usize,
+    number: usize,
+) -> Result<bool, Memory>
+    requires places { ArePlaces (names_of_decls decls.now) (length decls.now) (number_of table.now) }
+    requires number { number < length types.old }
+    ensures ok { IfOk result (λ is. IsTrue is ↔ IsThrough decls.now group (type_at types.old number)) }
+    ensures grown { Grows types.old types.new }
+{
+    let mut at = number;
+    // No abbreviation comes back to itself, so this ends long before.
+    for _turn in 0..u64::MAX {
+        if is_own(types, decls, table, group, at) {
+            return Ok(true);
+        }
+        match unfolded(alloc, types, decls, table, at)? {
+            Some(next) => at = next,
+            None => return Ok(false),
+        }
+    }
+    Err(Memory)
+}
+
+/// Whether all fields are `float`.
+fn are_floats(
+    alloc: Global,
+    types: &mut Types,
+    decls: &[Decl],
+    table: &Table<'_>,
+    fields: &[Field],
+) -> Result<bool, Memory>
+    requires places { ArePlaces (names_of_decls decls.now) (length decls.now) (number_of table.now) }
+    requires sound { AreSound decls.now }
+    ensures ok { IfOk result (λ are. IsTrue are ↔ ((f : Member) → Contains fields.now f → is_float decls.now f.ty ≡ true)) }
+{
+    for field in fields {
+        let number = types.add(alloc, &field.ty)?;
+        if !is_float(alloc, types, decls, table, number)? {
+            return Ok(false);
+        }
+    }
+    Ok(true)
+}
+
+/// Whether some field is what it is through an abbreviation of this group.
+fn some_through(
+    alloc: Global,
+    types: &mut Types,
+    decls: &[Decl],
+    table: &Table<'_>,
+    group: usize,
+    fields: &[Field],
+) -> Result<bool, Memory>
+    requires { ArePlaces (names_of_decls decls.now) (length decls.now) (number_of table.now) }
+    ensures { IfOk result (λ some. IsTrue some ↔ ((f : Member) × Contains fields.now f × IsThrough decls.now group f.ty)) }
+{
+    for field in fields {
+        let number = types.add(alloc, &field.ty)?;
+        if is_through(alloc, types, decls, table, group, number)? {
+            return Ok(true);
+        }
+    }
+    Ok(false)
+}
+
+/// Whether a declaration is a record that lies flat through an abbreviation of its own group.
+fn is_flat(
+    alloc: Global,
+    types: &mut Types,
+    decls: &[Decl],
+    table: &Table<'_>,
+    decl: &Decl,
+) -> Result<bool, Memory>
+    requires places { ArePlaces (names_of_decls decls.now) (length decls.now) (number_of table.now) }
+    requires sound { AreSound decls.now }
+    ensures { IfOk result (λ is. IsTrue is ↔ IsFlatThroughGroup decls.now decl.now.group decl.now.body) }
+{
+    let Body::Record(fields) = &decl.body else {
+        return Ok(false);
+    };
+    let fields = fields.as_slice();
+    if !are_floats(alloc, types, decls, table, fields)? {
+        return Ok(false);
+    }
+    some_through(alloc, types, decls, table, decl.group, fields)
+}
+
+/// The least place of the name of such a record.
+pub fn least_flat(
+    alloc: Global,
+    types: &mut Types,
+    decls: &[Decl],
+    table: &Table<'_>,
+    names: &[Placed],
+) -> Result<Option<usize>, Memory>
+    requires places { ArePlaces (names_of_decls decls.now) (length decls.now) (number_of table.now) }
+    requires sound { AreSound decls.now }
+    requires named { length decls.now ≡ length names.now }
+    ensures { IfOk result (IsLeast (SomeFlat decls.now names.now)) }
+{
+    let mut best = None;
+    for i in 0..decls.len() {
+        let flat = is_flat(alloc, types, decls, table, &decls[i])?;
+        best = sooner(best, place_if(flat, names[i].place()));
+    }
+    Ok(best)
+}

@@ -1,0 +1,110 @@
+//! An item of a bracket by the number of its type.
+
+ghost use Rattle.std.specs.Prelude.{◌≡◌, ◌<◌, Some, length, slice_get, IfOk};
+ghost use Rattle.om_types.specs.Ty.{bracket, tag, tag_of, including};
+ghost use Rattle.om_types.specs.Nodes.{type_at, type_of_node, types_of, AreOrdered, IsBelow};
+ghost use Rattle.om_scope.specs.Brackets.{item_of, item_told};
+ghost use Rattle.om_store.specs.Held.{Grows};
+ghost use Rattle.om_store.specs.Instance.{HasNumbers};
+ghost use Rattle.om_head_rules.specs.Numbered.{IsNumbered};
+
+use om_model::Memory;
+use om_scope::BracketItem;
+use om_store::Types;
+use om_types::ty::Node;
+
+/// An item of a bracket.
+#[derive(Clone, Copy, Debug, PartialEq, Eq)]
+pub struct NumberedItem {
+    /// The number of its first lexeme.
+    pub place: usize,
+    /// The number of the bracket that has the item alone.
+    pub number: usize,
+}
+
+/// The number of a bracket with this tag alone.
+fn tag_number(types: &mut Types, name: &[u8]) -> Result<usize, Memory>
+    ensures grown { Grows types.old types.new }
+    ensures ok { IfOk result (λ n. slice_get types.new n ≡ Some (tag bracket name.now)) }
+{
+    let bracket = types.add_bracket()?;
+    types.add_tag(bracket, name)
+}
+
+/// The number of a bracket with this tag and its argument alone.
+fn tag_of_number(types: &mut Types, name: &[u8], argument: usize) -> Result<usize, Memory>
+    requires { argument < length types.old }
+    ensures grown { Grows types.old types.new }
+    ensures ok { IfOk result (λ n. slice_get types.new n ≡ Some (tag_of bracket name.now (type_at types.old argument))) }
+{
+    let bracket = types.add_bracket()?;
+    types.add_tag_of(bracket, name, argument)
+}
+
+/// The number of a bracket with this included type alone.
+fn including_number(types: &mut Types, included: usize) -> Result<usize, Memory>
+    requires { included < length types.old }
+    ensures grown { Grows types.old types.new }
+    ensures ok { IfOk result (λ n. slice_get types.new n ≡ Some (including bracket (type_at types.old included))) }
+{
+    let bracket = types.add_bracket()?;
+    types.add_including(bracket, included)
+}
+
+/// The number of the item that a node adds.
+fn node_number(
+    types: &mut Types,
+    nodes: &[Node],
+    numbers: &[usize],
+    n: usize,
+) -> Result<usize, Memory>
+    requires ordered { AreOrdered nodes.now }
+    requires numbers { HasNumbers types.old (types_of nodes.now) numbers.now }
+    requires below { n < length nodes.now }
+    ensures grown { Grows types.old types.new }
+    ensures ok { IfOk result (λ i. slice_get types.new i ≡ Some (item_of (type_at (types_of nodes.now) n))) }
+{
+    match &nodes[n] {
+        Node::Tag(_, x) => tag_number(types, x.as_slice()),
+        Node::TagOf(_, x, a) => tag_of_number(types, x.as_slice(), numbers[*a]),
+        Node::Including(_, u) => including_number(types, numbers[*u]),
+        _ => Ok(numbers[n]),
+    }
+}
+
+/// The number of the item that a node adds, where it is there.
+fn item_number(
+    types: &mut Types,
+    nodes: &[Node],
+    numbers: &[usize],
+    n: usize,
+) -> Result<usize, Memory>
+    requires ordered { AreOrdered nodes.now }
+    requires numbers { HasNumbers types.old (types_of nodes.now) numbers.now }
+    ensures grown { Grows types.old types.new }
+    ensures ok { IfOk result (λ i. slice_get types.new i ≡ Some (item_of (type_at (types_of nodes.now) n))) }
+{
+    if n < nodes.len() {
+        node_number(types, nodes, numbers, n)
+    } else {
+        types.add_tuple()
+    }
+}
+
+/// An item with the number of its type.
+pub fn number_item(
+    types: &mut Types,
+    nodes: &[Node],
+    numbers: &[usize],
+    item: &BracketItem,
+) -> Result<NumberedItem, Memory>
+    requires ordered { AreOrdered nodes.now }
+    requires numbers { HasNumbers types.old (types_of nodes.now) numbers.now }
+    ensures grown { Grows types.old types.new }
+    ensures ok { IfOk result (λ i. IsNumbered types.new i (item_told (types_of nodes.now) item.now)) }
+{
+    Ok(NumberedItem {
+        place: item.place,
+        number: item_number(types, nodes, numbers, item.node)?,
+    })
+}
