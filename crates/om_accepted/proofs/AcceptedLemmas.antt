@@ -12,13 +12,14 @@ use Rattle.om_equal.proofs.NeedLemmas.{head_plain}
 use Rattle.om_equal.proofs.RankedLemmas.{are_ranked}
 use Rattle.om_accepted.specs.Brackets.{HeadsArePlain, BracketsAreSound}
 use Rattle.om_accepted.specs.Names.{NamesAreSound}
+use Rattle.om_accepted.specs.Ranked.{Keeps}
 use Rattle.om_accepted.specs.Told.{IsProper, TellsAll}
 use Rattle.om_accepted.specs.Accepted.{IsWritten, AreToldWhole}
 use Rattle.om_accepted.proofs.RankLemmas.{ranks_follow_lem, found, found_named, found_decl}
 use Rattle.om_accepted.proofs.NameLemmas.{arguments_follow, names_follow_lem}
 use Rattle.om_accepted.proofs.BracketLemmas.{brackets_follow_in, brackets_follow_lem}
 
-module _ (all : List DeclPlaces) (told : AreToldWhole all) (keeps : KeepsAll (BreaksInFile all)) where
+module _ (all : List DeclPlaces) (told : AreToldWhole all) where
   -- a declaration with what stands in it
   record Placed (decl : Decl) : Type 0 where
     d : DeclPlaces
@@ -31,56 +32,61 @@ module _ (all : List DeclPlaces) (told : AreToldWhole all) (keeps : KeepsAll (Br
     by_found None there none = absurd (none-some decl none)
     by_found (Some d) there some = record { d = d; among = there d (λ i. Some d); is = same_Some d.decl decl some }
 
-  names : NamesAreSound all
-  names = names_follow_lem all told.things (keeps twice) (keeps unknown_name) (keeps arity) (keeps unbound_variable)
-
   written_at : (name : List ℕ) (decl : Decl) (t : Ty) → declaration_of (decls_of all) name ≡ Some decl → Contains (types_of_body decl.body) t → IsWritten t
   written_at name decl t is stands =
       let p = placed name decl is in
       told.written p.d t p.among (subst (λ (e : Decl). Contains (types_of_body e.body) t) (sym p.is) stands)
 
-  sound : AreSound (decls_of all)
-  sound =
-      let ranks = ranks_follow_lem all told.uses (keeps twice) (keeps unknown_name) (keeps cyclic) in
+  -- names that are declared once and known, and no cycle, make declarations sound
+  pub sound_by_names : Keeps all twice → Keeps all unknown_name → Keeps all cyclic → AreSound (decls_of all)
+  sound_by_names once known acyclic =
+      let ranks = ranks_follow_lem all told.uses once known acyclic in
       record {
         rank = ranks.0;
         ranking = ranks.1;
         written = λ name decl t is stands. let w = written_at name decl t is stands in (w.type, w.shallow);
       }
 
-  plain : HeadsArePlain (decls_of all)
-  plain t none = head_plain (decls_of all) sound.rank (are_ranked (decls_of all) sound) t none
+  module _ (keeps : KeepsAll (BreaksInFile all)) where
+    names : NamesAreSound all
+    names = names_follow_lem all told.things (keeps twice) (keeps unknown_name) (keeps arity) (keeps unbound_variable)
 
-  brackets : BracketsAreSound all
-  brackets = brackets_follow_lem all told.things plain (keeps not_variant) (keeps hash_clash)
+    sound : AreSound (decls_of all)
+    sound = sound_by_names (keeps twice) (keeps unknown_name) (keeps cyclic)
 
-  pub well_formed : AreWellFormed (decls_of all)
-  well_formed = record {
-    sound = sound;
-    new_names = λ name decl is.
-        let p = placed name decl is in
-        let new : predeclared p.d.decl.name ≡ None = names.new_names p.d p.among in
-        subst (λ n. predeclared n ≡ None) (named_so name decl is) (subst (λ (e : Decl). predeclared e.name ≡ None) p.is new);
-    types = λ name decl t is stands.
-        let p = placed name decl is in
-        let w = written_at name decl t is stands in
-        let stands' : Contains (types_of_body p.d.decl.body) t = subst (λ (e : Decl). Contains (types_of_body e.body) t) (sym p.is) stands in
-        record {
-          written = w.type;
-          arguments = names.arguments p.d t p.among stands' w.proper;
-          brackets = brackets p.d t p.among stands' w.proper;
-        };
-    variables = λ name decl t is stands.
-        let p = placed name decl is in
-        let w = written_at name decl t is stands in
-        let stands' : Contains (types_of_body p.d.decl.body) t = subst (λ (e : Decl). Contains (types_of_body e.body) t) (sym p.is) stands in
-        subst (λ (e : Decl). VariablesAmong e.parameters t) p.is (names.variables p.d t p.among stands' w.proper);
-  } where
-    named_so : (name : List ℕ) (decl : Decl) → declaration_of (decls_of all) name ≡ Some decl → decl.name ≡ name
-    named_so name decl is = by_found (found all name) (λ d at. (found_named all name d at).1) (sym (found_decl all name) ∙ is) where
-      by_found : (o : Option DeclPlaces) → ((d : DeclPlaces) → o ≡ Some d → d.decl.name ≡ name) → option_map (λ (d : DeclPlaces). d.decl) o ≡ Some decl → decl.name ≡ name
-      by_found None there none = absurd (none-some decl none)
-      by_found (Some d) there some = subst (λ (e : Decl). e.name ≡ name) (same_Some d.decl decl some) (there d (λ i. Some d))
+    plain : HeadsArePlain (decls_of all)
+    plain t none = head_plain (decls_of all) sound.rank (are_ranked (decls_of all) sound) t none
+
+    brackets : BracketsAreSound all
+    brackets = brackets_follow_lem all told.things plain (keeps not_variant) (keeps hash_clash)
+
+    pub well_formed : AreWellFormed (decls_of all)
+    well_formed = record {
+      sound = sound;
+      new_names = λ name decl is.
+          let p = placed name decl is in
+          let new : predeclared p.d.decl.name ≡ None = names.new_names p.d p.among in
+          subst (λ n. predeclared n ≡ None) (named_so name decl is) (subst (λ (e : Decl). predeclared e.name ≡ None) p.is new);
+      types = λ name decl t is stands.
+          let p = placed name decl is in
+          let w = written_at name decl t is stands in
+          let stands' : Contains (types_of_body p.d.decl.body) t = subst (λ (e : Decl). Contains (types_of_body e.body) t) (sym p.is) stands in
+          record {
+            written = w.type;
+            arguments = names.arguments p.d t p.among stands' w.proper;
+            brackets = brackets p.d t p.among stands' w.proper;
+          };
+      variables = λ name decl t is stands.
+          let p = placed name decl is in
+          let w = written_at name decl t is stands in
+          let stands' : Contains (types_of_body p.d.decl.body) t = subst (λ (e : Decl). Contains (types_of_body e.body) t) (sym p.is) stands in
+          subst (λ (e : Decl). VariablesAmong e.parameters t) p.is (names.variables p.d t p.among stands' w.proper);
+    } where
+      named_so : (name : List ℕ) (decl : Decl) → declaration_of (decls_of all) name ≡ Some decl → decl.name ≡ name
+      named_so name decl is = by_found (found all name) (λ d at. (found_named all name d at).1) (sym (found_decl all name) ∙ is) where
+        by_found : (o : Option DeclPlaces) → ((d : DeclPlaces) → o ≡ Some d → d.decl.name ≡ name) → option_map (λ (d : DeclPlaces). d.decl) o ≡ Some decl → decl.name ≡ name
+        by_found None there none = absurd (none-some decl none)
+        by_found (Some d) there some = subst (λ (e : Decl). e.name ≡ name) (same_Some d.decl decl some) (there d (λ i. Some d))
 
 pub sound_type :
     (decls : List Decl) (occurrences : List Occurrence) (t : Ty) → AreWellFormed decls → IsProper t → IsType t → TellsAll occurrences t

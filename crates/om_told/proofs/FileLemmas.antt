@@ -13,10 +13,11 @@ use Rattle.om_grammar.specs.Refusals.{IsText}
 use Rattle.om_grammar.proofs.FileStand.{file_even}
 use Rattle.om_types.specs.declared.decl.Field.{Field}
 use Rattle.om_types.specs.declared.decl.Constructor.{Constructor}
-use Rattle.om_types.specs.Accepted.{types_of_arguments, types_of_body, names_outside, AreWellFormed}
+use Rattle.om_types.specs.Accepted.{types_of_arguments, types_of_body, names_outside, AreSound, AreWellFormed}
 use Rattle.om_types.specs.Declarations.{abbreviated}
 use Rattle.om_types.specs.Occurrence.{Occurrence, DeclPlaces, use_of}
-use Rattle.om_types.specs.Scope.{BreaksInFile, KeepsAll}
+use Rattle.om_types.specs.Scope.{BreaksInFile, KeepsAll, twice, unknown_name, cyclic}
+use Rattle.om_scope.specs.First.{KeepsBefore}
 use Rattle.om_types.specs.Shape.{types_of_fields}
 use Rattle.om_types.specs.Ty.{Ty}
 use Rattle.om_parse.specs.Written.{type_of_texpr, type_of_app, field_of_tree, fields_of_tree, arguments_of_tree, constructor_of_tree, body_of_tree, declarations_of}
@@ -25,7 +26,7 @@ use Rattle.om_sites.specs.InFile.{spread, field_size, in_fields, field_occurrenc
 use Rattle.om_sites.proofs.GroupLaws.{files_are_counted}
 use Rattle.om_accepted.specs.Told.{TellsAll}
 use Rattle.om_accepted.specs.Accepted.{IsWritten, AreToldWhole}
-use Rattle.om_accepted.proofs.AcceptedLemmas.{well_formed}
+use Rattle.om_accepted.proofs.AcceptedLemmas.{sound_by_names, well_formed}
 use Rattle.om_told.proofs.TypeLemmas.{types_told, types_proper}
 use Rattle.om_told.proofs.OutsideLemmas.{types_used, types_are_types, types_shallow}
 use Rattle.om_told.proofs.DepthLemmas.{types_end, text_is_shallow}
@@ -334,3 +335,14 @@ pub files_well_formed :
     → AreWellFormed (declarations_of tree)
 files_well_formed lexemes tree is keeps =
     subst AreWellFormed (files_are_counted.declared tree) (well_formed (file_places tree) (files_told lexemes tree is) keeps)
+
+-- declarations of a text that breaks none of the rules on names are sound
+pub names_sound :
+    (lexemes : Kinds) (tree : FileTree) → IsText file_kinds file_ends lexemes tree → KeepsBefore (BreaksInFile (file_places tree)) 7
+    → AreSound (declarations_of tree)
+names_sound lexemes tree is keeps =
+    subst AreSound (files_are_counted.declared tree)
+    (sound_by_names (file_places tree) (files_told lexemes tree is)
+    (λ k. keeps twice k (omega arith))
+    (λ k. keeps unknown_name k (omega arith))
+    (λ k. keeps cyclic k (omega arith)))

@@ -4,8 +4,9 @@ use Rattle.om_grammar.specs.Depths.{file_ends}
 use Rattle.om_grammar.specs.Grammar.{Kinds, Texpr, FileTree, file_kinds}
 use Rattle.om_grammar.specs.Refusals.{IsText}
 use Rattle.om_types.specs.declared.decl.Decl.{Decl}
-use Rattle.om_types.specs.Accepted.{AreWellFormed, IsSoundType}
+use Rattle.om_types.specs.Accepted.{AreSound, AreWellFormed, IsSoundType}
 use Rattle.om_types.specs.Scope.{BreaksInFile, BreaksInType, KeepsAll}
+use Rattle.om_scope.specs.First.{KeepsBefore}
 use Rattle.om_parse.specs.Written.{type_of_texpr, declarations_of}
 use Rattle.om_sites.specs.InFile.{file_places}
 use Rattle.om_sites.specs.InText.{in_texpr}
@@ -14,6 +15,12 @@ abbrev pub FilesAreWellFormed : Type 0
 FilesAreWellFormed =
     (lexemes : Kinds) (tree : FileTree) → IsText file_kinds file_ends lexemes tree → KeepsAll (BreaksInFile (file_places tree))
     → AreWellFormed (declarations_of tree)
+
+-- the rules on names, which are the first seven, make declarations sound
+abbrev pub NamesMakeSound : Type 0
+NamesMakeSound =
+    (lexemes : Kinds) (tree : FileTree) → IsText file_kinds file_ends lexemes tree → KeepsBefore (BreaksInFile (file_places tree)) 7
+    → AreSound (declarations_of tree)
 
 -- of a type over such declarations
 abbrev pub TypesAreSound : Type 0

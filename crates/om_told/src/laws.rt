@@ -1,13 +1,18 @@
 //! The laws, as contracts.
 
-ghost use Rattle.om_told.specs.Told.{FilesAreWellFormed, TypesAreSound};
+ghost use Rattle.om_told.specs.Told.{FilesAreWellFormed, NamesMakeSound, TypesAreSound};
 
 /// Declarations whose text breaks no rule of scope are well-formed.
 pub fn files_are_well_formed()
     ensures { FilesAreWellFormed }
 {}
 
-/// So are types over them.
+/// Those whose text breaks no rule on names are sound.
+pub fn names_make_sound()
+    ensures { NamesMakeSound }
+{}
+
+/// Types whose text breaks no rule over well-formed declarations are sound.
 pub fn types_are_sound()
     ensures { TypesAreSound }
 {}

@@ -6,4 +6,4 @@ mod laws;
 #[cfg(test)]
 mod tests;
 
-pub use laws::{files_are_well_formed, types_are_sound};
+pub use laws::{files_are_well_formed, names_make_sound, types_are_sound};

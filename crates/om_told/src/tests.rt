@@ -4,5 +4,6 @@ use super::*;
 #[test]
 fn laws_are_called() {
     files_are_well_formed();
+    names_make_sound();
     types_are_sound();
 }
