@@ -1,12 +1,22 @@
 -- The faults that code answers, and what they tell.
-use Rattle.std.specs.Prelude.{ℕ, List, Option, Some, None, MatchOption}
+use Rattle.std.specs.Prelude.{ℕ, ◌≡◌, List, length, false, Option, Some, None, MatchOption}
 use Rattle.om_lex.specs.declared.lexeme.Lexeme.{Lexeme}
 use Rattle.om_lex.specs.declared.lexeme.LexFault.{LexFault}
 use Rattle.om_lex.specs.declared.lexeme.LexFault.TheVariants as lexer
+use Rattle.om_lex.specs.LexText.{Lexes}
+use Rattle.om_types.specs.declared.decl.Decl.{Decl}
 use Rattle.om_types.specs.Scope as scope
+use Rattle.om_grammar.specs.Grammar.{Kinds, FileTree, file_kinds, Texpr, texpr}
+use Rattle.om_grammar.specs.Depths.{file_ends, texpr_ends}
+use Rattle.om_grammar.specs.Refusals.{IsText}
 use Rattle.om_parse.specs.declared.refused.Fault.{Fault}
 use Rattle.om_parse.specs.declared.refused.Fault.TheVariants as parser
-use Rattle.om_parse.specs.Parsed.{byte_of}
+use Rattle.om_parse.specs.Parsed.{kinds_of, byte_of}
+use Rattle.om_sites.specs.InFile.{file_places}
+use Rattle.om_sites.specs.InText.{in_texpr}
+use Rattle.om_head_rules.specs.declared.broken.HeadBreak.{HeadBreak}
+use Rattle.om_head_rules.specs.declared.broken.HeadBreak.TheVariants as heads
+use Rattle.om_head_rules.specs.Broken.{FileHashes, TypeHashes}
 use Rattle.om_decl.specs.Answer.{Answer, no_lexemes, no_text, too_deep, broken}
 use Rattle.om_decl.specs.declared.fault.DeclFault.{DeclFault}
 use Rattle.om_decl.specs.declared.fault.DeclFault.TheVariants as faults
@@ -33,6 +43,12 @@ broken_at rules.Cyclic place = faults.Cyclic place
 broken_at rules.Irregular place = faults.Irregular place
 broken_at rules.TooManyConstructors place = faults.TooManyConstructors place
 
+abbrev pub head_at : List Lexeme → ℕ → HeadBreak → DeclFault
+head_at lexemes end (heads.NotVariant k) = faults.NotVariant (byte_of lexemes end k)
+head_at lexemes end (heads.TagClash k) = faults.TagClash (byte_of lexemes end k)
+head_at lexemes end (heads.HashClash k one other) = faults.HashClash (byte_of lexemes end k) one other
+head_at lexemes end (heads.FloatInGroup k) = faults.FloatInGroup (byte_of lexemes end k)
+
 -- ---- what a fault tells
 
 abbrev pub told : {Tree : Type 0} → DeclFault → Option (Answer Tree)
@@ -46,8 +62,37 @@ told (faults.UnboundVar place) = Some (broken scope.unbound_variable place)
 told (faults.Cyclic place) = Some (broken scope.cyclic place)
 told (faults.Irregular place) = Some (broken scope.irregular place)
 told (faults.TooManyConstructors place) = Some (broken scope.too_many_constructors place)
+told (faults.NotVariant place) = Some (broken scope.not_variant place)
+told (faults.TagClash place) = Some (broken scope.tag_clash place)
+told (faults.HashClash place one other) = Some (broken scope.hash_clash place)
+told (faults.FloatInGroup place) = Some (broken scope.float_in_group place)
 told faults.Memory = None
 
 -- the fault is the answer, unless memory ran out
 abbrev pub IsRefused : {Tree : Type 0} → (Answer Tree → Type 0) → DeclFault → Type 0
 IsRefused Is fault = MatchOption (told fault) (Unit {0}) Is
+
+-- ---- the names that a fault gives
+
+module _ {Tree : Type 0} (spelled : Tree → Kinds) (ends : Tree → List ℕ)
+    (Hashes : Tree → ℕ → List ℕ → List ℕ → Type 0) (text : List ℕ) where
+  -- a tree of the text has two tags of these names in one bracket, with one hash, the later at this byte
+  pub record NameTags (place : ℕ) (one other : List ℕ) : Type 0 where
+    pub lexemes : List Lexeme
+    pub tree : Tree
+    pub lexeme : ℕ
+    pub lexed : Lexes text lexemes
+    pub reads : IsText spelled ends (kinds_of lexemes) tree
+    pub at : byte_of lexemes (length text) lexeme ≡ place
+    pub hash : Hashes tree lexeme one other
+
+  abbrev pub HasNames : DeclFault → Type 0
+  HasNames (faults.HashClash place one other) = NameTags place one other
+  HasNames fault = Unit {0}
+
+abbrev pub HasFileNames : List ℕ → DeclFault → Type 0
+HasFileNames = HasNames file_kinds file_ends (λ tree. FileHashes (file_places tree))
+
+-- of the text of a type over declarations
+abbrev pub HasTypeNames : List Decl → List ℕ → DeclFault → Type 0
+HasTypeNames decls = HasNames texpr texpr_ends (λ tree. TypeHashes decls (in_texpr 0 false tree))

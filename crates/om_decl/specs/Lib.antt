@@ -1,3 +1,5 @@
 pub mod Answer
 pub mod Fault
 pub mod Named
+pub mod Read
+pub mod Text

@@ -2,16 +2,18 @@
 
 ghost use Rattle.std.specs.Prelude.{◌≡◌};
 ghost use Rattle.om_parse.specs.Parsed.{byte_of};
-ghost use Rattle.om_decl.specs.Fault.{lexed, parsed, broken_at};
+ghost use Rattle.om_decl.specs.Fault.{lexed, parsed, broken_at, head_at};
 ghost use Rattle.om_decl.specs.declared.fault.DeclFault.TheVariants as faults;
 
+use om_head_rules::HeadBreak;
 use om_lex::lexeme::{LexFault, Lexeme};
 use om_model::Memory;
+use om_model::list::List;
 use om_parse::{Fault, byte_of};
 use om_scope::{Broken, NameRule};
 
 /// Why a text is refused, with the number of the byte at which the refused lexeme begins.
-#[derive(Clone, Copy, Debug, PartialEq, Eq)]
+#[derive(Drop)]
 pub enum DeclFault {
     /// It has no lexemes.
     Lex(LexFault),
@@ -33,6 +35,14 @@ pub enum DeclFault {
     Irregular(usize),
     /// The 245th constructor with arguments of a declaration.
     TooManyConstructors(usize),
+    /// A type that a bracket includes, which is no polymorphic variant.
+    NotVariant(usize),
+    /// An item whose tag an earlier item brings with another argument.
+    TagClash(usize),
+    /// An item whose tag has the hash of another tag of the bracket. The two names.
+    HashClash(usize, List<u8>, List<u8>),
+    /// The declared name of a record all of whose fields are `float`, one through an abbreviation of its group.
+    FloatInGroup(usize),
     /// Out of memory.
     Memory,
 }
@@ -79,5 +89,19 @@ pub fn scope_fault(broken: Broken, lexemes: &[Lexeme], end: usize) -> DeclFault
         NameRule::Cyclic => DeclFault::Cyclic(place),
         NameRule::Irregular => DeclFault::Irregular(place),
         NameRule::TooManyConstructors => DeclFault::TooManyConstructors(place),
+    }
+}
+
+/// The fault of a rule on heads that is broken, in a text of so many bytes with these lexemes.
+pub fn head_fault(broken: HeadBreak, lexemes: &[Lexeme], end: usize) -> DeclFault
+    ensures { result ≡ head_at lexemes.now end broken }
+{
+    match broken {
+        HeadBreak::NotVariant(k) => DeclFault::NotVariant(byte_of(lexemes, end, k)),
+        HeadBreak::TagClash(k) => DeclFault::TagClash(byte_of(lexemes, end, k)),
+        HeadBreak::HashClash(k, one, other) => {
+            DeclFault::HashClash(byte_of(lexemes, end, k), one, other)
+        }
+        HeadBreak::FloatInGroup(k) => DeclFault::FloatInGroup(byte_of(lexemes, end, k)),
     }
 }

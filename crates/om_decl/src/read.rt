@@ -2,7 +2,7 @@
 
 ghost use Rattle.std.specs.Prelude.{IfOk, IfErr};
 ghost use Rattle.om_decl.specs.Answer.{IsFileAnswer, IsTypeAnswer};
-ghost use Rattle.om_decl.specs.Fault.{IsRefused};
+ghost use Rattle.om_decl.specs.Fault.{IsRefused, HasFileNames, HasTypeNames};
 ghost use Rattle.om_decl.specs.Named.{IsNamed, IsNamedType};
 
 use crate::fault::{DeclFault, lex_fault, parse_fault, scope_fault};
@@ -28,6 +28,7 @@ pub struct Named {
 pub fn read_names(alloc: Global, text: &[u8]) -> Result<Named, DeclFault>
     ensures named { IfOk result (IsNamed text.now) }
     ensures fault { IfErr result (IsRefused (IsFileAnswer text.now)) }
+    ensures names { IfErr result (HasFileNames text.now) }
 {
     let lexemes = match tokens(alloc, text) {
         Ok(lexemes) => lexemes,
@@ -60,6 +61,7 @@ pub struct NamedType {
 pub fn read_type_names(alloc: Global, decls: &[Decl], text: &[u8]) -> Result<NamedType, DeclFault>
     ensures named { IfOk result (IsNamedType decls.now text.now) }
     ensures fault { IfErr result (IsRefused (IsTypeAnswer decls.now text.now)) }
+    ensures names { IfErr result (HasTypeNames decls.now text.now) }
 {
     let lexemes = match tokens(alloc, text) {
         Ok(lexemes) => lexemes,

@@ -2,3 +2,4 @@ pub mod TypeLemmas
 pub mod OutsideLemmas
 pub mod DepthLemmas
 pub mod FileLemmas
+pub mod SoundLemmas

@@ -1,0 +1,44 @@
+//! Declarations and types that break no rule, from their texts.
+
+ghost use Rattle.std.specs.Prelude.{IfOk, IfErr};
+ghost use Rattle.om_types.specs.Accepted.{AreWellFormed, IsSoundType};
+ghost use Rattle.om_decl.specs.Answer.{IsFileAnswer, IsTypeAnswer};
+ghost use Rattle.om_decl.specs.Fault.{IsRefused, HasFileNames, HasTypeNames};
+ghost use Rattle.om_decl.specs.Read.{IsDeclared, IsTypeOf};
+
+use crate::fault::{DeclFault, head_fault};
+use crate::heads::{first_file_head, first_type_head};
+use crate::read::{read_names, read_type_names};
+use om_model::list::List;
+use om_types::decl::Decl;
+use om_types::ty::Ty;
+use std::alloc::Global;
+
+/// Reads declarations.
+pub fn read_decls(alloc: Global, text: &[u8]) -> Result<List<Decl>, DeclFault>
+    ensures declared { IfOk result (IsDeclared text.now) }
+    ensures well { IfOk result AreWellFormed }
+    ensures fault { IfErr result (IsRefused (IsFileAnswer text.now)) }
+    ensures names { IfErr result (HasFileNames text.now) }
+{
+    let named = read_names(alloc, text)?;
+    match first_file_head(alloc, named.marks.as_slice(), named.decls.as_slice())? {
+        Some(broken) => Err(head_fault(broken, named.lexemes.as_slice(), text.len())),
+        None => Ok(named.decls),
+    }
+}
+
+/// Reads a type over declarations.
+pub fn read_type(alloc: Global, decls: &[Decl], text: &[u8]) -> Result<Ty, DeclFault>
+    requires well { AreWellFormed decls.now }
+    ensures written { IfOk result (IsTypeOf decls.now text.now) }
+    ensures sound { IfOk result (IsSoundType decls.now) }
+    ensures fault { IfErr result (IsRefused (IsTypeAnswer decls.now text.now)) }
+    ensures names { IfErr result (HasTypeNames decls.now text.now) }
+{
+    let named = read_type_names(alloc, decls, text)?;
+    match first_type_head(alloc, named.marks.as_slice(), &named.ty, decls)? {
+        Some(broken) => Err(head_fault(broken, named.lexemes.as_slice(), text.len())),
+        None => Ok(named.ty),
+    }
+}
