@@ -6,7 +6,7 @@ use Rattle.om_lex.specs.declared.lexeme.LexFault.TheVariants as lexer
 use Rattle.om_lex.specs.LexText.{Lexes}
 use Rattle.om_types.specs.declared.decl.Decl.{Decl}
 use Rattle.om_types.specs.Scope as scope
-use Rattle.om_grammar.specs.Grammar.{Kinds, FileTree, file_kinds, Texpr, texpr}
+use Rattle.om_grammar.specs.Grammar.{Kinds, file_kinds, texpr}
 use Rattle.om_grammar.specs.Depths.{file_ends, texpr_ends}
 use Rattle.om_grammar.specs.Refusals.{IsText}
 use Rattle.om_parse.specs.declared.refused.Fault.{Fault}

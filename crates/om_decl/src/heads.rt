@@ -47,7 +47,9 @@ pub fn first_file_head(
     ensures { IfOk result (IsFirstOfHeads (BreaksInFile (counted_file marks.now decls.now)) (FileHashes (counted_file marks.now decls.now))) }
 {
     let FileSites {
-        names, brackets, ..
+        names,
+        brackets,
+        ..
     } = file_sites(alloc, marks, decls)?;
     first_of_file(alloc, marks, decls, names.as_slice(), brackets.as_slice())
 }

@@ -93,7 +93,10 @@ fn faults_have_their_places(rt: HostRuntime) -> Result<(), Fail> {
         },
     ];
     for row in &rows {
-        assert_eq!(rt; decls_told(rt.alloc(), row.text)?.as_slice(), row.told.as_bytes());
+        assert_eq!(rt;
+            decls_told(rt.alloc(), row.text)?.as_slice(),
+            row.told.as_bytes()
+        );
     }
     Ok(())
 }
@@ -132,7 +135,10 @@ fn heads_are_judged_behind_names(rt: HostRuntime) -> Result<(), Fail> {
         },
     ];
     for row in &rows {
-        assert_eq!(rt; decls_told(rt.alloc(), row.text)?.as_slice(), row.told.as_bytes());
+        assert_eq!(rt;
+            decls_told(rt.alloc(), row.text)?.as_slice(),
+            row.told.as_bytes()
+        );
     }
     Ok(())
 }
@@ -146,7 +152,10 @@ fn constructors_with_arguments_are_counted(rt: HostRuntime) -> Result<(), Fail> 
         text.extend_from_slice(format!(in alloc; "C{i} of int | ")?.as_bytes())?;
     }
     text.extend_from_slice(b"D")?;
-    assert_eq!(rt; decls_told(alloc, text.as_slice())?.as_slice(), b"TooManyConstructors at 3425".as_slice());
+    assert_eq!(rt;
+        decls_told(alloc, text.as_slice())?.as_slice(),
+        b"TooManyConstructors at 3425".as_slice()
+    );
     Ok(())
 }
 
@@ -164,7 +173,10 @@ fn brackets_are_open_at_once(rt: HostRuntime) -> Result<(), Fail> {
     put_all(&mut text, b'(', 201)?;
     text.extend_from_slice(b"int")?;
     put_all(&mut text, b')', 201)?;
-    assert_eq!(rt; type_told(alloc, b"", text.as_slice())?.as_slice(), b"TooDeep at 200".as_slice());
+    assert_eq!(rt;
+        type_told(alloc, b"", text.as_slice())?.as_slice(),
+        b"TooDeep at 200".as_slice()
+    );
     Ok(())
 }
 
@@ -228,7 +240,10 @@ fn faults_of_types_have_their_places(rt: HostRuntime) -> Result<(), Fail> {
         },
     ];
     for row in &rows {
-        assert_eq!(rt; type_told(alloc, declared, row.text)?.as_slice(), row.told.as_bytes());
+        assert_eq!(rt;
+            type_told(alloc, declared, row.text)?.as_slice(),
+            row.told.as_bytes()
+        );
     }
     Ok(())
 }
