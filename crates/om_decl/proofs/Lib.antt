@@ -1,3 +1,4 @@
 pub mod AnswerLaws
 pub mod HeadLemmas
 pub mod ReadLemmas
+pub mod TextLemmas
