@@ -1,12 +1,14 @@
 //! Answers that are compared with stored ones. The first word of a line of standard input says which table it belongs to:
 //! `stream NAME at TYPE` asks what `run` says of a stream of the folder that OCaml wrote (`make.sh`), `prefixes LIMIT BYTES`
-//! what becomes of each prefix of some bytes, `again NAME` what is written of the values of such a stream.
+//! what becomes of each prefix of some bytes, `again NAME` what is written of the values of such a stream, `decls TEXT` what
+//! becomes of declarations, `type TYPE over TEXT` of a type over them.
 #![tactic(auto)]
 
 mod again;
 mod compare;
 mod prefixes;
 mod streams;
+mod texts;
 
 use std::io;
 use std::io::ErrorKind;
@@ -19,6 +21,8 @@ fn main(rt: HostRuntime) -> io::Result<()> {
             Some(("stream", rest)) => streams::answer(&rt, rest)?,
             Some(("again", rest)) => again::answer(&rt, rest)?,
             Some(("prefixes", rest)) => prefixes::answer(&rt, rest)?,
+            Some(("decls", rest)) => texts::answer(&rt, rest)?,
+            Some(("type", rest)) => texts::answer_type(&rt, rest)?,
             _ => return Err(ErrorKind::InvalidInput.into()),
         }
     }
