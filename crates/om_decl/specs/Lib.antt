@@ -3,3 +3,4 @@ pub mod Fault
 pub mod Named
 pub mod Read
 pub mod Text
+pub mod Told

@@ -8,6 +8,7 @@ pub mod laws;
 mod names;
 mod read;
 mod text;
+pub mod told;
 
 pub use accept::{read_decls, read_type};
 pub use fault::DeclFault;

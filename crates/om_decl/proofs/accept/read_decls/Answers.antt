@@ -11,7 +11,7 @@ use Rattle.om_sites.specs.CountedFile.{counted_file}
 use Rattle.om_sites.specs.InFile.{file_places}
 use Rattle.om_head_rules.specs.declared.broken.HeadBreak.{HeadBreak}
 use Rattle.om_head_rules.specs.Broken.{IsFirstOfHeads, FileHashes}
-use Rattle.om_told.proofs.FileLemmas.{names_sound, files_well_formed}
+use Rattle.om_decl.proofs.FileLemmas.{names_sound, files_well_formed}
 use Rattle.om_decl.specs.Answer.{IsFileAnswer}
 use Rattle.om_decl.specs.Fault.{head_at, IsRefused, HasFileNames}
 use Rattle.om_decl.specs.Named.{IsNamed}

@@ -10,7 +10,7 @@ use Rattle.om_sites.specs.Counted.{in_type}
 use Rattle.om_sites.specs.InText.{in_texpr}
 use Rattle.om_head_rules.specs.declared.broken.HeadBreak.{HeadBreak}
 use Rattle.om_head_rules.specs.Broken.{IsFirstOfHeads, TypeHashes}
-use Rattle.om_told.proofs.SoundLemmas.{types_sound}
+use Rattle.om_decl.proofs.SoundLemmas.{types_sound}
 use Rattle.om_decl.specs.Answer.{IsTypeAnswer}
 use Rattle.om_decl.specs.Fault.{head_at, IsRefused, HasTypeNames}
 use Rattle.om_decl.specs.Named.{IsNamedType}

@@ -7,8 +7,8 @@ use Rattle.om_types.specs.Scope.{BreaksInType, KeepsAll}
 use Rattle.om_parse.specs.Written.{type_of_texpr}
 use Rattle.om_sites.specs.InText.{in_texpr}
 use Rattle.om_accepted.proofs.AcceptedLemmas.{sound_type}
-use Rattle.om_told.proofs.OutsideLemmas.{types_are_types}
-use Rattle.om_told.proofs.TypeLemmas.{types_told, types_proper}
+use Rattle.om_decl.proofs.OutsideLemmas.{types_are_types}
+use Rattle.om_decl.proofs.TypeLemmas.{types_told, types_proper}
 
 pub types_sound :
     (decls : List Decl) (tree : Texpr) → AreWellFormed decls → KeepsAll (BreaksInType decls (in_texpr 0 false tree))

@@ -1,6 +1,7 @@
-//! The laws, as contracts.
+//! What stands in a text is told by its tree, so a text that breaks no rule of scope is well-formed. The functions do
+//! nothing: what each ensures is the law.
 
-ghost use Rattle.om_told.specs.Told.{FilesAreWellFormed, NamesMakeSound, TypesAreSound};
+ghost use Rattle.om_decl.specs.Told.{FilesAreWellFormed, NamesMakeSound, TypesAreSound};
 
 /// Declarations whose text breaks no rule of scope are well-formed.
 pub fn files_are_well_formed()

@@ -27,9 +27,9 @@ use Rattle.om_sites.proofs.GroupLaws.{files_are_counted}
 use Rattle.om_accepted.specs.Told.{TellsAll}
 use Rattle.om_accepted.specs.Accepted.{IsWritten, AreToldWhole}
 use Rattle.om_accepted.proofs.AcceptedLemmas.{sound_by_names, well_formed}
-use Rattle.om_told.proofs.TypeLemmas.{types_told, types_proper}
-use Rattle.om_told.proofs.OutsideLemmas.{types_used, types_are_types, types_shallow}
-use Rattle.om_told.proofs.DepthLemmas.{types_end, text_is_shallow}
+use Rattle.om_decl.proofs.TypeLemmas.{types_told, types_proper}
+use Rattle.om_decl.proofs.OutsideLemmas.{types_used, types_are_types, types_shallow}
+use Rattle.om_decl.proofs.DepthLemmas.{types_end, text_is_shallow}
 
 -- ---- where a type stands
 
