@@ -1,0 +1,116 @@
+-- A table of types is over numbers of its own.
+use Rattle.std.proofs.Common.{ℕ, ◌<◌, ◌≡◌, ◌∙◌, ⊎_elim, List, [], ◌∷◌, ◌++◌, length, Option, Some}
+use Rattle.std.proofs.Common.{None, refl, ap, subst, sym, get_or, All, arith}
+use Rattle.std.specs.Prelude.{Contains, map, slice_get, option_map}
+use Rattle.std.specs.List.{flat_map}
+use Rattle.std.proofs.lemmas.List.{length-map}
+use Rattle.std.proofs.lemmas.List.Elements.{All-contains_itself}
+use Rattle.std.proofs.lemmas.Option.{slice_get_within, slice_get-get_or}
+use Rattle.om_model.proofs.Options.{Contains-map, Contains-none}
+use Rattle.om_types.specs.declared.decl.Decl.{Decl}
+use Rattle.om_types.specs.declared.shape.Constr.{Constr}
+use Rattle.om_types.specs.declared.shape.PolyTag.{PolyTag}
+use Rattle.om_types.specs.declared.shape.ShapeOf.{ShapeOf}
+use Rattle.om_types.specs.declared.shape.ShapeOf.TheVariants as shapes
+use Rattle.om_types.specs.Ty.{Ty}
+use Rattle.om_types.specs.Accepted.{AreWellFormed, IsSoundType}
+use Rattle.om_types.specs.Reached.{listed_if, named_in}
+use Rattle.om_types.specs.Shape.{shape}
+use Rattle.om_types.specs.Table.{Table, constr_with, tag_with_parts, with_parts, IsTableOf}
+use Rattle.om_equal.proofs.AlikeClosure.{mapped_is}
+use Rattle.om_equal.proofs.HeadMapLemmas.{append-map}
+use Rattle.om_equal.proofs.SoundLemmas.{known_by_hash}
+use Rattle.om_equal.proofs.TableLemmas.{slice_get-mapped, mapped_some, table_is_lawful}
+use Rattle.om_type_table.specs.declared.table.TypeTable.{TypeTable}
+use Rattle.om_type_table.specs.Made.{types_of, table_of, IsTypeTable, IsLawful}
+
+-- ---- what a shape with other parts names
+
+module _ {T U : Type 0} (f : T → U) where
+  blocks-map :
+      (blocks : List (Constr T)) → flat_map (λ (c : Constr U). c.fields) (map (constr_with f) blocks)
+      ≡ map f (flat_map (λ (c : Constr T). c.fields) blocks)
+  blocks-map [] = refl
+  blocks-map (c ∷ blocks) =
+      ap (λ all. map f c.fields ++ all) (blocks-map blocks)
+      ∙ sym (append-map f c.fields (flat_map (λ (c : Constr T). c.fields) blocks))
+
+  listed-map : (t : Option T) → listed_if (option_map f t) ≡ map f (listed_if t)
+  listed-map None = refl
+  listed-map (Some t) = refl
+
+  tags-map :
+      (tags : List (PolyTag T))
+      → flat_map (λ (tag : PolyTag U). listed_if tag.arg) (map (tag_with_parts f) tags)
+      ≡ map f (flat_map (λ (tag : PolyTag T). listed_if tag.arg) tags)
+  tags-map [] = refl
+  tags-map (tag ∷ tags) =
+      ap (λ all. listed_if (option_map f tag.arg) ++ all) (tags-map tags)
+      ∙ ap (λ first. first ++ map f (flat_map (λ (tag : PolyTag T). listed_if tag.arg) tags))
+      (listed-map tag.arg)
+      ∙ sym (append-map f (listed_if tag.arg)
+      (flat_map (λ (tag : PolyTag T). listed_if tag.arg) tags))
+
+  pub named_in-map : (s : ShapeOf T) → named_in (with_parts f s) ≡ map f (named_in s)
+  named_in-map (shapes.Sum constants blocks) = blocks-map blocks
+  named_in-map (shapes.Product mutable ts) = refl
+  named_in-map (shapes.ArrayOf t) = refl
+  named_in-map (shapes.Poly tags) = tags-map tags
+  named_in-map s = refl
+
+-- ---- tables
+
+module _ (decls : List Decl) (types : List Ty) (table : Table) (made : IsTableOf decls types table)
+  where
+    pub many : length table.nodes ≡ length types
+    many =
+        sym (length-map table.nodes (with_parts (slice_get types))) ∙ ap length made.nodes
+        ∙ length-map types (λ t. with_parts Some (shape decls t))
+
+    -- what a shape names is some type's number
+    named_below : (k : ℕ) (s : ShapeOf ℕ) (i : ℕ) → slice_get table.nodes k ≡ Some s
+        → Contains (named_in s) i → i < length types
+    named_below k s i is among =
+        let at = mapped_some (λ t. with_parts Some (shape decls t)) (slice_get types k)
+        (with_parts (slice_get types) s)
+        (sym (slice_get-mapped (λ t. with_parts Some (shape decls t)) types k)
+        ∙ ap (λ all. slice_get all k) (sym made.nodes)
+        ∙ slice_get-mapped (with_parts (slice_get types)) table.nodes k
+        ∙ ap (option_map (with_parts (slice_get types))) is) in
+        let same = sym (named_in-map (slice_get types) s)
+        ∙ ap (λ (h : ShapeOf (Option Ty)). named_in h) (sym at.2)
+        ∙ named_in-map Some (shape decls at.0) in
+        let found = mapped_is Some (named_in (shape decls at.0)) (slice_get types i)
+        (subst (λ all. Contains all (slice_get types i)) same
+        (Contains-map (slice_get types) (named_in s) i among)) in
+        slice_get_within types i found.0 (sym found.2)
+
+    pub closed :
+        All (λ node. All (λ i. i < length table.nodes) (named_in node)) table.nodes
+    closed k s within j i inside =
+        let node = get_or table.nodes k s in
+        let below : get_or (named_in node) j i < length types =
+          named_below k node (get_or (named_in node) j i) (slice_get-get_or table.nodes k s within)
+          (All-contains_itself (named_in node) j i inside) in
+        subst (λ n. get_or (named_in node) j i < n) (sym many) below
+
+pub made_is_lawful :
+    (decls : List Decl) (t : Ty) (table : TypeTable) → AreWellFormed decls → IsSoundType decls t
+    → IsTypeTable decls t table → IsLawful (table_of table)
+made_is_lawful decls t table well sound is = record {
+  lawful = table_is_lawful decls well.sound t (types_of table) is.reached
+      (known_by_hash decls well t sound (types_of table) is.reached) (table_of table) is.made;
+  rooted = rooted;
+  closed = closed decls (types_of table) (table_of table) is.made;
+  classed = is.made.many ∙ sym (many decls (types_of table) (table_of table) is.made);
+} where
+  -- the type itself has a number
+  some_type : 0 < length (types_of table)
+  some_type = ⊎_elim
+      (λ seen. absurd (Contains-none t seen.0))
+      (λ new. subst (λ all. 0 < length all) (sym new.2) (omega arith))
+      is.reached.in_order
+
+  rooted : 0 < length table.nodes
+  rooted =
+      subst (λ n. 0 < n) (sym (many decls (types_of table) (table_of table) is.made)) some_type

@@ -1,0 +1,192 @@
+//! The text of a type.
+
+ghost use Rattle.std.specs.Prelude.{◌≡◌, ◌<◌, ◌++◌, length, slice_get, All, IfOk, IfSome, OnOk, codes};
+ghost use Rattle.om_types.specs.Nodes.{type_at};
+ghost use Rattle.om_types.specs.TypeText.{type_text};
+ghost use Rattle.om_type_table.specs.Made.{types_of};
+ghost use Rattle.om_type_table.specs.Texts.{is_tuple, in_parentheses, added_text, arguments_text, text_of_waiting, IsWithin, IsPut};
+
+use crate::table::TypeTable;
+use crate::waiting::{Waiting, before_part, push_parts, stem_of, wait};
+use om_model::Memory;
+use om_model::list::List;
+use om_store::{TypeNode, Types};
+use std::alloc::Global;
+
+impl TypeTable {
+    /// The text of a type.
+    pub fn text(&self, alloc: Global, number: usize) -> Result<List<u8>, Memory>
+        requires within { All (λ i. i < length self.now.store) self.now.stored }
+        requires number { number < length self.now.stored }
+        ensures { IfOk result (λ text. IfSome (slice_get (types_of self.now) number) (λ t. text ≡ type_text t)) }
+    {
+        text_in(alloc, &self.store, self.stored.as_slice()[number])
+    }
+}
+
+/// The text of a type of a store.
+fn text_in(alloc: Global, types: &Types, number: usize) -> Result<List<u8>, Memory>
+    requires { number < length types.now }
+    ensures { IfOk result (λ text. text ≡ type_text (type_at types.now number)) }
+{
+    let mut text = Vec::new(alloc);
+    let mut waiting = Vec::new(alloc);
+    put_type(&mut text, &mut waiting, types, number)?;
+    // Each turn puts a part of the text, so this ends long before.
+    for _turn in 0..u64::MAX {
+        match waiting.pop() {
+            Some(next) => put_next(&mut text, &mut waiting, types, next)?,
+            None => return Ok(List::of(text)),
+        }
+    }
+    Err(Memory)
+}
+
+/// Puts what comes next.
+fn put_next<'a>(
+    text: &mut Vec<u8>,
+    waiting: &mut Vec<Waiting<'a>>,
+    types: &'a Types,
+    next: Waiting<'a>,
+) -> Result<(), Memory>
+    requires next { IsWithin types.now next }
+    requires within { All (IsWithin types.now) waiting.old.items }
+    ensures within { OnOk result (All (IsWithin types.now) waiting.new.items) }
+    ensures put { OnOk result (IsPut types.now text.old.items text.new.items waiting.old.items waiting.new.items (text_of_waiting types.now next.entry)) }
+{
+    match next {
+        Waiting::Text(bytes) => put(text, bytes),
+        Waiting::Added(number, asked) => put_added(text, waiting, types, number, asked),
+    }
+}
+
+/// Puts the last part of a type.
+fn put_added<'a>(
+    text: &mut Vec<u8>,
+    waiting: &mut Vec<Waiting<'a>>,
+    types: &'a Types,
+    number: usize,
+    asked: bool,
+) -> Result<(), Memory>
+    requires number { number < length types.now }
+    requires within { All (IsWithin types.now) waiting.old.items }
+    ensures within { OnOk result (All (IsWithin types.now) waiting.new.items) }
+    ensures put { OnOk result (IsPut types.now text.old.items text.new.items waiting.old.items waiting.new.items (added_text asked (type_at types.now number))) }
+{
+    match types.node(number) {
+        TypeNode::Part(_, added) => put_part(text, waiting, types, added, asked),
+        TypeNode::Including(_, included) => put_part(text, waiting, types, included, asked),
+        TypeNode::Tag(_, name) => put_tag(text, name),
+        TypeNode::TagOf(_, name, argument) => {
+            put_tag(text, name)?;
+            put(text, b" of ")?;
+            put_type(text, waiting, types, argument)
+        }
+        _ => Ok(()),
+    }
+}
+
+/// Puts a type that is a part of another one.
+fn put_part<'a>(
+    text: &mut Vec<u8>,
+    waiting: &mut Vec<Waiting<'a>>,
+    types: &'a Types,
+    number: usize,
+    asked: bool,
+) -> Result<(), Memory>
+    requires number { number < length types.now }
+    requires within { All (IsWithin types.now) waiting.old.items }
+    ensures within { OnOk result (All (IsWithin types.now) waiting.new.items) }
+    ensures put { OnOk result (IsPut types.now text.old.items text.new.items waiting.old.items waiting.new.items (in_parentheses asked (is_tuple (type_at types.now number)) (type_text (type_at types.now number)))) }
+{
+    if asked && is_tuple(types, number) {
+        put(text, b"(")?;
+        wait(waiting, Waiting::Text(b")"))?;
+        put_type(text, waiting, types, number)
+    } else {
+        put_type(text, waiting, types, number)
+    }
+}
+
+/// Whether a type is a tuple.
+fn is_tuple(types: &Types, number: usize) -> bool
+    requires { number < length types.now }
+    ensures { result ≡ is_tuple (type_at types.now number) }
+{
+    match types.node(stem_of(types, number)) {
+        TypeNode::Tuple => true,
+        _ => false,
+    }
+}
+
+/// Puts what a type begins with, and has the rest wait.
+fn put_type<'a>(
+    text: &mut Vec<u8>,
+    waiting: &mut Vec<Waiting<'a>>,
+    types: &'a Types,
+    number: usize,
+) -> Result<(), Memory>
+    requires number { number < length types.now }
+    requires within { All (IsWithin types.now) waiting.old.items }
+    ensures within { OnOk result (All (IsWithin types.now) waiting.new.items) }
+    ensures put { OnOk result (IsPut types.now text.old.items text.new.items waiting.old.items waiting.new.items (type_text (type_at types.now number))) }
+{
+    match types.node(stem_of(types, number)) {
+        TypeNode::Variable(name) => {
+            wait(waiting, Waiting::Text(name))?;
+            wait(waiting, Waiting::Text(b"'"))?;
+            put_arguments(text, waiting, types, number)
+        }
+        TypeNode::Named(name) => {
+            wait(waiting, Waiting::Text(name))?;
+            put_arguments(text, waiting, types, number)
+        }
+        TypeNode::Tuple => push_parts(waiting, types, number, b" * ", true),
+        TypeNode::Bracket => {
+            put(text, b"[ ")?;
+            wait(waiting, Waiting::Text(b" ]"))?;
+            push_parts(waiting, types, number, b" | ", false)
+        }
+        _ => unreachable!(),
+    }
+}
+
+/// Puts what the arguments of a name begin with, and has the rest of them wait.
+fn put_arguments<'a>(
+    text: &mut Vec<u8>,
+    waiting: &mut Vec<Waiting<'a>>,
+    types: &'a Types,
+    number: usize,
+) -> Result<(), Memory>
+    requires number { number < length types.now }
+    requires within { All (IsWithin types.now) waiting.old.items }
+    ensures within { OnOk result (All (IsWithin types.now) waiting.new.items) }
+    ensures put { OnOk result (IsPut types.now text.old.items text.new.items waiting.old.items waiting.new.items (arguments_text (type_at types.now number))) }
+{
+    let Some(whole) = before_part(types, number) else {
+        return Ok(());
+    };
+    if before_part(types, whole).is_none() {
+        wait(waiting, Waiting::Text(b" "))?;
+        wait(waiting, Waiting::Added(number, true))
+    } else {
+        put(text, b"(")?;
+        wait(waiting, Waiting::Text(b") "))?;
+        push_parts(waiting, types, number, b", ", false)
+    }
+}
+
+/// Puts a tag with its backquote.
+fn put_tag(text: &mut Vec<u8>, name: &[u8]) -> Result<(), Memory>
+    ensures { OnOk result (text.new.items ≡ text.old.items ++ (codes "`" ++ name.now)) }
+{
+    put(text, b"`")?;
+    put(text, name)
+}
+
+/// Puts bytes at the end.
+fn put(text: &mut Vec<u8>, bytes: &[u8]) -> Result<(), Memory>
+    ensures { OnOk result (text.new.items ≡ text.old.items ++ bytes.now) }
+{
+    Ok(text.extend_from_slice(bytes)?)
+}
