@@ -90,8 +90,8 @@ module _ (decls : List Decl) (types : List Ty) (table : Table) (made : IsTableOf
     closed k s within j i inside =
         let node = get_or table.nodes k s in
         let below : get_or (named_in node) j i < length types =
-          named_below k node (get_or (named_in node) j i) (slice_get-get_or table.nodes k s within)
-          (All-contains_itself (named_in node) j i inside) in
+        named_below k node (get_or (named_in node) j i) (slice_get-get_or table.nodes k s within)
+        (All-contains_itself (named_in node) j i inside) in
         subst (λ n. get_or (named_in node) j i < n) (sym many) below
 
 pub made_is_lawful :

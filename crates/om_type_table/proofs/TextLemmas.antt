@@ -5,9 +5,8 @@ use Rattle.std.specs.Prelude.{codes, map}
 use Rattle.std.proofs.lemmas.List.{append_assoc, append-nil, map-append}
 use Rattle.std.proofs.lemmas.Option.{same_Some, none-some}
 use Rattle.om_types.specs.Ty.{Ty, variable, named, tuple, bracket, part, tag, tag_of, including}
-use Rattle.om_types.specs.Nodes.{type_at}
-use Rattle.om_types.specs.TypeText.{joined_by, Piece, text_of, enclosed, Stem, word, product}
-use Rattle.om_types.specs.TypeText.{brackets, Pieces, spelled, as_piece, plain_piece, pieces_of}
+use Rattle.om_types.specs.TypeText.{joined_by, Piece, text_of, enclosed, word, product}
+use Rattle.om_types.specs.TypeText.{brackets, spelled, as_piece, plain_piece, pieces_of}
 use Rattle.om_types.specs.TypeText.{type_text}
 use Rattle.om_type_table.specs.declared.waiting.Waiting.{Waiting}
 use Rattle.om_type_table.specs.Texts.{whole_of, stem, is_tuple, in_parentheses, added_text}
@@ -194,21 +193,32 @@ pieces-part : (t u : Ty) → whole_of t ≡ Some u
     → (p : Piece) × ((pieces_of t).parts ≡ (pieces_of u).parts ++ p ∷ [])
     × (added_text true t ≡ enclosed p)
 unfolding type_text stem
-pieces-part (part whole added) u is =
-    (as_piece (pieces_of added), ap (λ v. (pieces_of v).parts ++ as_piece (pieces_of added) ∷ [])
-    (same_Some whole u is), shown-part true (is_tuple added) (type_text added))
-pieces-part (tag whole name) u is =
-    (plain_piece (codes "`" ++ name), ap (λ v. (pieces_of v).parts
-    ++ plain_piece (codes "`" ++ name) ∷ []) (same_Some whole u is), refl)
-pieces-part (tag_of whole name argument) u is =
-    (plain_piece (codes "`" ++ name ++ codes " of " ++ type_text argument),
-    ap (λ v. (pieces_of v).parts
-    ++ plain_piece (codes "`" ++ name ++ codes " of " ++ type_text argument) ∷ [])
-    (same_Some whole u is), refl)
-pieces-part (including whole included) u is =
-    (as_piece (pieces_of included), ap (λ v. (pieces_of v).parts
-    ++ as_piece (pieces_of included) ∷ [])
-    (same_Some whole u is), shown-part true (is_tuple included) (type_text included))
+pieces-part (part whole added) u is = (
+  as_piece (pieces_of added),
+  ap (λ v. (pieces_of v).parts ++ as_piece (pieces_of added) ∷ [])
+      (same_Some whole u is),
+  shown-part true (is_tuple added) (type_text added),
+)
+pieces-part (tag whole name) u is = (
+  plain_piece (codes "`" ++ name),
+  ap (λ v. (pieces_of v).parts
+      ++ plain_piece (codes "`" ++ name) ∷ []) (same_Some whole u is),
+  refl,
+)
+pieces-part (tag_of whole name argument) u is = (
+  plain_piece (codes "`" ++ name ++ codes " of " ++ type_text argument),
+  ap (λ v. (pieces_of v).parts
+      ++ plain_piece (codes "`" ++ name ++ codes " of " ++ type_text argument) ∷ [])
+      (same_Some whole u is),
+  refl,
+)
+pieces-part (including whole included) u is = (
+  as_piece (pieces_of included),
+  ap (λ v. (pieces_of v).parts
+      ++ as_piece (pieces_of included) ∷ [])
+      (same_Some whole u is),
+  shown-part true (is_tuple included) (type_text included),
+)
 pieces-part (variable name) u is = absurd (none-some u is)
 pieces-part (named name) u is = absurd (none-some u is)
 pieces-part tuple u is = absurd (none-some u is)

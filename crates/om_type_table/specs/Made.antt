@@ -1,5 +1,5 @@
 -- What a table of types is made of.
-use Rattle.std.specs.Prelude.{ℕ, ◌<◌, ◌≤◌, ◌≡◌, List, length, map, All}
+use Rattle.std.specs.Prelude.{◌<◌, ◌≤◌, ◌≡◌, List, length, map, All}
 use Rattle.om_types.specs.declared.decl.Decl.{Decl}
 use Rattle.om_types.specs.Ty.{Ty}
 use Rattle.om_types.specs.Nodes.{type_at}

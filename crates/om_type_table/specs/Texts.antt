@@ -1,9 +1,9 @@
 -- The text of a type, piece by piece from the last one.
 use Rattle.std.specs.Prelude.{ℕ, ◌<◌, ◌≡◌, Bool, true, false, List, [], ◌∷◌, ◌++◌, length}
-use Rattle.std.specs.Prelude.{Option, Some, None, codes, if◌then◌else◌}
-use Rattle.om_types.specs.Ty.{Ty, variable, named, tuple, bracket, part, tag, tag_of, including}
+use Rattle.std.specs.Prelude.{Option, Some, None, codes}
+use Rattle.om_types.specs.Ty.{Ty, part, tag, tag_of, including}
 use Rattle.om_types.specs.Nodes.{type_at}
-use Rattle.om_types.specs.TypeText.{Stem, word, product, pieces_of, is_product, type_text}
+use Rattle.om_types.specs.TypeText.{Stem, pieces_of, is_product, type_text}
 use Rattle.om_type_table.specs.declared.waiting.Waiting.{Waiting}
 use Rattle.om_type_table.specs.declared.waiting.Waiting.TheVariants as waiting
 

@@ -3,10 +3,9 @@ use Rattle.std.specs.Prelude.{codes}
 use Rattle.std.proofs.lemmas.List.{append_assoc}
 use Rattle.std.proofs.lemmas.Option.{get_or_from_slice_get}
 use Rattle.std.proofs.lemmas.Result.{on_ok_weaker}
-use Rattle.om_types.specs.Ty.{tuple, tag_of}
-use Rattle.om_types.specs.Nodes.{type_at, type_of_node}
+use Rattle.om_types.specs.Ty.{tuple}
+use Rattle.om_types.specs.Nodes.{type_at}
 use Rattle.om_types.specs.TypeText.{type_text}
-use Rattle.om_store.specs.Lent.{written_of}
 use Rattle.om_type_table.specs.Texts.{added_text}
 use Rattle.om_type_table.proofs.PutLemmas.{put_first, put_nothing, put_is, added_text-none}
 use Rattle.om_type_table.proofs.text.put_added.Goals as goal
