@@ -1,0 +1,11 @@
+//! What a value of a heap is at a shape: whether it fits, which fields it then needs, and whether it may be changed.
+#![tactic(auto)]
+
+mod needs;
+mod parts;
+
+pub use needs::{Needs, needs_of};
+pub use parts::is_mutable;
+
+#[cfg(test)]
+mod tests;
