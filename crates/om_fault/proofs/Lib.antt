@@ -1,0 +1,5 @@
+pub mod ClashTexts
+pub mod KindTexts
+pub mod OrderLemmas
+pub mod TypeTexts
+pub mod StepLemmas

@@ -1,0 +1,55 @@
+-- What is needed at a number of a table.
+use Rattle.std.proofs.Common.{ℕ, ◌<◌, ◌≡◌, ◌∙◌, List, [], ◌∷◌, length, Bool, true, false, Option, Some, None}
+use Rattle.std.proofs.Common.{ap, subst, sym, cond, ◌==◌, get_or}
+use Rattle.std.specs.Prelude.{Contains, slice_get, option_map, find, IfSome}
+use Rattle.std.proofs.lemmas.List.Elements.{All-contains}
+use Rattle.std.proofs.lemmas.Option.{none-some, same_Some, slice_get_within, get_or_from_slice_get}
+use Rattle.om_model.specs.declared.value.Val.{Val}
+use Rattle.om_model.specs.declared.value.Obj.{Obj}
+use Rattle.om_model.proofs.Options.{Contains-first, Contains-later}
+use Rattle.om_types.specs.declared.shape.ShapeOf.{ShapeOf}
+use Rattle.om_types.specs.Fault.{type_of_field}
+use Rattle.om_types.specs.Fitting.{fields_of, or_none}
+use Rattle.om_types.specs.Reached.{named_in}
+use Rattle.om_types.specs.Table.{Table}
+use Rattle.om_equal.proofs.ReachedLemmas.{needs_named}
+use Rattle.om_type_table.specs.Made.{IsLawful}
+
+-- a type that is found is that of a need
+need_by : (n : ℕ × ℕ) (ns : List (ℕ × ℕ)) (i u : ℕ) (test : Bool)
+    → (type_of_field ns i ≡ Some u → (k : ℕ) × Contains ns (k, u))
+    → option_map (λ (need : ℕ × ℕ). need.1) (cond test (Some n) (find (λ need. need.0 == i) ns))
+    ≡ Some u → (k : ℕ) × Contains (n ∷ ns) (k, u)
+need_by n ns i u true later is =
+    let same : n.1 ≡ u = same_Some n.1 u is in
+    (n.0, subst (λ t. Contains (n ∷ ns) (n.0, t)) same (Contains-first n ns))
+need_by n ns i u false later is =
+    let found = later is in (found.0, Contains-later n ns (found.0, u) found.1)
+
+need_found : (needs : List (ℕ × ℕ)) (i u : ℕ) → type_of_field needs i ≡ Some u
+    → (k : ℕ) × Contains needs (k, u)
+need_found [] i u is = absurd (none-some u is)
+need_found (n ∷ ns) i u is = need_by n ns i u (n.0 == i) (need_found ns i u) is
+
+module _ (table : Table) (graph : List Obj) (v : Val) (at : ℕ) (shape : ShapeOf ℕ)
+    (is : slice_get table.nodes at ≡ Some shape) where
+  -- what is needed is a number of the table
+  pub needed_below :
+      (lawful : IsLawful table) (i u : ℕ)
+      → type_of_field (or_none (fields_of graph v shape)) i ≡ Some u → u < length table.nodes
+  needed_below lawful i u needed =
+      let need = need_found (or_none (fields_of graph v shape)) i u needed in
+      let named = needs_named shape graph v need.0 u need.1 in
+      let here = get_or_from_slice_get table.nodes at shape shape is in
+      let all = lawful.closed at shape (slice_get_within table.nodes at shape is) in
+      All-contains (λ k. k < length table.nodes) (named_in (get_or table.nodes at shape)) u all
+      (subst (λ s. Contains (named_in s) u) (sym here) named)
+
+  -- so is a type that was found
+  pub found_below :
+      (lawful : IsLawful table) (i : ℕ) (needs : List (ℕ × ℕ)) (found : Option ℕ)
+      → Some needs ≡ fields_of graph v shape → found ≡ type_of_field needs i
+      → IfSome found (λ u. u < length table.nodes)
+  found_below lawful i needs None fields is = tt
+  found_below lawful i needs (Some u) fields is =
+      needed_below lawful i u (ap (λ o. type_of_field (or_none o) i) (sym fields) ∙ sym is)

@@ -1,0 +1,72 @@
+-- The text of a fault by the numbers of a table is that by their types.
+use Rattle.std.proofs.Common.{ℕ, ◌≡◌, ◌∙◌, List, ◌++◌, Option, Some, None, ap, subst, sym}
+use Rattle.std.specs.Prelude.{codes, slice_get}
+use Rattle.std.proofs.lemmas.Option.{same_Some, none-some}
+use Rattle.om_model.specs.declared.value.Val.{Val}
+use Rattle.om_model.specs.declared.value.Obj.{Obj}
+use Rattle.om_model.specs.PathText.{path_text}
+use Rattle.om_types.specs.declared.decl.Decl.{Decl}
+use Rattle.om_types.specs.declared.fault.Fault.{Fault}
+use Rattle.om_types.specs.declared.fault.Fault.TheVariants.{Misfit, Clash}
+use Rattle.om_types.specs.Equal.{declared_shapes}
+use Rattle.om_types.specs.Fault.{value_at}
+use Rattle.om_types.specs.Table.{table_shapes}
+use Rattle.om_types.specs.Ty.{Ty}
+use Rattle.om_types.specs.TypeText.{type_text}
+use Rattle.om_types.specs.VerdictText.{kind_text, misfit_text, clash_text, IsFaultText}
+use Rattle.om_equal.proofs.SimulationLemmas.{SamePlace, place_same}
+use Rattle.om_equal.proofs.TableLemmas.{Of, table_says}
+use Rattle.om_table.proofs.DecideLemmas.{root_is_first}
+use Rattle.om_type_table.specs.declared.table.TypeTable.{TypeTable}
+use Rattle.om_type_table.specs.Made.{types_of, table_of, IsTypeTable}
+use Rattle.om_fault.specs.Texts.{text_or_none, text_at}
+
+module _ (decls : List Decl) (t : Ty) (table : TypeTable) (is : IsTypeTable decls t table)
+    (graph : List Obj) where
+  abbrev Is : ℕ → Ty → Type 0
+  Is i u = slice_get (types_of table) i ≡ Some u
+
+  abbrev Same : Option (Val × ℕ) → Option (Val × Ty) → Type 0
+  Same p q = SamePlace (table_shapes (table_of table)) (declared_shapes decls) Is graph p q
+
+  -- where the numbers lead, the types do
+  leads : (p : Option (Val × ℕ)) (q : Option (Val × Ty)) → Same p q → (w : Val) (i : ℕ)
+      → p ≡ Some (w, i) → (u : Ty) × (q ≡ Some (w, u)) × Is i u
+  leads None q places w i at = absurd (none-some (w, i) at)
+  leads (Some p) None places w i at = absurd places
+  leads (Some p) (Some q) places w i at =
+      let pair = same_Some p (w, i) at in (
+        q.1,
+        ap (λ v. Some (v, q.1)) (sym places.0 ∙ ap (λ (x : Val × ℕ). x.0) pair),
+        subst (λ j. Is j q.1) (ap (λ (x : Val × ℕ). x.1) pair) places.1,
+      )
+
+  leads_at : (v : Val) (path : List ℕ) (w : Val) (i : ℕ)
+      → value_at (table_shapes (table_of table)) graph v 0 path ≡ Some (w, i)
+      → (u : Ty) × (value_at (declared_shapes decls) graph v t path ≡ Some (w, u)) × Is i u
+  leads_at v path w i at =
+      leads (value_at (table_shapes (table_of table)) graph v 0 path)
+      (value_at (declared_shapes decls) graph v t path)
+      (place_same (table_shapes (table_of table)) (declared_shapes decls) Is graph
+      (table_says decls (types_of table) (table_of table) is.made graph) path v 0 t
+      (root_is_first decls t (types_of table) is.reached)) w i at
+
+  pub text_is_of_types :
+      (v : Val) (fault : Fault) (text : List ℕ)
+      → IsFaultText (table_shapes (table_of table)) (text_at table) graph v 0 fault text
+      → IsFaultText (declared_shapes decls) type_text graph v t fault text
+  text_is_of_types v (Misfit path) text (w, i, at, spelled) =
+      let there = leads_at v path w i at in
+      (w, there.0, there.1, spelled
+      ∙ ap (λ ty. path_text path ++ codes ": expected " ++ text_or_none ty ++ codes ", found "
+      ++ kind_text graph w) there.2)
+  text_is_of_types v (Clash first second) text (o, one, other, at_first, at_second, spelled) =
+      let a = leads_at v first o one at_first in
+      let b = leads_at v second o other at_second in
+      (o, a.0, b.0, a.1, b.1, spelled
+      ∙ ap (λ ty. path_text first ++ codes " and " ++ path_text second ++ codes ": "
+      ++ text_or_none ty ++ codes " and " ++ text_at table other ++ codes " share a mutable object")
+      a.2
+      ∙ ap (λ ty. path_text first ++ codes " and " ++ path_text second ++ codes ": "
+      ++ type_text a.0 ++ codes " and " ++ text_or_none ty ++ codes " share a mutable object")
+      b.2)

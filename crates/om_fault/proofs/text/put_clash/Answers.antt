@@ -1,0 +1,39 @@
+use Rattle.std.proofs.Common.{◌++◌}
+use Rattle.std.specs.Prelude.{codes}
+use Rattle.std.proofs.lemmas.Result.{on_ok_weaker}
+use Rattle.om_model.specs.PathText.{path_text}
+use Rattle.om_fault.specs.Texts.{text_at}
+use Rattle.om_fault.proofs.ClashTexts.{more, clash_put}
+use Rattle.om_fault.proofs.text.put_clash.Goals as goal
+
+pub returns : goal.returns
+returns c =
+    let table = c.args.table.now in
+    let old = c.args.text.now.items in
+    let a = path_text c.args.first.now in
+    let b = a ++ codes " and " in
+    let d = b ++ path_text c.args.second.now in
+    let e = d ++ codes ": " in
+    let f = e ++ text_at table c.in-Some.one in
+    let g = f ++ codes " and " in
+    let h = g ++ text_at table c.in-Some-walk.other in
+    let x1 = c.put_path.new.text.items in
+    let x2 = c.put.new.text.items in
+    let x3 = c.put_path-2.new.text.items in
+    let x4 = c.put-2.new.text.items in
+    let x5 = c.put_type.new.text.items in
+    let x6 = c.put-3.new.text.items in
+    let x7 = c.put_type-2.new.text.items in
+    let p1 = c.in_ok-put_path.ensures in
+    let p2 = more old a (codes " and ") x1 x2 p1 c.in_ok-put.ensures in
+    let p3 = more old b (path_text c.args.second.now) x2 x3 p2 c.in_ok-put_path-2.ensures in
+    let p4 = more old d (codes ": ") x3 x4 p3 c.in_ok-put-2.ensures in
+    let p5 = more old e (text_at table c.in-Some.one) x4 x5 p4 c.in_ok-put_type.ensures in
+    let p6 = more old f (codes " and ") x5 x6 p5 c.in_ok-put-3.ensures in
+    let p7 = more old g (text_at table c.in-Some-walk.other) x6 x7 p6 c.in_ok-put_type-2.ensures in
+    on_ok_weaker c.put-4.result
+    (λ put. clash_put table c.args.heap.now c.args.root c.args.first.now c.args.second.now c.requires.clash
+    (c.in-Some.field-0-0, c.in-Some.one) (c.in-Some-walk.field-0-0, c.in-Some-walk.other) old c.put-4.new.text.items
+    c.in-Some.ensures.place c.in-Some-walk.ensures.place
+    (more old h (codes " share a mutable object") x7 c.put-4.new.text.items p7 put))
+    c.put-4.ensures

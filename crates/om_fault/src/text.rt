@@ -1,0 +1,120 @@
+//! The text of a fault.
+
+ghost use Rattle.std.specs.Prelude.{◌≡◌, ◌<◌, ◌++◌, length, All, IfOk, OnOk};
+ghost use Rattle.om_model.specs.Graph.{IsValue};
+ghost use Rattle.om_types.specs.Fault.{IsFault, IsMisfit, IsClash};
+ghost use Rattle.om_types.specs.Table.{table_shapes};
+ghost use Rattle.om_types.specs.VerdictText.{IsFaultText};
+ghost use Rattle.om_types.specs.declared.fault.Fault.TheVariants as faults;
+ghost use Rattle.om_type_table.specs.Made.{table_of, IsLawful};
+ghost use Rattle.om_fault.specs.Texts.{text_at, PutsFault};
+
+use crate::put::{put, put_kind, put_path};
+use crate::steps::walk;
+use om_heap::Heap;
+use om_model::Memory;
+use om_model::list::List;
+use om_model::path::Path;
+use om_model::value::Val;
+use om_type_table::TypeTable;
+use om_types::fault::Fault;
+use std::alloc::Global;
+
+/// The text of a fault: the paths, the types there, and what was found.
+pub fn fault_text(
+    alloc: Global,
+    heap: &Heap,
+    root: Val,
+    table: &TypeTable,
+    fault: &Fault,
+) -> Result<List<u8>, Memory>
+    requires value { IsValue (length heap.now) root }
+    requires lawful { IsLawful (table_of table.now) }
+    requires within { All (λ i. i < length table.now.store) table.now.stored }
+    requires same_length { length table.now.stored ≡ length table.now.nodes }
+    requires fault { IsFault (table_shapes (table_of table.now)) heap.now root 0 fault.now }
+    ensures { IfOk result (IsFaultText (table_shapes (table_of table.now)) (text_at table.now) heap.now root 0 fault.now) }
+{
+    let mut text = Vec::new(alloc);
+    match fault {
+        Fault::Misfit(path) => put_misfit(&mut text, alloc, heap, root, table, path)?,
+        Fault::Clash(first, second) => {
+            put_clash(&mut text, alloc, heap, root, table, first, second)?;
+        }
+    }
+    Ok(List::of(text))
+}
+
+/// Puts where a value does not fit.
+fn put_misfit(
+    text: &mut Vec<u8>,
+    alloc: Global,
+    heap: &Heap,
+    root: Val,
+    table: &TypeTable,
+    path: &Path,
+) -> Result<(), Memory>
+    requires value { IsValue (length heap.now) root }
+    requires lawful { IsLawful (table_of table.now) }
+    requires within { All (λ i. i < length table.now.store) table.now.stored }
+    requires same_length { length table.now.stored ≡ length table.now.nodes }
+    requires misfit { IsMisfit (table_shapes (table_of table.now)) heap.now root 0 path.now }
+    ensures { OnOk result (PutsFault table.now heap.now root (faults.Misfit path.now) text.old.items text.new.items) }
+{
+    let Some((found, expected)) = walk(heap, root, table, path) else {
+        unreachable!()
+    };
+    put_path(text, alloc, path)?;
+    put(text, b": expected ")?;
+    put_type(text, alloc, table, expected)?;
+    put(text, b", found ")?;
+    put_kind(text, heap, found)
+}
+
+/// Puts where an object is at unequal types.
+fn put_clash(
+    text: &mut Vec<u8>,
+    alloc: Global,
+    heap: &Heap,
+    root: Val,
+    table: &TypeTable,
+    first: &Path,
+    second: &Path,
+) -> Result<(), Memory>
+    requires value { IsValue (length heap.now) root }
+    requires lawful { IsLawful (table_of table.now) }
+    requires within { All (λ i. i < length table.now.store) table.now.stored }
+    requires same_length { length table.now.stored ≡ length table.now.nodes }
+    requires clash { IsClash (table_shapes (table_of table.now)) heap.now root 0 first.now second.now }
+    ensures { OnOk result (PutsFault table.now heap.now root (faults.Clash first.now second.now) text.old.items text.new.items) }
+{
+    let Some((_, one)) = walk(heap, root, table, first) else {
+        unreachable!()
+    };
+    let Some((_, other)) = walk(heap, root, table, second) else {
+        unreachable!()
+    };
+    put_path(text, alloc, first)?;
+    put(text, b" and ")?;
+    put_path(text, alloc, second)?;
+    put(text, b": ")?;
+    put_type(text, alloc, table, one)?;
+    put(text, b" and ")?;
+    put_type(text, alloc, table, other)?;
+    put(text, b" share a mutable object")
+}
+
+/// Puts a type.
+fn put_type(
+    text: &mut Vec<u8>,
+    alloc: Global,
+    table: &TypeTable,
+    number: usize,
+) -> Result<(), Memory>
+    requires within { All (λ i. i < length table.now.store) table.now.stored }
+    requires number { number < length table.now.stored }
+    ensures { OnOk result (text.new.items ≡ text.old.items ++ text_at table.now number) }
+{
+    let spelled = table.text(alloc, number)?;
+    put(text, spelled.as_slice())
+}
