@@ -6,3 +6,6 @@ pub mod GatherLemmas
 pub mod EntryLemmas
 pub mod KindLemmas
 pub mod ExampleLemmas
+pub mod LoopLemmas
+pub mod LayoutLemmas
+pub mod DatatypeLemmas

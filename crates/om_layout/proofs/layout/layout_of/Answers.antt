@@ -1,0 +1,22 @@
+use Rattle.std.proofs.Common.{subst}
+use Rattle.om_types.specs.declared.head.HeadOf.{HeadOf}
+use Rattle.om_types.specs.Ty.{Ty}
+use Rattle.om_types.specs.Head.{head}
+use Rattle.om_types.specs.Nodes.{type_at}
+use Rattle.om_types.specs.Shape.{head_shape}
+use Rattle.om_layout.specs.Layout.{IsShapeAt}
+use Rattle.om_layout.proofs.LayoutLemmas.{head_found, head_within, head_kept}
+use Rattle.om_layout.proofs.layout.layout_of.Goals as goal
+
+pub shape_at-requires-clause-within : goal.shape_at-requires-clause-within
+shape_at-requires-clause-within c = head_within _ c.in_ok-head.head _ c.in_ok-head.ensures.ok
+
+pub returns-clause-ok : goal.returns-clause-ok
+returns-clause-ok c =
+    let types = c.head_of.new.types in
+    let all = head c.args.decls.now (type_at c.args.types.now c.args.number) in
+    record {
+      head = head_kept types c.in_ok-head.head all c.in_ok-head.ensures.ok c.shape_at.new.types c.in_ok-shape.ensures.grown;
+      shape = subst (λ (h : HeadOf Ty). IsShapeAt c.shape_at.new.types (head_shape c.args.decls.now h) c.in_ok-shape.shape)
+          (head_found types c.in_ok-head.head all c.in_ok-head.ensures.ok) c.in_ok-shape.ensures.ok;
+    }

@@ -1,0 +1,13 @@
+use Rattle.std.proofs.Common.{◌∙◌, ap, sym, List}
+use Rattle.om_types.specs.Nodes.{type_at}
+use Rattle.om_types.specs.Names.{no_names}
+use Rattle.om_types.specs.declared.names.TagName.{TagName}
+use Rattle.om_types.specs.declared.names.Names.{Names}
+use Rattle.om_layout.proofs.LayoutLemmas.{tags_named}
+use Rattle.om_layout.proofs.names.names_by_head.Goals as goal
+
+pub returns-in_ok-tag_names-in-Variants : goal.returns-in_ok-tag_names-in-Variants
+returns-in_ok-tag_names-in-Variants c types =
+    rw (c.in-Variants.is, c.no_names-names.ensures, ← c.as_slice-in-Variants.ensures)
+    (ap (λ (all : List TagName). record no_names { tags = all })
+    (c.of.ensures ∙ c.in_ok-tag_names-in-Variants.ensures ∙ sym (tags_named (type_at types) _) ))

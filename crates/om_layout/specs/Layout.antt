@@ -1,0 +1,79 @@
+-- The shape and the names of a type, by numbers.
+use Rattle.std.specs.Prelude.{ℕ, ◌<◌, ◌≡◌, List, [], ◌∷◌, length, map, All, Option, Some, None, slice_get}
+use Rattle.om_types.specs.declared.decl.Predeclared.TheVariants as bases
+use Rattle.om_types.specs.declared.decl.Decl.{Decl}
+use Rattle.om_types.specs.declared.head.TagOf.{TagOf}
+use Rattle.om_types.specs.declared.head.HeadOf.{HeadOf}
+use Rattle.om_types.specs.declared.head.HeadOf.TheVariants as heads
+use Rattle.om_types.specs.declared.shape.Constr.{Constr}
+use Rattle.om_types.specs.declared.shape.PolyTag.{PolyTag}
+use Rattle.om_types.specs.declared.shape.ShapeOf.{ShapeOf}
+use Rattle.om_types.specs.declared.shape.ShapeOf.TheVariants as shapes
+use Rattle.om_types.specs.declared.names.Names.{Names}
+use Rattle.om_types.specs.declared.names.TagName.{TagName}
+use Rattle.om_polyvar.specs.TagHash.{tag_hash}
+use Rattle.om_types.specs.Ty.{Ty}
+use Rattle.om_types.specs.Nodes.{type_at}
+use Rattle.om_types.specs.Declarations.{instance_of}
+use Rattle.om_types.specs.Head.{head}
+use Rattle.om_types.specs.Shape.{shape}
+use Rattle.om_types.specs.Names.{names_of}
+use Rattle.om_types.specs.Table.{constr_with, with_parts, head_with_parts}
+use Rattle.om_layout.specs.declared.layout.Layout.{Layout}
+
+-- ---- parts
+
+-- the head whose parts are the types of these numbers
+abbrev pub head_of_types : List Ty → HeadOf ℕ → HeadOf Ty
+head_of_types types at = head_with_parts (type_at types) at
+
+-- a type of a declaration at the arguments with these numbers
+abbrev pub instance_at : List Ty → Decl → List ℕ → Ty → Ty
+instance_at types decl arguments t = instance_of decl (map (type_at types) arguments) t
+
+-- ---- shapes
+
+-- by numbers it is this shape
+abbrev pub IsShapeAt : List Ty → ShapeOf Ty → ShapeOf ℕ → Type 0
+IsShapeAt types all found = with_parts (slice_get types) found ≡ with_parts Some all
+
+-- The blocks by numbers are these blocks.
+pub record HasBlocks (types : List Ty) (all : List (Constr Ty)) (found : List (Constr ℕ)) : Type 0 where
+  pub within : All (λ (block : Constr ℕ). All (λ i. i < length types) block.fields) found
+  pub are : map (constr_with (type_at types)) found ≡ all
+
+-- the block by numbers is this block, where there is one
+abbrev pub HasBlock : List Ty → Option (Constr Ty) → Option (Constr ℕ) → Type 0
+HasBlock types (Some block) (Some found) = HasBlocks types (block ∷ []) (found ∷ [])
+HasBlock types None None = Unit {0}
+HasBlock types block found = ⊥
+
+-- arrays of what has this head
+abbrev pub array_at : {T U : Type 0} → HeadOf T → U → ShapeOf U
+array_at (heads.Variable name) element = shapes.ArrayOfVariable
+array_at (heads.Predeclared bases.Float parts) element = shapes.FloatArray
+array_at other element = shapes.ArrayOf element
+
+-- the tag by its hash
+abbrev pub hashed : {T : Type 0} → TagOf T → PolyTag T
+hashed tag = record { hash = tag_hash tag.name; arg = tag.argument }
+
+-- the tag's name with its hash
+abbrev pub named : {T : Type 0} → TagOf T → TagName
+named tag = record { name = tag.name; hash = tag_hash tag.name }
+
+-- ---- both
+
+-- What a type looks like: its head and its shape, by numbers.
+pub record IsLayoutOf (decls : List Decl) (types : List Ty) (t : Ty) (layout : Layout) : Type 0 where
+  pub head : head_with_parts (slice_get types) layout.head ≡ head_with_parts Some (head decls t)
+  pub shape : with_parts (slice_get types) layout.shape ≡ with_parts Some (shape decls t)
+
+-- ---- names
+
+-- the names of each type that has this head by numbers
+abbrev pub AreNamesAt : List Decl → HeadOf ℕ → Names → Type 0
+AreNamesAt decls at names =
+    (types : List Ty) (t : Ty)
+    → head_with_parts (slice_get types) at ≡ head_with_parts Some (head decls t)
+    → names ≡ names_of decls t

@@ -1,0 +1,198 @@
+//! The shapes of declared records and variants, by numbers.
+
+ghost use Rattle.std.specs.Prelude.{◌≡◌, ◌<◌, length, map, All, IfOk};
+ghost use Rattle.om_types.specs.Nodes.{type_at};
+ghost use Rattle.om_types.specs.Declarations.{instance_of};
+ghost use Rattle.om_types.specs.Shape.{body_shape, is_flat, any_mutable, is_constant, constants_in, block_of, blocks_in, types_of_fields};
+ghost use Rattle.om_types.specs.Accepted.{AreSound};
+ghost use Rattle.om_scope.specs.Breaks.{names_of_decls};
+ghost use Rattle.om_scope.specs.Names.{number_of, ArePlaces};
+ghost use Rattle.om_store.specs.Held.{Grows};
+ghost use Rattle.om_store.specs.Instance.{HasNumbers};
+ghost use Rattle.om_layout.specs.Layout.{instance_at, HasBlock, HasBlocks, IsShapeAt};
+
+use crate::kind::is_float;
+use om_model::Memory;
+use om_model::list::List;
+use om_scope::table::Table;
+use om_store::Types;
+use om_types::decl::{Arguments, Body, Constructor, Decl, Field};
+use om_types::shape::{Constr, ShapeOf};
+use om_types::ty::Ty;
+use std::alloc::Global;
+
+/// The shape of a declared type at these arguments. After `Memory` there may be more types, at the end.
+pub(crate) fn datatype_shape(
+    alloc: Global,
+    types: &mut Types,
+    decls: &[Decl],
+    table: &Table<'_>,
+    decl: &Decl,
+    arguments: &[usize],
+) -> Result<ShapeOf<usize>, Memory>
+    requires places { ArePlaces (names_of_decls decls.now) (length decls.now) (number_of table.now) }
+    requires within { All (λ i. i < length types.old) arguments.now }
+    requires sound { AreSound decls.now }
+    ensures ok { IfOk result (IsShapeAt types.new (body_shape decls.now (instance_at types.old decl.now arguments.now) decl.now.body)) }
+    ensures grown { Grows types.old types.new }
+{
+    match &decl.body {
+        Body::Abbreviation(_) => Ok(ShapeOf::Variable),
+        Body::Record(fields) => {
+            let fields = fields.as_slice();
+            let mutable = any_mutable(fields);
+            if is_flat(alloc, types, decls, table, fields)? {
+                return Ok(ShapeOf::FlatFloats(mutable, fields.len() as u64));
+            }
+            let numbers = instances_of_fields(alloc, types, decl, arguments, fields)?;
+            Ok(ShapeOf::Product(mutable, List::of(numbers)))
+        }
+        Body::Variant(constructors) => {
+            let constructors = constructors.as_slice();
+            let blocks = blocks(alloc, types, decl, arguments, constructors)?;
+            Ok(ShapeOf::Sum(constants_in(constructors), List::of(blocks)))
+        }
+    }
+}
+
+/// Whether the declared types of all fields are `float`.
+fn is_flat(
+    alloc: Global,
+    types: &mut Types,
+    decls: &[Decl],
+    table: &Table<'_>,
+    fields: &[Field],
+) -> Result<bool, Memory>
+    requires places { ArePlaces (names_of_decls decls.now) (length decls.now) (number_of table.now) }
+    requires sound { AreSound decls.now }
+    ensures ok { IfOk result (λ flat. flat ≡ is_flat decls.now fields.now) }
+    ensures grown { Grows types.old types.new }
+{
+    for field in fields {
+        let number = types.add(alloc, &field.ty)?;
+        if !is_float(alloc, types, decls, table, number)? {
+            return Ok(false);
+        }
+    }
+    Ok(true)
+}
+
+/// The blocks of the constructors with arguments.
+fn blocks(
+    alloc: Global,
+    types: &mut Types,
+    decl: &Decl,
+    arguments: &[usize],
+    constructors: &[Constructor],
+) -> Result<Vec<Constr<usize>>, Memory>
+    requires { All (λ i. i < length types.old) arguments.now }
+    ensures ok { IfOk result (λ v. HasBlocks types.new (blocks_in (instance_at types.old decl.now arguments.now) constructors.now) v.items) }
+    ensures grown { Grows types.old types.new }
+{
+    let mut found = Vec::new(alloc);
+    for constructor in constructors {
+        if let Some(block) = block_of(alloc, types, decl, arguments, &constructor.arguments)? {
+            found.push(block)?;
+        }
+    }
+    Ok(found)
+}
+
+/// The block of a constructor with arguments.
+fn block_of(
+    alloc: Global,
+    types: &mut Types,
+    decl: &Decl,
+    arguments: &[usize],
+    written: &Arguments,
+) -> Result<Option<Constr<usize>>, Memory>
+    requires { All (λ i. i < length types.old) arguments.now }
+    ensures ok { IfOk result (HasBlock types.new (block_of (instance_at types.old decl.now arguments.now) written.now)) }
+    ensures grown { Grows types.old types.new }
+{
+    match written {
+        Arguments::Constant => Ok(None),
+        Arguments::Listed(all) => {
+            let numbers = instances(alloc, types, decl, arguments, all.as_slice())?;
+            Ok(Some(Constr {
+                mutable: false,
+                fields: List::of(numbers),
+            }))
+        }
+        Arguments::Inline(fields) => {
+            let fields = fields.as_slice();
+            let numbers = instances_of_fields(alloc, types, decl, arguments, fields)?;
+            Ok(Some(Constr {
+                mutable: any_mutable(fields),
+                fields: List::of(numbers),
+            }))
+        }
+    }
+}
+
+/// The numbers of the types of fields, at these arguments.
+fn instances_of_fields(
+    alloc: Global,
+    types: &mut Types,
+    decl: &Decl,
+    arguments: &[usize],
+    fields: &[Field],
+) -> Result<Vec<usize>, Memory>
+    requires { All (λ i. i < length types.old) arguments.now }
+    ensures ok { IfOk result (λ v. HasNumbers types.new (map (instance_at types.old decl.now arguments.now) (types_of_fields fields.now)) v.items) }
+    ensures grown { Grows types.old types.new }
+{
+    let mut numbers = Vec::new(alloc);
+    for field in fields {
+        let number = types.instance(alloc, &field.ty, decl.parameters.as_slice(), arguments)?;
+        numbers.push(number)?;
+    }
+    Ok(numbers)
+}
+
+/// The numbers of types, at these arguments.
+fn instances(
+    alloc: Global,
+    types: &mut Types,
+    decl: &Decl,
+    arguments: &[usize],
+    written: &[Ty],
+) -> Result<Vec<usize>, Memory>
+    requires { All (λ i. i < length types.old) arguments.now }
+    ensures ok { IfOk result (λ v. HasNumbers types.new (map (instance_at types.old decl.now arguments.now) written.now) v.items) }
+    ensures grown { Grows types.old types.new }
+{
+    let mut numbers = Vec::new(alloc);
+    for t in written {
+        let number = types.instance(alloc, t, decl.parameters.as_slice(), arguments)?;
+        numbers.push(number)?;
+    }
+    Ok(numbers)
+}
+
+/// Whether a field can be changed.
+fn any_mutable(fields: &[Field]) -> bool
+    ensures { result ≡ any_mutable fields.now }
+{
+    fields.iter().any(|field| field.mutable)
+}
+
+/// How many constructors are constants.
+fn constants_in(constructors: &[Constructor]) -> u64
+    ensures { result ≡ constants_in constructors.now }
+{
+    let mut count = 0;
+    for constructor in constructors {
+        if is_constant(&constructor.arguments) {
+            count += 1;
+        }
+    }
+    count
+}
+
+/// Whether a constructor has no arguments.
+pub(crate) fn is_constant(arguments: &Arguments) -> bool
+    ensures { result ≡ is_constant arguments.now }
+{
+    matches!(arguments, Arguments::Constant)
+}

@@ -1,0 +1,96 @@
+//! What the values of a type look like, by numbers.
+
+ghost use Rattle.std.specs.Prelude.{◌≡◌, ◌<◌, length, map, All, IfOk};
+ghost use Rattle.om_types.specs.Nodes.{type_at};
+ghost use Rattle.om_types.specs.Shape.{head_shape};
+ghost use Rattle.om_types.specs.Reached.{parts_of};
+ghost use Rattle.om_types.specs.Accepted.{AreSound};
+ghost use Rattle.om_scope.specs.Breaks.{names_of_decls};
+ghost use Rattle.om_scope.specs.Names.{number_of, ArePlaces};
+ghost use Rattle.om_store.specs.Held.{Grows};
+ghost use Rattle.om_layout.specs.Layout.{head_of_types, hashed, IsLayoutOf, IsShapeAt};
+
+use crate::datatype::datatype_shape;
+use crate::head::head_of;
+use crate::predeclared::predeclared_shape;
+use om_model::Memory;
+use om_model::list::List;
+use om_polyvar::hash;
+use om_scope::declared::declared;
+use om_scope::table::Table;
+use om_store::Types;
+use om_types::decl::Decl;
+use om_types::head::{HeadOf, TagOf};
+use om_types::shape::{PolyTag, ShapeOf};
+use std::alloc::Global;
+
+/// What a type looks like: its head and its shape, by numbers.
+#[derive(Drop)]
+pub struct Layout {
+    pub head: HeadOf<usize>,
+    pub shape: ShapeOf<usize>,
+}
+
+/// What a type looks like. After `Memory` there may be more types, at the end.
+pub fn layout_of(
+    alloc: Global,
+    types: &mut Types,
+    decls: &[Decl],
+    table: &Table<'_>,
+    number: usize,
+) -> Result<Layout, Memory>
+    requires places { ArePlaces (names_of_decls decls.now) (length decls.now) (number_of table.now) }
+    requires number { number < length types.old }
+    requires sound { AreSound decls.now }
+    ensures ok { IfOk result (IsLayoutOf decls.now types.new (type_at types.old number)) }
+    ensures grown { Grows types.old types.new }
+{
+    let head = head_of(alloc, types, decls, table, number)?;
+    let shape = shape_at(alloc, types, decls, table, &head)?;
+    Ok(Layout { head, shape })
+}
+
+/// The shape of a type with this head.
+fn shape_at(
+    alloc: Global,
+    types: &mut Types,
+    decls: &[Decl],
+    table: &Table<'_>,
+    at: &HeadOf<usize>,
+) -> Result<ShapeOf<usize>, Memory>
+    requires places { ArePlaces (names_of_decls decls.now) (length decls.now) (number_of table.now) }
+    requires within { All (λ i. i < length types.old) (parts_of at.now) }
+    requires sound { AreSound decls.now }
+    ensures ok { IfOk result (IsShapeAt types.new (head_shape decls.now (head_of_types types.old at.now))) }
+    ensures grown { Grows types.old types.new }
+{
+    match at {
+        HeadOf::Predeclared(base, parts) => {
+            predeclared_shape(alloc, types, decls, table, *base, parts.as_slice())
+        }
+        HeadOf::Datatype(name, parts) => match declared(decls, table, name.as_slice()) {
+            Some(decl) => datatype_shape(alloc, types, decls, table, decl, parts.as_slice()),
+            None => Ok(ShapeOf::Variable),
+        },
+        HeadOf::Tuple(parts) => Ok(ShapeOf::Product(
+            false,
+            List::of(Vec::from_slice(alloc, parts.as_slice())?),
+        )),
+        HeadOf::Variants(tags) => Ok(ShapeOf::Poly(List::of(hashed(alloc, tags.as_slice())?))),
+        HeadOf::Variable(_) | HeadOf::Absent => Ok(ShapeOf::Variable),
+    }
+}
+
+/// The tags by their hashes.
+fn hashed(alloc: Global, tags: &[TagOf<usize>]) -> Result<Vec<PolyTag<usize>>, Memory>
+    ensures { IfOk result (λ v. v.items ≡ map hashed tags.now) }
+{
+    let mut found = Vec::new(alloc);
+    for tag in tags {
+        found.push(PolyTag {
+            hash: hash(tag.name.as_slice()),
+            arg: tag.argument,
+        })?;
+    }
+    Ok(found)
+}

@@ -1,0 +1,200 @@
+//! The names of a type's constructors, fields or tags.
+
+ghost use Rattle.std.specs.Prelude.{◌≡◌, List, length, map, IfOk};
+ghost use Rattle.std.specs.List.{filter_map};
+ghost use Rattle.om_types.specs.Ty.{Ty};
+ghost use Rattle.om_types.specs.Names.{no_names, body_names, head_names, predeclared_type_names, field_names, constant_name, constr_names, plain_constr};
+ghost use Rattle.om_scope.specs.Breaks.{names_of_decls};
+ghost use Rattle.om_scope.specs.Names.{number_of, ArePlaces};
+ghost use Rattle.om_layout.specs.Layout.{head_of_types, named, AreNamesAt};
+
+use crate::datatype::is_constant;
+use om_model::Memory;
+use om_model::list::List;
+use om_polyvar::hash;
+use om_scope::declared::declared;
+use om_scope::table::Table;
+use om_types::decl::{Arguments, Body, Constructor, Decl, Field, Predeclared};
+use om_types::head::{HeadOf, TagOf};
+use om_types::names::{ConstrNames, Names, TagName};
+use std::alloc::Global;
+
+/// The names of a type with this head.
+pub fn names_at(
+    alloc: Global,
+    decls: &[Decl],
+    table: &Table<'_>,
+    at: &HeadOf<usize>,
+) -> Result<Names, Memory>
+    requires places { ArePlaces (names_of_decls decls.now) (length decls.now) (number_of table.now) }
+    ensures { IfOk result (AreNamesAt decls.now at.now) }
+{
+    names_by_head(alloc, decls, table, at)
+}
+
+/// The names that a head has, whatever its parts.
+fn names_by_head(
+    alloc: Global,
+    decls: &[Decl],
+    table: &Table<'_>,
+    at: &HeadOf<usize>,
+) -> Result<Names, Memory>
+    requires places { ArePlaces (names_of_decls decls.now) (length decls.now) (number_of table.now) }
+    ensures { IfOk result (λ names. (types : List Ty) → names ≡ head_names decls.now (head_of_types types at.now)) }
+{
+    match at {
+        HeadOf::Predeclared(base, _) => names_of_predeclared(alloc, *base),
+        HeadOf::Datatype(name, _) => match declared(decls, table, name.as_slice()) {
+            Some(decl) => names_of_body(alloc, &decl.body),
+            None => Ok(no_names(alloc)),
+        },
+        HeadOf::Variants(tags) => {
+            let mut names = no_names(alloc);
+            names.tags = List::of(tag_names(alloc, tags.as_slice())?);
+            Ok(names)
+        }
+        _ => Ok(no_names(alloc)),
+    }
+}
+
+/// No names.
+fn no_names(alloc: Global) -> Names
+    ensures { result ≡ no_names }
+{
+    Names {
+        constants: List::new(alloc),
+        constructors: List::new(alloc),
+        fields: List::new(alloc),
+        tags: List::new(alloc),
+    }
+}
+
+/// The names of a predeclared type.
+fn names_of_predeclared(alloc: Global, base: Predeclared) -> Result<Names, Memory>
+    ensures { IfOk result (λ names. names ≡ predeclared_type_names base) }
+{
+    let mut names = no_names(alloc);
+    match base {
+        Predeclared::List => {
+            names.constants.push(text(alloc, b"[]")?)?;
+            names.constructors.push(plain_constr(alloc, b"::")?)?;
+        }
+        Predeclared::Option => {
+            names.constants.push(text(alloc, b"None")?)?;
+            names.constructors.push(plain_constr(alloc, b"Some")?)?;
+        }
+        Predeclared::Ref => names.constructors.push(plain_constr(alloc, b"ref")?)?,
+        _ => {}
+    }
+    Ok(names)
+}
+
+/// A constructor with arguments and without an inline record.
+fn plain_constr(alloc: Global, name: &[u8]) -> Result<ConstrNames, Memory>
+    ensures { IfOk result (λ names. names ≡ plain_constr name.now) }
+{
+    Ok(ConstrNames {
+        name: text(alloc, name)?,
+        fields: List::new(alloc),
+    })
+}
+
+/// The names of a declaration.
+fn names_of_body(alloc: Global, body: &Body) -> Result<Names, Memory>
+    ensures { IfOk result (λ names. names ≡ body_names body.now) }
+{
+    let mut names = no_names(alloc);
+    match body {
+        Body::Abbreviation(_) => {}
+        Body::Record(fields) => names.fields = List::of(field_names(alloc, fields.as_slice())?),
+        Body::Variant(constructors) => {
+            let constructors = constructors.as_slice();
+            names.constants = List::of(constant_names(alloc, constructors)?);
+            names.constructors = List::of(names_of_constrs(alloc, constructors)?);
+        }
+    }
+    Ok(names)
+}
+
+/// The names of fields.
+fn field_names(alloc: Global, fields: &[Field]) -> Result<Vec<List<u8>>, Memory>
+    ensures { IfOk result (λ v. v.items ≡ field_names fields.now) }
+{
+    let mut names = Vec::new(alloc);
+    for field in fields {
+        names.push(text(alloc, field.name.as_slice())?)?;
+    }
+    Ok(names)
+}
+
+/// The names of constant constructors.
+fn constant_names(alloc: Global, constructors: &[Constructor]) -> Result<Vec<List<u8>>, Memory>
+    ensures { IfOk result (λ v. v.items ≡ filter_map constant_name constructors.now) }
+{
+    let mut names = Vec::new(alloc);
+    for constructor in constructors {
+        if let Some(name) = constant_name(alloc, constructor)? {
+            names.push(name)?;
+        }
+    }
+    Ok(names)
+}
+
+/// The name of a constant constructor.
+fn constant_name(alloc: Global, constructor: &Constructor) -> Result<Option<List<u8>>, Memory>
+    ensures { IfOk result (λ name. name ≡ constant_name constructor.now) }
+{
+    if is_constant(&constructor.arguments) {
+        Ok(Some(text(alloc, constructor.name.as_slice())?))
+    } else {
+        Ok(None)
+    }
+}
+
+/// The names of constructors with arguments.
+fn names_of_constrs(alloc: Global, constructors: &[Constructor]) -> Result<Vec<ConstrNames>, Memory>
+    ensures { IfOk result (λ v. v.items ≡ filter_map constr_names constructors.now) }
+{
+    let mut names = Vec::new(alloc);
+    for constructor in constructors {
+        if let Some(found) = constr_names(alloc, constructor)? {
+            names.push(found)?;
+        }
+    }
+    Ok(names)
+}
+
+/// The name of a constructor with arguments, and those of its fields, where it has an inline record.
+fn constr_names(alloc: Global, constructor: &Constructor) -> Result<Option<ConstrNames>, Memory>
+    ensures { IfOk result (λ names. names ≡ constr_names constructor.now) }
+{
+    let fields = match &constructor.arguments {
+        Arguments::Constant => return Ok(None),
+        Arguments::Listed(_) => List::new(alloc),
+        Arguments::Inline(fields) => List::of(field_names(alloc, fields.as_slice())?),
+    };
+    let name = text(alloc, constructor.name.as_slice())?;
+    Ok(Some(ConstrNames { name, fields }))
+}
+
+/// The names of tags with their hashes.
+fn tag_names(alloc: Global, tags: &[TagOf<usize>]) -> Result<Vec<TagName>, Memory>
+    ensures { IfOk result (λ v. v.items ≡ map named tags.now) }
+{
+    let mut names = Vec::new(alloc);
+    for tag in tags {
+        let name = tag.name.as_slice();
+        names.push(TagName {
+            name: text(alloc, name)?,
+            hash: hash(name),
+        })?;
+    }
+    Ok(names)
+}
+
+/// The same bytes.
+fn text(alloc: Global, bytes: &[u8]) -> Result<List<u8>, Memory>
+    ensures { IfOk result (λ l. l ≡ bytes.now) }
+{
+    Ok(List::of(Vec::from_slice(alloc, bytes)?))
+}

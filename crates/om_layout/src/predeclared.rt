@@ -1,0 +1,129 @@
+//! The shapes of predeclared types, by numbers.
+
+ghost use Rattle.std.specs.Prelude.{◌≡◌, ◌<◌, [], ◌∷◌, false, List, length, map, All, IfOk};
+ghost use Rattle.om_types.specs.Ty.{Ty};
+ghost use Rattle.om_types.specs.Nodes.{type_at};
+ghost use Rattle.om_types.specs.Shape.{predeclared_shape, block, list_of};
+ghost use Rattle.om_types.specs.declared.shape.ShapeOf.TheVariants as shapes;
+ghost use Rattle.om_types.specs.Accepted.{AreSound};
+ghost use Rattle.om_scope.specs.Breaks.{names_of_decls};
+ghost use Rattle.om_scope.specs.Names.{number_of, ArePlaces};
+ghost use Rattle.om_store.specs.Held.{Grows};
+ghost use Rattle.om_layout.specs.Layout.{array_at, IsShapeAt};
+
+use crate::head::head_of;
+use om_model::Memory;
+use om_model::list::List;
+use om_scope::table::Table;
+use om_store::Types;
+use om_types::decl::{Decl, Predeclared};
+use om_types::head::HeadOf;
+use om_types::shape::{Constr, ShapeOf};
+use std::alloc::Global;
+
+/// The shape of a predeclared type. After `Memory` there may be more types, at the end.
+pub(crate) fn predeclared_shape(
+    alloc: Global,
+    types: &mut Types,
+    decls: &[Decl],
+    table: &Table<'_>,
+    base: Predeclared,
+    parts: &[usize],
+) -> Result<ShapeOf<usize>, Memory>
+    requires places { ArePlaces (names_of_decls decls.now) (length decls.now) (number_of table.now) }
+    requires within { All (λ i. i < length types.old) parts.now }
+    requires sound { AreSound decls.now }
+    ensures ok { IfOk result (IsShapeAt types.new (predeclared_shape decls.now base (map (type_at types.old) parts.now))) }
+    ensures grown { Grows types.old types.new }
+{
+    match parts {
+        [] => Ok(alone(base)),
+        [part] => of_one(alloc, types, decls, table, base, *part),
+        _ => Ok(ShapeOf::Variable),
+    }
+}
+
+/// The shape of a predeclared type without arguments.
+fn alone(base: Predeclared) -> ShapeOf<usize>
+    ensures { (decls : List Decl) (types : List Ty) → IsShapeAt types (predeclared_shape decls base []) result }
+{
+    match base {
+        Predeclared::Int => ShapeOf::AnyInt,
+        Predeclared::Char => ShapeOf::Below(256),
+        Predeclared::Bool => ShapeOf::Below(2),
+        Predeclared::Unit => ShapeOf::Below(1),
+        Predeclared::String => ShapeOf::Bytes(false),
+        Predeclared::Bytes => ShapeOf::Bytes(true),
+        Predeclared::Float => ShapeOf::Double,
+        Predeclared::Int32 => ShapeOf::Int32,
+        Predeclared::Int64 => ShapeOf::Int64,
+        Predeclared::Nativeint => ShapeOf::Native,
+        Predeclared::Floatarray => ShapeOf::FloatArray,
+        Predeclared::List | Predeclared::Option | Predeclared::Array | Predeclared::Ref => {
+            ShapeOf::Variable
+        }
+    }
+}
+
+/// The shape of a predeclared type with one argument.
+fn of_one(
+    alloc: Global,
+    types: &mut Types,
+    decls: &[Decl],
+    table: &Table<'_>,
+    base: Predeclared,
+    part: usize,
+) -> Result<ShapeOf<usize>, Memory>
+    requires places { ArePlaces (names_of_decls decls.now) (length decls.now) (number_of table.now) }
+    requires part { part < length types.old }
+    requires sound { AreSound decls.now }
+    ensures ok { IfOk result (IsShapeAt types.new (predeclared_shape decls.now base (type_at types.old part ∷ []))) }
+    ensures grown { Grows types.old types.new }
+{
+    match base {
+        Predeclared::List => list_shape(alloc, types, part),
+        Predeclared::Option => one_block(alloc, 1, false, vec![in alloc; part]?),
+        Predeclared::Ref => one_block(alloc, 0, true, vec![in alloc; part]?),
+        Predeclared::Array => {
+            let head = head_of(alloc, types, decls, table, part)?;
+            Ok(array_at(&head, part))
+        }
+        _ => Ok(ShapeOf::Variable),
+    }
+}
+
+/// The shape of lists of these.
+fn list_shape(alloc: Global, types: &mut Types, part: usize) -> Result<ShapeOf<usize>, Memory>
+    requires { part < length types.old }
+    ensures ok { IfOk result (IsShapeAt types.new (shapes.Sum 1 (block false (type_at types.old part ∷ list_of (type_at types.old part) ∷ []) ∷ []))) }
+    ensures grown { Grows types.old types.new }
+{
+    let list = types.add_named(b"list")?;
+    let whole = types.add_part(list, part)?;
+    one_block(alloc, 1, false, vec![in alloc; part, whole]?)
+}
+
+/// So many constants, and one kind of block.
+fn one_block(
+    alloc: Global,
+    constants: u64,
+    mutable: bool,
+    fields: Vec<usize>,
+) -> Result<ShapeOf<usize>, Memory>
+    ensures { IfOk result (λ s. s ≡ shapes.Sum constants (record { mutable = mutable; fields = fields.items } ∷ [])) }
+{
+    let fields = List::of(fields);
+    let blocks = vec![in alloc; Constr { mutable, fields }]?;
+    Ok(ShapeOf::Sum(constants, List::of(blocks)))
+}
+
+/// Arrays of what has this head.
+fn array_at(at: &HeadOf<usize>, element: usize) -> ShapeOf<usize>
+    ensures { result ≡ array_at at.now element }
+{
+    match at {
+        HeadOf::Variable(_) => ShapeOf::ArrayOfVariable,
+        HeadOf::Predeclared(Predeclared::Float, _) => ShapeOf::FloatArray,
+        _ => ShapeOf::ArrayOf(element),
+    }
+}
