@@ -4,6 +4,7 @@
 mod instance;
 mod names;
 mod node;
+mod tree;
 mod types;
 
 pub use node::TypeNode;

@@ -1,0 +1,54 @@
+//! Types of a store as types of their own.
+
+ghost use Rattle.std.specs.Prelude.{◌≡◌, ◌<◌, length, IfOk};
+ghost use Rattle.om_types.specs.Nodes.{type_at};
+ghost use Rattle.om_store.specs.Lent.{written_of};
+
+use crate::node::TypeNode;
+use crate::types::Types;
+use om_model::Memory;
+use om_model::list::List;
+use om_types::ty::{Node, Ty};
+use std::alloc::Global;
+
+impl Types {
+    /// The type of a number. It takes a step for each number up to it.
+    pub fn tree(&self, alloc: Global, number: usize) -> Result<Ty, Memory>
+        requires { number < length self.now }
+        ensures { IfOk result (λ t. t ≡ type_at self.now number) }
+    {
+        let mut nodes = Vec::new(alloc);
+        for i in 0..number {
+            let node = written(alloc, self.node(i))?;
+            nodes.push(node)?;
+        }
+        let last = written(alloc, self.node(number))?;
+        nodes.push(last)?;
+        Ok(Ty::of(nodes))
+    }
+}
+
+/// A node with its name as a text of its own.
+fn written(alloc: Global, node: TypeNode<'_>) -> Result<Node, Memory>
+    ensures { IfOk result (λ n. n ≡ written_of node.entry) }
+{
+    match node {
+        TypeNode::Variable(name) => Ok(Node::Variable(text(alloc, name)?)),
+        TypeNode::Named(name) => Ok(Node::Named(text(alloc, name)?)),
+        TypeNode::Tuple => Ok(Node::Tuple),
+        TypeNode::Bracket => Ok(Node::Bracket),
+        TypeNode::Part(whole, added) => Ok(Node::Part(whole, added)),
+        TypeNode::Tag(whole, name) => Ok(Node::Tag(whole, text(alloc, name)?)),
+        TypeNode::TagOf(whole, name, argument) => {
+            Ok(Node::TagOf(whole, text(alloc, name)?, argument))
+        }
+        TypeNode::Including(whole, included) => Ok(Node::Including(whole, included)),
+    }
+}
+
+/// The same bytes.
+fn text(alloc: Global, bytes: &[u8]) -> Result<List<u8>, Memory>
+    ensures { IfOk result (λ l. l ≡ bytes.now) }
+{
+    Ok(List::of(Vec::from_slice(alloc, bytes)?))
+}
