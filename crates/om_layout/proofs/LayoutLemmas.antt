@@ -62,7 +62,7 @@ module _ {T U : Type 0} (f g : T → U) where
 -- ---- parts replaced twice, and not at all
 
 module _ {T U V : Type 0} (f : T → U) (g : U → V) where
-  list_twice : (ts : List T) → map g (map f ts) ≡ map (λ t. g (f t)) ts
+  pub list_twice : (ts : List T) → map g (map f ts) ≡ map (λ t. g (f t)) ts
   list_twice [] = refl
   list_twice (t ∷ ts) = ap (λ vs. g (f t) ∷ vs) (list_twice ts)
 
@@ -104,6 +104,22 @@ head_itself heads.Absent = refl
 
 -- ---- heads by numbers
 
+-- numbers that have types
+pub below_found : (types : List Ty) (ns : List ℕ) (ts : List Ty) → map (slice_get types) ns ≡ map (λ (t : Ty). Some t) ts
+    → All (λ i. i < length types) ns
+below_found types [] ts same = All-nil (λ i. i < length types)
+below_found types (n ∷ ns) [] same = cc
+below_found types (n ∷ ns) (t ∷ ts) same =
+    All-cons (λ i. i < length types) n ns
+    (slice_get_within types n t (first_of_both same))
+    (below_found types ns ts (rest_of_both same)) where
+      first_of_both : slice_get types n ∷ map (slice_get types) ns ≡ Some t ∷ map (λ (u : Ty). Some u) ts → slice_get types n ≡ Some t
+      first_of_both e = cc
+
+      rest_of_both : slice_get types n ∷ map (slice_get types) ns ≡ Some t ∷ map (λ (u : Ty). Some u) ts
+          → map (slice_get types) ns ≡ map (λ (u : Ty). Some u) ts
+      rest_of_both e = cc
+
 abbrev some : Ty → Option Ty
 some t = Some t
 
@@ -126,19 +142,8 @@ module _ (types : List Ty) (h : HeadOf ℕ) (all : HeadOf Ty)
   -- the parts are there
   pub head_within : All (λ i. i < length types) (parts_of h)
   head_within =
-      by (parts_of h) (parts_of all)
-      (sym (parts_of-map (slice_get types) h) ∙ ap (λ (g : HeadOf (Option Ty)). parts_of g) is ∙ parts_of-map some all) where
-        by : (ns : List ℕ) (ts : List Ty) → map (slice_get types) ns ≡ map some ts → All (λ i. i < length types) ns
-        by [] ts same = All-nil (λ i. i < length types)
-        by (n ∷ ns) [] same = cc
-        by (n ∷ ns) (t ∷ ts) same =
-            All-cons (λ i. i < length types) n ns
-            (slice_get_within types n t (first_of_both same))
-            (by ns ts (rest_of_both same)) where
-              first_of_both : slice_get types n ∷ map (slice_get types) ns ≡ some t ∷ map some ts → slice_get types n ≡ some t
-              first_of_both e = cc
-              rest_of_both : slice_get types n ∷ map (slice_get types) ns ≡ some t ∷ map some ts → map (slice_get types) ns ≡ map some ts
-              rest_of_both e = cc
+      below_found types (parts_of h) (parts_of all)
+      (sym (parts_of-map (slice_get types) h) ∙ ap (λ (g : HeadOf (Option Ty)). parts_of g) is ∙ parts_of-map some all)
 
   -- they stay, where types are added
   pub head_kept : (new : List Ty) → Grows types new → head_with_parts (slice_get new) h ≡ head_with_parts (λ (t : Ty). Some t) all

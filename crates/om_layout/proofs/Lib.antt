@@ -9,3 +9,4 @@ pub mod ExampleLemmas
 pub mod LoopLemmas
 pub mod LayoutLemmas
 pub mod DatatypeLemmas
+pub mod TreesLemmas

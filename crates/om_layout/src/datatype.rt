@@ -56,7 +56,7 @@ pub(crate) fn datatype_shape(
 }
 
 /// Whether the declared types of all fields are `float`.
-fn is_flat(
+pub(crate) fn is_flat(
     alloc: Global,
     types: &mut Types,
     decls: &[Decl],

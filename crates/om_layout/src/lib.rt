@@ -2,6 +2,7 @@
 #![tactic(auto)]
 
 mod bracket;
+mod calls;
 mod datatype;
 mod head;
 mod kind;
@@ -11,8 +12,10 @@ mod plain;
 mod predeclared;
 mod replaced;
 mod spine;
+mod trees;
 
 pub use bracket::bracket_head;
+pub use calls::{expand, flat_float, shape};
 pub use head::head_of;
 pub use kind::{is_float, is_polymorphic_variant};
 pub use layout::{Layout, layout_of};

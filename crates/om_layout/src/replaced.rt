@@ -2,7 +2,7 @@
 
 ghost use Rattle.std.specs.Prelude.{◌≡◌, ◌<◌, length, IfOk, OnErr, MatchOption, option_copied};
 ghost use Rattle.om_types.specs.Nodes.{type_at};
-ghost use Rattle.om_types.specs.Declarations.{unfolded};
+ghost use Rattle.om_types.specs.Declarations.{unfolded, IsExpanded};
 ghost use Rattle.om_types.specs.Accepted.{AreSound};
 ghost use Rattle.om_scope.specs.Breaks.{names_of_decls};
 ghost use Rattle.om_scope.specs.Names.{number_of, ArePlaces};
@@ -64,6 +64,7 @@ pub fn expanded(
     requires number { number < length types.old }
     requires sound { AreSound decls.now }
     ensures ok { IfOk result (HasHeadOf decls.now types.new (type_at types.old number)) }
+    ensures expanded { IfOk result (λ i. IsExpanded decls.now (type_at types.old number) (type_at types.new i)) }
     ensures grown { Grows types.old types.new }
 {
     let mut at = number;

@@ -1,0 +1,106 @@
+//! Shapes over types as they are written, from shapes over numbers.
+
+ghost use Rattle.std.specs.Prelude.{◌≡◌, ◌<◌, length, map, All, IfOk, IfSome};
+ghost use Rattle.om_types.specs.Nodes.{type_at};
+ghost use Rattle.om_types.specs.Reached.{named_in};
+ghost use Rattle.om_types.specs.Table.{constr_with, tag_with_parts, with_parts};
+ghost use Rattle.om_types.specs.declared.shape.ShapeOf.TheVariants as shapes;
+
+use om_model::Memory;
+use om_model::list::List;
+use om_store::Types;
+use om_types::shape::{Constr, PolyTag, ShapeOf};
+use om_types::ty::Ty;
+use std::alloc::Global;
+
+/// The shape with the types of its numbers.
+pub(crate) fn trees_of_shape(
+    alloc: Global,
+    types: &Types,
+    found: &ShapeOf<usize>,
+) -> Result<ShapeOf<Ty>, Memory>
+    requires { All (λ i. i < length types.now) (named_in found.now) }
+    ensures { IfOk result (λ shape. shape ≡ with_parts (type_at types.now) found.now) }
+{
+    match found {
+        ShapeOf::AnyInt => Ok(ShapeOf::AnyInt),
+        ShapeOf::Below(count) => Ok(ShapeOf::Below(*count)),
+        ShapeOf::Bytes(mutable) => Ok(ShapeOf::Bytes(*mutable)),
+        ShapeOf::Double => Ok(ShapeOf::Double),
+        ShapeOf::Int32 => Ok(ShapeOf::Int32),
+        ShapeOf::Int64 => Ok(ShapeOf::Int64),
+        ShapeOf::Native => Ok(ShapeOf::Native),
+        ShapeOf::Sum(constants, blocks) => {
+            let blocks = trees_of_blocks(alloc, types, blocks.as_slice())?;
+            Ok(ShapeOf::Sum(*constants, List::of(blocks)))
+        }
+        ShapeOf::Product(mutable, fields) => {
+            let fields = trees(alloc, types, fields.as_slice())?;
+            Ok(ShapeOf::Product(*mutable, List::of(fields)))
+        }
+        ShapeOf::FlatFloats(mutable, count) => Ok(ShapeOf::FlatFloats(*mutable, *count)),
+        ShapeOf::ArrayOf(element) => Ok(ShapeOf::ArrayOf(types.tree(alloc, *element)?)),
+        ShapeOf::FloatArray => Ok(ShapeOf::FloatArray),
+        ShapeOf::Poly(tags) => {
+            let tags = trees_of_tags(alloc, types, tags.as_slice())?;
+            Ok(ShapeOf::Poly(List::of(tags)))
+        }
+        ShapeOf::Variable => Ok(ShapeOf::Variable),
+        ShapeOf::ArrayOfVariable => Ok(ShapeOf::ArrayOfVariable),
+    }
+}
+
+/// The blocks with the types of their numbers.
+fn trees_of_blocks(
+    alloc: Global,
+    types: &Types,
+    blocks: &[Constr<usize>],
+) -> Result<Vec<Constr<Ty>>, Memory>
+    requires { All (λ block. All (λ i. i < length types.now) block.fields) blocks.now }
+    ensures { IfOk result (λ v. v.items ≡ map (constr_with (type_at types.now)) blocks.now) }
+{
+    let mut found = Vec::new(alloc);
+    for block in blocks {
+        let fields = trees(alloc, types, block.fields.as_slice())?;
+        found.push(Constr {
+            mutable: block.mutable,
+            fields: List::of(fields),
+        })?;
+    }
+    Ok(found)
+}
+
+/// The tags with the types of their numbers.
+fn trees_of_tags(
+    alloc: Global,
+    types: &Types,
+    tags: &[PolyTag<usize>],
+) -> Result<Vec<PolyTag<Ty>>, Memory>
+    requires { All (λ tag. IfSome tag.arg (λ i. i < length types.now)) tags.now }
+    ensures { IfOk result (λ v. v.items ≡ map (tag_with_parts (type_at types.now)) tags.now) }
+{
+    let mut found = Vec::new(alloc);
+    for tag in tags {
+        let arg = match tag.arg {
+            Some(number) => Some(types.tree(alloc, number)?),
+            None => None,
+        };
+        found.push(PolyTag {
+            hash: tag.hash,
+            arg,
+        })?;
+    }
+    Ok(found)
+}
+
+/// The types of these numbers.
+fn trees(alloc: Global, types: &Types, numbers: &[usize]) -> Result<Vec<Ty>, Memory>
+    requires { All (λ i. i < length types.now) numbers.now }
+    ensures { IfOk result (λ v. v.items ≡ map (type_at types.now) numbers.now) }
+{
+    let mut found = Vec::new(alloc);
+    for number in numbers {
+        found.push(types.tree(alloc, *number)?)?;
+    }
+    Ok(found)
+}
