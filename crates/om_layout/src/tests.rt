@@ -11,6 +11,8 @@ use om_types::ty::{Node, Ty};
 use std::alloc::{AllocError, Global};
 use std::test::Fail;
 
+mod shapes;
+
 fn name(alloc: Global, text: &[u8]) -> Result<List<u8>, AllocError> {
     Ok(List::of(text.to_vec(alloc)?))
 }

@@ -16,5 +16,5 @@ pub returns : goal.returns
 returns c =
     let of = get_or_from_slice_get c.add.new.self c.in_ok-number.number c.args.t.now tuple c.in_ok-number.ensures.ok.there in
     let found = shape_found c.layout_of.new.types c.in_ok-layout.layout.shape
-        (shape c.args.decls.now (type_at c.add.new.self c.in_ok-number.number)) c.in_ok-layout.ensures.ok.shape in
+    (shape c.args.decls.now (type_at c.add.new.self c.in_ok-number.number)) c.in_ok-layout.ensures.ok.shape in
     IfOk-weaker c.trees_of_shape.result _ _ (λ s is. is ∙ found ∙ ap (shape c.args.decls.now) of) c.trees_of_shape.ensures

@@ -20,13 +20,13 @@ loop-constructor-preserved c =
     let has = subst (λ (i : Ty → Ty). HasBlock c.block_of.new.types (block_of i c.constructor-item.result.arguments) c.in_ok-block.field-0) kept c.in_ok-block.ensures.ok in
     let all = Grows-then _ _ _ c.loop-constructor.invariant.0 grown in
     elim c.match-branch-2.branch [
-      in-Some+in_ok-push w ↦ (
+      | in-Some+in_ok-push w ↦ (
         all,
         rw (w.found-is, w.in_ok-push.ensures.items)
             (block_more c.loop-constructor.types c.block_of.new.types grown f c.args.constructors.now c.loop-constructor.constructor-index _ at
             _ c.loop-constructor.invariant.1 _ (rw (← w.in-Some.is) has)),
       )
-    | in_default w ↦ (
+      | in_default w ↦ (
         all,
         rw w.found-is
             (block_not_more c.loop-constructor.types c.block_of.new.types grown f c.args.constructors.now c.loop-constructor.constructor-index _ at

@@ -11,8 +11,8 @@ returns-in_ok-numbers-in-Record-clause-ok c =
     let boxed = sym c.in_ok-is_flat-in-Record.ensures.ok ∙ c.if-branch.false in
     let kept = instance_kept c.args.types.now c.is_flat.new.types c.in_ok-is_flat-in-Record.ensures.grown c.args.decl.now c.args.arguments.now c.requires.within in
     let has = subst
-        (λ (i : Ty → Ty). HasNumbers c.instances_of_fields.new.types (map i (types_of_fields c.as_slice-fields.result.now)) c.in_ok-numbers-in-Record.numbers.items)
-        kept c.in_ok-numbers-in-Record.ensures.ok in
+    (λ (i : Ty → Ty). HasNumbers c.instances_of_fields.new.types (map i (types_of_fields c.as_slice-fields.result.now)) c.in_ok-numbers-in-Record.numbers.items)
+    kept c.in_ok-numbers-in-Record.ensures.ok in
     rw (c.in-Record.is, c.of.ensures, c.any_mutable-mutable.ensures, ← c.as_slice-fields.ensures)
     (boxed_record c.args.decls.now c.instances_of_fields.new.types
     (instance_at c.args.types.now c.args.decl.now c.args.arguments.now) c.as_slice-fields.result.now c.in_ok-numbers-in-Record.numbers.items boxed has)

@@ -10,4 +10,4 @@ pub returns-in_ok-tag_names-in-Variants : goal.returns-in_ok-tag_names-in-Varian
 returns-in_ok-tag_names-in-Variants c types =
     rw (c.in-Variants.is, c.no_names-names.ensures, ← c.as_slice-in-Variants.ensures)
     (ap (λ (all : List TagName). record no_names { tags = all })
-    (c.of.ensures ∙ c.in_ok-tag_names-in-Variants.ensures ∙ sym (tags_named (type_at types) _) ))
+    (c.of.ensures ∙ c.in_ok-tag_names-in-Variants.ensures ∙ sym (tags_named (type_at types) _)))
