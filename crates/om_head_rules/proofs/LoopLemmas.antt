@@ -55,11 +55,6 @@ maps_more {X} {Y} {Z} {W} f h g out next xs k x e w below read next_is here so_f
     ∙ ap (map h) (sym (map-append g (take k xs) (get_or xs k e ∷ [])))
     ∙ ap (λ ys. map h (map g ys)) (sym (take_more xs k e below))
 
-pub maps_all :
-    {X Y Z W : Type 0} (f : W → Z) (h : Y → Z) (g : X → Y) (out : List W) (xs : List X) (k : ℕ)
-    → length xs ≤ k → map f out ≡ map h (map g (take k xs)) → map f out ≡ map h (map g xs)
-maps_all f h g out xs k past are = are ∙ ap (λ ys. map h (map g ys)) (take_all k xs past)
-
 -- ---- what holds of each
 
 pub all_more :

@@ -101,20 +101,6 @@ brackets_turn types new tree out next brackets k inside e items all grown below 
     (subst (AreAllNumbered new (out ++ items ∷ [])) (sym same)
     (zip_push (AreNumbered new) out told items more (brackets_kept types new out told grown so_far) here))
 
--- the next turn of a loop over lists of brackets
-pub lists_turn :
-    {X : Type 0} (told : X → List (List PlacedItem)) (types : List Ty) (out : List (List NumberedItem)) (xs : List X)
-    (k : ℕ) (x e : X) (all : List (List PlacedItem)) → k < length xs → x ≡ get_or xs k e
-    → AreAllNumbered types out ((all ++ flat_map told (take k xs)) ++ told x)
-    → AreAllNumbered types out (all ++ flat_map told (take (k + 1) xs))
-lists_turn {X} told types out xs k x e all below read are =
-    subst (AreAllNumbered types out)
-    (ap (λ (y : X). (all ++ flat_map told (take k xs)) ++ told y) read
-    ∙ append_assoc all (flat_map told (take k xs)) (told (get_or xs k e))
-    ∙ ap (λ l. all ++ (flat_map told (take k xs) ++ l)) (sym (append-nil (told (get_or xs k e))))
-    ∙ ap (λ l. all ++ l) (sym (flat_map-append told (take k xs) (get_or xs k e ∷ [])))
-    ∙ ap (λ ys. all ++ flat_map told ys) (sym (take_more xs k e below))) are
-
 -- ---- the item that a node adds
 
 module _ (types : List Ty) (all : List Node) (ordered : AreOrdered all) (numbers : List ℕ)
@@ -213,19 +199,3 @@ pub all_items :
     → AreNumbered types out (items_told tree (take k items)) → AreNumbered types out (items_told tree items)
 all_items types tree out items k past are =
     subst (λ l. AreNumbered types out (items_told tree l)) (take_all k items past) are
-
-pub all_brackets :
-    (types tree : List Ty) (out : List (List NumberedItem)) (brackets : List (List BracketItem)) (k : ℕ)
-    (all : List (List PlacedItem)) → length brackets ≤ k
-    → AreAllNumbered types out (all ++ brackets_told tree (take k brackets))
-    → AreAllNumbered types out (all ++ brackets_told tree brackets)
-all_brackets types tree out brackets k all past are =
-    subst (λ l. AreAllNumbered types out (all ++ brackets_told tree l)) (take_all k brackets past) are
-
-pub all_lists :
-    {X : Type 0} (told : X → List (List PlacedItem)) (types : List Ty) (out : List (List NumberedItem)) (xs : List X)
-    (k : ℕ) (all : List (List PlacedItem)) → length xs ≤ k
-    → AreAllNumbered types out (all ++ flat_map told (take k xs))
-    → AreAllNumbered types out (all ++ flat_map told xs)
-all_lists told types out xs k all past are =
-    subst (λ l. AreAllNumbered types out (all ++ flat_map told l)) (take_all k xs past) are

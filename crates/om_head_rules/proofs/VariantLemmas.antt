@@ -30,20 +30,6 @@ read_node :
     → type_at types number ≡ t
 read_node decls types number t is = get_or_from_slice_get types number t tuple is
 
-pub included_other :
-    (decls : List Decl) (types : List Ty) (number w u : ℕ) (is : Bool)
-    → slice_get types number ≡ Some (including (type_at types w) (type_at types u))
-    → IsTrue is ↔ AreVariants (head decls (type_at types u))
-    → IsTrue (not is) ↔ IncludesOther decls (type_at types number)
-included_other decls types number w u is there says =
-    subst (λ t. IsTrue (not is) ↔ IncludesOther decls t)
-    (sym (read_node decls types number (including (type_at types w) (type_at types u)) there)) (by is says) where
-      by :
-          (test : Bool) → IsTrue test ↔ AreVariants (head decls (type_at types u))
-          → IsTrue (not test) ↔ (¬ AreVariants (head decls (type_at types u)))
-      by true says' = (λ never. absurd (false≢true never), λ none. absurd (none (says'.0 refl)))
-      by false says' = (λ yes' are. false≢true (says'.1 are), λ none. refl)
-
 other_kind :
     (decls : List Decl) (types : List Ty) (node : TypeNode)
     → ((w u : ℕ) → node ≡ lent.Including w u → ⊥)
@@ -85,12 +71,6 @@ pub are_within_kept :
     (old new : List Ty) (items : List NumberedItem) → Grows old new → AreWithin old items → AreWithin new items
 are_within_kept old new items grown within =
     All-weaker (IsWithin old) (IsWithin new) (λ i. within_kept old new i grown) items within
-
-pub all_within_kept :
-    (old new : List Ty) (brackets : List (List NumberedItem)) → Grows old new → AreAllWithin old brackets
-    → AreAllWithin new brackets
-all_within_kept old new brackets grown within =
-    All-weaker (AreWithin old) (AreWithin new) (λ items. are_within_kept old new items grown) brackets within
 
 pub items_kept :
     (old new : List Ty) (items : List NumberedItem) → Grows old new → AreWithin old items
@@ -148,13 +128,6 @@ module _ (decls : List Decl) (types : List Ty) where
 
 -- ---- one item after another
 
--- an item that is read
-pub number_at :
-    (old now : List Ty) (items : List NumberedItem) (k : ℕ) (e : NumberedItem) → Grows old now → AreWithin old items
-    → k < length items → (get_or items k e).number < length now
-number_at old now items k e grown within below =
-    All-get_or (IsWithin now) items k e below (are_within_kept old now items grown within)
-
 pub more_other :
     (decls : List Decl) (old now : List Ty) (items : List NumberedItem) (k : ℕ) (e : NumberedItem)
     (best found next : Option ℕ) (test : Bool) → Grows old now → AreWithin old items → k < length items
@@ -179,12 +152,6 @@ bracket_at :
     → AreAllWithin old brackets → k < length brackets → items ≡ get_or brackets k items → AreWithin old items
 bracket_at old brackets k items within below read =
     subst (AreWithin old) (sym read) (All-get_or (AreWithin old) brackets k items below within)
-
-pub within_at :
-    (old now : List Ty) (brackets : List (List NumberedItem)) (k : ℕ) (items : List NumberedItem) → Grows old now
-    → AreAllWithin old brackets → k < length brackets → items ≡ get_or brackets k items → AreWithin now items
-within_at old now brackets k items grown within below read =
-    are_within_kept old now items grown (bracket_at old brackets k items within below read)
 
 other_kept :
     (decls : List Decl) (old now : List Ty) (items : List NumberedItem) → Grows old now → AreWithin old items

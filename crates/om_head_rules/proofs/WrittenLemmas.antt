@@ -4,7 +4,7 @@ use Rattle.std.specs.Prelude.{slice_get, Contains, All, codes}
 use Rattle.std.specs.List.{filter_map}
 use Rattle.std.specs.Str.{bytes_eq}
 use Rattle.std.proofs.lemmas.Bool.{false≢true}
-use Rattle.std.proofs.lemmas.List.Elements.{All-head, All-tail}
+use Rattle.std.proofs.lemmas.List.Elements.{All-nil}
 use Rattle.std.proofs.lemmas.Option.{none-some, same_Some}
 use Rattle.std.proofs.lemmas.Slice.Eq.{bytes_eq-Decides}
 use Rattle.om_model.proofs.Options.{Contains-none, Contains-cases}
@@ -93,6 +93,31 @@ is_text (d ∷ decls) [] found are = absurd are
 is_text (d ∷ decls) (p ∷ names) [] are = absurd are
 is_text (d ∷ decls) (p ∷ names) (b ∷ found) are =
     more_text d p b decls names found are.0 are.1 (is_text decls names found are.2)
+
+-- declarations without brackets
+abbrev pub bare_file : List Decl → List Placed → List DeclPlaces
+bare_file decls names = file_of decls names ([] ∷ [] ∷ [])
+
+-- two of them
+pub two_text :
+    (decls : List Decl) (names : List Placed) (found : List (List TypeBrackets))
+    → names_of_decls decls ≡ codes "f" ∷ codes "r" ∷ [] → names ≡ (1, codes "f") ∷ (5, codes "r") ∷ []
+    → found ≡ [] ∷ [] ∷ []
+    → (decls ≡ decls_of (bare_file decls names)) × (names ≡ declared_names (bare_file decls names))
+    × AreFileBrackets found (bare_file decls names)
+two_text [] names found called named' none = cc
+two_text (d ∷ []) names found called named' none = cc
+two_text (d ∷ e ∷ x ∷ more) names found called named' none = cc
+two_text (d ∷ e ∷ []) names found called named' none =
+    let first : codes "f" ≡ d.name = cc in
+    let second : codes "r" ≡ e.name = cc in
+    subst
+    (λ ns. (d ∷ e ∷ [] ≡ decls_of (bare_file (d ∷ e ∷ []) ns)) × (ns ≡ declared_names (bare_file (d ∷ e ∷ []) ns))
+    × AreFileBrackets found (bare_file (d ∷ e ∷ []) ns)) (sym named')
+    (let text = is_text (d ∷ e ∷ []) ((1, codes "f") ∷ (5, codes "r") ∷ []) ([] ∷ [] ∷ [])
+    (first, All-nil IsOrdered, (second, All-nil IsOrdered, tt)) in
+    (text.0, text.1,
+    subst (λ bs. AreFileBrackets bs (bare_file (d ∷ e ∷ []) ((1, codes "f") ∷ (5, codes "r") ∷ []))) (sym none) text.2))
 
 -- ---- sound declarations
 

@@ -1,6 +1,7 @@
-ghost use Rattle.std.specs.Prelude.{◌≡◌, IfOk};
+ghost use Rattle.std.specs.Prelude.{◌≡◌, ◌∷◌, [], IfOk, codes};
 ghost use Rattle.om_types.specs.Accepted.{AreSound};
 ghost use Rattle.om_scope.specs.Brackets.{IsOrdered};
+ghost use Rattle.om_scope.specs.Breaks.{names_of_decls};
 
 use crate::{HeadBreak, first_head_break, first_head_break_in_type};
 use om_model::list::List;
@@ -103,6 +104,16 @@ fn brackets<'a>(
     })
 }
 
+// What a type without declarations breaks.
+fn type_break(
+    alloc: Global,
+    ty: &Ty,
+    rows: &[&[(usize, usize)]],
+) -> Result<Option<HeadBreak>, Fail> {
+    let found = vec![in alloc; brackets(alloc, ty, rows)?]?;
+    Ok(first_head_break_in_type(alloc, &[], found.as_slice())?)
+}
+
 #[derive(Drop)]
 struct Case<'a> {
     shows: &'a str,
@@ -143,8 +154,7 @@ fn types_break_rules(rt: HostRuntime) -> Result<(), Fail> {
         },
     ];
     for case in &cases {
-        let found = vec![in alloc; brackets(alloc, case.ty, case.rows)?]?;
-        let broken = first_head_break_in_type(alloc, &[], found.as_slice())?;
+        let broken = type_break(alloc, case.ty, case.rows)?;
         assert_eq!(rt; told(alloc, &broken)?.as_str(), case.told, "{}", case.shows);
     }
     Ok(())
@@ -153,6 +163,7 @@ fn types_break_rules(rt: HostRuntime) -> Result<(), Fail> {
 // type f = float and r = {x: f}, the record in this group.
 fn floats(alloc: Global, group: usize) -> Result<Vec<Decl>, AllocError>
     ensures sound { IfOk result (λ decls. AreSound decls.items) }
+    ensures named { IfOk result (λ decls. names_of_decls decls.items ≡ codes "f" ∷ codes "r" ∷ []) }
 {
     let float = Ty::of(vec![in alloc; Node::Named(name(alloc, b"float")?)]?);
     let f = Ty::of(vec![in alloc; Node::Named(name(alloc, b"f")?)]?);
@@ -176,15 +187,33 @@ fn floats(alloc: Global, group: usize) -> Result<Vec<Decl>, AllocError>
     Ok(vec![in alloc; alias, record]?)
 }
 
+fn places(alloc: Global) -> Result<Vec<Placed>, AllocError>
+    ensures { IfOk result (λ names. names.items ≡ (1, codes "f") ∷ (5, codes "r") ∷ []) }
+{
+    let f = Placed::new(1, name(alloc, b"f")?);
+    let r = Placed::new(5, name(alloc, b"r")?);
+    Ok(vec![in alloc; f, r]?)
+}
+
+// What these declarations break.
+fn flat_break(alloc: Global, group: usize) -> Result<Option<HeadBreak>, Fail> {
+    let decls = floats(alloc, group)?;
+    let names = places(alloc)?;
+    let none = vec![in alloc; List::new(alloc), List::new(alloc)]?;
+    Ok(first_head_break(
+        alloc,
+        decls.as_slice(),
+        names.as_slice(),
+        none.as_slice(),
+    )?)
+}
+
 // By hand: the record's name is lexeme 5.
 #[test]
 fn files_break_rules(rt: HostRuntime) -> Result<(), Fail> {
     let alloc = rt.alloc();
     for (group, shown) in [(0, "FloatInGroup 5"), (1, "none")] {
-        let decls = floats(alloc, group)?;
-        let names = vec![in alloc; Placed::new(1, name(alloc, b"f")?), Placed::new(5, name(alloc, b"r")?)]?;
-        let brackets = vec![in alloc; List::new(alloc), List::new(alloc)]?;
-        let broken = first_head_break(alloc, &decls, names.as_slice(), brackets.as_slice())?;
+        let broken = flat_break(alloc, group)?;
         assert_eq!(rt; told(alloc, &broken)?.as_str(), shown);
     }
     Ok(())

@@ -5,7 +5,7 @@ use Rattle.om_scope.specs.Brackets.{items_told}
 use Rattle.om_store.proofs.HeldLemmas.{Grows-then}
 use Rattle.om_store.proofs.InstanceLemmas.{numbers_kept}
 use Rattle.om_head_rules.specs.Numbered.{AreNumbered, AreAllNumbered}
-use Rattle.om_head_rules.proofs.NumberedLemmas.{brackets_kept, brackets_turn, all_brackets}
+use Rattle.om_head_rules.proofs.NumberedLemmas.{brackets_kept, brackets_turn}
 use Rattle.om_head_rules.proofs.brackets.put_type.Goals as goal
 
 pub loop-items-init : goal.loop-items-init

@@ -3,9 +3,7 @@ use Rattle.om_store.proofs.HeldLemmas.{Grows-then}
 use Rattle.om_brackets.specs.Trees.{typed_item, written_item}
 use Rattle.om_head_rules.specs.declared.item.NumberedItem.{NumberedItem}
 use Rattle.om_head_rules.specs.Rules.{AreWithin, items_at}
-use Rattle.om_head_rules.proofs.LoopLemmas.{maps_all}
 use Rattle.om_head_rules.proofs.TagLemmas.{more_brackets}
-use Rattle.om_head_rules.proofs.VariantLemmas.{within_at}
 use Rattle.om_head_rules.proofs.tags.all_tagged.Goals as goal
 
 pub loop-items-preserved : goal.loop-items-preserved

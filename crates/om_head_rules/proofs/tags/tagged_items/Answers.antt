@@ -2,9 +2,7 @@ use Rattle.std.proofs.Common.{refl}
 use Rattle.om_store.proofs.HeldLemmas.{Grows-then}
 use Rattle.om_brackets.specs.Trees.{typed_item, written_item}
 use Rattle.om_head_rules.specs.Rules.{item_at}
-use Rattle.om_head_rules.proofs.LoopLemmas.{maps_all}
 use Rattle.om_head_rules.proofs.TagLemmas.{more_tagged}
-use Rattle.om_head_rules.proofs.VariantLemmas.{number_at}
 use Rattle.om_head_rules.proofs.tags.tagged_items.Goals as goal
 
 pub loop-item-preserved : goal.loop-item-preserved

@@ -1,5 +1,5 @@
 use Rattle.om_store.proofs.HeldLemmas.{Grows-none}
-use Rattle.om_head_rules.proofs.VariantLemmas.{included_other, none_included}
+use Rattle.om_head_rules.proofs.VariantLemmas.{none_included}
 use Rattle.om_head_rules.proofs.variant.includes_other.Goals as goal
 
 pub returns-in_default : goal.returns-in_default

@@ -4,7 +4,7 @@ use Rattle.om_scope.proofs.LeastLemmas.{more_items, all_items}
 use Rattle.om_store.proofs.HeldLemmas.{Grows-then}
 use Rattle.om_head_rules.specs.declared.item.NumberedItem.{NumberedItem}
 use Rattle.om_head_rules.specs.Rules.{AreWithin, ItemsInclude}
-use Rattle.om_head_rules.proofs.VariantLemmas.{within_at, include_kept}
+use Rattle.om_head_rules.proofs.VariantLemmas.{include_kept}
 use Rattle.om_head_rules.proofs.variant.least_not_variant.Goals as goal
 
 pub loop-items-preserved : goal.loop-items-preserved

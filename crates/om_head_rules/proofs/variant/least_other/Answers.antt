@@ -2,7 +2,7 @@ use Rattle.std.proofs.Common.{arith}
 use Rattle.om_scope.proofs.LeastLemmas.{all_items}
 use Rattle.om_store.proofs.HeldLemmas.{Grows-then}
 use Rattle.om_head_rules.specs.Rules.{IncludesOtherAt}
-use Rattle.om_head_rules.proofs.VariantLemmas.{number_at, more_other}
+use Rattle.om_head_rules.proofs.VariantLemmas.{more_other}
 use Rattle.om_head_rules.proofs.variant.least_other.Goals as goal
 
 pub loop-item-preserved : goal.loop-item-preserved

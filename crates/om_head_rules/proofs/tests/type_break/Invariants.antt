@@ -1,5 +1,5 @@
 use Rattle.om_head_rules.proofs.WrittenLemmas.{occurrences_of}
-use Rattle.om_head_rules.proofs.tests.types_break_rules.Given as goal
+use Rattle.om_head_rules.proofs.tests.type_break.Given as goal
 
 abbrev pub ghost-first_head_break_in_type : goal.ghost-first_head_break_in_type
 ghost-first_head_break_in_type a = occurrences_of a.brackets.now
