@@ -1,5 +1,5 @@
 -- The first rule that is broken, where rules are broken alike.
-use Rattle.std.proofs.Common.{ℕ, ◌<◌, ◌≤◌, ◌≡◌, ◌∙◌, List, Option, Some, None, refl, sym, ap, subst, arith}
+use Rattle.std.proofs.Common.{ℕ, ◌<◌, ◌≤◌, ◌≡◌, List, Option, Some, None, refl, sym, subst, arith}
 use Rattle.std.specs.Prelude.{◌↔◌}
 use Rattle.om_types.specs.Scope.{Rule, turn, twice, unknown_name, arity, unbound_variable, cyclic, irregular}
 use Rattle.om_types.specs.Scope.{too_many_constructors, not_variant, tag_clash, hash_clash, float_in_group}

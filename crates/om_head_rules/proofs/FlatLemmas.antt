@@ -1,5 +1,5 @@
 -- Records that lie flat through their own group, one declaration after another.
-use Rattle.std.proofs.Common.{ℕ, ◌<◌, ◌≤◌, ◌+◌, ◌≡◌, ◌∙◌, ◌⊎◌, ⊎_elim, inl, inr, Bool, true, List, Option, Some, None, length, get_or, refl, sym, ap, subst, arith}
+use Rattle.std.proofs.Common.{ℕ, ◌<◌, ◌≤◌, ◌+◌, ◌≡◌, ◌∙◌, ⊎_elim, inr, Bool, true, List, Option, Some, length, get_or, refl, sym, ap, subst, arith}
 use Rattle.std.specs.Prelude.{slice_get, Contains, IsTrue, ◌↔◌}
 use Rattle.std.proofs.lemmas.Option.{same_Some, slice_get_read, slice_get-get_or, slice_get_within}
 use Rattle.om_model.proofs.Options.{slice_get-Contains}
@@ -23,8 +23,7 @@ pub record_flat :
     → IsTrue some ↔ ((f : Field) × Contains lent f × IsThrough decls group f.ty)
     → IsTrue some ↔ IsFlatThroughGroup decls group body
 record_flat decls group body fields lent are some is same yes' floats through =
-    subst (λ b. IsTrue some ↔ IsFlatThroughGroup decls group b) (sym (is ∙ ap (λ (fs : List Field). bodies.Record fs) (sym same)))
-    (
+    subst (λ b. IsTrue some ↔ IsFlatThroughGroup decls group b) (sym (is ∙ ap (λ (fs : List Field). bodies.Record fs) (sym same))) (
       λ holds. let some_field = through.0 holds in (floats.0 yes', some_field.0, some_field.1, some_field.2),
       λ flat. through.1 (flat.1, flat.2, flat.3),
     )

@@ -1,16 +1,15 @@
 -- The first rule on brackets, from what each rule finds.
-use Rattle.std.proofs.Common.{ℕ, ◌<◌, ◌≤◌, ◌≡◌, ◌∙◌, List, Option, Some, None, refl, sym, ap, subst, arith}
-use Rattle.std.specs.Prelude.{Contains, ◌↔◌, is_some, true}
+use Rattle.std.proofs.Common.{ℕ, ◌<◌, ◌≤◌, ◌≡◌, List, Option, Some, None, refl, sym, subst, arith}
 use Rattle.om_types.specs.declared.decl.Decl.{Decl}
 use Rattle.om_types.specs.Ty.{Ty}
 use Rattle.om_types.specs.Occurrence.{PlacedItem}
-use Rattle.om_types.specs.Scope.{Rule, turn, not_variant, tag_clash, hash_clash, float_in_group}
+use Rattle.om_types.specs.Scope.{Rule, turn, not_variant, tag_clash, hash_clash}
 use Rattle.om_scope.specs.Least.{IsLeast}
 use Rattle.om_scope.proofs.LeastLemmas.{least_same}
 use Rattle.om_store.specs.Held.{Grows}
 use Rattle.om_brackets.specs.declared.item.Item.{Item}
 use Rattle.om_brackets.specs.declared.spellings.Collision.{Collision}
-use Rattle.om_brackets.specs.Items.{ClashesIn, CollidesIn}
+use Rattle.om_brackets.specs.Items.{ClashesIn}
 use Rattle.om_head_rules.specs.declared.broken.HeadBreak.{HeadBreak}
 use Rattle.om_head_rules.specs.declared.broken.HeadBreak.TheVariants as breaks
 use Rattle.om_head_rules.specs.declared.item.NumberedItem.{NumberedItem}

@@ -1,21 +1,12 @@
 -- Brackets one after another.
-use Rattle.std.proofs.Common.{ℕ, ◌<◌, ◌≤◌, ◌+◌, ◌≡◌, ◌∙◌, ◌++◌, ◌⊎◌, ⊎_elim, inl, inr, Bool, List, [], ◌∷◌, Option, Some, None, length, get_or, map, take, refl, sym, ap, subst}
-use Rattle.std.specs.Prelude.{slice_get, Contains, All, IfSome, IsTrue, ◌↔◌}
+use Rattle.std.proofs.Common.{ℕ, ◌<◌, ◌≤◌, ◌+◌, ◌≡◌, ◌∙◌, ◌++◌, ◌⊎◌, ⊎_elim, List, [], ◌∷◌, Option, Some, None, length, get_or, map, take, sym, ap, subst}
+use Rattle.std.specs.Prelude.{Contains, All, IfSome}
 use Rattle.std.proofs.lemmas.List.{map-append, take_more, take_all}
 use Rattle.std.proofs.lemmas.List.Elements.{All-push, All-contains}
-use Rattle.om_types.specs.declared.decl.Decl.{Decl}
-use Rattle.om_types.specs.Ty.{Ty}
-use Rattle.om_types.specs.Nodes.{type_at}
-use Rattle.om_types.specs.Occurrence.{PlacedItem}
-use Rattle.om_scope.specs.Least.{IsLeast, sooner, place_if}
-use Rattle.om_scope.proofs.LeastLemmas.{Before, AtItem, more_items, more_tested, all_items}
-use Rattle.om_store.specs.Held.{Grows}
 use Rattle.om_brackets.specs.declared.item.Item.{Item}
 use Rattle.om_brackets.specs.declared.spellings.Collision.{Collision}
-use Rattle.om_brackets.specs.Collisions.{place_of, IsCollision, IsLeastCollision}
-use Rattle.om_brackets.specs.Items.{CollidesIn}
-use Rattle.om_head_rules.specs.declared.item.NumberedItem.{NumberedItem}
-use Rattle.om_head_rules.specs.Rules.{CollideAmong, IsLeastAmong}
+use Rattle.om_brackets.specs.Collisions.{IsCollision}
+use Rattle.om_head_rules.specs.Rules.{CollideAmong}
 
 -- ---- tags of one hash
 

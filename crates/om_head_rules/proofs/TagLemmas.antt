@@ -1,5 +1,5 @@
 -- Brackets with their tags by numbers break the rules on tags as those that are written do.
-use Rattle.std.proofs.Common.{ℕ, ◌+◌, ◌<◌, ◌≤◌, ◌≡◌, ◌≢◌, ◌∙◌, ◌++◌, Bool, List, [], ◌∷◌, Option, Some, None, length, get_or, map, take, refl, sym, ap, subst}
+use Rattle.std.proofs.Common.{ℕ, ◌+◌, ◌<◌, ◌≤◌, ◌≡◌, ◌∙◌, ◌++◌, List, [], ◌∷◌, Option, Some, None, length, get_or, map, take, refl, sym, ap, subst}
 use Rattle.std.specs.Prelude.{slice_get, option_map, Contains, ◌↔◌}
 use Rattle.std.proofs.lemmas.List.Elements.{All-get_or}
 use Rattle.std.proofs.lemmas.Option.{none-some, same_Some}
@@ -14,12 +14,11 @@ use Rattle.om_types.specs.Table.{tag_with_part}
 use Rattle.om_store.specs.Held.{Grows}
 use Rattle.om_store.proofs.HeldLemmas.{there_kept}
 use Rattle.om_brackets.specs.declared.item.Item.{Item}
-use Rattle.om_brackets.specs.Items.{ClashesIn, CollideIn, CollidesIn}
-use Rattle.om_brackets.specs.Trees.{typed_item, written_item, AreItems, NamesHashAt}
+use Rattle.om_brackets.specs.Trees.{typed_item, written_item, AreItems}
 use Rattle.om_brackets.proofs.TreeLemmas.{in_both, clash_written, clash_numbered, hash_written, hash_numbered, names_written}
 use Rattle.om_head_rules.specs.declared.item.NumberedItem.{NumberedItem}
 use Rattle.om_head_rules.specs.Rules.{IsWithin, AreWithin, AreAllWithin, item_at, items_at, brackets_at}
-use Rattle.om_head_rules.specs.Rules.{SomeBreaks, AreTagged, CollideAmong, TagsBreak, BracketsBreak, BracketsHash}
+use Rattle.om_head_rules.specs.Rules.{AreTagged, CollideAmong, TagsBreak, BracketsBreak, BracketsHash}
 use Rattle.om_head_rules.proofs.FirstLemmas.{of_late}
 use Rattle.om_head_rules.proofs.LoopLemmas.{maps_more}
 use Rattle.om_head_rules.proofs.VariantLemmas.{type_kept, items_kept}

@@ -1,25 +1,24 @@
 -- The brackets of a text break the rules that the text breaks.
-use Rattle.std.proofs.Common.{ℕ, ◌<◌, ◌≤◌, ◌≡◌, ◌∙◌, ◌⊎◌, inl, inr, ⊎_elim, Bool, List, [], ◌∷◌, Option, Some, None, length, get_or, map, refl, sym, ap, subst, arith}
+use Rattle.std.proofs.Common.{ℕ, ◌<◌, ◌≤◌, ◌≡◌, ◌∙◌, inr, ⊎_elim, List, [], ◌∷◌, Option, Some, None, length, get_or, refl, sym, ap, subst, arith}
 use Rattle.std.specs.Prelude.{slice_get, Contains, All, ◌↔◌, option_map, is_some, true, false}
 use Rattle.std.proofs.Common.{true≢false}
-use Rattle.std.specs.List.{AllZip, filter_map, flat_map}
+use Rattle.std.specs.List.{flat_map}
 use Rattle.std.proofs.lemmas.List.Elements.{All-cons, All-from_get_or, All-nil}
 use Rattle.std.proofs.lemmas.Option.{none-some, same_Some, slice_get_within, get_or_from_slice_get, slice_get-get_or}
 use Rattle.om_model.proofs.Options.{map-Contains, flat_map-Contains, Contains-flat_map, slice_get-Contains, slice_get_there}
 use Rattle.om_types.proofs.ListLemmas.{Contains-filter_mapped, filter_mapped_is}
 use Rattle.om_types.specs.declared.decl.Decl.{Decl}
-use Rattle.om_types.specs.Ty.{Ty, variable, named, tuple, bracket, part, tag, tag_of, including, name_of}
+use Rattle.om_types.specs.Ty.{Ty, variable, named, tuple, bracket, part, tag, tag_of, including}
 use Rattle.om_types.specs.Nodes.{type_at, types_of}
 use Rattle.om_types.specs.Accepted.{AreVariants}
 use Rattle.om_types.specs.Head.{head}
 use Rattle.om_types.specs.Occurrence.{Placed, PlacedItem, Occurrence, use_of, variable_at, bracket_of, DeclPlaces}
 use Rattle.om_types.specs.Scope.{Rule, turn, not_variant, tag_clash, hash_clash, float_in_group}
-use Rattle.om_types.specs.Scope.{BracketBreaks, BreaksIn, BreaksInDecl, BreaksInFile, BreaksInType, NamesBreak, decls_of, declared_names}
+use Rattle.om_types.specs.Scope.{BreaksIn, BreaksInDecl, BreaksInFile, BreaksInType, NamesBreak, decls_of, declared_names}
 use Rattle.om_scope.specs.Least.{IsLeast}
 use Rattle.om_scope.proofs.LeastLemmas.{least_same}
-use Rattle.om_scope.specs.declared.brackets.BracketItem.{BracketItem}
 use Rattle.om_scope.specs.declared.brackets.TypeBrackets.{TypeBrackets}
-use Rattle.om_scope.specs.Brackets.{as_bracket, brackets_among, item_of, item_told, items_told, brackets_told, type_told, all_told}
+use Rattle.om_scope.specs.Brackets.{as_bracket, item_of, item_told, items_told, type_told, all_told}
 use Rattle.om_scope.specs.Brackets.{IsOrdered, AreBrackets, AreFileBrackets}
 use Rattle.om_head_rules.specs.declared.item.NumberedItem.{NumberedItem}
 use Rattle.om_head_rules.specs.declared.broken.HeadBreak.{HeadBreak}
@@ -270,8 +269,8 @@ module _ (found : List (List TypeBrackets)) (all : List DeclPlaces) (are : AreFi
   module _ (decls : List Decl) (types : List Ty) (numbered : List (List NumberedItem)) (declares : decls ≡ decls_of all)
       (are_numbered : AreAllNumbered types numbered told_all) (result : Option HeadBreak)
       (first :
-          IsFirstOfHeads (BracketsBreak decls (brackets_at types numbered)) (BracketsHash decls (brackets_at types numbered))
-          result) where
+      IsFirstOfHeads (BracketsBreak decls (brackets_at types numbered)) (BracketsHash decls (brackets_at types numbered))
+      result) where
     told_first : Told result
     told_first =
         subst (λ bs. IsFirstOfHeads (BracketsBreak (decls_of all) bs) (BracketsHash (decls_of all) bs) result)

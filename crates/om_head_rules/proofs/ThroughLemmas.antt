@@ -1,11 +1,11 @@
 -- Abbreviations of a group, one replacement after another.
-use Rattle.std.proofs.Common.{ℕ, zero, suc, ◌<◌, ◌≤◌, ◌+◌, ◌≡◌, ◌∙◌, ◌⊎◌, ⊎_elim, inl, inr, List, Option, Some, None, refl, sym, ap, subst, arith}
-use Rattle.std.specs.Prelude.{IsSome, option_and_then}
+use Rattle.std.proofs.Common.{ℕ, zero, suc, ◌<◌, ◌≤◌, ◌+◌, ◌≡◌, ◌∙◌, ⊎_elim, List, Option, Some, None, refl, sym, ap, subst, arith}
+use Rattle.std.specs.Prelude.{option_and_then}
 use Rattle.std.proofs.lemmas.Bool.{cases_lt}
 use Rattle.std.proofs.lemmas.Option.{none-some, same_Some}
 use Rattle.om_types.specs.declared.decl.Decl.{Decl}
 use Rattle.om_types.specs.Ty.{Ty, name_of}
-use Rattle.om_types.specs.Declarations.{declaration_of, abbreviated, unfolded, unfolded_times}
+use Rattle.om_types.specs.Declarations.{declaration_of, unfolded, unfolded_times}
 use Rattle.om_types.specs.Scope.{IsThrough}
 use Rattle.om_head_rules.specs.Rules.{IsOwnDecl, IsOwn}
 

@@ -1,15 +1,13 @@
 -- Items that include another type than a polymorphic variant, by numbers and as they are written.
-use Rattle.std.proofs.Common.{ℕ, ◌+◌, ◌<◌, ◌≡◌, ◌∙◌, Bool, true, false, List, [], ◌∷◌, Option, Some, length, get_or, refl, sym, ap, subst}
-use Rattle.std.specs.Prelude.{slice_get, map, Contains, IsTrue, not, All, ◌↔◌}
+use Rattle.std.proofs.Common.{ℕ, ◌+◌, ◌<◌, ◌≡◌, ◌∙◌, Bool, false, List, [], ◌∷◌, Option, Some, length, get_or, refl, sym, ap, subst}
+use Rattle.std.specs.Prelude.{slice_get, Contains, IsTrue, ◌↔◌}
 use Rattle.std.proofs.lemmas.Bool.{false≢true}
 use Rattle.std.proofs.lemmas.List.Elements.{All-head, All-tail, All-weaker, All-get_or, All-contains}
 use Rattle.std.proofs.lemmas.Option.{slice_get-get_or, get_or_from_slice_get, slice_get_within}
 use Rattle.om_model.proofs.Options.{Contains-map, map-Contains}
 use Rattle.om_types.specs.declared.decl.Decl.{Decl}
-use Rattle.om_types.specs.Ty.{Ty, tuple, including}
+use Rattle.om_types.specs.Ty.{Ty, tuple}
 use Rattle.om_types.specs.Nodes.{type_at, type_of_node}
-use Rattle.om_types.specs.Accepted.{AreVariants}
-use Rattle.om_types.specs.Head.{head}
 use Rattle.om_types.specs.Occurrence.{PlacedItem}
 use Rattle.om_types.specs.Scope.{not_variant}
 use Rattle.om_scope.specs.Least.{IsLeast, sooner, place_if}
@@ -119,11 +117,11 @@ module _ (decls : List Decl) (types : List Ty) where
   include_alike brackets k = (
     λ some. (items_at types some.0, Contains-map (items_at types) brackets some.0 some.1, item_written some.0 k some.2),
     λ some. let found = map-Contains (items_at types) brackets some.0 some.1 in (
-          found.0,
-          found.1,
-          item_numbered found.0 k
-              (subst (λ items. ItemsBreak decls items not_variant k) (sym found.2) some.2),
-        ),
+      found.0,
+      found.1,
+      item_numbered found.0 k
+          (subst (λ items. ItemsBreak decls items not_variant k) (sym found.2) some.2),
+    ),
   )
 
 -- ---- one item after another

@@ -1,12 +1,9 @@
 -- Texts that have given brackets, and declarations that are sound: what tests ask about.
-use Rattle.std.proofs.Common.{ℕ, zero, suc, ◌<◌, ◌≤◌, ◌≡◌, ◌∙◌, ◌⊎◌, ⊎_elim, inl, inr, Bool, true, false, cond, List, [], ◌∷◌, Option, Some, None, length, map, refl, sym, ap, subst, arith}
+use Rattle.std.proofs.Common.{ℕ, zero, suc, ◌<◌, ◌≤◌, ◌≡◌, ◌∙◌, ◌⊎◌, ⊎_elim, inl, inr, Bool, true, false, cond, List, [], ◌∷◌, Some, None, map, refl, sym, ap, subst, arith}
 use Rattle.std.specs.Prelude.{slice_get, Contains, All, codes}
-use Rattle.std.specs.List.{filter_map}
 use Rattle.std.specs.Str.{bytes_eq}
-use Rattle.std.proofs.lemmas.Bool.{false≢true}
 use Rattle.std.proofs.lemmas.List.Elements.{All-nil}
 use Rattle.std.proofs.lemmas.Option.{none-some, same_Some}
-use Rattle.std.proofs.lemmas.Slice.Eq.{bytes_eq-Decides}
 use Rattle.om_model.proofs.Options.{Contains-none, Contains-cases}
 use Rattle.om_types.specs.declared.decl.Body.TheVariants as bodies
 use Rattle.om_types.specs.declared.decl.Decl.{Decl}
@@ -19,7 +16,7 @@ use Rattle.om_types.specs.Accepted.{AreSound, IsType, names_outside, types_of_bo
 use Rattle.om_types.specs.Occurrence.{Placed, PlacedItem, Occurrence, bracket_of, DeclPlaces}
 use Rattle.om_types.specs.Scope.{decls_of, declared_names}
 use Rattle.om_scope.specs.declared.brackets.TypeBrackets.{TypeBrackets}
-use Rattle.om_scope.specs.Brackets.{as_bracket, brackets_among, all_told, IsOrdered, AreBrackets, AreFileBrackets}
+use Rattle.om_scope.specs.Brackets.{brackets_among, all_told, IsOrdered, AreBrackets, AreFileBrackets}
 use Rattle.om_scope.specs.Breaks.{names_of_decls}
 
 -- ---- brackets
@@ -115,9 +112,11 @@ two_text (d ∷ e ∷ []) names found called named' none =
     (λ ns. (d ∷ e ∷ [] ≡ decls_of (bare_file (d ∷ e ∷ []) ns)) × (ns ≡ declared_names (bare_file (d ∷ e ∷ []) ns))
     × AreFileBrackets found (bare_file (d ∷ e ∷ []) ns)) (sym named')
     (let text = is_text (d ∷ e ∷ []) ((1, codes "f") ∷ (5, codes "r") ∷ []) ([] ∷ [] ∷ [])
-    (first, All-nil IsOrdered, (second, All-nil IsOrdered, tt)) in
-    (text.0, text.1,
-    subst (λ bs. AreFileBrackets bs (bare_file (d ∷ e ∷ []) ((1, codes "f") ∷ (5, codes "r") ∷ []))) (sym none) text.2))
+    (first, All-nil IsOrdered, (second, All-nil IsOrdered, tt)) in (
+      text.0,
+      text.1,
+      subst (λ bs. AreFileBrackets bs (bare_file (d ∷ e ∷ []) ((1, codes "f") ∷ (5, codes "r") ∷ []))) (sym none) text.2,
+    ))
 
 -- ---- sound declarations
 

@@ -1,5 +1,5 @@
 -- Items of brackets by the numbers of a store of types.
-use Rattle.std.specs.Prelude.{ℕ, ◌≡◌, List, Some, slice_get, slice_index_or}
+use Rattle.std.specs.Prelude.{◌≡◌, List, Some, slice_get}
 use Rattle.std.specs.List.{AllZip}
 use Rattle.om_types.specs.Ty.{Ty}
 use Rattle.om_types.specs.Occurrence.{PlacedItem}

@@ -13,7 +13,7 @@ use Rattle.om_types.specs.Scope.{ClashesAt, HashesAt, IsFlatThroughGroup}
 use Rattle.om_scope.specs.Least.{IsLeast}
 use Rattle.om_brackets.specs.declared.item.Item.{Item}
 use Rattle.om_brackets.specs.declared.spellings.Collision.{Collision}
-use Rattle.om_brackets.specs.Collisions.{place_of, IsCollision}
+use Rattle.om_brackets.specs.Collisions.{place_of}
 use Rattle.om_brackets.specs.Items.{ClashesIn, CollideIn, CollidesIn}
 use Rattle.om_brackets.specs.Trees.{typed_item, written_item, NamesHashAt}
 use Rattle.om_head_rules.specs.declared.item.NumberedItem.{NumberedItem}

@@ -22,13 +22,7 @@ use om_types::decl::{Body, Decl, Field};
 use std::alloc::Global;
 
 /// Whether an abbreviation of this group is at the head of a type.
-fn is_own(
-    types: &Types,
-    decls: &[Decl],
-    table: &Table<'_>,
-    group: usize,
-    number: usize,
-) -> bool
+fn is_own(types: &Types, decls: &[Decl], table: &Table<'_>, group: usize, number: usize) -> bool
     requires places { ArePlaces (names_of_decls decls.now) (length decls.now) (number_of table.now) }
     requires number { number < length types.now }
     ensures { IsTrue result ↔ IsOwn decls.now group (type_at types.now number) }

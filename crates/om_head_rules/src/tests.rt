@@ -200,12 +200,7 @@ fn flat_break(alloc: Global, group: usize) -> Result<Option<HeadBreak>, Fail> {
     let decls = floats(alloc, group)?;
     let names = places(alloc)?;
     let none = vec![in alloc; List::new(alloc), List::new(alloc)]?;
-    Ok(first_head_break(
-        alloc,
-        decls.as_slice(),
-        names.as_slice(),
-        none.as_slice(),
-    )?)
+    Ok(first_head_break(alloc, decls.as_slice(), names.as_slice(), none.as_slice())?)
 }
 
 // By hand: the record's name is lexeme 5.

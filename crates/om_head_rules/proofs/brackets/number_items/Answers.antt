@@ -1,9 +1,6 @@
-use Rattle.std.proofs.Common.{◌≡◌, ◌∙◌, length, take, sym, ap, subst, arith}
 use Rattle.om_types.specs.Nodes.{types_of}
-use Rattle.om_scope.specs.Brackets.{items_told}
-use Rattle.om_store.proofs.HeldLemmas.{Grows-none, Grows-then}
+use Rattle.om_store.proofs.HeldLemmas.{Grows-then}
 use Rattle.om_store.proofs.InstanceLemmas.{numbers_kept}
-use Rattle.om_head_rules.specs.Numbered.{AreNumbered}
 use Rattle.om_head_rules.proofs.NumberedLemmas.{items_turn, all_items}
 use Rattle.om_head_rules.proofs.brackets.number_items.Goals as goal
 

@@ -1,4 +1,4 @@
-use Rattle.std.proofs.Common.{◌≡◌, ◌≤◌, ◌<◌, ◌++◌, List, length, get_or, sym, ap, subst, append-nil}
+use Rattle.std.proofs.Common.{◌≡◌, ◌<◌, List, length, get_or, sym, subst, append-nil}
 use Rattle.om_types.specs.Nodes.{types_of}
 use Rattle.om_scope.specs.declared.brackets.BracketItem.{BracketItem}
 use Rattle.om_scope.specs.Brackets.{items_told}

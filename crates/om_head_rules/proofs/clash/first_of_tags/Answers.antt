@@ -1,4 +1,4 @@
-use Rattle.std.proofs.Common.{ℕ, ◌≡◌, Option, Some, None, subst, refl}
+use Rattle.std.proofs.Common.{subst}
 use Rattle.om_scope.specs.Least.{IsLeast}
 use Rattle.om_brackets.specs.Items.{ClashesIn}
 use Rattle.om_head_rules.specs.Rules.{SomeBreaks, IsLeastAmong}

@@ -1,9 +1,7 @@
-use Rattle.std.proofs.Common.{ℕ, List, subst, arith}
-use Rattle.std.specs.Prelude.{IfSome}
-use Rattle.om_scope.specs.Least.{IsLeast}
+use Rattle.std.proofs.Common.{List, subst, arith}
 use Rattle.om_scope.proofs.LeastLemmas.{more_items, all_items}
 use Rattle.om_brackets.specs.declared.item.Item.{Item}
-use Rattle.om_brackets.specs.Collisions.{place_of, IsCollision, IsLeastCollision}
+use Rattle.om_brackets.specs.Collisions.{place_of, IsLeastCollision}
 use Rattle.om_brackets.specs.Items.{CollidesIn}
 use Rattle.om_head_rules.proofs.LoopLemmas.{more_names}
 use Rattle.om_head_rules.proofs.clash.least_hash_clash.Goals as goal

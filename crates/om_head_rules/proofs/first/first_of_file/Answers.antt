@@ -1,4 +1,4 @@
-use Rattle.std.proofs.Common.{ℕ, List, subst, sym, ap, is_some}
+use Rattle.std.proofs.Common.{List, subst, sym, ap, is_some}
 use Rattle.om_types.specs.Scope.{BreaksInFile}
 use Rattle.std.specs.List.{flat_map}
 use Rattle.om_scope.specs.Brackets.{all_told}

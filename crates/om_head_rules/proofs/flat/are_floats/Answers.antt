@@ -1,6 +1,5 @@
 use Rattle.std.proofs.Common.{◌≡◌, ◌∙◌, true, refl, sym, ap}
-use Rattle.std.proofs.lemmas.Bool.{false≢true}
-use Rattle.std.proofs.lemmas.Option.{slice_get_within, get_or_from_slice_get}
+use Rattle.std.proofs.lemmas.Option.{get_or_from_slice_get}
 use Rattle.om_types.specs.declared.decl.Field.{Field}
 use Rattle.om_types.specs.Ty.{tuple}
 use Rattle.om_types.specs.Shape.{is_float}
@@ -15,8 +14,10 @@ loop-field-preserved c =
     (ap (is_float c.args.decls.now) (sym at) ∙ sym c.in_ok-is_float.ensures.ok ∙ c.if-not-branch.false)
 
 pub returns : goal.returns
-returns c = record { ok = (
-  λ yes'. all_end (λ (f : Field). is_float c.args.decls.now f.ty ≡ true) c.args.fields.now c.loop-field.field-index
-      c.loop-field-test.false c.loop-field.invariant,
-  λ all. refl,
-); }
+returns c = record {
+  ok = (
+    λ yes'. all_end (λ (f : Field). is_float c.args.decls.now f.ty ≡ true) c.args.fields.now c.loop-field.field-index
+        c.loop-field-test.false c.loop-field.invariant,
+    λ all. refl,
+  );
+}

@@ -1,11 +1,10 @@
-use Rattle.std.proofs.Common.{ℕ, ◌<◌, ◌≡◌, ◌∙◌, Some, false, refl, sym, ap, subst, arith}
+use Rattle.std.proofs.Common.{◌∙◌, Some, refl, sym, ap, subst, arith}
 use Rattle.std.proofs.lemmas.Bool.{false≢true}
 use Rattle.std.proofs.lemmas.Option.{MatchOption-at_some, MatchOption-at_none, slice_get_within, get_or_from_slice_get}
 use Rattle.om_types.specs.Ty.{Ty, tuple}
 use Rattle.om_types.specs.Nodes.{type_at}
 use Rattle.om_store.specs.Held.{Grows}
 use Rattle.om_store.proofs.HeldLemmas.{Grows-none, Grows-held}
-use Rattle.om_head_rules.specs.Rules.{IsOwn}
 use Rattle.om_head_rules.proofs.ThroughLemmas.{times_more, own_is_through, not_own_more, not_through}
 use Rattle.om_head_rules.proofs.flat.is_through.Goals as goal
 

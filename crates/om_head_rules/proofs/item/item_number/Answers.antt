@@ -1,7 +1,4 @@
-use Rattle.std.proofs.Common.{◌≤◌, length}
-use Rattle.std.proofs.lemmas.Result.{IfOk-weaker}
 use Rattle.om_types.specs.Ty.{tuple}
-use Rattle.om_scope.specs.Brackets.{item_of}
 use Rattle.om_head_rules.proofs.NumberedLemmas.{none_item, held_item, held_there}
 use Rattle.om_head_rules.proofs.item.item_number.Goals as goal
 

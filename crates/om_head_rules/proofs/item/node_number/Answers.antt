@@ -1,8 +1,7 @@
-use Rattle.std.proofs.Common.{◌≡◌, ◌<◌, ◌∙◌, length, arith, ap}
-use Rattle.om_scope.specs.Brackets.{item_of}
+use Rattle.std.proofs.Common.{◌<◌, ◌∙◌, length, arith, ap}
 use Rattle.std.specs.Prelude.{slice_index}
 use Rattle.om_types.specs.Nodes.{type_at}
-use Rattle.om_types.specs.Ty.{bracket, tag, tag_of, including}
+use Rattle.om_types.specs.Ty.{bracket, tag, tag_of}
 use Rattle.om_store.proofs.HeldLemmas.{Grows-none}
 use Rattle.om_head_rules.proofs.NumberedLemmas.{number_below, entry_below, argument_below, included_below}
 use Rattle.om_head_rules.proofs.NumberedLemmas.{tag_item, tag_of_item, including_item, other_item, held_item}

@@ -1,8 +1,8 @@
-use Rattle.std.proofs.Common.{◌≡◌, List, map, sym, subst}
+use Rattle.std.proofs.Common.{◌≡◌, List, map, subst}
 use Rattle.om_store.proofs.HeldLemmas.{Grows-then}
 use Rattle.om_brackets.specs.Trees.{typed_item, written_item}
 use Rattle.om_head_rules.specs.declared.item.NumberedItem.{NumberedItem}
-use Rattle.om_head_rules.specs.Rules.{AreWithin, items_at}
+use Rattle.om_head_rules.specs.Rules.{items_at}
 use Rattle.om_head_rules.proofs.TagLemmas.{more_brackets}
 use Rattle.om_head_rules.proofs.tags.all_tagged.Goals as goal
 
@@ -20,4 +20,3 @@ loop-items-preserved c =
           c.in_ok-tagged_items.field-0 c.loop-items.invariant.grown c.in_ok-tagged_items.ensures.grown c.requires.within
           c.loop-items-test.true c.items-item.is c.in_ok-push.ensures.ok here c.loop-items.invariant.same;
     }
-

@@ -1,7 +1,5 @@
 use Rattle.std.proofs.Common.{refl}
 use Rattle.om_store.proofs.HeldLemmas.{Grows-then}
-use Rattle.om_brackets.specs.Trees.{typed_item, written_item}
-use Rattle.om_head_rules.specs.Rules.{item_at}
 use Rattle.om_head_rules.proofs.TagLemmas.{more_tagged}
 use Rattle.om_head_rules.proofs.tags.tagged_items.Goals as goal
 
@@ -14,4 +12,3 @@ loop-item-preserved c = record {
       c.loop-item.invariant.grown c.in_ok-tags.ensures.grown c.requires.within c.loop-item-test.true
       c.in_ok-push.ensures.ok refl c.in_ok-tags.ensures.ok c.loop-item.invariant.same;
 }
-

@@ -1,6 +1,4 @@
-use Rattle.std.proofs.Common.{List, ◌≡◌, [], ◌∷◌, sym, ap, subst, ◌∙◌}
-use Rattle.std.specs.Prelude.{codes}
-use Rattle.om_types.specs.declared.decl.Decl.{Decl}
+use Rattle.std.proofs.Common.{List, [], ◌∷◌, sym, ap, subst, ◌∙◌}
 use Rattle.om_types.specs.Accepted.{AreSound}
 use Rattle.om_scope.specs.declared.brackets.TypeBrackets.{TypeBrackets}
 use Rattle.om_scope.specs.Breaks.{names_of_decls}

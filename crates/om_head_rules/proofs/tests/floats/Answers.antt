@@ -1,7 +1,6 @@
 use Rattle.std.proofs.Common.{List, ℕ, [], ◌∷◌, sym, ap, subst, ◌∙◌}
 use Rattle.std.specs.Prelude.{codes}
 use Rattle.om_types.specs.declared.decl.Body.TheVariants as bodies
-use Rattle.om_types.specs.declared.decl.Decl.{Decl}
 use Rattle.om_types.specs.declared.decl.Field.{Field}
 use Rattle.om_types.specs.declared.ty.Node.TheVariants as nodes
 use Rattle.om_types.specs.Ty.{Ty}

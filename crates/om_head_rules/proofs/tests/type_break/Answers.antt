@@ -1,7 +1,6 @@
-use Rattle.std.proofs.Common.{List, [], ◌∷◌, sym, subst, ◌∙◌}
+use Rattle.std.proofs.Common.{[], sym, subst, ◌∙◌}
 use Rattle.std.specs.Prelude.{All}
 use Rattle.std.proofs.lemmas.List.Elements.{All-cons, All-nil}
-use Rattle.om_scope.specs.declared.brackets.TypeBrackets.{TypeBrackets}
 use Rattle.om_scope.specs.Brackets.{IsOrdered}
 use Rattle.om_head_rules.proofs.WrittenLemmas.{are_brackets, none_are_sound}
 use Rattle.om_head_rules.proofs.tests.type_break.Goals as goal

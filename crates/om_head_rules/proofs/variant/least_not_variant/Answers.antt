@@ -1,9 +1,9 @@
-use Rattle.std.proofs.Common.{List, subst, sym, arith}
+use Rattle.std.proofs.Common.{List, subst, arith}
 use Rattle.om_scope.specs.Least.{IsLeast}
 use Rattle.om_scope.proofs.LeastLemmas.{more_items, all_items}
 use Rattle.om_store.proofs.HeldLemmas.{Grows-then}
 use Rattle.om_head_rules.specs.declared.item.NumberedItem.{NumberedItem}
-use Rattle.om_head_rules.specs.Rules.{AreWithin, ItemsInclude}
+use Rattle.om_head_rules.specs.Rules.{ItemsInclude}
 use Rattle.om_head_rules.proofs.VariantLemmas.{include_kept}
 use Rattle.om_head_rules.proofs.variant.least_not_variant.Goals as goal
 

@@ -1,5 +1,3 @@
-use Rattle.std.proofs.Common.{◌≡◌}
-use Rattle.om_types.specs.Nodes.{type_at}
 use Rattle.om_scope.specs.Least.{IsLeast}
 use Rattle.om_scope.proofs.LeastLemmas.{Before, AtItem}
 use Rattle.om_store.specs.Held.{Grows}
