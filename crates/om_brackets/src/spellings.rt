@@ -59,7 +59,10 @@ fn find_collision<'a>(
 }
 
 /// That of the lesser place.
-pub fn nearer<'a>(best: Option<Collision<'a>>, found: Option<Collision<'a>>) -> Option<Collision<'a>>
+pub fn nearer<'a>(
+    best: Option<Collision<'a>>,
+    found: Option<Collision<'a>>,
+) -> Option<Collision<'a>>
     ensures place { place_of result ≡ sooner (place_of best.entry) (place_of found.entry) }
     ensures either { (result ≡ best.entry) ⊎ (result ≡ found.entry) }
 {

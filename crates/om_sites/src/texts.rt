@@ -10,10 +10,10 @@ ghost use Rattle.om_scope.specs.Sites.{IsTypeSite, AreSites};
 ghost use Rattle.om_scope.specs.Brackets.{AreBrackets, AreFileBrackets};
 
 use crate::files::{FileSites, file_sites};
+use crate::marked::marks;
 use crate::types::{TypeFound, type_site};
 use om_lex::lexeme::Lexeme;
 use om_model::Memory;
-use crate::marked::marks;
 use om_types::decl::Decl;
 use om_types::ty::Ty;
 use std::alloc::Global;
