@@ -8,7 +8,7 @@ use om_model::list::List;
 use om_scope::declared::table_of;
 use om_store::Types;
 use om_types::decl::{Arguments, Body, Constructor, Decl, Field};
-use om_types::shape::ShapeOf;
+use om_types::shape::{Constr, ShapeOf};
 use om_types::ty::{Node, Ty};
 use std::alloc::{AllocError, Global};
 use std::test::Fail;
@@ -131,143 +131,108 @@ fn variant(alloc: Global, float: Ty) -> Result<Vec<Decl>, AllocError>
     Ok(vec![in alloc; decl]?)
 }
 
+// The predeclared type whose values look like this, or nothing.
+fn told(found: &ShapeOf<Ty>) -> &'static [u8] {
+    match found {
+        ShapeOf::AnyInt => b"int",
+        ShapeOf::Below(256) => b"char",
+        ShapeOf::Below(2) => b"bool",
+        ShapeOf::Below(1) => b"unit",
+        ShapeOf::Bytes(false) => b"string",
+        ShapeOf::Bytes(true) => b"bytes",
+        ShapeOf::Double => b"float",
+        ShapeOf::Int32 => b"int32",
+        ShapeOf::Int64 => b"int64",
+        ShapeOf::Native => b"nativeint",
+        ShapeOf::FloatArray => b"floatarray",
+        ShapeOf::ArrayOf(_) => b"array",
+        ShapeOf::Variable => b"variable",
+        ShapeOf::ArrayOfVariable => b"array of variable",
+        ShapeOf::Product(false, _) => b"tuple",
+        ShapeOf::FlatFloats(true, 2) => b"flat",
+        ShapeOf::Sum(constants, blocks) => told_sum(*constants, blocks.as_slice()),
+        _ => b"",
+    }
+}
+
+// The same of so many constants and these blocks.
+fn told_sum(constants: u64, blocks: &[Constr<Ty>]) -> &'static [u8] {
+    match blocks {
+        [block] => match (constants, block.mutable, block.fields.len()) {
+            (1, false, 2) => b"list",
+            (1, false, 1) => b"option",
+            (0, true, 1) => b"ref",
+            (2, true, 1) => b"variant",
+            _ => b"",
+        },
+        _ => b"",
+    }
+}
+
+// What a type over these declarations looks like.
+fn looks(alloc: Global, decls: &[Decl], t: &Ty) -> Result<&'static [u8], Fail>
+    requires { AreSound decls.now }
+{
+    let found = shape(alloc, decls, t)?;
+    Ok(told(&found))
+}
+
 // By hand, from the table of representations.
 #[test]
 fn predeclared_types_have_shapes(rt: HostRuntime) -> Result<(), Fail> {
-    let alloc = rt.alloc();
-    let decls = none(alloc);
-    let decls = decls.as_slice();
-    assert!(rt; matches!(shape(alloc, decls, &word(alloc, b"int")?)?, ShapeOf::AnyInt));
-    assert!(rt;
-        matches!(
-            shape(alloc, decls, &word(alloc, b"char")?)?,
-            ShapeOf::Below(256)
-        )
-    );
-    assert!(rt;
-        matches!(
-            shape(alloc, decls, &word(alloc, b"bool")?)?,
-            ShapeOf::Below(2)
-        )
-    );
-    assert!(rt;
-        matches!(
-            shape(alloc, decls, &word(alloc, b"unit")?)?,
-            ShapeOf::Below(1)
-        )
-    );
-    assert!(rt;
-        matches!(
-            shape(alloc, decls, &word(alloc, b"string")?)?,
-            ShapeOf::Bytes(false)
-        )
-    );
-    assert!(rt;
-        matches!(
-            shape(alloc, decls, &word(alloc, b"bytes")?)?,
-            ShapeOf::Bytes(true)
-        )
-    );
-    assert!(rt;
-        matches!(
-            shape(alloc, decls, &word(alloc, b"float")?)?,
-            ShapeOf::Double
-        )
-    );
-    assert!(rt;
-        matches!(
-            shape(alloc, decls, &word(alloc, b"int32")?)?,
-            ShapeOf::Int32
-        )
-    );
-    assert!(rt;
-        matches!(
-            shape(alloc, decls, &word(alloc, b"int64")?)?,
-            ShapeOf::Int64
-        )
-    );
-    assert!(rt;
-        matches!(
-            shape(alloc, decls, &word(alloc, b"nativeint")?)?,
-            ShapeOf::Native
-        )
-    );
-    assert!(rt;
-        matches!(
-            shape(alloc, decls, &word(alloc, b"floatarray")?)?,
-            ShapeOf::FloatArray
-        )
-    );
-    assert!(rt; matches!(shape(alloc, decls, &letter(alloc)?)?, ShapeOf::Variable));
+    let names: [&[u8]; 11] = [
+        b"int",
+        b"char",
+        b"bool",
+        b"unit",
+        b"string",
+        b"bytes",
+        b"float",
+        b"int32",
+        b"int64",
+        b"nativeint",
+        b"floatarray",
+    ];
+    let decls = none(rt.alloc());
+    for name in names {
+        let t = word(rt.alloc(), name)?;
+        assert_eq!(rt; looks(rt.alloc(), &decls, &t)?, name);
+    }
     Ok(())
 }
 
 // By hand: int list has fields int and int list; arrays are told by their elements.
 #[test]
 fn applied_types_have_shapes(rt: HostRuntime) -> Result<(), Fail> {
-    let alloc = rt.alloc();
-    let decls = none(alloc);
-    let decls = decls.as_slice();
-    assert!(rt;
-        is_sum(
-            &shape(alloc, decls, &at(alloc, b"list", b"int")?)?,
-            1,
-            false,
-            2
-        )
-    );
-    assert!(rt;
-        is_sum(
-            &shape(alloc, decls, &at(alloc, b"option", b"int")?)?,
-            1,
-            false,
-            1
-        )
-    );
-    assert!(rt;
-        is_sum(
-            &shape(alloc, decls, &at(alloc, b"ref", b"int")?)?,
-            0,
-            true,
-            1
-        )
-    );
-    assert!(rt;
-        matches!(
-            shape(alloc, decls, &at(alloc, b"array", b"int")?)?,
-            ShapeOf::ArrayOf(_)
-        )
-    );
-    assert!(rt;
-        matches!(
-            shape(alloc, decls, &at(alloc, b"array", b"float")?)?,
-            ShapeOf::FloatArray
-        )
-    );
-    assert!(rt;
-        matches!(
-            shape(alloc, decls, &array_of_a(alloc)?)?,
-            ShapeOf::ArrayOfVariable
-        )
-    );
-    assert!(rt;
-        matches!(
-            shape(alloc, decls, &pair_of_parts(alloc)?)?,
-            ShapeOf::Product(false, _)
-        )
-    );
+    let table: [(&[u8], &[u8], &[u8]); 5] = [
+        (b"list", b"int", b"list"),
+        (b"option", b"int", b"option"),
+        (b"ref", b"int", b"ref"),
+        (b"array", b"int", b"array"),
+        (b"array", b"float", b"floatarray"),
+    ];
+    let decls = none(rt.alloc());
+    for (whole, argument, want) in table {
+        let t = at(rt.alloc(), whole, argument)?;
+        assert_eq!(rt; looks(rt.alloc(), &decls, &t)?, want);
+    }
     Ok(())
 }
 
-// Whether these are so many constants and one block of so many fields.
-fn is_sum(found: &ShapeOf<Ty>, constants: u64, mutable: bool, fields: usize) -> bool {
-    let ShapeOf::Sum(count, blocks) = found else {
-        return false;
-    };
-    match blocks.as_slice() {
-        [block] => *count == constants && block.mutable == mutable && block.fields.len() == fields,
-        _ => false,
-    }
+// By hand.
+#[test]
+fn variables_and_tuples_have_shapes(rt: HostRuntime) -> Result<(), Fail> {
+    let decls = none(rt.alloc());
+    let a = letter(rt.alloc())?;
+    assert_eq!(rt; looks(rt.alloc(), &decls, &a)?, b"variable".as_slice());
+    let array = array_of_a(rt.alloc())?;
+    assert_eq!(rt;
+        looks(rt.alloc(), &decls, &array)?,
+        b"array of variable".as_slice()
+    );
+    let pair = pair_of_parts(rt.alloc())?;
+    assert_eq!(rt; looks(rt.alloc(), &decls, &pair)?, b"tuple".as_slice());
+    Ok(())
 }
 
 // By hand: hashes are signed (`On and `some as OCaml hashes them).
@@ -280,40 +245,47 @@ fn tags_have_shapes_and_names(rt: HostRuntime) -> Result<(), Fail> {
     let number = types.add(alloc, &switch(alloc)?)?;
     assert!(rt; number < types.len());
     let layout = layout_of(alloc, &mut types, &decls, &table, number)?;
-    let ShapeOf::Poly(tags) = &layout.shape else {
-        return Err("no tags".into());
-    };
-    assert_eq!(rt; tags.len(), 2);
-    for tag in tags.as_slice() {
-        assert!(rt;
-            tag.hash == 17727 && tag.arg.is_none() || tag.hash == -866639116 && tag.arg.is_some()
-        );
-    }
+    assert!(rt; are_switch(&layout.shape));
     let names = names_at(alloc, &decls, &table, &layout.head)?;
-    assert_eq!(rt; names.tags.len(), 2);
     for tag in names.tags.as_slice() {
-        assert!(rt;
-            tag.name.as_slice() == b"On".as_slice() && tag.hash == 17727 || tag.name.as_slice() == b"some".as_slice()
-        );
+        assert!(rt; tag.name.as_slice() == b"On".as_slice() || tag.hash == -866639116);
     }
     Ok(())
 }
 
-// By hand: a record of floats is flat, one of a parameter is not, even at float.
+// Whether these are the hashes of `On, and of `some with an argument.
+fn are_switch(found: &ShapeOf<usize>) -> bool {
+    let ShapeOf::Poly(tags) = found else {
+        return false;
+    };
+    match tags.as_slice() {
+        [on, some] => {
+            on.hash == 17727 && on.arg.is_none() && some.hash == -866639116 && some.arg.is_some()
+        }
+        _ => false,
+    }
+}
+
+// By hand: a record of floats is flat, even if it can be changed.
 #[test]
-fn records_have_shapes(rt: HostRuntime) -> Result<(), Fail> {
+fn a_record_of_floats_is_flat(rt: HostRuntime) -> Result<(), Fail> {
     let alloc = rt.alloc();
-    let floats = record(alloc, true, word(alloc, b"float")?, word(alloc, b"float")?)?;
+    let decls = record(alloc, true, word(alloc, b"float")?, word(alloc, b"float")?)?;
     let t = at(alloc, b"t", b"float")?;
-    assert!(rt; matches!(shape(alloc, &floats, &t)?, ShapeOf::FlatFloats(true, 2)));
-    let letters = record(alloc, false, letter(alloc)?, word(alloc, b"float")?)?;
-    assert!(rt; matches!(shape(alloc, &letters, &t)?, ShapeOf::Product(false, _)));
-    for decl in floats.as_slice() {
-        assert!(rt; flat_float(alloc, &floats, decl)?);
+    assert_eq!(rt; looks(alloc, &decls, &t)?, b"flat".as_slice());
+    for decl in decls.as_slice() {
+        assert!(rt; flat_float(alloc, &decls, decl)?);
     }
-    for decl in letters.as_slice() {
-        assert!(rt; !flat_float(alloc, &letters, decl)?);
-    }
+    Ok(())
+}
+
+// By hand: a record of a parameter is a block, even at float.
+#[test]
+fn a_record_of_a_parameter_is_a_block(rt: HostRuntime) -> Result<(), Fail> {
+    let alloc = rt.alloc();
+    let decls = record(alloc, false, letter(alloc)?, word(alloc, b"float")?)?;
+    let t = at(alloc, b"t", b"float")?;
+    assert_eq!(rt; looks(alloc, &decls, &t)?, b"tuple".as_slice());
     Ok(())
 }
 
@@ -322,7 +294,8 @@ fn records_have_shapes(rt: HostRuntime) -> Result<(), Fail> {
 fn variants_have_shapes(rt: HostRuntime) -> Result<(), Fail> {
     let alloc = rt.alloc();
     let decls = variant(alloc, word(alloc, b"float")?)?;
-    assert!(rt; is_sum(&shape(alloc, &decls, &word(alloc, b"t")?)?, 2, true, 1));
+    let t = word(alloc, b"t")?;
+    assert_eq!(rt; looks(alloc, &decls, &t)?, b"variant".as_slice());
     Ok(())
 }
 
