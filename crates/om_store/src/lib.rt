@@ -7,6 +7,7 @@ mod node;
 mod tree;
 mod types;
 
+pub use names::Names;
 pub use node::TypeNode;
 pub use types::Types;
 

@@ -1,0 +1,156 @@
+-- The start of a check, and its answers.
+use Rattle.std.proofs.Common.{ℕ, zero, suc, ◌<◌, ◌≡◌, ◌∙◌, inl, inr, List, [], ◌∷◌, ◌++◌, length, Option, Some, None, refl, sym, ap, subst, arith}
+use Rattle.std.specs.Prelude.{slice_get, option_map}
+use Rattle.std.proofs.lemmas.Option.{same_Some, none-some}
+use Rattle.om_model.proofs.Options.{Contains-none}
+use Rattle.om_model.specs.declared.value.Val.{Val}
+use Rattle.om_model.specs.declared.value.Val.TheVariants as vals
+use Rattle.om_model.specs.declared.value.Obj.{Obj}
+use Rattle.om_types.specs.declared.fault.Fault.{Fault}
+use Rattle.om_types.specs.declared.fault.Fault.TheVariants.{Misfit, Clash}
+use Rattle.om_types.specs.declared.shape.ShapeOf.{ShapeOf}
+use Rattle.om_types.specs.Fault.{IsLexicallyBefore, IsBefore, IsFault, value_at}
+use Rattle.om_types.specs.Fitting.{fields_of}
+use Rattle.om_types.specs.LeastFault.{IsToldBefore, IsLeastFault}
+use Rattle.om_types.specs.Searched.{Entry}
+use Rattle.om_types.specs.Table.{Table, table_shapes, node_or_none}
+use Rattle.om_types.specs.Typing.{IsListed, IsTyped, HasType}
+use Rattle.om_type_table.specs.Made.{IsLawful}
+use Rattle.om_check.specs.declared.needs.Needs.{Needs}
+use Rattle.om_check.specs.declared.visits.Visit.{Visit}
+use Rattle.om_check.specs.Needs.{needs_in}
+use Rattle.om_check.specs.Told.{IsPathOf, IsClashOf}
+use Rattle.om_check.specs.Clash.{NoneClash, IsFirstClash}
+use Rattle.om_check.specs.Explored.{root_of, ComesBefore, AreExplored, IsExplored}
+use Rattle.om_check.specs.Search.{Grows, Searches, pairs_of}
+use Rattle.om_check.specs.Verdict.{IsYes}
+use Rattle.om_check.proofs.VisitLemmas.{root_still}
+use Rattle.om_check.proofs.VerdictLemmas.{clash_found, yes_found}
+
+only_first : {X : Type 0} (x y : X) (k : ℕ) → slice_get (x ∷ []) k ≡ Some y → (k ≡ 0) × (x ≡ y)
+only_first x y zero at_k = (refl, same_Some x y at_k)
+only_first x y (suc k) at_k = absurd (none-some y at_k)
+
+module _ (table : Table) (graph : List Obj) where
+  -- ---- the start
+
+  abbrev start : ℕ → Visit
+  start o = record { object = o; ty = 0; parent = 0; step = 0; earlier = 0 }
+
+  start_explored :
+      (o : ℕ) → IsLawful table → o < length graph → (table_shapes table).fits graph (vals.Ref o) 0
+      → AreExplored table graph o (record { path = []; object = o; type = 0 } ∷ []) 0 0
+  start_explored o lawful object fit =
+      let first : Entry ℕ = record { path = []; object = o; type = 0 } in
+      record {
+        rooted = refl;
+        leads = λ k e at_k. subst (λ (f : Entry ℕ). value_at (table_shapes table) graph (vals.Ref o) 0 f.path ≡ Some (vals.Ref f.object, f.type)) (only_first first e k at_k).1 refl;
+        fit = λ k e at_k. subst (λ (f : Entry ℕ). (table_shapes table).fits graph (vals.Ref f.object) f.type) (only_first first e k at_k).1 fit;
+        increasing = λ j k a b less at_j at_k.
+            let one = (only_first first a j at_j).0 in
+            let two = (only_first first b k at_k).0 in
+            absurd (omega (arith, less, one, two));
+        apart = λ j k a b at_j at_k same equal. (only_first first a j at_j).0 ∙ sym (only_first first b k at_k).0;
+        objects = λ k e at_k. subst (λ (f : Entry ℕ). f.object < length graph) (only_first first e k at_k).1 object;
+        types = λ k e at_k. subst (λ (f : Entry ℕ). f.type < length table.nodes) (only_first first e k at_k).1 lawful.rooted;
+        led = λ k e later at_k. let one = (only_first first e k at_k).0 in absurd (omega (arith, later, one));
+        done = λ k j i a e before at_k at_j. absurd (never k j before);
+      } where
+        never : (k j : ℕ) → ComesBefore k j 0 0 → ⊥
+        never k j (inl less) = omega arith
+        never k j (inr same) = omega (arith, same.1)
+
+  pub first_explored :
+      (all : List Visit) (o : ℕ) → all ≡ start o ∷ [] → IsLawful table → o < length graph
+      → (table_shapes table).fits graph (vals.Ref o) 0 → IsExplored table graph all 0 0
+  first_explored all o is lawful object fit =
+      let first : Entry ℕ = record { path = []; object = o; type = 0 } in
+      subst (λ vs. IsExplored table graph vs 0 0) (sym is) (record {
+        told = record { path = []; object = o; type = 0 } ∷ [];
+        are_told = record {
+          many = refl;
+          objects = λ k v e at_v at_e. sym (ap (λ (f : Entry ℕ). f.object) (only_first first e k at_e).1) ∙ ap (λ (u : Visit). u.object) (only_first (start o) v k at_v).1;
+          types = λ k v e at_v at_e. sym (ap (λ (f : Entry ℕ). f.type) (only_first first e k at_e).1) ∙ ap (λ (u : Visit). u.ty) (only_first (start o) v k at_v).1;
+          root = λ e at_e. sym (ap (λ (f : Entry ℕ). f.path) (only_first first e 0 at_e).1);
+          paths = λ k v e p later at_v at_e at_p. let one = (only_first (start o) v k at_v).0 in absurd (omega (arith, later, one));
+        };
+        ordered = λ k v later at_v. let one = (only_first (start o) v k at_v).0 in absurd (omega (arith, later, one));
+        explored = start_explored o lawful object fit;
+      })
+
+  -- ---- the root
+
+  pub root_fields :
+      (v : Val) (shape : ShapeOf ℕ) (answer : Option Needs) → slice_get table.nodes 0 ≡ Some shape
+      → option_map needs_in answer ≡ fields_of graph v shape
+      → fields_of graph v (node_or_none (slice_get table.nodes 0)) ≡ option_map needs_in answer
+  root_fields v shape answer at_0 is = ap (λ n. fields_of graph v (node_or_none n)) at_0 ∙ sym is
+
+  before_root : (path : List ℕ) → IsBefore path [] → ⊥
+  before_root path (inl shorter) = omega arith
+  before_root path (inr same) = never path same.1 where
+    never : (p : List ℕ) → IsLexicallyBefore p [] → ⊥
+    never [] before = before
+    never (i ∷ p) before = before
+
+  -- the root does not fit
+  pub root_misfit : (v : Val) → ¬ (table_shapes table).fits graph v 0 → IsLeastFault (table_shapes table) graph v 0 (Misfit [])
+  root_misfit v unfit = record { is_fault = unfit; least = none } where
+    none : (other : Fault) → IsFault (table_shapes table) graph v 0 other → IsToldBefore other (Misfit []) → ⊥
+    none (Misfit path) is before = before_root path before
+    none (Clash first second) is before = before
+
+  -- the root fits and is no reference
+  pub plain_yes :
+      (v : Val) → ((o : ℕ) → v ≡ vals.Ref o → ⊥) → (table_shapes table).fits graph v 0
+      → HasType (table_shapes table) graph v 0 × IsYes table graph v []
+  plain_yes v other fit = (
+    record { fits = fit; typed = typed v other },
+    record {
+      typing = record {
+        fits = λ o t among. absurd (Contains-none (o, t) among);
+        held = λ o t i u among need. absurd (Contains-none (o, t) among);
+        one_type = λ o t u among also mutable. absurd (Contains-none (o, t) among);
+      };
+      rooted = rooted v other;
+      apart = λ j k key at_j at_k. absurd (none-some key at_j);
+    },
+  ) where
+    typed : (w : Val) → ((o : ℕ) → w ≡ vals.Ref o → ⊥) → IsTyped (table_shapes table) graph w 0
+    typed (vals.Int z) other = tt
+    typed (vals.Atom tag) other = tt
+    typed (vals.Ref o) other = absurd (other o refl)
+
+    rooted : (w : Val) → ((o : ℕ) → w ≡ vals.Ref o → ⊥) → IsListed (table_shapes table) [] w 0
+    rooted (vals.Int z) other = tt
+    rooted (vals.Atom tag) other = tt
+    rooted (vals.Ref o) other = absurd (other o refl)
+
+  -- ---- an object
+
+  root_kept : (old new : List Visit) (o : ℕ) → old ≡ start o ∷ [] → Grows old new → root_of new ≡ o
+  root_kept old new o is grows =
+      let some : 0 < length old = let one = ap length is in omega (arith, one) in
+      root_still old new some grows ∙ ap root_of is
+
+  pub misfit_verdict :
+      (old new : List Visit) (o n step : ℕ) (path longer : List ℕ) → old ≡ start o ∷ [] → Searches table graph old new (Some (n, step))
+      → IsPathOf new n path → longer ≡ path ++ step ∷ [] → IsLeastFault (table_shapes table) graph (vals.Ref o) 0 (Misfit longer)
+  misfit_verdict old new o n step path longer is searches leads long =
+      subst (λ p. IsLeastFault (table_shapes table) graph (vals.Ref o) 0 (Misfit p)) (sym long)
+      (subst (λ r. IsLeastFault (table_shapes table) graph (vals.Ref r) 0 (Misfit (path ++ step ∷ []))) (root_kept old new o is searches.grows)
+      (searches.tested.least path leads))
+
+  pub clash_verdict :
+      (old new : List Visit) (o i k : ℕ) (fault : Fault) → IsLawful table → old ≡ start o ∷ [] → Searches table graph old new None
+      → IsFirstClash table graph new i k → IsClashOf new i k fault → IsLeastFault (table_shapes table) graph (vals.Ref o) 0 fault
+  clash_verdict old new o i k fault lawful is searches clash paths =
+      subst (λ r. IsLeastFault (table_shapes table) graph (vals.Ref r) 0 fault) (root_kept old new o is searches.grows)
+      (clash_found table graph new (length new) searches.tested (omega arith) lawful i k fault clash paths)
+
+  pub yes_verdict :
+      (old new : List Visit) (o : ℕ) → old ≡ start o ∷ [] → Searches table graph old new None → NoneClash table graph new (length new)
+      → HasType (table_shapes table) graph (vals.Ref o) 0 × IsYes table graph (vals.Ref o) (pairs_of new)
+  yes_verdict old new o is searches none =
+      subst (λ r. HasType (table_shapes table) graph (vals.Ref r) 0 × IsYes table graph (vals.Ref r) (pairs_of new)) (root_kept old new o is searches.grows)
+      (yes_found table graph new (length new) searches.tested (omega arith) none)

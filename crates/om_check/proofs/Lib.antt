@@ -1,0 +1,11 @@
+pub mod NeedLemmas
+pub mod OrderLemmas
+pub mod PlaceLemmas
+pub mod ToldLemmas
+pub mod ClashLemmas
+pub mod VisitLemmas
+pub mod SpentLemmas
+pub mod VerdictLemmas
+pub mod TestLemmas
+pub mod DecideLemmas
+pub mod ExploredLemmas

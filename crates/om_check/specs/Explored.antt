@@ -1,0 +1,69 @@
+-- What a check knows from turn to turn.
+use Rattle.std.specs.Prelude.{ℕ, ◌≡◌, ◌⊎◌, ◌<◌, List, [], ◌∷◌, ◌++◌, length, Some, slice_get}
+use Rattle.om_model.specs.declared.value.Val.{Val}
+use Rattle.om_model.specs.declared.value.Val.TheVariants as vals
+use Rattle.om_model.specs.declared.value.Obj.{Obj}
+use Rattle.om_types.specs.Fault.{IsBefore, field_of, value_at}
+use Rattle.om_types.specs.Searched.{Entry, IsEntered}
+use Rattle.om_types.specs.Table.{Table, table_shapes}
+use Rattle.om_check.specs.declared.visits.Visit.{Visit}
+use Rattle.om_check.specs.Told.{AreOrdered, AreTold}
+
+-- need j of visit k comes before need r of visit n
+abbrev pub ComesBefore : ℕ → ℕ → ℕ → ℕ → Type 0
+ComesBefore k j n r = (k < n) ⊎ ((k ≡ n) × (j < r))
+
+-- what an object needs at its type
+abbrev pub needs_at : Table → List Obj → Entry ℕ → List (ℕ × ℕ)
+needs_at table graph e = (table_shapes table).needs graph (vals.Ref e.object) e.type
+
+-- A need of an entry, at a type, is there, fits, and is entered.
+pub record IsMetNeed (table : Table) (graph : List Obj) (told : List (Entry ℕ)) (e : Entry ℕ) (i a : ℕ) : Type 0 where
+  pub value : Val
+  pub there : field_of graph (vals.Ref e.object) i ≡ Some value
+  pub fits : (table_shapes table).fits graph value a
+  pub entered : IsEntered (table_shapes table) told value a (e.path ++ i ∷ [])
+
+-- The entry stands at need j, numbered i, of the entry before it that leads to it.
+pub record IsLedTo (table : Table) (graph : List Obj) (told : List (Entry ℕ)) (n r : ℕ) (e : Entry ℕ) : Type 0 where
+  pub parent : ℕ
+  pub need : ℕ
+  pub entry : Entry ℕ
+  pub at : slice_get told parent ≡ Some entry
+  pub before : ComesBefore parent need n r
+  pub number : ℕ
+  pub type : ℕ
+  pub needed : slice_get (needs_at table graph entry) need ≡ Some (number, type)
+  pub path : e.path ≡ entry.path ++ number ∷ []
+
+-- The entries so far, where all needs before need r of entry n were tested.
+pub record AreExplored (table : Table) (graph : List Obj) (root : ℕ) (told : List (Entry ℕ)) (n r : ℕ) : Type 0 where
+  pub rooted : slice_get told 0 ≡ Some (record { path = []; object = root; type = 0 })
+  pub leads :
+      (k : ℕ) (e : Entry ℕ) → slice_get told k ≡ Some e
+      → value_at (table_shapes table) graph (vals.Ref root) 0 e.path ≡ Some (vals.Ref e.object, e.type)
+  pub fit : (k : ℕ) (e : Entry ℕ) → slice_get told k ≡ Some e → (table_shapes table).fits graph (vals.Ref e.object) e.type
+  pub increasing :
+      (j k : ℕ) (a b : Entry ℕ) → j < k → slice_get told j ≡ Some a → slice_get told k ≡ Some b
+      → IsBefore a.path b.path
+  pub apart :
+      (j k : ℕ) (a b : Entry ℕ) → slice_get told j ≡ Some a → slice_get told k ≡ Some b
+      → a.object ≡ b.object → (table_shapes table).equal a.type b.type → j ≡ k
+  pub objects : (k : ℕ) (e : Entry ℕ) → slice_get told k ≡ Some e → e.object < length graph
+  pub types : (k : ℕ) (e : Entry ℕ) → slice_get told k ≡ Some e → e.type < length table.nodes
+  pub led : (k : ℕ) (e : Entry ℕ) → 0 < k → slice_get told k ≡ Some e → IsLedTo table graph told n r e
+  pub done :
+      (k j i a : ℕ) (e : Entry ℕ) → ComesBefore k j n r → slice_get told k ≡ Some e
+      → slice_get (needs_at table graph e) j ≡ Some (i, a) → IsMetNeed table graph told e i a
+
+-- the first visit's object
+abbrev pub root_of : List Visit → ℕ
+root_of [] = 0
+root_of (v ∷ all) = v.object
+
+-- the same of visits
+pub record IsExplored (table : Table) (graph : List Obj) (all : List Visit) (n r : ℕ) : Type 0 where
+  pub told : List (Entry ℕ)
+  pub are_told : AreTold all told
+  pub ordered : AreOrdered all
+  pub explored : AreExplored table graph (root_of all) told n r

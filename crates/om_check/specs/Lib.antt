@@ -1,0 +1,7 @@
+pub mod Needs
+pub mod Visits
+pub mod Told
+pub mod Explored
+pub mod Search
+pub mod Clash
+pub mod Verdict

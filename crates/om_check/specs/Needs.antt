@@ -1,0 +1,11 @@
+-- The fields that are needed, as the list that the table of representations has of them.
+use Rattle.std.specs.Prelude.{ℕ, List, [], ◌∷◌, replicate}
+use Rattle.om_types.specs.Fitting.{numbered_from}
+use Rattle.om_check.specs.declared.needs.Needs.{Needs}
+use Rattle.om_check.specs.declared.needs.Needs.TheVariants as needs
+
+abbrev pub needs_in : Needs → List (ℕ × ℕ)
+needs_in needs.Nothing = []
+needs_in (needs.Listed types) = numbered_from 0 types.now
+needs_in (needs.Each size t) = numbered_from 0 (replicate size t)
+needs_in (needs.Argument t) = (1, t) ∷ []

@@ -1,0 +1,23 @@
+-- What a verdict says.
+use Rattle.std.specs.Prelude.{ℕ, List, map}
+use Rattle.om_model.specs.declared.value.Val.{Val}
+use Rattle.om_model.specs.declared.value.Obj.{Obj}
+use Rattle.om_types.specs.LeastFault.{IsLeastFault}
+use Rattle.om_types.specs.Table.{Table, table_shapes}
+use Rattle.om_types.specs.Typing.{IsListed, IsTyping, HasType}
+use Rattle.om_typing.specs.StepLaws.{AreApart, key_of}
+use Rattle.om_check.specs.declared.verdict.Verdict.{Verdict}
+use Rattle.om_check.specs.declared.verdict.Verdict.TheVariants.{Yes, No}
+
+-- The pairs justify one another, have the root's object at an equal type where the root is a reference, and no object twice at
+-- one class.
+pub record IsYes (table : Table) (graph : List Obj) (root : Val) (pairs : List (ℕ × ℕ)) : Type 0 where
+  pub typing : IsTyping (table_shapes table) graph pairs
+  pub rooted : IsListed (table_shapes table) pairs root 0
+  pub apart : AreApart (map (key_of table) pairs)
+
+-- Yes where the value has the type that is number 0, else No with the least fault.
+abbrev pub IsVerdict : Table → List Obj → Val → Verdict → Type 0
+IsVerdict table graph root (Yes typing) =
+    HasType (table_shapes table) graph root 0 × IsYes table graph root typing
+IsVerdict table graph root (No fault) = IsLeastFault (table_shapes table) graph root 0 fault

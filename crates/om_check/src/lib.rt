@@ -1,0 +1,18 @@
+//! Whether a value has a type, which is a number of a table, and if not the least fault.
+#![tactic(auto)]
+
+mod clash;
+mod decide;
+mod needs;
+mod parts;
+mod path;
+mod search;
+mod steps;
+mod typing;
+mod verdict;
+mod visits;
+
+pub use decide::check;
+pub use steps::Steps;
+pub use typing::Typing;
+pub use verdict::Verdict;

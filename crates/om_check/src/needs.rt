@@ -1,0 +1,92 @@
+//! What a shape says of a value: whether the value fits, and which fields it then needs.
+
+ghost use Rattle.std.specs.Prelude.{◌≡◌, ◌<◌, length, slice_get, Some, option_map, option_and_then};
+ghost use Rattle.om_model.specs.Graph.{IsValue};
+ghost use Rattle.om_types.specs.Fitting.{fields_of, object_fields, none_if};
+ghost use Rattle.om_check.specs.Needs.{needs_in};
+
+use crate::parts::{block_needs, fits_atom, fits_custom, fits_doubles, fits_int};
+use om_heap::{Heap, Kind};
+use om_model::value::Val;
+use om_types::shape::ShapeOf;
+
+/// The fields that a shape needs in a value that fits it, and their types.
+#[derive(Clone, Copy)]
+pub enum Needs<'a> {
+    /// No field.
+    Nothing,
+    /// A field for each of these types.
+    Listed(&'a [usize]),
+    /// So many fields of one type.
+    Each(u64, usize),
+    /// Field 1.
+    Argument(usize),
+}
+
+impl<'a> Needs<'a> {
+    /// How many there are.
+    pub fn len(&self) -> u64
+        ensures { result ≡ length (needs_in self.now) }
+    {
+        match *self {
+            Needs::Nothing => 0,
+            Needs::Listed(types) => types.len() as u64,
+            Needs::Each(size, _) => size,
+            Needs::Argument(_) => 1,
+        }
+    }
+
+    /// The number and the type of need k.
+    pub fn get(&self, k: u64) -> (u64, usize)
+        requires { k < length (needs_in self.now) }
+        ensures { slice_get (needs_in self.now) k ≡ Some (result.0, result.1) }
+    {
+        match *self {
+            Needs::Nothing => (0, 0),
+            Needs::Listed(types) => (k, type_at(types, k as usize)),
+            Needs::Each(_, ty) => (k, ty),
+            Needs::Argument(ty) => (1, ty),
+        }
+    }
+}
+
+/// The type at a place.
+fn type_at(types: &[usize], k: usize) -> usize
+    requires { k < length types.now }
+    ensures { slice_get types.now k ≡ Some result }
+{
+    types[k]
+}
+
+/// What a value needs at a shape, if it fits.
+pub fn needs_of<'a>(heap: &Heap, v: Val, shape: &'a ShapeOf<usize>) -> Option<Needs<'a>>
+    requires { IsValue (length heap.now) v }
+    ensures { option_map needs_in result ≡ fields_of heap.now v shape.now }
+{
+    match v {
+        Val::Int(z) => nothing_if(fits_int(shape, z)),
+        Val::Atom(tag) => nothing_if(fits_atom(shape, tag)),
+        Val::Ref(o) => object_needs(heap, o, shape),
+    }
+}
+
+/// The same of an object.
+fn object_needs<'a>(heap: &Heap, o: u64, shape: &'a ShapeOf<usize>) -> Option<Needs<'a>>
+    requires { o < length heap.now }
+    ensures { option_map needs_in result ≡ option_and_then (object_fields shape.now) (slice_get heap.now o) }
+{
+    match heap.kind(o) {
+        Kind::Block(tag, size) => block_needs(heap, o, tag, size, shape),
+        Kind::Bytes(_) => nothing_if(matches!(shape, ShapeOf::Bytes(_))),
+        Kind::Double => nothing_if(matches!(shape, ShapeOf::Double)),
+        Kind::Doubles(size) => nothing_if(fits_doubles(shape, size)),
+        Kind::Custom(custom) => nothing_if(fits_custom(shape, custom)),
+    }
+}
+
+/// No field, where the value fits.
+fn nothing_if<'a>(fits: bool) -> Option<Needs<'a>>
+    ensures { option_map needs_in result ≡ none_if fits }
+{
+    if fits { Some(Needs::Nothing) } else { None }
+}

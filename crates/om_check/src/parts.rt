@@ -1,0 +1,182 @@
+//! What a shape says of values and objects of each kind.
+
+ghost use Rattle.std.specs.Prelude.{◌≡◌, ◌<◌, length, slice_get, Some, option_map, option_and_then};
+ghost use Rattle.om_types.specs.Fitting as fitting;
+ghost use Rattle.om_types.specs.Fitting.{block_fields, constr_fields, tag_fields, tag_with, argument_field};
+ghost use Rattle.om_heap.specs.Heap.{object_at, fields_of, custom_object};
+ghost use Rattle.om_model.specs.declared.value.Obj.TheVariants as objects;
+ghost use Rattle.om_check.specs.Needs.{needs_in};
+
+use crate::needs::Needs;
+use om_heap::{Heap, Kind};
+use om_model::code::Custom;
+use om_model::value::Val;
+use om_types::shape::{Constr, PolyTag, ShapeOf};
+
+/// Whether an integer fits.
+pub fn fits_int(shape: &ShapeOf<usize>, z: i64) -> bool
+    ensures { result ≡ fitting.fits_int shape.now z }
+{
+    match shape {
+        ShapeOf::AnyInt => true,
+        ShapeOf::Below(limit) => is_below(*limit, z),
+        ShapeOf::Sum(constants, _) => is_below(*constants, z),
+        ShapeOf::Poly(tags) => match tag_of_hash(tags.as_slice(), z) {
+            Some(tag) => tag.arg.is_none(),
+            None => false,
+        },
+        _ => false,
+    }
+}
+
+/// Whether an integer is from 0 and below the limit.
+fn is_below(limit: u64, z: i64) -> bool
+    ensures { result ≡ fitting.is_below limit z }
+{
+    z >= 0 && (z as u64) < limit
+}
+
+/// The tag of this hash.
+fn tag_of_hash(tags: &[PolyTag<usize>], hash: i64) -> Option<&PolyTag<usize>>
+    ensures { option_map (λ tag. tag.now) result ≡ tag_with tags.now hash }
+{
+    tags.iter().find(|tag| is_hash(tag.hash, hash))
+}
+
+/// Whether a tag's hash is the number.
+fn is_hash(own: i64, hash: i64) -> bool
+    ensures { result ≡ fitting.is_number own hash }
+{
+    own == hash
+}
+
+/// Whether an atom fits.
+pub fn fits_atom(shape: &ShapeOf<usize>, tag: u8) -> bool
+    ensures { result ≡ fitting.fits_atom shape.now tag }
+{
+    match shape {
+        ShapeOf::ArrayOf(_) => tag == 0,
+        ShapeOf::FloatArray => tag == 0,
+        ShapeOf::ArrayOfVariable => tag == 0,
+        _ => false,
+    }
+}
+
+/// Whether an array of so many doubles fits.
+pub fn fits_doubles(shape: &ShapeOf<usize>, size: u64) -> bool
+    ensures { result ≡ fitting.has_doubles shape.now size }
+{
+    match shape {
+        ShapeOf::FloatArray => true,
+        ShapeOf::FlatFloats(_, fields) => *fields == size,
+        _ => false,
+    }
+}
+
+/// Whether a custom fits.
+pub fn fits_custom(shape: &ShapeOf<usize>, custom: Custom) -> bool
+    ensures { fitting.none_if result ≡ fitting.object_fields shape.now (custom_object custom) }
+{
+    match custom {
+        Custom::I32(_) => matches!(shape, ShapeOf::Int32),
+        Custom::I64(_) => matches!(shape, ShapeOf::Int64),
+        Custom::Native(_) => matches!(shape, ShapeOf::Native),
+    }
+}
+
+/// What a block needs, if it fits.
+pub fn block_needs<'a>(
+    heap: &Heap,
+    o: u64,
+    tag: u8,
+    size: u64,
+    shape: &'a ShapeOf<usize>,
+) -> Option<Needs<'a>>
+    requires object { o < length heap.now }
+    requires size { size ≡ length (fields_of (object_at heap.now o)) }
+    ensures { option_map needs_in result ≡ block_fields shape.now tag (fields_of (object_at heap.now o)) }
+{
+    match shape {
+        ShapeOf::Sum(_, blocks) => constr_needs(blocks.as_slice(), tag, size),
+        ShapeOf::Product(_, types) if tag == 0 && types.len() as u64 == size => Some(Needs::Listed(
+            types.as_slice(),
+        )),
+        ShapeOf::ArrayOf(ty) if tag == 0 => Some(Needs::Each(size, *ty)),
+        ShapeOf::Poly(tags) if tag == 0 => tag_needs(heap, o, size, tags.as_slice()),
+        _ => None,
+    }
+}
+
+/// What a block of so many fields needs by its constructor.
+fn constr_needs(blocks: &[Constr<usize>], tag: u8, size: u64) -> Option<Needs<'_>>
+    ensures { option_map needs_in result ≡ constr_fields size (slice_get blocks.now tag) }
+{
+    if tag as usize >= blocks.len() {
+        return None;
+    }
+    let fields = blocks[tag as usize].fields.as_slice();
+    if fields.len() as u64 == size {
+        Some(Needs::Listed(fields))
+    } else {
+        None
+    }
+}
+
+/// What the block of a tag with an argument needs.
+fn tag_needs<'a>(heap: &Heap, o: u64, size: u64, tags: &'a [PolyTag<usize>]) -> Option<Needs<'a>>
+    requires object { o < length heap.now }
+    requires size { size ≡ length (fields_of (object_at heap.now o)) }
+    ensures { option_map needs_in result ≡ tag_fields tags.now (fields_of (object_at heap.now o)) }
+{
+    if size != 2 {
+        return None;
+    }
+    match heap.field(o, 0) {
+        Val::Int(hash) => argument_needs(tags, hash),
+        _ => None,
+    }
+}
+
+/// What the argument of the tag of this hash needs.
+fn argument_needs(tags: &[PolyTag<usize>], hash: i64) -> Option<Needs<'_>>
+    ensures { option_map needs_in result ≡ option_and_then (λ tag. argument_field tag.arg) (tag_with tags.now hash) }
+{
+    match tag_of_hash(tags, hash)?.arg {
+        Some(ty) => Some(Needs::Argument(ty)),
+        None => None,
+    }
+}
+
+/// Whether the object, which fits the shape, may be changed.
+pub fn is_mutable(heap: &Heap, o: u64, shape: &ShapeOf<usize>) -> bool
+    requires { o < length heap.now }
+    ensures { result ≡ fitting.is_mutable shape.now (slice_get heap.now o) }
+{
+    match shape {
+        ShapeOf::Bytes(mutable) => *mutable,
+        ShapeOf::Sum(_, blocks) => is_mutable_block(blocks.as_slice(), block_tag(heap, o)),
+        ShapeOf::Product(mutable, _) => *mutable,
+        ShapeOf::FlatFloats(mutable, _) => *mutable,
+        ShapeOf::ArrayOf(_) => true,
+        ShapeOf::FloatArray => true,
+        _ => false,
+    }
+}
+
+/// The tag of a block, and 0 of another object.
+fn block_tag(heap: &Heap, o: u64) -> u8
+    requires { o < length heap.now }
+    ensures { result ≡ fitting.tag_of_block (slice_get heap.now o) }
+{
+    match heap.kind(o) {
+        Kind::Block(tag, _) => tag,
+        _ => 0,
+    }
+}
+
+/// Whether the block of a constructor may be changed.
+fn is_mutable_block(blocks: &[Constr<usize>], tag: u8) -> bool
+    ensures { result ≡ fitting.is_mutable_block (slice_get blocks.now tag) }
+{
+    (tag as usize) < blocks.len() && blocks[tag as usize].mutable
+}

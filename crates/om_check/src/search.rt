@@ -1,0 +1,114 @@
+//! Breadth first, each object is taken once at each class, and what it needs there is tested.
+
+ghost use Rattle.std.specs.Prelude.{◌≡◌, ◌<◌, ◌≤◌, ◌+◌, length, All, IfOk, OnOk};
+ghost use Rattle.om_heap.specs.Heap.{object_at, fields_of};
+ghost use Rattle.om_types.specs.Steps.{most_steps};
+ghost use Rattle.om_type_table.specs.Made.{table_of, IsLawful};
+ghost use Rattle.om_check.specs.Visits.{AreLinked};
+ghost use Rattle.om_check.specs.Explored.{IsExplored};
+ghost use Rattle.om_check.specs.Search.{TestsNeed, TestsVisit, Searches, cost_at};
+
+use crate::needs::needs_of;
+use crate::steps::Steps;
+use crate::visits::Visits;
+use om_heap::Heap;
+use om_model::Memory;
+use om_model::value::Val;
+use om_type_table::TypeTable;
+
+/// What an object needs: its field `step` is to have the type. It is visited at place `parent`.
+#[derive(Clone, Copy)]
+pub struct Need {
+    pub parent: usize,
+    pub object: u64,
+    pub step: u64,
+    pub ty: usize,
+}
+
+/// Tests what each visit needs, and enters the objects that are met. The answer is the first misfit: the place of a
+/// visit, and the number of its field that does not fit.
+pub fn search(
+    heap: &Heap,
+    table: &TypeTable,
+    visits: &mut Visits,
+    steps: &mut Steps,
+) -> Result<Option<(usize, u64)>, Memory>
+    requires lawful { IsLawful (table_of table.now) }
+    requires linked { AreLinked (length heap.now) visits.old }
+    requires explored { IsExplored (table_of table.now) heap.now visits.old.all.items 0 0 }
+    ensures linked { OnOk result (AreLinked (length heap.now) visits.new) }
+    ensures searches { IfOk result (Searches (table_of table.now) heap.now visits.old.all.items visits.new.all.items) }
+    ensures steps { steps.new + 1 ≤ steps.old + most_steps (table_of table.now) heap.now }
+{
+    let mut n = 0;
+    while n < visits.all.len() {
+        if let Some(step) = test_visit(heap, table, visits, n, steps)? {
+            return Ok(Some((n, step)));
+        }
+        n += 1;
+    }
+    Ok(None)
+}
+
+/// Tests what visit n needs. The answer is the number of the first field that does not fit.
+fn test_visit(
+    heap: &Heap,
+    table: &TypeTable,
+    visits: &mut Visits,
+    n: usize,
+    steps: &mut Steps,
+) -> Result<Option<u64>, Memory>
+    requires in_range { n < length visits.old.all.items }
+    requires lawful { IsLawful (table_of table.now) }
+    requires linked { AreLinked (length heap.now) visits.old }
+    requires explored { IsExplored (table_of table.now) heap.now visits.old.all.items n 0 }
+    ensures linked { OnOk result (AreLinked (length heap.now) visits.new) }
+    ensures tests { IfOk result (TestsVisit (table_of table.now) heap.now visits.old.all.items visits.new.all.items n) }
+    ensures steps { steps.new ≤ steps.old + cost_at (table_of table.now) heap.now visits.old.all.items n }
+{
+    steps.raise();
+    let visit = visits.all[n];
+    let Some(needs) = needs_of(heap, Val::Ref(visit.object), table.shape(visit.ty)) else {
+        return Ok(None);
+    };
+    for k in 0..needs.len() {
+        let (step, ty) = needs.get(k);
+        steps.raise();
+        let need = Need {
+            parent: n,
+            object: visit.object,
+            step,
+            ty,
+        };
+        if !test_need(heap, table, visits, need)? {
+            return Ok(Some(step));
+        }
+    }
+    Ok(None)
+}
+
+/// Tests a need, and enters the object that is met.
+fn test_need(
+    heap: &Heap,
+    table: &TypeTable,
+    visits: &mut Visits,
+    need: Need,
+) -> Result<bool, Memory>
+    requires object { need.object < length heap.now }
+    requires field { need.step < length (fields_of (object_at heap.now need.object)) }
+    requires node { need.ty < length table.now.nodes }
+    requires class { need.ty < length table.now.classes }
+    requires types { All (λ visit. visit.ty < length table.now.classes) visits.old.all.items }
+    requires linked { AreLinked (length heap.now) visits.old }
+    ensures linked { OnOk result (AreLinked (length heap.now) visits.new) }
+    ensures tests { IfOk result (TestsNeed (table_of table.now) heap.now visits.old.all.items visits.new.all.items need) }
+{
+    let value = heap.field(need.object, need.step);
+    if needs_of(heap, value, table.shape(need.ty)).is_none() {
+        return Ok(false);
+    }
+    if let Val::Ref(object) = value {
+        visits.enter(table, object, need.ty, need.parent, need.step)?;
+    }
+    Ok(true)
+}

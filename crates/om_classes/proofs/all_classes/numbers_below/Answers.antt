@@ -1,0 +1,13 @@
+use Rattle.std.proofs.Common.{ℕ, ◌<◌, ◌≡◌, subst, arith}
+use Rattle.std.specs.Prelude.{Contains}
+use Rattle.om_classes.proofs.EndLemmas.{below_more}
+use Rattle.om_classes.proofs.all_classes.numbers_below.Goals as goal
+
+pub loop-number-init : goal.loop-number-init
+loop-number-init c i below = absurd (omega arith)
+
+pub loop-number-preserved : goal.loop-number-preserved
+loop-number-preserved c = below_more _ _ _ c.loop-number.invariant c.in_ok-push.ensures.items
+
+pub returns : goal.returns
+returns c i below = c.loop-number.invariant i (omega arith)

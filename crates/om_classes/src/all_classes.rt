@@ -1,0 +1,113 @@
+//! The classes of equal numbers.
+
+ghost use Rattle.std.specs.Prelude.{◌≡◌, ◌∷◌, [], ℕ, ◌<◌, length, slice_index, IfOk, Contains};
+ghost use Rattle.om_types.specs.Table.{head_at};
+ghost use Rattle.om_types.specs.Classes.{PartsBelow};
+ghost use Rattle.om_classes.specs.Users.{AreUsers};
+ghost use Rattle.om_classes.specs.Start.{IsUnderWayAt, IsParted};
+ghost use Rattle.om_classes.specs.Found.{AreClasses};
+
+use crate::form::{Form, forms_of};
+use crate::parting::{Parting, turn};
+use crate::users::users_of;
+use om_model::Memory;
+use om_types::head::HeadOf;
+use std::alloc::Global;
+
+/// The classes of equal numbers: heads are over numbers.
+pub fn classes(alloc: Global, all: &[HeadOf<usize>]) -> Result<Vec<usize>, Memory>
+    requires { PartsBelow (length all.now) (head_at all.now) }
+    ensures { IfOk result (λ found. AreClasses all.now found.items) }
+{
+    let forms = forms_of(alloc, all)?;
+    let users = users_of(alloc, forms.as_slice())?;
+    let found = parted(alloc, forms.as_slice(), users.as_slice())?;
+    Ok(found)
+}
+
+/// Parts numbers until none waits.
+fn parted(alloc: Global, forms: &[Form], users: &[Vec<usize>]) -> Result<Vec<usize>, Memory>
+    requires { AreUsers forms.now users.now }
+    ensures { IfOk result (λ class. IsParted forms.now class.items) }
+{
+    let mut parting = start(alloc, forms)?;
+    // Each turn leaves one class less to be done, or makes one, so this ends long before.
+    for _turn in 0..u64::MAX {
+        match parting.todo.pop() {
+            Some(class) => turn(alloc, forms, users, &mut parting, class)?,
+            None => return Ok(class_of(parting)),
+        }
+    }
+    Err(Memory)
+}
+
+/// The classes.
+fn class_of(parting: Parting) -> Vec<usize>
+    ensures { result ≡ parting.class }
+{
+    let Parting {
+        class,
+        signs: _,
+        members: _,
+        waiting: _,
+        counts: _,
+        todo: _,
+    } = parting;
+    class
+}
+
+/// One class with all numbers, which wait.
+fn start(alloc: Global, forms: &[Form]) -> Result<Parting, Memory>
+    ensures under_way { IfOk result (IsUnderWayAt forms.now) }
+    ensures zero { IfOk result (λ p. (i : ℕ) → slice_index p.class.items i ≡ 0) }
+{
+    let many = forms.len();
+    let class = zeros(alloc, many)?;
+    let signs = alone(alloc, Vec::new(alloc))?;
+    let members = alone(alloc, numbers_below(alloc, many)?)?;
+    let waiting = alone(alloc, numbers_below(alloc, many)?)?;
+    let mut counts = Vec::new(alloc);
+    counts.push(many)?;
+    let mut todo = Vec::new(alloc);
+    todo.push(0)?;
+    Ok(Parting {
+        class,
+        signs,
+        members,
+        waiting,
+        counts,
+        todo,
+    })
+}
+
+/// So many zeros.
+fn zeros(alloc: Global, many: usize) -> Result<Vec<usize>, Memory>
+    ensures many { IfOk result (λ v. length v.items ≡ many) }
+    ensures zero { IfOk result (λ v. (i : ℕ) → slice_index v.items i ≡ 0) }
+{
+    let mut found = Vec::new(alloc);
+    for _number in 0..many {
+        found.push(0)?;
+    }
+    Ok(found)
+}
+
+/// The numbers below one.
+fn numbers_below(alloc: Global, many: usize) -> Result<Vec<usize>, Memory>
+    ensures { IfOk result (λ v. (i : ℕ) → i < many → Contains v.items i) }
+{
+    let mut found = Vec::new(alloc);
+    for number in 0..many {
+        found.push(number)?;
+    }
+    Ok(found)
+}
+
+/// A list alone.
+fn alone(alloc: Global, list: Vec<usize>) -> Result<Vec<Vec<usize>>, Memory>
+    ensures { IfOk result (λ v. v.items ≡ list ∷ []) }
+{
+    let mut found = Vec::new(alloc);
+    found.push(list)?;
+    Ok(found)
+}

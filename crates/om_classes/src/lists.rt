@@ -1,0 +1,66 @@
+//! Lists of numbers, one for each class or for each number.
+
+ghost use Rattle.std.specs.Prelude.{◌≡◌, ◌<◌, ◌≤◌, ◌↔◌, IsTrue, length, vec_len, slice_index, IfOk, OnOk};
+ghost use Rattle.om_classes.specs.Lists.{IsPut, IsTaken, HasRooms, IsOfClass};
+
+use crate::set::as_set;
+use om_model::Memory;
+use std::alloc::Global;
+use std::mem;
+
+/// Adds a number to a list.
+pub fn put(lists: &mut Vec<Vec<usize>>, at: usize, number: usize) -> Result<(), Memory>
+    requires { at < vec_len lists.old }
+    ensures { OnOk result (IsPut lists.old.items at number lists.new.items) }
+{
+    lists[at].push(number)?;
+    Ok(())
+}
+
+/// Takes all numbers of a list.
+pub fn taken(alloc: Global, lists: &mut Vec<Vec<usize>>, at: usize) -> Vec<usize>
+    requires { at < vec_len lists.old }
+    ensures { IsTaken lists.old.items at result.items lists.new.items }
+{
+    mem::replace(&mut lists[at], Vec::new(alloc))
+}
+
+/// Adds lists with nothing in them, until there are so many.
+pub fn make_rooms(alloc: Global, lists: &mut Vec<Vec<usize>>, many: usize) -> Result<(), Memory>
+    requires { vec_len lists.old ≤ many }
+    ensures { OnOk result (HasRooms lists.old.items many lists.new.items) }
+{
+    for _room in lists.len()..many {
+        lists.push(Vec::new(alloc))?;
+    }
+    Ok(())
+}
+
+/// The numbers of a list that have a class, in order, each once.
+pub fn of_class(
+    alloc: Global,
+    numbers: &[usize],
+    class: &[usize],
+    wanted: usize,
+) -> Result<Vec<usize>, Memory>
+    ensures { IfOk result (λ v. IsOfClass numbers.now class.now wanted v.items) }
+{
+    let mut found = Vec::new(alloc);
+    for number in numbers {
+        if has_class(class, *number, wanted) {
+            found.push(*number)?;
+        }
+    }
+    as_set(&mut found);
+    Ok(found)
+}
+
+/// Whether a number has this class.
+fn has_class(class: &[usize], number: usize, wanted: usize) -> bool
+    ensures { IsTrue result ↔ ((number < length class.now) × (slice_index class.now number ≡ wanted)) }
+{
+    match class.get(number) {
+        Some(found) => *found == wanted,
+        None => false,
+    }
+}

@@ -1,0 +1,148 @@
+//! Numbers that are parted into classes, one class at a time.
+
+ghost use Rattle.std.specs.Prelude.{◌++◌, ◌∷◌, [], IfOk, OnOk};
+ghost use Rattle.om_classes.specs.Users.{AreUsers};
+ghost use Rattle.om_classes.specs.Parting.{IsLook, IsUnderWay, PartsNoEqual};
+ghost use Rattle.om_classes.specs.Start.{IsUnderWayAt, IsOpenAt};
+
+use crate::form::Form;
+use crate::lists::{make_rooms, taken};
+use crate::look::{Look, look_at_all, look_at_few};
+use crate::moves::{add_members, move_all, name_places};
+use crate::sign::class_at;
+use crate::waits::mark_users;
+use om_model::Memory;
+use std::alloc::Global;
+
+/// Numbers in classes.
+#[derive(Drop)]
+pub struct Parting {
+    /// The class of each number.
+    pub class: Vec<usize>,
+    /// For each class the sign of those that do not wait.
+    pub signs: Vec<Vec<usize>>,
+    /// For each class its members, among numbers that have left it.
+    pub members: Vec<Vec<usize>>,
+    /// For each class the members that wait to be looked at.
+    pub waiting: Vec<Vec<usize>>,
+    /// For each class how many members it has.
+    pub counts: Vec<usize>,
+    /// The classes with members that wait.
+    pub todo: Vec<usize>,
+}
+
+/// Parts a class by the signs of those that wait. It takes a step for each of them, or twice as many, and for each part
+/// of their heads.
+pub fn turn(
+    alloc: Global,
+    forms: &[Form],
+    users: &[Vec<usize>],
+    parting: &mut Parting,
+    class: usize,
+) -> Result<(), Memory>
+    requires users { AreUsers forms.now users.now }
+    requires under_way { IsUnderWay forms.now parting.old.class.items parting.old.signs.items parting.old.members.items parting.old.waiting.items (parting.old.todo.items ++ class ∷ []) }
+    ensures under_way { OnOk result (IsUnderWayAt forms.now parting.new) }
+    ensures keeps { OnOk result (PartsNoEqual forms.now parting.old.class.items parting.new.class.items) }
+{
+    let waited = taken(alloc, &mut parting.waiting, class);
+    part(alloc, forms, users, parting, waited.as_slice(), class)?;
+    Ok(())
+}
+
+/// Parts a class.
+fn part(
+    alloc: Global,
+    forms: &[Form],
+    users: &[Vec<usize>],
+    parting: &mut Parting,
+    waited: &[usize],
+    parted: usize,
+) -> Result<(), Memory>
+    requires users { AreUsers forms.now users.now }
+    requires open { IsOpenAt forms.now parting.old waited.now parted }
+    ensures under_way { OnOk result (IsUnderWayAt forms.now parting.new) }
+    ensures keeps { OnOk result (PartsNoEqual forms.now parting.old.class.items parting.new.class.items) }
+{
+    let look = look_at(alloc, forms, parting, waited, parted)?;
+    let looked = look.looked.as_slice();
+    let numbers = name_places(alloc, &look.found, parted, look.kept, &mut parting.signs)?;
+    let many = parting.signs.len();
+    make_rooms(alloc, &mut parting.members, many)?;
+    make_rooms(alloc, &mut parting.waiting, many)?;
+    let places = look.places.as_slice();
+    move_all(&mut parting.class, looked, places, numbers.as_slice());
+    let class = parting.class.as_slice();
+    count_moves(&mut parting.counts, class, looked, parted)?;
+    add_members(&mut parting.members, class, looked, parted)?;
+    mark_users(
+        &mut parting.waiting,
+        &mut parting.todo,
+        class,
+        users,
+        looked,
+        parted,
+    )?;
+    Ok(())
+}
+
+/// Looks at those that waited alone, where they are fewer than half of the members, so that those that did not wait are
+/// the most.
+fn look_at(
+    alloc: Global,
+    forms: &[Form],
+    parting: &Parting,
+    waited: &[usize],
+    parted: usize,
+) -> Result<Look, Memory>
+    requires { IsOpenAt forms.now parting.now waited.now parted }
+    ensures { IfOk result (IsLook forms.now parting.now.class.items parted) }
+{
+    let class = parting.class.as_slice();
+    let signs = parting.signs.as_slice();
+    if waited.len() < count_of(parting.counts.as_slice(), parted) / 2 {
+        let look = look_at_few(alloc, forms, class, signs, waited, parted)?;
+        return Ok(look);
+    }
+    let members = parting.members[parted].as_slice();
+    let look = look_at_all(alloc, forms, class, signs, members, parted)?;
+    Ok(look)
+}
+
+/// How many members a class has.
+fn count_of(counts: &[usize], class: usize) -> usize {
+    match counts.get(class) {
+        Some(count) => *count,
+        None => 0,
+    }
+}
+
+/// Counts the members of classes after a move.
+fn count_moves(
+    counts: &mut Vec<usize>,
+    class: &[usize],
+    looked: &[usize],
+    left: usize,
+) -> Result<(), Memory> {
+    for number in looked {
+        let to = class_at(class, *number);
+        if to != left {
+            count_move(counts, left, to)?;
+        }
+    }
+    Ok(())
+}
+
+/// Counts a member less of one class, and one more of another.
+fn count_move(counts: &mut Vec<usize>, from: usize, to: usize) -> Result<(), Memory> {
+    for _class in counts.len()..to.saturating_add(1) {
+        counts.push(0)?;
+    }
+    if from < counts.len() {
+        counts[from] = counts[from].saturating_sub(1);
+    }
+    if to < counts.len() {
+        counts[to] = counts[to].saturating_add(1);
+    }
+    Ok(())
+}

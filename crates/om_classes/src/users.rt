@@ -1,0 +1,66 @@
+//! The numbers in whose heads a number is a part.
+
+ghost use Rattle.std.specs.Prelude.{ℕ, ◌<◌, length, IfOk, OnOk, Contains};
+ghost use Rattle.om_types.specs.Reached.{listed_if};
+ghost use Rattle.om_classes.specs.Users.{AreUsers, parts_in};
+ghost use Rattle.om_classes.specs.Lists.{Keeps, Has};
+
+use crate::form::Form;
+use crate::lists::{make_rooms, put};
+use om_model::Memory;
+use std::alloc::Global;
+
+/// The users of each number.
+pub fn users_of(alloc: Global, forms: &[Form]) -> Result<Vec<Vec<usize>>, Memory>
+    ensures { IfOk result (λ users. AreUsers forms.now users.items) }
+{
+    let mut users = Vec::new(alloc);
+    make_rooms(alloc, &mut users, forms.len())?;
+    for (user, form) in forms.iter().enumerate() {
+        add_user(&mut users, form, user)?;
+    }
+    Ok(users)
+}
+
+/// Adds a user of each part of a form.
+fn add_user(users: &mut Vec<Vec<usize>>, form: &Form, user: usize) -> Result<(), Memory>
+    ensures keeps { OnOk result (Keeps users.old.items users.new.items) }
+    ensures added { OnOk result ((k : ℕ) → Contains (parts_in form.now) k → k < length users.old.items → Has users.new.items k user) }
+{
+    for part in form.parts.as_slice() {
+        use_part(users, *part, user)?;
+    }
+    for tag in form.tags.as_slice() {
+        use_argument(users, tag.argument, user)?;
+    }
+    Ok(())
+}
+
+/// Adds a user of an argument.
+fn use_argument(
+    users: &mut Vec<Vec<usize>>,
+    argument: Option<usize>,
+    user: usize,
+) -> Result<(), Memory>
+    ensures keeps { OnOk result (Keeps users.old.items users.new.items) }
+    ensures added { OnOk result ((k : ℕ) → Contains (listed_if argument) k → k < length users.old.items → Has users.new.items k user) }
+{
+    match argument {
+        Some(part) => {
+            use_part(users, part, user)?;
+            Ok(())
+        }
+        None => Ok(()),
+    }
+}
+
+/// Adds a user of a part, if there is such a number.
+fn use_part(users: &mut Vec<Vec<usize>>, part: usize, user: usize) -> Result<(), Memory>
+    ensures keeps { OnOk result (Keeps users.old.items users.new.items) }
+    ensures added { OnOk result (part < length users.old.items → Has users.new.items part user) }
+{
+    if part < users.len() {
+        put(users, part, user)?;
+    }
+    Ok(())
+}

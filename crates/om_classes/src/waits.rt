@@ -1,0 +1,106 @@
+//! Numbers that wait to be looked at, by their classes.
+
+ghost use Rattle.std.specs.Prelude.{ℕ, ◌<◌, ◌≢◌, length, vec_len, slice_index, OnOk, Contains};
+ghost use Rattle.om_classes.specs.Lists.{Has, Keeps};
+ghost use Rattle.om_classes.specs.Parting.{IsReady, MarksUsers};
+
+use crate::lists::put;
+use crate::sign::class_at;
+use om_model::Memory;
+
+/// Has the users of those that left a class wait.
+pub fn mark_users(
+    waiting: &mut Vec<Vec<usize>>,
+    todo: &mut Vec<usize>,
+    class: &[usize],
+    users: &[Vec<usize>],
+    looked: &[usize],
+    left: usize,
+) -> Result<(), Memory>
+    requires within { (i : ℕ) → slice_index class.now i < vec_len waiting.old }
+    requires ready { IsReady waiting.old.items todo.old.items }
+    ensures keeps { OnOk result (Keeps waiting.old.items waiting.new.items) }
+    ensures ready { OnOk result (IsReady waiting.new.items todo.new.items) }
+    ensures marked { OnOk result (MarksUsers class.now users.now left looked.now waiting.new.items) }
+{
+    for number in looked {
+        mark_users_of(waiting, todo, class, users, *number, left)?;
+    }
+    Ok(())
+}
+
+/// Has the users of a number wait, if it left a class.
+fn mark_users_of(
+    waiting: &mut Vec<Vec<usize>>,
+    todo: &mut Vec<usize>,
+    class: &[usize],
+    users: &[Vec<usize>],
+    number: usize,
+    left: usize,
+) -> Result<(), Memory>
+    requires within { (i : ℕ) → slice_index class.now i < vec_len waiting.old }
+    requires ready { IsReady waiting.old.items todo.old.items }
+    ensures keeps { OnOk result (Keeps waiting.old.items waiting.new.items) }
+    ensures ready { OnOk result (IsReady waiting.new.items todo.new.items) }
+    ensures marked { OnOk result (slice_index class.now number ≢ left → (u : ℕ) → Has users.now number u → Has waiting.new.items (slice_index class.now u) u) }
+{
+    if class_at(class, number) == left {
+        return Ok(());
+    }
+    if number >= users.len() {
+        return Ok(());
+    }
+    mark_all(waiting, todo, class, users[number].as_slice())?;
+    Ok(())
+}
+
+/// Has numbers wait.
+fn mark_all(
+    waiting: &mut Vec<Vec<usize>>,
+    todo: &mut Vec<usize>,
+    class: &[usize],
+    numbers: &[usize],
+) -> Result<(), Memory>
+    requires within { (i : ℕ) → slice_index class.now i < vec_len waiting.old }
+    requires ready { IsReady waiting.old.items todo.old.items }
+    ensures keeps { OnOk result (Keeps waiting.old.items waiting.new.items) }
+    ensures ready { OnOk result (IsReady waiting.new.items todo.new.items) }
+    ensures marked { OnOk result ((u : ℕ) → Contains numbers.now u → Has waiting.new.items (slice_index class.now u) u) }
+{
+    for number in numbers {
+        mark(waiting, todo, class_at(class, *number), *number)?;
+    }
+    Ok(())
+}
+
+/// Has a number of a class wait.
+fn mark(
+    waiting: &mut Vec<Vec<usize>>,
+    todo: &mut Vec<usize>,
+    class: usize,
+    number: usize,
+) -> Result<(), Memory>
+    requires within { class < vec_len waiting.old }
+    requires ready { IsReady waiting.old.items todo.old.items }
+    ensures keeps { OnOk result (Keeps waiting.old.items waiting.new.items) }
+    ensures ready { OnOk result (IsReady waiting.new.items todo.new.items) }
+    ensures marked { OnOk result (Has waiting.new.items class number) }
+{
+    have_done(waiting.as_slice(), todo, class)?;
+    put(waiting, class, number)?;
+    Ok(())
+}
+
+/// Sees that a class is to be done.
+fn have_done(waiting: &[Vec<usize>], todo: &mut Vec<usize>, class: usize) -> Result<(), Memory>
+    requires within { class < length waiting.now }
+    requires ready { IsReady waiting.now todo.old.items }
+    ensures ready { OnOk result (IsReady waiting.now todo.new.items) }
+    ensures there { OnOk result (Contains todo.new.items class) }
+{
+    if !waiting[class].is_empty() {
+        return Ok(());
+    }
+    todo.push(class)?;
+    Ok(())
+}

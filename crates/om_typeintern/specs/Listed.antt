@@ -1,0 +1,86 @@
+-- Types in the order in which they are met, and what is known of the first of them.
+use Rattle.std.specs.Prelude.{ℕ, ◌<◌, ◌≤◌, ◌≡◌, List, [], ◌∷◌, ◌++◌, length, map, take, Some, All, slice_get}
+use Rattle.std.specs.List.{flat_map}
+use Rattle.om_types.specs.declared.decl.Decl.{Decl}
+use Rattle.om_types.specs.declared.head.HeadOf.{HeadOf}
+use Rattle.om_types.specs.declared.names.Names.{Names}
+use Rattle.om_types.specs.declared.shape.ShapeOf.{ShapeOf}
+use Rattle.om_types.specs.Ty.{Ty}
+use Rattle.om_types.specs.Nodes.{type_at}
+use Rattle.om_types.specs.Head.{head}
+use Rattle.om_types.specs.Shape.{shape}
+use Rattle.om_types.specs.Names.{names_of}
+use Rattle.om_types.specs.Reached.{reached_from, IsWithoutRepeats, IsFromEarlier}
+use Rattle.om_types.specs.Table.{with_parts, head_with_parts}
+use Rattle.om_store.specs.Held.{Grows}
+use Rattle.om_classes.specs.Found.{AreClasses}
+use Rattle.om_type_table.specs.declared.table.TypeTable.{TypeTable}
+use Rattle.om_typeintern.specs.declared.entry.Entry.{Entry}
+use Rattle.om_typeintern.specs.declared.listing.Listing.{Listing}
+
+-- the types of these numbers
+abbrev pub types_at : List Ty → List ℕ → List Ty
+types_at types numbers = map (type_at types) numbers
+
+-- the numbers are those of types
+abbrev pub AreWithin : List Ty → List ℕ → Type 0
+AreWithin types numbers = All (λ i. i < length types) numbers
+
+-- ---- one type
+
+-- What a type names is met after the types that were met before. By places its entry is right, also
+-- where more types are met later.
+pub record IsEntry (decls : List Decl) (t : Ty) (before after : List Ty) (entry : Entry) : Type 0 where
+  pub added : List Ty
+  pub kept : after ≡ before ++ added
+  pub new : IsWithoutRepeats before (reached_from decls t) added
+  pub head :
+      (all : List Ty) → Grows after all
+      → head_with_parts (slice_get all) entry.head ≡ head_with_parts Some (head decls t)
+  pub shape :
+      (all : List Ty) → Grows after all
+      → with_parts (slice_get all) entry.shape ≡ with_parts Some (shape decls t)
+  pub names : entry.names ≡ names_of decls t
+
+-- ---- all that were met
+
+-- The types that were met are t and what the first k of them reach, and there are entries of these.
+pub record IsListing (decls : List Decl) (t : Ty) (k : ℕ) (met : List Ty)
+    (shapes : List (ShapeOf ℕ)) (tops : List (HeadOf ℕ)) (words : List Names) : Type 0 where
+  pub in_order : IsWithoutRepeats [] (t ∷ flat_map (reached_from decls) (take k met)) met
+  pub from_earlier :
+      (j : ℕ) (u : Ty) → 0 < j → slice_get met j ≡ Some u → IsFromEarlier decls met j u
+  pub nodes :
+      (all : List Ty) → Grows met all
+      → map (with_parts (slice_get all)) shapes
+      ≡ map (λ u. with_parts Some (shape decls u)) (take k met)
+  pub heads :
+      (all : List Ty) → Grows met all
+      → map (head_with_parts (slice_get all)) tops
+      ≡ map (λ u. head_with_parts Some (head decls u)) (take k met)
+  pub names : words ≡ map (names_of decls) (take k met)
+
+abbrev pub met_types : Listing → List Ty
+met_types listing = types_at listing.types listing.met.keys
+
+abbrev pub IsListingOf : List Decl → Ty → Listing → Type 0
+IsListingOf decls t listing =
+    IsListing decls t (length listing.nodes.items) (met_types listing) listing.nodes.items
+    listing.heads.items listing.names.items
+
+-- all types that are reached have entries, and they are not too many
+pub record IsWhole (decls : List Decl) (t : Ty) (listing : Listing) : Type 0 where
+  pub within : AreWithin listing.types listing.met.keys
+  pub listed : IsListingOf decls t listing
+  pub all : length listing.met.keys ≤ length listing.nodes.items
+  pub few : length listing.met.keys ≤ 65536
+
+-- ---- the table
+
+-- the table has what was listed, and the classes of the heads
+pub record IsTableOfListing (listing : Listing) (table : TypeTable) : Type 0 where
+  pub store : table.store ≡ listing.types
+  pub stored : table.stored ≡ listing.met.keys
+  pub nodes : table.nodes ≡ listing.nodes.items
+  pub names : table.names ≡ listing.names.items
+  pub classes : AreClasses listing.heads.items table.classes

@@ -1,0 +1,21 @@
+//! Why there is no table of types.
+
+use om_model::Memory;
+
+/// More than 65,536 types are reached, or out of memory.
+#[derive(Clone, Copy, Debug, PartialEq, Eq)]
+pub enum TypeFault {
+    TooManyTypes,
+    Memory,
+}
+
+impl From<Memory> for TypeFault {
+    ghost use Rattle.std.specs.Prelude.{◌≡◌};
+    ghost use Rattle.om_typeintern.specs.declared.fault.TypeFault.TheVariants as faults;
+
+    ghost from_gives = { λ _ e. e ≡ faults.Memory };
+
+    fn from(_e: Memory) -> TypeFault {
+        TypeFault::Memory
+    }
+}

@@ -1,0 +1,59 @@
+//! Heads by places.
+
+ghost use Rattle.std.specs.Prelude.{◌≡◌, IfOk};
+ghost use Rattle.om_typeintern.specs.Placed.{AreHeadTagsPlaced, IsHeadPlaced};
+
+use crate::met::{Met, place_if, places};
+use om_model::Memory;
+use om_model::list::List;
+use om_types::head::{HeadOf, TagOf};
+use std::alloc::Global;
+
+/// A head by the places of its parts, which are met in their order.
+pub(crate) fn placed_head(
+    alloc: Global,
+    met: &mut Met,
+    head: &HeadOf<usize>,
+) -> Result<HeadOf<usize>, Memory>
+    ensures { IfOk result (IsHeadPlaced met.old.keys met.new.keys head.now) }
+{
+    match head {
+        HeadOf::Variable(name) => Ok(HeadOf::Variable(copied(alloc, name.as_slice())?)),
+        HeadOf::Predeclared(base, parts) => {
+            let parts = places(alloc, met, parts.as_slice())?;
+            Ok(HeadOf::Predeclared(*base, parts))
+        }
+        HeadOf::Datatype(name, parts) => {
+            let name = copied(alloc, name.as_slice())?;
+            let parts = places(alloc, met, parts.as_slice())?;
+            Ok(HeadOf::Datatype(name, parts))
+        }
+        HeadOf::Tuple(parts) => Ok(HeadOf::Tuple(places(alloc, met, parts.as_slice())?)),
+        HeadOf::Variants(tags) => Ok(HeadOf::Variants(placed_tags(alloc, met, tags.as_slice())?)),
+        HeadOf::Absent => Ok(HeadOf::Absent),
+    }
+}
+
+/// Tags by names, with the places of their arguments.
+fn placed_tags(
+    alloc: Global,
+    met: &mut Met,
+    tags: &[TagOf<usize>],
+) -> Result<List<TagOf<usize>>, Memory>
+    ensures { IfOk result (AreHeadTagsPlaced met.old.keys met.new.keys tags.now) }
+{
+    let mut found = Vec::new(alloc);
+    for tag in tags {
+        let name = copied(alloc, tag.name.as_slice())?;
+        let argument = place_if(met, tag.argument)?;
+        found.push(TagOf { name, argument })?;
+    }
+    Ok(List::of(found))
+}
+
+/// The same bytes.
+fn copied(alloc: Global, name: &[u8]) -> Result<List<u8>, Memory>
+    ensures { IfOk result (λ l. l ≡ name.now) }
+{
+    Ok(List::of(Vec::from_slice(alloc, name)?))
+}

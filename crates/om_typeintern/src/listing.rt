@@ -1,0 +1,81 @@
+//! Types in the order in which they are met.
+
+ghost use Rattle.std.specs.Prelude.{◌≡◌, ◌<◌, ◌+◌, List, length, IfOk, OnOk};
+ghost use Rattle.om_types.specs.declared.decl.Decl.{Decl as Declaration};
+ghost use Rattle.om_types.specs.Ty.{Ty as Tree};
+ghost use Rattle.om_types.specs.Accepted.{AreSound};
+ghost use Rattle.om_scope.specs.Breaks.{names_of_decls};
+ghost use Rattle.om_scope.specs.Names.{number_of, ArePlaces};
+ghost use Rattle.om_typeintern.specs.Listed.{AreWithin, IsListingOf};
+
+use crate::entry::entry_of;
+use crate::met::{Met, place};
+use indexmap::IndexSet;
+use om_model::Memory;
+use om_scope::table::Table;
+use om_store::Types;
+use om_types::decl::Decl;
+use om_types::head::HeadOf;
+use om_types::names::Names;
+use om_types::shape::ShapeOf;
+use om_types::ty::Ty;
+use std::alloc::Global;
+
+/// A store of types, the numbers in it of those that were met, and the shapes, heads and names of the first of these.
+#[derive(Drop)]
+pub(crate) struct Listing {
+    pub(crate) types: Types,
+    pub(crate) met: Met,
+    pub(crate) nodes: Vec<ShapeOf<usize>>,
+    pub(crate) heads: Vec<HeadOf<usize>>,
+    pub(crate) names: Vec<Names>,
+}
+
+/// One type is met.
+pub(crate) fn started(alloc: Global, ty: &Ty) -> Result<Listing, Memory>
+    ensures within { IfOk result (λ l. AreWithin l.types l.met.keys) }
+    ensures one { IfOk result (λ l. length l.met.keys ≡ 1) }
+    ensures is { IfOk result (λ l. (decls : List Declaration) → IsListingOf decls ty.now l) }
+{
+    let mut types = Types::new(alloc);
+    let mut met = IndexSet::new(alloc);
+    let number = types.add(alloc, ty)?;
+    let _ = place(&mut met, number)?;
+    Ok(Listing {
+        types,
+        met,
+        nodes: Vec::new(alloc),
+        heads: Vec::new(alloc),
+        names: Vec::new(alloc),
+    })
+}
+
+/// Adds the entry of the first type that has none, and meets what that type reaches.
+pub(crate) fn go_on(
+    alloc: Global,
+    listing: &mut Listing,
+    decls: &[Decl],
+    table: &Table<'_>,
+) -> Result<(), Memory>
+    requires places { ArePlaces (names_of_decls decls.now) (length decls.now) (number_of table.now) }
+    requires within { AreWithin listing.old.types listing.old.met.keys }
+    requires more { length listing.old.nodes.items < length listing.old.met.keys }
+    requires sound { AreSound decls.now }
+    ensures within { OnOk result (AreWithin listing.new.types listing.new.met.keys) }
+    ensures one { OnOk result (length listing.new.nodes.items ≡ length listing.old.nodes.items + 1) }
+    ensures is { OnOk result ((t : Tree) → IsListingOf decls.now t listing.old → IsListingOf decls.now t listing.new) }
+{
+    let number = listing.met.as_slice()[listing.nodes.len()];
+    let entry = entry_of(
+        alloc,
+        &mut listing.types,
+        &mut listing.met,
+        decls,
+        table,
+        number,
+    )?;
+    listing.nodes.push(entry.shape)?;
+    listing.heads.push(entry.head)?;
+    listing.names.push(entry.names)?;
+    Ok(())
+}

@@ -1,0 +1,44 @@
+//! Types that were met, each at a place of its own.
+
+ghost use Rattle.std.specs.Prelude.{◌≡◌, Some, nat_eq, slice_get, IfOk, OnOk};
+ghost use Rattle.indexmap.specs.IndexSet.{insert_key};
+ghost use Rattle.om_typeintern.specs.Placed.{AreNumbersPlaced, IsOptionPlaced};
+
+use indexmap::IndexSet;
+use om_model::Memory;
+use om_model::list::List;
+use std::alloc::Global;
+
+/// The numbers of types in a store, each once, in the order in which they were met.
+pub(crate) type Met = IndexSet<usize>;
+
+/// The place of a number, at the end where it is new.
+pub(crate) fn place(met: &mut Met, number: usize) -> Result<usize, Memory>
+    ensures met { OnOk result (met.new.keys ≡ insert_key nat_eq met.old.keys number) }
+    ensures there { IfOk result (λ place. slice_get met.new.keys place ≡ Some number) }
+{
+    let (place, _) = met.insert_full(number)?;
+    Ok(place)
+}
+
+/// The places of numbers.
+pub(crate) fn places(alloc: Global, met: &mut Met, numbers: &[usize]) -> Result<List<usize>, Memory>
+    ensures { IfOk result (AreNumbersPlaced met.old.keys met.new.keys numbers.now) }
+{
+    let mut found = Vec::new(alloc);
+    for number in numbers {
+        let place = place(met, *number)?;
+        found.push(place)?;
+    }
+    Ok(List::of(found))
+}
+
+/// The place of a number, where there is one.
+pub(crate) fn place_if(met: &mut Met, number: Option<usize>) -> Result<Option<usize>, Memory>
+    ensures { IfOk result (IsOptionPlaced met.old.keys met.new.keys number) }
+{
+    match number {
+        Some(number) => Ok(Some(place(met, number)?)),
+        None => Ok(None),
+    }
+}

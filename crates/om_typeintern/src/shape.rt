@@ -1,0 +1,85 @@
+//! Shapes by places.
+
+ghost use Rattle.std.specs.Prelude.{IfOk};
+ghost use Rattle.om_typeintern.specs.Placed.{AreBlocksPlaced, IsTagPlaced, AreTagsPlaced, IsShapePlaced};
+
+use crate::met::{Met, place, place_if, places};
+use om_model::Memory;
+use om_model::list::List;
+use om_types::shape::{Constr, PolyTag, ShapeOf};
+use std::alloc::Global;
+
+/// A shape by the places of the numbers in it. They are met constructor by constructor and field by field, and tags in
+/// their order.
+pub(crate) fn placed_shape(
+    alloc: Global,
+    met: &mut Met,
+    shape: &ShapeOf<usize>,
+) -> Result<ShapeOf<usize>, Memory>
+    ensures { IfOk result (IsShapePlaced met.old.keys met.new.keys shape.now) }
+{
+    match shape {
+        ShapeOf::AnyInt => Ok(ShapeOf::AnyInt),
+        ShapeOf::Below(count) => Ok(ShapeOf::Below(*count)),
+        ShapeOf::Bytes(mutable) => Ok(ShapeOf::Bytes(*mutable)),
+        ShapeOf::Double => Ok(ShapeOf::Double),
+        ShapeOf::Int32 => Ok(ShapeOf::Int32),
+        ShapeOf::Int64 => Ok(ShapeOf::Int64),
+        ShapeOf::Native => Ok(ShapeOf::Native),
+        ShapeOf::Sum(constants, blocks) => {
+            let blocks = placed_blocks(alloc, met, blocks.as_slice())?;
+            Ok(ShapeOf::Sum(*constants, blocks))
+        }
+        ShapeOf::Product(mutable, fields) => {
+            let fields = places(alloc, met, fields.as_slice())?;
+            Ok(ShapeOf::Product(*mutable, fields))
+        }
+        ShapeOf::FlatFloats(mutable, count) => Ok(ShapeOf::FlatFloats(*mutable, *count)),
+        ShapeOf::ArrayOf(element) => Ok(ShapeOf::ArrayOf(place(met, *element)?)),
+        ShapeOf::FloatArray => Ok(ShapeOf::FloatArray),
+        ShapeOf::Poly(tags) => Ok(ShapeOf::Poly(placed_tags(alloc, met, tags.as_slice())?)),
+        ShapeOf::Variable => Ok(ShapeOf::Variable),
+        ShapeOf::ArrayOfVariable => Ok(ShapeOf::ArrayOfVariable),
+    }
+}
+
+/// Constructors with arguments, by places.
+fn placed_blocks(
+    alloc: Global,
+    met: &mut Met,
+    blocks: &[Constr<usize>],
+) -> Result<List<Constr<usize>>, Memory>
+    ensures { IfOk result (AreBlocksPlaced met.old.keys met.new.keys blocks.now) }
+{
+    let mut found = Vec::new(alloc);
+    for block in blocks {
+        let fields = places(alloc, met, block.fields.as_slice())?;
+        let mutable = block.mutable;
+        found.push(Constr { mutable, fields })?;
+    }
+    Ok(List::of(found))
+}
+
+/// Tags by hashes, with the places of their arguments.
+fn placed_tags(
+    alloc: Global,
+    met: &mut Met,
+    tags: &[PolyTag<usize>],
+) -> Result<List<PolyTag<usize>>, Memory>
+    ensures { IfOk result (AreTagsPlaced met.old.keys met.new.keys tags.now) }
+{
+    let mut found = Vec::new(alloc);
+    for tag in tags {
+        found.push(placed_tag(met, tag)?)?;
+    }
+    Ok(List::of(found))
+}
+
+/// A tag by its hash, with the place of its argument.
+fn placed_tag(met: &mut Met, tag: &PolyTag<usize>) -> Result<PolyTag<usize>, Memory>
+    ensures { IfOk result (IsTagPlaced met.old.keys met.new.keys tag.now) }
+{
+    let arg = place_if(met, tag.arg)?;
+    let hash = tag.hash;
+    Ok(PolyTag { hash, arg })
+}

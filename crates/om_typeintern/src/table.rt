@@ -1,0 +1,77 @@
+//! The table of the types that a type reaches.
+
+ghost use Rattle.std.specs.Prelude.{◌≡◌, length, IfOk, IfErr};
+ghost use Rattle.om_types.specs.Accepted.{AreSound, AreWellFormed, IsSoundType};
+ghost use Rattle.om_types.specs.Classes.{PartsBelow};
+ghost use Rattle.om_types.specs.Table.{head_at};
+ghost use Rattle.om_classes.specs.Found.{AreClasses};
+ghost use Rattle.om_type_table.specs.Made.{IsTypeTable};
+ghost use Rattle.om_typeintern.specs.Faults.{IsTypeFault};
+ghost use Rattle.om_typeintern.specs.Listed.{IsWhole, IsTableOfListing};
+
+use crate::fault::TypeFault;
+use crate::listing::{Listing, go_on, started};
+use om_classes::classes;
+use om_model::Memory;
+use om_model::list::List;
+use om_scope::declared::table_of;
+use om_type_table::TypeTable;
+use om_types::decl::Decl;
+use om_types::ty::Ty;
+use std::alloc::Global;
+
+/// How many types a table has at most.
+const MOST: usize = 65536;
+
+/// The table of the types that a type reaches, in the order in which they are met: the type, and then for each in turn
+/// what its shape names and the parts of its head.
+pub fn build(alloc: Global, decls: &[Decl], ty: &Ty) -> Result<TypeTable, TypeFault>
+    requires well { AreWellFormed decls.now }
+    requires sound { IsSoundType decls.now ty.now }
+    ensures ok { IfOk result (IsTypeTable decls.now ty.now) }
+    ensures err { IfErr result (IsTypeFault decls.now ty.now) }
+{
+    let listing = listed(alloc, decls, ty)?;
+    let table = finished(alloc, listing)?;
+    Ok(table)
+}
+
+/// All types that a type reaches.
+fn listed(alloc: Global, decls: &[Decl], ty: &Ty) -> Result<Listing, TypeFault>
+    requires { AreSound decls.now }
+    ensures ok { IfOk result (IsWhole decls.now ty.now) }
+    ensures err { IfErr result (IsTypeFault decls.now ty.now) }
+{
+    let table = table_of(alloc, decls)?;
+    let mut listing = started(alloc, ty)?;
+    while listing.nodes.len() < listing.met.len() {
+        go_on(alloc, &mut listing, decls, &table)?;
+        if listing.met.len() > MOST {
+            return Err(TypeFault::TooManyTypes);
+        }
+    }
+    Ok(listing)
+}
+
+/// The table of what was listed.
+fn finished(alloc: Global, listing: Listing) -> Result<TypeTable, Memory>
+    requires { PartsBelow (length listing.heads.items) (head_at listing.heads.items) }
+    ensures { IfOk result (IsTableOfListing listing) }
+{
+    let Listing {
+        types,
+        met,
+        nodes,
+        heads,
+        names,
+    } = listing;
+    let found = classes(alloc, heads.as_slice())?;
+    let stored = Vec::from_slice(alloc, met.as_slice())?;
+    Ok(TypeTable {
+        store: types,
+        stored: List::of(stored),
+        nodes: List::of(nodes),
+        classes: List::of(found),
+        names: List::of(names),
+    })
+}
