@@ -1,24 +1,22 @@
 -- The start of a parting, and its end.
 use Rattle.std.proofs.Common.{ℕ, zero, suc, ◌<◌, ◌≤◌, ◌+◌, ◌≡◌, ◌∙◌, ⊎_elim, ◌⊎◌, inl, inr, List, [], ◌∷◌, ◌++◌, Some, refl, sym, ap, subst, length, get_or, arith}
-use Rattle.std.specs.Prelude.{Contains, slice_get, slice_index, ◌↔◌, All}
+use Rattle.std.specs.Prelude.{Contains, slice_get, slice_index, All}
 use Rattle.std.specs.Global.{Vec}
 use Rattle.std.proofs.lemmas.List.Elements.{Contains-get_or, Contains-push, Contains-push_cases, Contains-append_left}
 use Rattle.std.proofs.lemmas.Option.{same_Some, slice_get-get_or, slice_get_within}
 use Rattle.om_model.proofs.Options.{Contains-first, Contains-none, Contains-cases, same_or_not}
 use Rattle.om_types.specs.declared.head.HeadOf.{HeadOf}
-use Rattle.om_types.specs.Equal.{HeadsAgree, EqualBy}
 use Rattle.om_types.specs.Table.{head_at}
 use Rattle.om_types.specs.Classes.{AreTogether, PartsBelow, IsStable}
 use Rattle.om_equal.proofs.AgreeLemmas.{HeadsAgree-more}
 use Rattle.om_equal.proofs.ClassLemmas.{stable_is_equal}
 use Rattle.om_classes.specs.declared.form.Form.{Form}
 use Rattle.om_classes.specs.declared.look.Look.{Look}
-use Rattle.om_classes.specs.declared.parting.Parting.{Parting}
 use Rattle.om_classes.specs.Form.{AreForms}
 use Rattle.om_classes.specs.Users.{AreUsers}
 use Rattle.om_classes.specs.Lists.{Has, Keeps, IsTaken, HasRooms}
 use Rattle.om_classes.specs.Parting.{IsReady, MarksUsers, IsSignOf, SignAt, SignedAt, AreNamed, AreMoved, HasMembers, IsLook, IsUnderWay, IsOpen, PartsNoEqual}
-use Rattle.om_classes.specs.Start.{IsUnderWayAt, KeepsEqual, IsParted}
+use Rattle.om_classes.specs.Start.{KeepsEqual, IsParted}
 use Rattle.om_classes.specs.Found.{AreClasses}
 use Rattle.om_classes.proofs.TurnLemmas.{AllZip-at, AllZip-long, agree_at, keeps_new, settled_new, has_new, within_new}
 
@@ -174,7 +172,7 @@ module _ (forms : List Form) (class : List ℕ) (parted : ℕ) (look : Look) (is
       let at_looked = slice_get-get_or look.looked.items k 0 (subst (λ n. k < n) places_long below) in
       let at_place = slice_get-get_or look.places.items k d below in
       let s = AllZip-at (SignedAt forms (slice_index class) look.found) look.looked.items look.places.items k _ _
-          is_look.signed at_looked at_place in
+      is_look.signed at_looked at_place in
       slice_get_within look.found (get_or look.places.items k d) s.0 s.1
 
 module _ (forms : List Form) (users : List (Vec ℕ)) (o w : List ℕ) (signs signs' members rooms members' waiting waits waiting' : List (Vec ℕ))

@@ -10,7 +10,7 @@ use Rattle.om_store.specs.Held.{Adds, Grows}
 use Rattle.om_store.proofs.HeldLemmas.{there_kept}
 use Rattle.om_classes.specs.declared.form.TagForm.{TagForm}
 use Rattle.om_classes.specs.declared.form.Form.{Form}
-use Rattle.om_classes.specs.Form.{IsTagForm, AreTagForms, IsTagged, IsNamed, IsForm}
+use Rattle.om_classes.specs.Form.{IsTagForm, AreTagForms, IsNamed, IsForm}
 
 pub AllZip-more : {A B : Type 0} (P Q : A → B → Type 0) → ((a : A) (b : B) → P a b → Q a b)
     → (as' : List A) (bs : List B) → AllZip P as' bs → AllZip Q as' bs

@@ -1,15 +1,14 @@
 -- Lists of numbers, one for each class or for each number.
-use Rattle.std.proofs.Common.{ℕ, zero, suc, ◌<◌, ◌+◌, ◌≤◌, ◌≡◌, ◌≢◌, ◌∙◌, ⊎_elim, ◌⊎◌, inl, inr, List, [], ◌∷◌, ◌++◌, Some, refl, sym, ap, subst, length, length-append, get_or, take, set, arith}
+use Rattle.std.proofs.Common.{ℕ, zero, suc, ◌<◌, ◌+◌, ◌≡◌, ◌≢◌, ◌∙◌, ⊎_elim, ◌⊎◌, inl, inr, List, [], ◌∷◌, ◌++◌, Some, refl, sym, ap, subst, length, length-append, get_or, take, set, arith}
 use Rattle.std.specs.Prelude.{Contains, slice_get, slice_index}
 use Rattle.std.specs.Global.{Vec}
 use Rattle.std.proofs.Math.ListN.{length-set}
 use Rattle.std.proofs.Math.Seq.{take-length}
-use Rattle.std.proofs.lemmas.List.{take_more, get_or_append_left}
+use Rattle.std.proofs.lemmas.List.{take_more}
 use Rattle.std.proofs.lemmas.List.Elements.{Contains-append_left, Contains-push, Contains-push_cases}
-use Rattle.std.proofs.lemmas.Option.{same_Some, slice_get-get_or, slice_get_within}
+use Rattle.std.proofs.lemmas.Option.{same_Some, slice_get-get_or}
 use Rattle.om_model.proofs.Options.{Contains-none, same_or_not}
 use Rattle.om_store.proofs.HeldLemmas.{there_kept}
-use Rattle.om_store.specs.Held.{Grows}
 use Rattle.om_classes.specs.Lists.{Has, Keeps, IsPut, IsTaken, HasRooms, IsOfClass}
 use Rattle.om_classes.specs.Sign.{IsSetOf}
 
@@ -47,7 +46,7 @@ module _ (lists : List (Vec ℕ)) (at : ℕ) (v w : Vec ℕ) (below : at < lengt
           w,
           ap (slice_get (set lists at w)) here ∙ set_here lists at w below,
           subst (λ l. Contains l y) (sym more) (Contains-append_left v.items (x ∷ []) y
-          (subst (λ (u : Vec ℕ). Contains u.items y) same has.2)),
+              (subst (λ (u : Vec ℕ). Contains u.items y) same has.2)),
         ))
         (λ other. (has.0, set_other lists at d w other ∙ has.1, has.2))
         (same_or_not d at)
@@ -152,8 +151,10 @@ module _ (class : List ℕ) (wanted : ℕ) (numbers : List ℕ) (i : ℕ) (withi
     is = λ y among. held.is y (subst (λ l. Contains l y) is among);
     has = λ y among under wants. subst (λ l. Contains l y) (sym is) (⊎_elim
         (λ before. held.has y before under wants)
-        (λ last. absurd (never (subst (λ n. n < length class) (sym last) under,
-        subst (λ n. slice_index class n ≡ wanted) (sym last) wants)))
+        (λ last. absurd (never (
+          subst (λ n. n < length class) (sym last) under,
+          subst (λ n. slice_index class n ≡ wanted) (sym last) wants,
+        )))
         (next_cases numbers i y within among));
   }
 

@@ -1,5 +1,5 @@
 -- What is looked at of a class.
-use Rattle.std.proofs.Common.{ℕ, ◌<◌, ◌≡◌, ◌∙◌, ⊎_elim, ◌⊎◌, inl, inr, List, Some, sym, ap, subst, length, get_or, arith}
+use Rattle.std.proofs.Common.{ℕ, ◌<◌, ◌≡◌, ◌∙◌, ⊎_elim, ◌⊎◌, inl, inr, List, Some, sym, ap, subst, length, get_or}
 use Rattle.std.specs.Prelude.{Contains, slice_get, slice_index, All}
 use Rattle.std.specs.Global.{Vec}
 use Rattle.std.proofs.lemmas.List.Elements.{Contains-get_or}

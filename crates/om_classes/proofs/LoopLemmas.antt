@@ -2,13 +2,13 @@
 use Rattle.std.proofs.Common.{ℕ, zero, suc, ◌<◌, ◌+◌, ◌≤◌, ◌≡◌, ◌≢◌, ◌∙◌, ⊎_elim, ◌⊎◌, inl, inr, List, [], ◌∷◌, ◌++◌, Some, refl, sym, ap, subst, length, length-append, get_or, take, set, arith}
 use Rattle.std.specs.Prelude.{Contains, slice_get, slice_index, false, ◌==◌}
 use Rattle.std.specs.Global.{Vec}
-use Rattle.std.specs.List.{AllZip, flat_map}
+use Rattle.std.specs.List.{flat_map}
 use Rattle.std.proofs.Math.ListN.{length-set}
 use Rattle.std.proofs.lemmas.Grind.{flat_map-append}
 use Rattle.std.proofs.lemmas.List.{take_more, append-nil, append_assoc, get_or-set_same, get_or-set_other}
 use Rattle.std.proofs.lemmas.List.Elements.{Contains-append_left, Contains-append_cases, Contains-push, Contains-push_cases}
 use Rattle.std.proofs.lemmas.Option.{same_Some, slice_get-get_or, slice_get_within, get_or_from_slice_get}
-use Rattle.om_model.proofs.Options.{Contains-first, Contains-none, Contains-cases, same_or_not, slice_get_there}
+use Rattle.om_model.proofs.Options.{Contains-none, Contains-cases, same_or_not, slice_get_there}
 use Rattle.om_types.specs.Reached.{listed_if}
 use Rattle.om_store.specs.Held.{AreDistinct, Adds, Grows}
 use Rattle.om_store.proofs.HeldLemmas.{there_kept, Grows-then}
@@ -17,7 +17,7 @@ use Rattle.om_classes.specs.declared.form.Form.{Form}
 use Rattle.om_classes.specs.Lists.{Has, Keeps, IsPut}
 use Rattle.om_classes.specs.Users.{parts_in}
 use Rattle.om_classes.specs.Sign.{IsSign}
-use Rattle.om_classes.specs.Parting.{IsReady, MarksUsers, IsSignOf, SignAt, SignedAt, AreSigned, AreNamed, NamedSoFar, IsPlaced, AreMoved, HasMembers}
+use Rattle.om_classes.specs.Parting.{IsReady, SignAt, SignedAt, AreNamed, NamedSoFar, AreMoved}
 use Rattle.om_classes.proofs.Loops.{UsesSoFar, UsersSoFar, MarksSoFar, UserMarksSoFar, SignedSoFar, MembersSoFar}
 use Rattle.om_classes.proofs.ListLemmas.{next_cases, pushed_cases, at_end, before_end, set_here, set_other, Keeps-then}
 use Rattle.om_classes.proofs.FormLemmas.{AllZip-more, AllZip-add, adds_grows}

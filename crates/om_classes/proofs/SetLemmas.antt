@@ -1,10 +1,10 @@
 -- Numbers in order, each once, are told by which they are.
-use Rattle.std.proofs.Common.{ℕ, zero, suc, ◌<◌, ◌+◌, ◌≡◌, ◌∙◌, ⊎_elim, ◌⊎◌, List, [], ◌∷◌, refl, sym, ap, subst, length, get_or, eqb, arith}
+use Rattle.std.proofs.Common.{ℕ, zero, suc, ◌<◌, ◌≡◌, ◌∙◌, ⊎_elim, List, [], ◌∷◌, refl, sym, subst, length, get_or, eqb, arith}
 use Rattle.std.specs.Prelude.{Contains}
 use Rattle.std.specs.Ordering.{nat_cmp}
 use Rattle.std.specs.List.{dedup}
 use Rattle.std.specs.List.Retain.{IsFiltered, DiffersFromLast}
-use Rattle.std.specs.List.Sorted.{IsStrictlyIncreasing, IsStrictlySortedBy, IsSorted, IsPermutation}
+use Rattle.std.specs.List.Sorted.{IsStrictlyIncreasing, IsSorted, IsPermutation}
 use Rattle.std.proofs.lemmas.List.Filters.{dedup_is}
 use Rattle.std.proofs.lemmas.List.Kept.{Contains-dedup_nat, Contains-from_dedup}
 use Rattle.std.proofs.lemmas.List.Sorted.{Contains-permutation, IsPermutation-sym}
@@ -56,7 +56,7 @@ same_rising (x ∷ xs) [] up up' there back = absurd (Contains-none x (there x (
 same_rising (x ∷ xs) (y ∷ ys) up up' there back =
     let same : x ≡ y = same_first x y xs ys up up' (there x (Contains-first x xs)) (back y (Contains-first y ys)) in
     let rest : xs ≡ ys = same_rising xs ys up.1 up'.1 (rest_among x y xs ys up same there)
-        (rest_among y x ys xs up' (sym same) back) in
+    (rest_among y x ys xs up' (sym same) back) in
     cc
 
 -- sets of the same numbers are one list

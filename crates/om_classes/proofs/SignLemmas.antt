@@ -1,5 +1,5 @@
 -- Two heads say the same of classes exactly where they agree, with parts of one class each.
-use Rattle.std.proofs.Common.{ℕ, zero, suc, ◌<◌, ◌+◌, ◌*◌, ◌≡◌, ◌∙◌, ⊎_elim, ◌⊎◌, List, [], ◌∷◌, ◌++◌, Option, Some, None, refl, sym, ap, subst, length, map, arith}
+use Rattle.std.proofs.Common.{ℕ, ◌<◌, ◌+◌, ◌*◌, ◌≡◌, ◌∙◌, ⊎_elim, List, [], ◌∷◌, ◌++◌, Option, Some, None, refl, sym, ap, subst, map, arith}
 use Rattle.std.specs.Prelude.{Contains, slice_get}
 use Rattle.std.specs.List.{AllZip}
 use Rattle.std.proofs.lemmas.List.{append-nil}
@@ -15,7 +15,7 @@ use Rattle.om_store.specs.Held.{AreDistinct}
 use Rattle.om_classes.specs.declared.form.TagForm.{TagForm}
 use Rattle.om_classes.specs.declared.form.Form.{Form}
 use Rattle.om_classes.specs.declared.sign.TheConstants.{WIDTH}
-use Rattle.om_classes.specs.Form.{code_of, IsTagForm, AreTagForms, IsPlain, IsNamed, IsTagged, IsForm}
+use Rattle.om_classes.specs.Form.{code_of, IsTagForm, AreTagForms, IsPlain, IsTagged, IsForm}
 use Rattle.om_classes.specs.Sign.{IsSetOf, offset, IsCode, AreCodes, IsSign}
 use Rattle.om_classes.proofs.SetLemmas.{same_sets}
 
@@ -122,9 +122,9 @@ module _ (names : List (List ℕ)) (distinct : AreDistinct names) (class : ℕ �
   tags_from tag other code one two =
       let is = sym one.coded.is ∙ two.coded.is in
       let name = same_name one.form.name two.form.name (offset class one.form.argument) (offset class two.form.argument) is
-          one.coded.below two.coded.below in
+      one.coded.below two.coded.below in
       let far = same_offset one.form.name two.form.name (offset class one.form.argument) (offset class two.form.argument) is
-          one.coded.below two.coded.below in (
+      one.coded.below two.coded.below in (
         same_Some tag.name other.name (sym one.named.name ∙ ap (slice_get names) name ∙ two.named.name),
         arguments_from tag.argument other.argument
             (ap (offset class) one.named.argument ∙ far ∙ sym (ap (offset class) two.named.argument)),
@@ -134,10 +134,10 @@ module _ (names : List (List ℕ)) (distinct : AreDistinct names) (class : ℕ �
       → code ≡ code'
   from_tags tag other code code' agree one two =
       let name : one.form.name ≡ two.form.name = distinct one.form.name two.form.name tag.name one.named.name
-          (two.named.name ∙ ap (λ n. Some n) (sym agree.0)) in
+      (two.named.name ∙ ap (λ n. Some n) (sym agree.0)) in
       let far : offset class one.form.argument ≡ offset class two.form.argument =
-          ap (offset class) (sym one.named.argument) ∙ from_arguments tag.argument other.argument agree.1
-          ∙ ap (offset class) two.named.argument in
+      ap (offset class) (sym one.named.argument) ∙ from_arguments tag.argument other.argument agree.1
+      ∙ ap (offset class) two.named.argument in
       one.coded.is ∙ ap (λ n. n * WIDTH + offset class one.form.argument) name
       ∙ ap (λ o. two.form.name * WIDTH + o) far ∙ sym two.coded.is
 
@@ -213,7 +213,7 @@ module _ (names : List (List ℕ)) (distinct : AreDistinct names) (class : ℕ �
       → s ≡ says ++ map class ts
   told_plain says ts form s plain sign =
       let none : sign.set ≡ [] = none_set sign.codes sign.set
-          (none_coded sign.codes (subst (λ l. AreCodes class l sign.codes) plain.tags sign.are)) sign.once in
+      (none_coded sign.codes (subst (λ l. AreCodes class l sign.codes) plain.tags sign.are)) sign.once in
       sign.is ∙ ap (λ l. (form.label ++ map class form.parts) ++ l) none ∙ append-nil (form.label ++ map class form.parts)
       ∙ ap (λ l. l ++ map class form.parts) plain.label ∙ ap (λ l. says ++ map class l) plain.parts
 

@@ -1,10 +1,10 @@
 -- A class that is parted: no two equal numbers are parted, and each number waits or has the sign of its class.
-use Rattle.std.proofs.Common.{ℕ, zero, suc, ◌<◌, ◌+◌, ◌*◌, ◌≤◌, ◌≡◌, ◌≢◌, ◌∙◌, ⊎_elim, ◌⊎◌, inl, inr, List, [], ◌∷◌, ◌++◌, Option, Some, None, refl, sym, ap, subst, length, map, arith}
+use Rattle.std.proofs.Common.{ℕ, zero, suc, ◌<◌, ◌+◌, ◌*◌, ◌≡◌, ◌≢◌, ◌∙◌, ⊎_elim, ◌⊎◌, inl, inr, List, [], ◌∷◌, ◌++◌, Option, Some, None, refl, sym, ap, subst, length, map, arith}
 use Rattle.std.specs.Prelude.{Contains, slice_get, slice_index}
 use Rattle.std.specs.Global.{Vec}
 use Rattle.std.specs.List.{AllZip, flat_map}
 use Rattle.std.proofs.lemmas.List.Elements.{Contains-append_left, Contains-append_right}
-use Rattle.std.proofs.lemmas.Option.{same_Some, slice_get_within}
+use Rattle.std.proofs.lemmas.Option.{same_Some}
 use Rattle.om_model.proofs.Options.{Contains-first, Contains-later, Contains-none, Contains-cases, Contains-flat_map, slice_get-Contains, same_or_not, slice_get_there}
 use Rattle.om_types.specs.declared.head.HeadOf.{HeadOf}
 use Rattle.om_types.specs.Equal.{HeadsAgree}
@@ -21,7 +21,7 @@ use Rattle.om_classes.specs.Form.{IsForm, AreForms}
 use Rattle.om_classes.specs.Sign.{offset, IsCode, IsSign}
 use Rattle.om_classes.specs.Users.{parts_in, AreUsers}
 use Rattle.om_classes.specs.Lists.{Has}
-use Rattle.om_classes.specs.Parting.{IsSignOf, SignAt, SignedAt, AreNamed, IsPlaced, AreMoved, IsLook, MarksUsers, HasMembers}
+use Rattle.om_classes.specs.Parting.{IsSignOf, SignAt, SignedAt, AreNamed, AreMoved, IsLook, MarksUsers, HasMembers}
 use Rattle.om_classes.proofs.ListLemmas.{read}
 use Rattle.om_classes.proofs.SignLemmas.{agree_from_sign, sign_from_agree}
 
@@ -137,7 +137,7 @@ module _ (forms : List Form) (o w : List ℕ) (c : ℕ) (look : Look) (numbers :
   fits i below same = ⊎_elim
       (λ placed.
       let s = AllZip-at (SignedAt forms (slice_index o) look.found) look.looked.items look.places.items placed.at i
-          placed.place is_look.signed placed.looked_at placed.placed in
+      placed.place is_look.signed placed.looked_at placed.placed in
       (placed.place, s.0, s.1, placed.named, s.2))
       (λ never. ⊎_elim
       (λ among. absurd (never.0 among.0 among.1 (read look.looked.items among.0 i among.1 (sym among.2))))
@@ -188,8 +188,8 @@ module _ (forms : List Form) (o w : List ℕ) (c : ℕ) (look : Look) (numbers :
           let one = fits i (subst (λ n. i < n) many before.first) is in
           let two = fits j (subst (λ n. j < n) many before.second) (sym before.same ∙ is) in
           let sign = sign_at all forms are (slice_index o) i j one.1 two.1
-              (HeadsAgree-more Together (λ a b. slice_index o a ≡ slice_index o b) (head_at all i) (head_at all j)
-              (λ k l among among' t. t.same) agree) one.4 two.4 in
+          (HeadsAgree-more Together (λ a b. slice_index o a ≡ slice_index o b) (head_at all i) (head_at all j)
+          (λ k l among among' t. t.same) agree) one.4 two.4 in
           let place = is_look.distinct one.0 two.0 one.1 one.2 (two.2 ∙ ap (λ l. Some l) (sym sign)) in
           same_Some (slice_index w i) (slice_index w j) (sym one.3 ∙ ap (slice_get numbers) place ∙ two.3)
 

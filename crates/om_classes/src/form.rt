@@ -51,8 +51,12 @@ fn form_of(alloc: Global, names: &mut Names, head: &HeadOf<usize>) -> Result<For
             let number = names.number(name.as_slice())?;
             formed(alloc, &[0, number], &[], Vec::new(alloc))
         }
-        HeadOf::Predeclared(base, parts) =>
-            formed(alloc, &[1, code_of(*base)], parts.as_slice(), Vec::new(alloc)),
+        HeadOf::Predeclared(base, parts) => formed(
+            alloc,
+            &[1, code_of(*base)],
+            parts.as_slice(),
+            Vec::new(alloc),
+        ),
         HeadOf::Datatype(name, parts) => {
             let number = names.number(name.as_slice())?;
             formed(alloc, &[2, number], parts.as_slice(), Vec::new(alloc))

@@ -1,5 +1,4 @@
-use Rattle.std.proofs.Common.{ℕ, ◌<◌, ◌≡◌, subst, arith}
-use Rattle.std.specs.Prelude.{Contains}
+use Rattle.std.proofs.Common.{arith}
 use Rattle.om_classes.proofs.EndLemmas.{below_more}
 use Rattle.om_classes.proofs.all_classes.numbers_below.Goals as goal
 

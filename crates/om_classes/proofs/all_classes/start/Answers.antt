@@ -1,4 +1,4 @@
-use Rattle.std.proofs.Common.{ap, ◌∙◌, ◌++◌, ◌∷◌, [], arith}
+use Rattle.std.proofs.Common.{ap, ◌∙◌, ◌++◌, ◌∷◌, []}
 use Rattle.om_classes.proofs.EndLemmas.{started}
 use Rattle.om_classes.proofs.all_classes.start.Goals as goal
 

@@ -1,4 +1,4 @@
-use Rattle.std.proofs.Common.{◌∙◌, ◌+◌, ◌∷◌, [], ap, length, length-append, arith}
+use Rattle.std.proofs.Common.{◌∙◌, ◌+◌, ◌∷◌, [], ap, length, length-append}
 use Rattle.om_classes.proofs.EndLemmas.{zero_more, none_zero}
 use Rattle.om_classes.proofs.all_classes.zeros.Goals as goal
 

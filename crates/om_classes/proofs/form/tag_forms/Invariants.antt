@@ -1,6 +1,4 @@
 use Rattle.std.proofs.Common.{take}
-use Rattle.om_store.specs.Held.{AreDistinct, Grows}
-use Rattle.om_classes.specs.Form.{AreTagForms}
 use Rattle.om_classes.proofs.Loops.{TagsSoFar}
 use Rattle.om_classes.proofs.form.tag_forms.Given as goal
 

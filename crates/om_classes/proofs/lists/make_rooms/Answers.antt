@@ -1,4 +1,4 @@
-use Rattle.std.proofs.Common.{ℕ, ◌≡◌, length, subst, sym, arith}
+use Rattle.std.proofs.Common.{◌≡◌, length, subst, sym, arith}
 use Rattle.om_classes.specs.Lists.{HasRooms}
 use Rattle.om_classes.proofs.ListLemmas.{room_more, rooms_now}
 use Rattle.om_classes.proofs.lists.make_rooms.Goals as goal

@@ -10,7 +10,7 @@ loop-number-init c = of_class_none _ _ _ c.new-found.ensures.items
 
 pub loop-number-preserved : goal.loop-number-preserved
 loop-number-preserved c = elim c.if-has_class.branch [
-  then-has_class+in_ok-push w ↦ of_class_more c.args.class.now c.args.wanted c.args.numbers.now c.loop-number.number-index
+  | then-has_class+in_ok-push w ↦ of_class_more c.args.class.now c.args.wanted c.args.numbers.now c.loop-number.number-index
       c.loop-number-test.true c.loop-number.found.items _ c.loop-number.invariant
       (ap (λ (v : Vec ℕ). v.items) w.found-is ∙ w.in_ok-push.ensures.items)
       (c.has_class.ensures.0 w.if-has_class.true)
@@ -18,7 +18,7 @@ loop-number-preserved c = elim c.if-has_class.branch [
       c.loop-number-test.true c.loop-number.found.items _ c.loop-number.invariant
       (ap (λ (v : Vec ℕ). v.items) w.found-is)
       (λ both. true≢false (sym (c.has_class.ensures.1 both) ∙ w.if-has_class.false))
-  ]
+]
 
 pub returns : goal.returns
 returns c =

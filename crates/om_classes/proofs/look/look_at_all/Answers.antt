@@ -1,4 +1,4 @@
-use Rattle.std.proofs.Common.{ℕ, ◌<◌, length, subst, sym}
+use Rattle.std.proofs.Common.{◌<◌, length, subst, sym}
 use Rattle.std.specs.Prelude.{All, slice_index}
 use Rattle.om_classes.specs.Parting.{AreSigned}
 use Rattle.om_classes.proofs.LookLemmas.{look_within, signed_grown, all_look}

@@ -1,6 +1,6 @@
 use Rattle.std.proofs.Common.{ap, subst, sym, Some, ◌∙◌}
 use Rattle.std.specs.Prelude.{All, slice_index}
-use Rattle.std.proofs.Common.{ℕ, ◌<◌, length}
+use Rattle.std.proofs.Common.{◌<◌, length}
 use Rattle.om_store.proofs.HeldLemmas.{there_kept}
 use Rattle.om_classes.specs.Parting.{AreSigned}
 use Rattle.om_classes.proofs.ListLemmas.{read}

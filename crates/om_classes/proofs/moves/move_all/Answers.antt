@@ -1,4 +1,4 @@
-use Rattle.std.proofs.Common.{◌≡◌, ◌<◌, ◌∙◌, length, get_or, refl, subst, arith}
+use Rattle.std.proofs.Common.{◌≡◌, ◌∙◌, length, get_or, refl, subst, arith}
 use Rattle.std.proofs.Math.ListN.{length-set}
 use Rattle.std.proofs.lemmas.Option.{slice_get-get_or}
 use Rattle.om_classes.specs.Parting.{AreMoved}

@@ -1,4 +1,4 @@
-use Rattle.std.proofs.Common.{ℕ, ◌≡◌, ◌∙◌, ◌++◌, ◌∷◌, [], length, ap, arith}
+use Rattle.std.proofs.Common.{◌≡◌, ◌∙◌, ◌++◌, ◌∷◌, [], length, ap, arith}
 use Rattle.om_classes.proofs.LoopLemmas.{named_kept, named_new}
 use Rattle.om_classes.proofs.moves.name_place.Goals as goal
 

@@ -1,4 +1,4 @@
-use Rattle.std.proofs.Common.{ℕ, ◌≡◌, ◌∙◌, Some, length, ap, sym, subst, arith}
+use Rattle.std.proofs.Common.{◌≡◌, ◌∙◌, Some, length, ap, sym, subst, arith}
 use Rattle.om_classes.specs.Parting.{NamedSoFar}
 use Rattle.om_classes.proofs.LoopLemmas.{named_none, named_all}
 use Rattle.om_classes.proofs.moves.name_places.Goals as goal

@@ -1,4 +1,4 @@
-use Rattle.std.proofs.Common.{ℕ, ◌<◌, ◌≡◌, ◌∙◌, length, refl, ap, subst, sym, arith}
+use Rattle.std.proofs.Common.{◌<◌, ◌≡◌, ◌∙◌, length, refl, ap, subst, sym, arith}
 use Rattle.std.specs.Prelude.{slice_index}
 use Rattle.om_classes.specs.Lists.{HasRooms}
 use Rattle.om_classes.proofs.TurnLemmas.{within_new}
@@ -22,19 +22,19 @@ move_all-requires-clause-many c = ap length c.as_slice-places.ensures.value
 pub add_members-requires : goal.add_members-requires
 add_members-requires c i =
     let moved = moved_as _ _ _ _ _ _ _ _ c.as_slice-looked.ensures.value c.as_slice-places.ensures.value
-        c.as_slice.ensures.value c.move_all.ensures.moved in
+    c.as_slice.ensures.value c.move_all.ensures.moved in
     let below : slice_index c.move_all.new.class.items i < length c.name_places.new.signs.items =
-        within_new c.args.forms.now _ _ c.args.parted c.in_ok-look.look c.in_ok-numbers.numbers.items _ _
-        c.in_ok-look.ensures c.in_ok-numbers.ensures moved c.requires.open.within i in
+    within_new c.args.forms.now _ _ c.args.parted c.in_ok-look.look c.in_ok-numbers.numbers.items _ _
+    c.in_ok-look.ensures c.in_ok-numbers.ensures moved c.requires.open.within i in
     omega (arith, ap (λ l. slice_index l i) c.as_slice-class.ensures.value, c.in_ok-make_rooms.ensures.many)
 
 pub mark_users-requires-clause-within : goal.mark_users-requires-clause-within
 mark_users-requires-clause-within c i =
     let moved = moved_as _ _ _ _ _ _ _ _ c.as_slice-looked.ensures.value c.as_slice-places.ensures.value
-        c.as_slice.ensures.value c.move_all.ensures.moved in
+    c.as_slice.ensures.value c.move_all.ensures.moved in
     let below : slice_index c.move_all.new.class.items i < length c.name_places.new.signs.items =
-        within_new c.args.forms.now _ _ c.args.parted c.in_ok-look.look c.in_ok-numbers.numbers.items _ _
-        c.in_ok-look.ensures c.in_ok-numbers.ensures moved c.requires.open.within i in
+    within_new c.args.forms.now _ _ c.args.parted c.in_ok-look.look c.in_ok-numbers.numbers.items _ _
+    c.in_ok-look.ensures c.in_ok-numbers.ensures moved c.requires.open.within i in
     omega (arith, ap (λ l. slice_index l i) c.as_slice-class.ensures.value, c.in_ok-make_rooms-2.ensures.many)
 
 pub mark_users-requires-clause-ready : goal.mark_users-requires-clause-ready
@@ -44,7 +44,7 @@ mark_users-requires-clause-ready c = ready_rooms c.args.parting.now.waiting.item
 pub returns-clause-under_way : goal.returns-clause-under_way
 returns-clause-under_way c =
     let moved = moved_as _ _ _ _ _ _ _ _ c.as_slice-looked.ensures.value c.as_slice-places.ensures.value
-        c.as_slice.ensures.value c.move_all.ensures.moved in
+    c.as_slice.ensures.value c.move_all.ensures.moved in
     let many : c.len-many.result ≡ length c.name_places.new.signs.items = omega arith in
     part_under c.args.forms.now c.args.users.now c.args.parting.now.class.items c.move_all.new.class.items _ _
     c.args.parting.now.members.items c.make_rooms.new.lists.items _ c.args.parting.now.waiting.items
@@ -61,7 +61,7 @@ returns-clause-under_way c =
 pub returns-clause-keeps : goal.returns-clause-keeps
 returns-clause-keeps c =
     let moved = moved_as _ _ _ _ _ _ _ _ c.as_slice-looked.ensures.value c.as_slice-places.ensures.value
-        c.as_slice.ensures.value c.move_all.ensures.moved in
+    c.as_slice.ensures.value c.move_all.ensures.moved in
     part_keeps c.args.forms.now c.args.users.now c.args.parting.now.class.items c.move_all.new.class.items _ _
     c.args.parting.now.members.items c.make_rooms.new.lists.items c.make_rooms.new.lists.items c.args.parting.now.waiting.items
     c.make_rooms-2.new.lists.items c.make_rooms-2.new.lists.items c.args.parting.now.todo.items c.args.parting.now.todo.items

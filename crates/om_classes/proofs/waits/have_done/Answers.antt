@@ -1,7 +1,7 @@
-use Rattle.std.proofs.Common.{ℕ, ◌<◌, sym, ◌∙◌, arith}
+use Rattle.std.proofs.Common.{◌<◌, sym, ◌∙◌, arith}
 use Rattle.std.specs.Vec.{vec_len}
 use Rattle.om_classes.proofs.ListLemmas.{read}
-use Rattle.om_classes.proofs.LoopLemmas.{not_empty, positive, ready_more, there_more}
+use Rattle.om_classes.proofs.LoopLemmas.{not_empty, positive, ready_more}
 use Rattle.om_classes.proofs.waits.have_done.Goals as goal
 
 pub returns-then-not-is_empty-clause-there : goal.returns-then-not-is_empty-clause-there

@@ -1,4 +1,4 @@
-use Rattle.std.proofs.Common.{ℕ, ◌≡◌, length, subst, arith}
+use Rattle.std.proofs.Common.{◌≡◌, length, subst, arith}
 use Rattle.om_classes.specs.Parting.{MarksUsers}
 use Rattle.om_classes.proofs.ListLemmas.{take_end}
 use Rattle.om_classes.proofs.LoopLemmas.{user_marks_more}
