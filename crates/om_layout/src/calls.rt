@@ -1,7 +1,6 @@
 //! Shapes, expansions and flat records of types as they are written.
 
-ghost use Rattle.std.specs.Prelude.{◌≡◌, ◌<◌, length, map, All, IfOk};
-ghost use Rattle.om_types.specs.Nodes.{type_at};
+ghost use Rattle.std.specs.Prelude.{◌≡◌, IfOk};
 ghost use Rattle.om_types.specs.Declarations.{IsExpanded};
 ghost use Rattle.om_types.specs.Shape.{shape, is_flat_body};
 ghost use Rattle.om_types.specs.Accepted.{AreSound};

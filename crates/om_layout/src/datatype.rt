@@ -1,8 +1,6 @@
 //! The shapes of declared records and variants, by numbers.
 
 ghost use Rattle.std.specs.Prelude.{◌≡◌, ◌<◌, length, map, All, IfOk};
-ghost use Rattle.om_types.specs.Nodes.{type_at};
-ghost use Rattle.om_types.specs.Declarations.{instance_of};
 ghost use Rattle.om_types.specs.Shape.{body_shape, is_flat, any_mutable, is_constant, constants_in, block_of, blocks_in, types_of_fields};
 ghost use Rattle.om_types.specs.Accepted.{AreSound};
 ghost use Rattle.om_scope.specs.Breaks.{names_of_decls};

@@ -4,7 +4,6 @@ ghost use Rattle.std.specs.Prelude.{◌≡◌, ◌<◌, length, map, All, IfOk, 
 ghost use Rattle.om_types.specs.Nodes.{type_at};
 ghost use Rattle.om_types.specs.Reached.{named_in};
 ghost use Rattle.om_types.specs.Table.{constr_with, tag_with_parts, with_parts};
-ghost use Rattle.om_types.specs.declared.shape.ShapeOf.TheVariants as shapes;
 
 use om_model::Memory;
 use om_model::list::List;
