@@ -1,7 +1,6 @@
 -- Heads and shapes by numbers.
-use Rattle.std.proofs.Common.{ℕ, ◌<◌, ◌≡◌, ◌∙◌, Bool, true, false, cond, List, [], ◌∷◌, ◌++◌, length, map, Option, Some, None, refl, sym, ap, subst, All, unwrap_or}
+use Rattle.std.proofs.Common.{ℕ, ◌<◌, ◌≡◌, ◌∙◌, Bool, List, [], ◌∷◌, ◌++◌, length, map, Option, Some, None, refl, sym, ap, All, unwrap_or}
 use Rattle.std.specs.Prelude.{slice_get, option_map}
-use Rattle.std.specs.List.{flat_map}
 use Rattle.std.proofs.lemmas.List.{map-id}
 use Rattle.std.proofs.lemmas.List.Elements.{All-nil, All-cons, All-head, All-tail, All-weaker}
 use Rattle.std.proofs.lemmas.Option.{slice_get_within, slice_get-get_or, unwrap_or-slice_get}
@@ -14,13 +13,12 @@ use Rattle.om_types.specs.declared.shape.ShapeOf.TheVariants as shapes
 use Rattle.om_types.specs.Ty.{Ty, tuple}
 use Rattle.om_types.specs.Nodes.{type_at}
 use Rattle.om_types.specs.Head.{head}
-use Rattle.om_types.specs.Names.{tag_name, names_of, head_names}
+use Rattle.om_types.specs.Names.{tag_name, head_names}
 use Rattle.om_types.specs.Reached.{listed_if, parts_of}
 use Rattle.om_polyvar.specs.TagHash.{tag_hash}
 use Rattle.om_types.specs.Shape.{tag_shape}
-use Rattle.om_types.specs.Table.{tag_with_part, tag_with_parts, with_parts, head_with_parts}
+use Rattle.om_types.specs.Table.{tag_with_part, tag_with_parts, head_with_parts}
 use Rattle.om_types.specs.declared.names.Names.{Names}
-use Rattle.om_types.specs.declared.names.TagName.{TagName}
 use Rattle.om_equal.proofs.HeadMapLemmas.{parts_of-map}
 use Rattle.om_store.specs.Held.{Grows}
 use Rattle.om_store.specs.Instance.{HasNumbers}

@@ -1,9 +1,8 @@
 -- What a loop has made of the elements that it has passed.
-use Rattle.std.proofs.Common.{ℕ, suc, ◌+◌, ◌≤◌, ◌<◌, ◌≡◌, ◌∙◌, Bool, true, false, cond, List, [], ◌∷◌, ◌++◌, length, map, take, drop, Option, Some, None, refl, sym, ap, arith}
-use Rattle.std.specs.Prelude.{slice_get, ◌&&◌, count_by, option_to_list}
+use Rattle.std.proofs.Common.{ℕ, suc, ◌+◌, ◌≡◌, ◌∙◌, Bool, true, false, List, [], ◌∷◌, ◌++◌, take, drop, Option, Some, None, refl, sym, ap, arith}
+use Rattle.std.specs.Prelude.{slice_get, ◌&&◌}
 use Rattle.std.specs.List.{list_all, filter_map}
-use Rattle.std.proofs.Math.Seq.{take-suc, take-length, drop-cons}
-use Rattle.std.proofs.lemmas.List.{map-append, drop_all}
+use Rattle.std.proofs.Math.Seq.{take-suc, drop-cons}
 use Rattle.std.proofs.lemmas.List.Elements.{filter_map-append}
 use Rattle.std.proofs.lemmas.Option.{slice_get_within, get_or_from_slice_get}
 
@@ -21,12 +20,6 @@ module _ {X : Type 0} (xs : List X) (k : ℕ) (x : X) (is : slice_get xs k ≡ S
       drop-cons xs k x (slice_get_within xs k x is)
       ∙ ap (λ y. y ∷ drop (suc k) xs) (get_or_from_slice_get xs k x x is)
       ∙ ap (λ n. x ∷ drop n xs) next
-
-  pub mapped_more :
-      {Y : Type 0} (f : X → Y) (found : List Y) (y : Y) → found ≡ map f (take k xs) → y ≡ f x
-      → found ++ y ∷ [] ≡ map f (take (k + 1) xs)
-  mapped_more f found y are same =
-      (λ i. are i ++ same i ∷ []) ∙ sym (map-append f (take k xs) (x ∷ [])) ∙ ap (map f) (sym one_more)
 
   filtered :
       {Y : Type 0} (f : X → Option Y) (o : Option Y) → f x ≡ o
@@ -72,10 +65,3 @@ module _ {X : Type 0} (xs : List X) (k : ℕ) (x : X) (is : slice_get xs k ≡ S
 
     pub one_failed : p x ≡ false → list_all p (drop k xs) ≡ false
     one_failed fails = tested ∙ ap (λ b. b && list_all p (drop (k + 1) xs)) fails
-
-pub all_past :
-    {X : Type 0} (p : X → Bool) (xs : List X) (k : ℕ) → length xs ≤ k → list_all p (drop k xs) ≡ true
-all_past p xs k past = ap (list_all p) (drop_all k xs past)
-
-pub whole : {X : Type 0} (xs : List X) (k : ℕ) → k ≡ length xs → take k xs ≡ xs
-whole xs k end = ap (λ n. take n xs) end ∙ take-length xs

@@ -1,10 +1,8 @@
-use Rattle.std.proofs.Common.{ap, sym, refl, ◌∙◌, subst, ℕ}
-use Rattle.std.specs.Global.{Vec}
+use Rattle.std.proofs.Common.{refl, subst}
 use Rattle.std.proofs.lemmas.Option.{slice_get_read}
 use Rattle.om_types.specs.Ty.{Ty}
 use Rattle.om_types.specs.Shape.{block_of}
 use Rattle.om_types.specs.declared.decl.Constructor.{Constructor}
-use Rattle.om_types.specs.declared.shape.Constr.{Constr}
 use Rattle.om_store.proofs.HeldLemmas.{Grows-then}
 use Rattle.om_layout.specs.Layout.{instance_at, HasBlock}
 use Rattle.om_layout.proofs.DatatypeLemmas.{block_more, block_not_more, instance_kept}

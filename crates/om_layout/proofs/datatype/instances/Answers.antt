@@ -1,8 +1,5 @@
-use Rattle.std.proofs.Common.{map, ap, subst, sym, refl, ◌++◌, ◌∷◌, []}
+use Rattle.std.proofs.Common.{refl}
 use Rattle.std.proofs.lemmas.Option.{slice_get_read}
-use Rattle.om_types.specs.Ty.{Ty}
-use Rattle.om_store.specs.Instance.{HoldsEach}
-use Rattle.om_layout.specs.Layout.{instance_at}
 use Rattle.om_layout.proofs.LoopLemmas.{one_more}
 use Rattle.om_layout.proofs.DatatypeLemmas.{instance_more}
 use Rattle.om_layout.proofs.datatype.instances.Goals as goal

@@ -1,7 +1,6 @@
-use Rattle.std.proofs.Common.{map, ap, sym, refl, ◌∙◌, ◌++◌, ◌∷◌, [], subst}
+use Rattle.std.proofs.Common.{refl}
 use Rattle.std.proofs.lemmas.List.{map-append}
 use Rattle.std.proofs.lemmas.Option.{slice_get_read}
-use Rattle.om_types.specs.Shape.{types_of_fields}
 use Rattle.om_layout.proofs.LoopLemmas.{one_more}
 use Rattle.om_layout.proofs.DatatypeLemmas.{instance_more}
 use Rattle.om_layout.proofs.datatype.instances_of_fields.Goals as goal

@@ -2,7 +2,6 @@ use Rattle.std.proofs.Common.{◌∙◌, ap, sym, List}
 use Rattle.om_types.specs.Nodes.{type_at}
 use Rattle.om_types.specs.Names.{no_names}
 use Rattle.om_types.specs.declared.names.TagName.{TagName}
-use Rattle.om_types.specs.declared.names.Names.{Names}
 use Rattle.om_layout.proofs.LayoutLemmas.{tags_named}
 use Rattle.om_layout.proofs.names.names_by_head.Goals as goal
 

@@ -1,6 +1,6 @@
 use Rattle.std.proofs.lemmas.Option.{MatchOption-at_some, MatchOption-at_none}
 use Rattle.om_types.specs.Nodes.{type_at}
-use Rattle.om_layout.proofs.ReplacedLemmas.{replaced_once, comes_to_itself, expanded_end}
+use Rattle.om_layout.proofs.ReplacedLemmas.{replaced_once, expanded_end}
 use Rattle.om_layout.proofs.replaced.expanded.Goals as goal
 
 pub loop-turn-preserved : goal.loop-turn-preserved
