@@ -8,4 +8,5 @@ pub mod SpentLemmas
 pub mod VerdictLemmas
 pub mod TestLemmas
 pub mod DecideLemmas
+pub mod PlainLemmas
 pub mod ExploredLemmas

@@ -12,7 +12,7 @@ use Rattle.om_types.specs.Table.{table_shapes}
 use Rattle.om_types.specs.VerdictText.{clash_text}
 use Rattle.om_type_table.specs.declared.table.TypeTable.{TypeTable}
 use Rattle.om_type_table.specs.Made.{table_of}
-use Rattle.om_fault.specs.Texts.{text_at, PutsFault}
+use Rattle.om_fault.specs.Text.{text_at, PutsFault}
 
 -- a piece more
 pub more : (old front piece x y : List ℕ) → x ≡ old ++ front → y ≡ x ++ piece → y ≡ old ++ (front ++ piece)

@@ -6,7 +6,7 @@ use Rattle.om_model.specs.declared.value.Obj.{Obj}
 use Rattle.om_model.specs.declared.value.Obj.TheVariants as objects
 use Rattle.om_types.specs.VerdictText as texts
 use Rattle.om_heap.specs.Heap.{object_at, kind_of}
-use Rattle.om_fault.specs.Texts.{text_of_kind}
+use Rattle.om_fault.specs.Text.{text_of_kind}
 
 kind_tells : (object : Obj) → texts.object_text (Some object) ≡ text_of_kind (kind_of object)
 kind_tells (objects.Block tag values) = refl

@@ -19,7 +19,7 @@ use Rattle.om_equal.proofs.TableLemmas.{Of, table_says}
 use Rattle.om_table.proofs.DecideLemmas.{root_is_first}
 use Rattle.om_type_table.specs.declared.table.TypeTable.{TypeTable}
 use Rattle.om_type_table.specs.Made.{types_of, table_of, IsTypeTable}
-use Rattle.om_fault.specs.Texts.{text_or_none, text_at}
+use Rattle.om_fault.specs.Text.{text_or_none, text_at}
 
 module _ (decls : List Decl) (t : Ty) (table : TypeTable) (is : IsTypeTable decls t table)
     (graph : List Obj) where
@@ -56,17 +56,27 @@ module _ (decls : List Decl) (t : Ty) (table : TypeTable) (is : IsTypeTable decl
       → IsFaultText (table_shapes (table_of table)) (text_at table) graph v 0 fault text
       → IsFaultText (declared_shapes decls) type_text graph v t fault text
   text_is_of_types v (Misfit path) text (w, i, at, spelled) =
-      let there = leads_at v path w i at in
-      (w, there.0, there.1, spelled
-      ∙ ap (λ ty. path_text path ++ codes ": expected " ++ text_or_none ty ++ codes ", found "
-      ++ kind_text graph w) there.2)
+      let there = leads_at v path w i at in (
+        w,
+        there.0,
+        there.1,
+        spelled
+            ∙ ap (λ ty. path_text path ++ codes ": expected " ++ text_or_none ty ++ codes ", found "
+            ++ kind_text graph w) there.2,
+      )
   text_is_of_types v (Clash first second) text (o, one, other, at_first, at_second, spelled) =
       let a = leads_at v first o one at_first in
-      let b = leads_at v second o other at_second in
-      (o, a.0, b.0, a.1, b.1, spelled
-      ∙ ap (λ ty. path_text first ++ codes " and " ++ path_text second ++ codes ": "
-      ++ text_or_none ty ++ codes " and " ++ text_at table other ++ codes " share a mutable object")
-      a.2
-      ∙ ap (λ ty. path_text first ++ codes " and " ++ path_text second ++ codes ": "
-      ++ type_text a.0 ++ codes " and " ++ text_or_none ty ++ codes " share a mutable object")
-      b.2)
+      let b = leads_at v second o other at_second in (
+        o,
+        a.0,
+        b.0,
+        a.1,
+        b.1,
+        spelled
+            ∙ ap (λ ty. path_text first ++ codes " and " ++ path_text second ++ codes ": "
+            ++ text_or_none ty ++ codes " and " ++ text_at table other ++ codes " share a mutable object")
+            a.2
+            ∙ ap (λ ty. path_text first ++ codes " and " ++ path_text second ++ codes ": "
+            ++ type_text a.0 ++ codes " and " ++ text_or_none ty ++ codes " share a mutable object")
+            b.2,
+      )

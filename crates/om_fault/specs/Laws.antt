@@ -11,7 +11,7 @@ use Rattle.om_types.specs.TypeText.{type_text}
 use Rattle.om_types.specs.VerdictText.{IsFaultText}
 use Rattle.om_type_table.specs.declared.table.TypeTable.{TypeTable}
 use Rattle.om_type_table.specs.Made.{table_of, IsTypeTable}
-use Rattle.om_fault.specs.Texts.{text_at}
+use Rattle.om_fault.specs.Text.{text_at}
 
 abbrev pub TextsAreOfTypes : Type 0
 TextsAreOfTypes =

@@ -1,3 +1,3 @@
 pub mod Laws
-pub mod Texts
+pub mod Text
 pub mod Shared

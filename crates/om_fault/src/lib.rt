@@ -5,9 +5,10 @@ mod fault;
 pub mod laws;
 mod order;
 mod put;
-mod text;
 mod steps;
+mod text;
 
 pub use fault::is_fault;
-pub use text::fault_text;
 pub use steps::walk;
+pub use text::fault_text;
+

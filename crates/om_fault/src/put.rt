@@ -5,7 +5,7 @@ ghost use Rattle.std.specs.Fmt.{signed_decimal};
 ghost use Rattle.om_model.specs.Graph.{IsValue};
 ghost use Rattle.om_model.specs.PathText.{path_text};
 ghost use Rattle.om_types.specs.VerdictText.{kind_text};
-ghost use Rattle.om_fault.specs.Texts.{text_of_kind};
+ghost use Rattle.om_fault.specs.Text.{text_of_kind};
 
 use itoa::Buffer;
 use om_heap::{Heap, Kind};

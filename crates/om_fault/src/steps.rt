@@ -29,13 +29,7 @@ pub fn walk(heap: &Heap, root: Val, table: &TypeTable, path: &Path) -> Option<(V
 }
 
 /// One step of a path.
-fn step(
-    heap: &Heap,
-    value: Val,
-    table: &TypeTable,
-    at: usize,
-    step: u64,
-) -> Option<(Val, usize)>
+fn step(heap: &Heap, value: Val, table: &TypeTable, at: usize, step: u64) -> Option<(Val, usize)>
     requires value { IsValue (length heap.now) value }
     requires lawful { IsLawful (table_of table.now) }
     requires number { at < length table.now.nodes }

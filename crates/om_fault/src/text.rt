@@ -7,7 +7,7 @@ ghost use Rattle.om_types.specs.Table.{table_shapes};
 ghost use Rattle.om_types.specs.VerdictText.{IsFaultText};
 ghost use Rattle.om_types.specs.declared.fault.Fault.TheVariants as faults;
 ghost use Rattle.om_type_table.specs.Made.{table_of, IsLawful};
-ghost use Rattle.om_fault.specs.Texts.{text_at, PutsFault};
+ghost use Rattle.om_fault.specs.Text.{text_at, PutsFault};
 
 use crate::put::{put, put_kind, put_path};
 use crate::steps::walk;

@@ -7,5 +7,3 @@ mod parts;
 pub use needs::{Needs, needs_of};
 pub use parts::is_mutable;
 
-#[cfg(test)]
-mod tests;

@@ -57,20 +57,8 @@ impl<'a> Needs<'a> {
         match *self {
             Needs::Nothing => None,
             Needs::Listed(types) => type_if_there(types, i),
-            Needs::Each(size, ty) => {
-                if i < size {
-                    Some(ty)
-                } else {
-                    None
-                }
-            }
-            Needs::Argument(ty) => {
-                if i == 1 {
-                    Some(ty)
-                } else {
-                    None
-                }
-            }
+            Needs::Each(size, ty) => { if i < size { Some(ty) } else { None } }
+            Needs::Argument(ty) => { if i == 1 { Some(ty) } else { None } }
         }
     }
 }

@@ -85,14 +85,22 @@ pub fn fits_custom(shape: &ShapeOf<usize>, custom: Custom) -> bool
 }
 
 /// What a block needs, if it fits.
-pub fn block_needs<'a>(heap: &Heap, o: u64, tag: u8, size: u64, shape: &'a ShapeOf<usize>) -> Option<Needs<'a>>
+pub fn block_needs<'a>(
+    heap: &Heap,
+    o: u64,
+    tag: u8,
+    size: u64,
+    shape: &'a ShapeOf<usize>,
+) -> Option<Needs<'a>>
     requires object { o < length heap.now }
     requires size { size ≡ length (fields_of (object_at heap.now o)) }
     ensures { option_map needs_in result ≡ block_fields shape.now tag (fields_of (object_at heap.now o)) }
 {
     match shape {
         ShapeOf::Sum(_, blocks) => constr_needs(blocks.as_slice(), tag, size),
-        ShapeOf::Product(_, types) if tag == 0 && types.len() as u64 == size => Some(Needs::Listed(types.as_slice())),
+        ShapeOf::Product(_, types) if tag == 0 && types.len() as u64 == size => Some(Needs::Listed(
+            types.as_slice(),
+        )),
         ShapeOf::ArrayOf(ty) if tag == 0 => Some(Needs::Each(size, *ty)),
         ShapeOf::Poly(tags) if tag == 0 => tag_needs(heap, o, size, tags.as_slice()),
         _ => None,
@@ -107,7 +115,11 @@ fn constr_needs(blocks: &[Constr<usize>], tag: u8, size: u64) -> Option<Needs<'_
         return None;
     }
     let fields = blocks[tag as usize].fields.as_slice();
-    if fields.len() as u64 == size { Some(Needs::Listed(fields)) } else { None }
+    if fields.len() as u64 == size {
+        Some(Needs::Listed(fields))
+    } else {
+        None
+    }
 }
 
 /// What the block of a tag with an argument needs.

@@ -136,10 +136,10 @@ variant = record {
   name = codes "v";
   parameters = codes "a" ∷ [];
   body = bodies.Variant (
-    record { name = codes "C"; arguments = arguments.Constant }
-    ∷ record { name = codes "A"; arguments = arguments.Listed (named (codes "string") ∷ named (codes "int") ∷ []) }
-    ∷ record { name = codes "B"; arguments = arguments.Listed (named (codes "char") ∷ []) } ∷ []
-  );
+      record { name = codes "C"; arguments = arguments.Constant }
+      ∷ record { name = codes "A"; arguments = arguments.Listed (named (codes "string") ∷ named (codes "int") ∷ []) }
+      ∷ record { name = codes "B"; arguments = arguments.Listed (named (codes "char") ∷ []) } ∷ []
+      );
   group = 0;
 }
 

@@ -175,7 +175,10 @@ fn fields_come_before_arguments(rt: HostRuntime) -> Result<(), Fail> {
     let t = applied(alloc, b"v", b"bool")?;
     let table = build(alloc, &decls, &t).map_err(|_| "refused")?;
     assert_eq!(rt; table.len(), 5);
-    assert_eq!(rt; named_in(alloc, &table, 0)?.as_slice(), [1, 2, 3].as_slice());
+    assert_eq!(rt;
+        named_in(alloc, &table, 0)?.as_slice(),
+        [1, 2, 3].as_slice()
+    );
     let nodes = table.nodes.as_slice();
     assert!(rt; matches!(nodes.get(1), Some(ShapeOf::Bytes(false))));
     assert!(rt; matches!(nodes.get(2), Some(ShapeOf::AnyInt)));

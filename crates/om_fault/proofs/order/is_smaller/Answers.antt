@@ -12,7 +12,7 @@ returns-then-step c =
     let b = c.step-then-step-2.result in
     let within : i < length first = omega arith in
     let other = λ (same : get_or first i 0 ≡ get_or second i 0).
-        c.if-step.true (c.step.ensures ∙ same ∙ sym c.step-in-loop-i.ensures) in
+    c.if-step.true (c.step.ensures ∙ same ∙ sym c.step-in-loop-i.ensures) in
     let lex = lexical_at first second i c.requires c.loop-i.invariant within other in (
       λ less. lex.0 (subst (λ n. n < get_or second i 0) c.step-then-step.ensures
           (subst (λ n. a < n) c.step-then-step-2.ensures (ltb-true a b less))),

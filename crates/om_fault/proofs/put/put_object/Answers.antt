@@ -2,7 +2,7 @@ use Rattle.std.proofs.Common.{◌∙◌, ◌++◌, sym, ap}
 use Rattle.std.specs.Prelude.{codes, decimal}
 use Rattle.std.proofs.lemmas.List.{append_assoc}
 use Rattle.std.proofs.lemmas.Result.{on_ok_weaker}
-use Rattle.om_fault.specs.Texts.{text_of_kind}
+use Rattle.om_fault.specs.Text.{text_of_kind}
 use Rattle.om_fault.proofs.put.put_object.Goals as goal
 
 pub returns-in_ok-put-in-Doubles : goal.returns-in_ok-put-in-Doubles

@@ -2,7 +2,7 @@ use Rattle.std.proofs.Common.{◌++◌}
 use Rattle.std.specs.Prelude.{codes}
 use Rattle.std.proofs.lemmas.Result.{on_ok_weaker}
 use Rattle.om_model.specs.PathText.{path_text}
-use Rattle.om_fault.specs.Texts.{text_at}
+use Rattle.om_fault.specs.Text.{text_at}
 use Rattle.om_fault.proofs.ClashTexts.{more, clash_put}
 use Rattle.om_fault.proofs.text.put_clash.Goals as goal
 

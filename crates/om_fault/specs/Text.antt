@@ -1,0 +1,41 @@
+-- The texts of types by numbers, of kinds, and of faults that are put.
+use Rattle.std.specs.Prelude.{ℕ, ◌≡◌, List, [], ◌++◌, Option, Some, None, codes, decimal, slice_get}
+use Rattle.om_model.specs.declared.code.Custom.TheVariants as customs
+use Rattle.om_model.specs.declared.value.Val.{Val}
+use Rattle.om_model.specs.declared.value.Obj.{Obj}
+use Rattle.om_heap.specs.declared.kind.Kind.{Kind}
+use Rattle.om_heap.specs.declared.kind.Kind.TheVariants as kinds
+use Rattle.om_types.specs.declared.fault.Fault.{Fault}
+use Rattle.om_types.specs.Table.{table_shapes}
+use Rattle.om_types.specs.Ty.{Ty}
+use Rattle.om_types.specs.TypeText.{type_text}
+use Rattle.om_types.specs.VerdictText.{IsFaultText}
+use Rattle.om_type_table.specs.declared.table.TypeTable.{TypeTable}
+use Rattle.om_type_table.specs.Made.{types_of, table_of}
+
+-- a number that is no type's has no text
+abbrev pub text_or_none : Option Ty → List ℕ
+text_or_none None = []
+text_or_none (Some t) = type_text t
+
+-- the text of the type of a number
+abbrev pub text_at : TypeTable → ℕ → List ℕ
+text_at table number = text_or_none (slice_get (types_of table) number)
+
+-- what an object is, by its kind
+abbrev pub text_of_kind : Kind → List ℕ
+text_of_kind (kinds.Block tag size) =
+    codes "block " ++ decimal tag ++ codes " of " ++ decimal size
+text_of_kind (kinds.Bytes len) = codes "string"
+text_of_kind kinds.Double = codes "float"
+text_of_kind (kinds.Doubles len) = codes "float array of " ++ decimal len
+text_of_kind (kinds.Custom (customs.I32 z)) = codes "int32"
+text_of_kind (kinds.Custom (customs.I64 z)) = codes "int64"
+text_of_kind (kinds.Custom (customs.Native z)) = codes "nativeint"
+
+-- a text is put after another: that of a fault
+abbrev pub PutsFault : TypeTable → List Obj → Val → Fault → List ℕ → List ℕ → Type 0
+PutsFault table graph v fault old new =
+    (text : List ℕ)
+    × IsFaultText (table_shapes (table_of table)) (text_at table) graph v 0 fault text
+    × (new ≡ old ++ text)
