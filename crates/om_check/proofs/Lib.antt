@@ -8,5 +8,4 @@ pub mod SpentLemmas
 pub mod VerdictLemmas
 pub mod TestLemmas
 pub mod DecideLemmas
-pub mod PlainLemmas
 pub mod ExploredLemmas

@@ -8,8 +8,6 @@ mod parts;
 mod path;
 mod search;
 mod steps;
-#[cfg(test)]
-mod tests;
 mod typing;
 mod verdict;
 mod visits;
