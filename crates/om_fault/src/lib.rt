@@ -11,4 +11,3 @@ mod text;
 pub use fault::is_fault;
 pub use steps::walk;
 pub use text::fault_text;
-

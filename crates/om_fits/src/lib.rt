@@ -6,4 +6,3 @@ mod parts;
 
 pub use needs::{Needs, needs_of};
 pub use parts::is_mutable;
-
