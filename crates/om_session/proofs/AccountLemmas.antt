@@ -1,20 +1,20 @@
 -- The account of a call, from what each stage gave.
 use Rattle.std.proofs.Common.{◌≡◌, ◌⊎◌, ℕ, List, [], None, IfSome, Ok, Err, inl, inr, refl, sym, ◌∙◌, subst}
 use Rattle.om_model.specs.declared.status.Status.{Status}
-use Rattle.om_types.specs.declared.list_type.ListType.{ListType}
+use Rattle.std.specs.Borrow.{Bor}
 use Rattle.om_outcome.specs.Outcome.{Found, unfetched, nothing, Given, Stop, usage, out_of_memory, stops as stops_reply, stopped, ending_of, Request, check, compare, Asks, typed_by, ReadsTypeOf, Prepares, RunReplies, checks as works, compares}
 use Rattle.om_edge.specs.State.{ByteState, FilesState, Change, change}
-use Rattle.om_session.specs.declared.stop.Stop.TheVariants as stops
 use Rattle.om_session.specs.declared.stop.Stop as codes
 use Rattle.om_session.specs.Call.{call}
+use Rattle.om_session.specs.declared.types.Requested.{Requested}
 use Rattle.om_session.specs.declared.values.Work.{Work}
 use Rattle.om_session.specs.declared.values.Work.TheVariants as code_works
 use Rattle.om_session.specs.Ends.{ClosesValues, TakesValues}
 use Rattle.om_session.specs.Given.{Fetched}
-use Rattle.om_session.specs.Lists.{lists}
+use Rattle.om_session.specs.Language.{declared_types}
 use Rattle.om_session.specs.Run.{FetchesFor, PutsLine, Completes, Breaks, Account, IsUsage}
 use Rattle.om_session.specs.Stops.{stop_of, Reports}
-use Rattle.om_session.specs.Types.{GivesType}
+use Rattle.om_session.specs.Types.{type_over, GivesType}
 use Rattle.om_session.specs.Values.{task_of}
 use Rattle.om_session.proofs.PutLemmas.{puts_nothing}
 use Rattle.om_session.proofs.TakeLemmas.{took_nothing}
@@ -26,9 +26,9 @@ module _ (words : List (List ℕ)) (file : List ℕ → Found) (input out : Byte
   given = record { file = file; input = nothing }
 
   abbrev Ended : Type 0
-  Ended = Account lists words (call (change input input) files (change out out) err status)
+  Ended = Account declared_types words (call (change input input) files (change out out) err status)
 
-  account_of : (s : Stop) → (RunReplies lists words given (stopped s) ⊎ (stops_reply s ≡ stops_reply out_of_memory)) → PutsLine err status (ending_of (stopped s)) → Ended
+  account_of : (s : Stop) → (RunReplies declared_types words given (stopped s) ⊎ (stops_reply s ≡ stops_reply out_of_memory)) → PutsLine err status (ending_of (stopped s)) → Ended
   account_of s may line = record {
     given = given;
     input = took_nothing input;
@@ -42,7 +42,7 @@ module _ (words : List (List ℕ)) (file : List ℕ → Found) (input out : Byte
   memory_account line = account_of out_of_memory (inr refl) line
 
   -- the stop is reported, or that memory ran out for its line
-  pub stop_account : (s : Stop) → (Prepares lists words file (Err s) ⊎ (s ≡ out_of_memory)) → Reports s err status → Ended
+  pub stop_account : (s : Stop) → (Prepares declared_types words file (Err s) ⊎ (s ≡ out_of_memory)) → Reports s err status → Ended
   stop_account s (inl prepared) r = which r.which where
     which : (r.said ≡ s) ⊎ (r.said ≡ out_of_memory) → Ended
     which (inl same) = account_of s (inl (Err s, prepared, refl)) (subst (λ s. PutsLine err status (ending_of (stopped s))) same r.line)
@@ -55,8 +55,8 @@ module _ (words : List (List ℕ)) (file : List ℕ → Found) (input out : Byte
 -- ---- the values
 
 -- the work is done with the values
-values_account : (w : Work) (words : List (List ℕ)) (file : List ℕ → Found) (files : Change FilesState) → FetchesFor words files file → Prepares lists words file (Ok (task_of w))
-    → (input out err : Change ByteState) (status : Status) → TakesValues w input out err status → Account lists words (call input files out err status)
+values_account : (w : Work) (words : List (List ℕ)) (file : List ℕ → Found) (files : Change FilesState) → FetchesFor words files file → Prepares declared_types words file (Ok (task_of w))
+    → (input out err : Change ByteState) (status : Status) → TakesValues w input out err status → Account declared_types words (call input files out err status)
 values_account w words file files fetches prepared input out err status (taken, gathers, said, paced, closes) = record {
   given = given;
   input = gathers;
@@ -69,7 +69,7 @@ values_account w words file files fetches prepared input out err status (taken, 
   given = record { file = file; input = taken }
 
   ends : ClosesValues w taken said out err status
-      → Completes lists words (record { file = file; input = taken }) said (call input files out err status) ⊎ Breaks lists words (record { file = file; input = taken }) said (call input files out err status)
+      → Completes declared_types words (record { file = file; input = taken }) said (call input files out err status) ⊎ Breaks declared_types words (record { file = file; input = taken }) said (call input files out err status)
   ends (inl (last, inl reply, puts, line)) =
       inl (record { last = last; may_end = inl (Ok (task_of w), prepared, reply); out = puts; line = line })
   ends (inl (last, inr memory, puts, line)) =
@@ -82,7 +82,7 @@ values_account w words file files fetches prepared input out err status (taken, 
 -- ---- the words
 
 pub usage_account : (words : List (List ℕ)) → IsUsage words → (input out : ByteState) (files : FilesState) (err : Change ByteState) (status : Status)
-    → Reports usage err status → Account lists words (call (change input input) (record { before = files; after = files }) (change out out) err status)
+    → Reports usage err status → Account declared_types words (call (change input input) (record { before = files; after = files }) (change out out) err status)
 usage_account words none input out files err status r =
     stop_account words (λ name. unfetched) input out (record { before = files; after = files })
     (record { asked = λ request asks. absurd (none request asks); unasked = λ unasked. refl }) err status usage (inl (Err usage, (none, refl), refl)) r
@@ -98,39 +98,32 @@ module _ (words : List (List ℕ)) (file type_text : List ℕ) (asks : Asks word
   fetches : FetchesFor words files (λ name. found)
   fetches = record { asked = asked; unasked = λ none. let no : typed_by (check file type_text) ≡ None = none (check file type_text) asks in absurd (cc no) }
 
-  prepared_ok : (t : ListType) → ReadsTypeOf lists (λ name. found) (file, type_text) (Ok t) → Prepares lists words (λ name. found) (Ok (task_of (code_works.Check t)))
-  prepared_ok t reads = (Ok (check file type_text), asks, (Ok (works t), (Ok t, reads, refl), refl))
+  prepared_ok : (t : Bor Requested) → ReadsTypeOf declared_types (λ name. found) (file, type_text) (Ok (type_over t.now))
+      → Prepares declared_types words (λ name. found) (Ok (task_of (code_works.Check t)))
+  prepared_ok t reads = (Ok (check file type_text), asks, (Ok (works (type_over t.now)), (Ok (type_over t.now), reads, refl), refl))
 
-  prepared_err : (s : Stop) → ReadsTypeOf lists (λ name. found) (file, type_text) (Err s) → Prepares lists words (λ name. found) (Err s)
+  prepared_err : (s : Stop) → ReadsTypeOf declared_types (λ name. found) (file, type_text) (Err s) → Prepares declared_types words (λ name. found) (Err s)
   prepared_err s reads = (Ok (check file type_text), asks, (Err s, (Err s, reads, refl), refl))
 
-  gives_err : (stop : codes.Stop) → GivesType file type_text found (Err stop) → Prepares lists words (λ name. found) (Err (stop_of stop)) ⊎ (stop_of stop ≡ out_of_memory)
-  gives_err stops.Memory h = inr refl
-  gives_err stops.Usage h = inl (prepared_err _ h)
-  gives_err stops.NotTwoValues h = inl (prepared_err _ h)
-  gives_err (stops.CannotOpen name) h = inl (prepared_err _ h)
-  gives_err stops.Declarations h = inl (prepared_err _ h)
-  gives_err stops.RequestedType h = inl (prepared_err _ h)
-  gives_err (stops.Refused number refusal) h = inl (prepared_err _ h)
-  gives_err (stops.Cut number taken) h = inl (prepared_err _ h)
-  gives_err stops.ReadFault h = inl (prepared_err _ h)
-  gives_err stops.TooLong h = inl (prepared_err _ h)
+  gives_err : (stop : codes.Stop) → GivesType file type_text found (Err stop) → Prepares declared_types words (λ name. found) (Err (stop_of stop)) ⊎ (stop_of stop ≡ out_of_memory)
+  gives_err stop (inl reads) = inl (prepared_err _ reads)
+  gives_err stop (inr memory) = inr memory
 
   -- there is no type
   pub type_account : (stop : codes.Stop) → GivesType file type_text found (Err stop) → (input out : ByteState) (err : Change ByteState) (status : Status)
-      → Reports (stop_of stop) err status → Account lists words (call (change input input) files (change out out) err status)
+      → Reports (stop_of stop) err status → Account declared_types words (call (change input input) files (change out out) err status)
   type_account stop gives input out err status r =
       stop_account words (λ name. found) input out files fetches err status (stop_of stop) (gives_err stop gives) r
 
   -- the values are checked at the type
-  pub check_account : (t : ListType) → GivesType file type_text found (Ok t) → (input out err : Change ByteState) (status : Status)
-      → TakesValues (code_works.Check t) input out err status → Account lists words (call input files out err status)
+  pub check_account : (t : Bor Requested) → GivesType file type_text found (Ok t.now) → (input out err : Change ByteState) (status : Status)
+      → TakesValues (code_works.Check t) input out err status → Account declared_types words (call input files out err status)
   check_account t gives input out err status takes =
-      values_account (code_works.Check t) words (λ name. found) files fetches (prepared_ok t gives) input out err status takes
+      values_account (code_works.Check t) words (λ name. found) files fetches (prepared_ok t gives.0) input out err status takes
 
 -- two values are compared
 pub compare_account : (words : List (List ℕ)) → Asks words compare → (files : FilesState) (input out err : Change ByteState) (status : Status)
-    → TakesValues code_works.Compare input out err status → Account lists words (call input (change files files) out err status)
+    → TakesValues code_works.Compare input out err status → Account declared_types words (call input (change files files) out err status)
 compare_account words asks files input out err status takes =
     values_account code_works.Compare words (λ name. unfetched) (change files files) (record { asked = λ request other. asked request other; unasked = λ none. refl })
     (Ok compare, asks, (Ok compares, refl, refl)) input out err status takes where

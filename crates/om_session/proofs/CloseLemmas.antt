@@ -10,7 +10,7 @@ use Rattle.om_session.specs.declared.stop.Stop as codes
 use Rattle.om_session.specs.declared.values.Halt.TheVariants as halts
 use Rattle.om_session.specs.declared.values.Work.{Work}
 use Rattle.om_session.specs.Ends.{ClosesValues, TakesValues}
-use Rattle.om_session.specs.Lists.{lists}
+use Rattle.om_session.specs.Language.{declared_types}
 use Rattle.om_session.specs.Run.{PutsLine}
 use Rattle.om_session.specs.Stops.{stop_of, Reports}
 use Rattle.om_session.specs.Values.{EndsValues, PutsValues, task_of}
@@ -30,7 +30,7 @@ module _ (w : Work) (taken : Taken) (said : List Said) (out : Change ByteState) 
     texts : Puts out (texts_of (said ++ []))
     texts = subst (λ all. Puts out (texts_of all)) (sym (append-nil said)) put
 
-    closes : (s : Stop) → r.said ≡ s → (ValuesReply lists (task_of w) taken (replies said (stops s)) ⊎ (s ≡ out_of_memory)) → ClosesValues w taken said out err status
+    closes : (s : Stop) → r.said ≡ s → (ValuesReply declared_types (task_of w) taken (replies said (stops s)) ⊎ (s ≡ out_of_memory)) → ClosesValues w taken said out err status
     closes s same (inl reply) = inl (stops s, inl reply, texts, subst (λ s. PutsLine err status (ending_of (replies said (stops s)))) same r.line)
     closes s same (inr memory) = inl (stops s, inr (ap (λ s. stops s) memory), texts, subst (λ s. PutsLine err status (ending_of (replies said (stops s)))) same r.line)
 

@@ -5,11 +5,6 @@ use Rattle.om_session.proofs.ValueLemmas.{silent, comparison-well, all_well-snoc
 use Rattle.om_model.specs.declared.status.Status.{Status}
 use Rattle.om_model.specs.declared.status.Status.TheVariants as statuses
 use Rattle.om_model.specs.Bytes.{AreBytes}
-use Rattle.om_types.specs.declared.list_type.Base.{Base}
-use Rattle.om_types.specs.declared.list_type.Base.TheVariants as bases
-use Rattle.om_types.specs.declared.list_type.ListType.{ListType}
-use Rattle.om_types.specs.ListShapes.{base_text}
-use Rattle.om_types.specs.VerdictLaws.{FaultsExcludeTypes}
 use Rattle.om_format.specs.Laws.{HasOneJudgement}
 use Rattle.om_format.specs.Tree.{Tree, root, objects_of}
 use Rattle.om_format.specs.Stream.{End, SpellAll, IsTail}
@@ -17,55 +12,29 @@ use Rattle.om_outcome.specs.Outcome.{whole, at_end, Found, opened, Stop, fault_o
 use Rattle.om_edge.specs.Files.{File, contents_of}
 use Rattle.om_session.specs.Call.{Call}
 use Rattle.om_session.specs.Given.{TellsBytes}
-use Rattle.om_session.specs.Lists.{lists}
 use Rattle.om_session.specs.Run.{Account, AreAllWell, IsAllWell, IsComplete, HasOutcome}
 use Rattle.om_session.proofs.HeadlineLemmas.{headline}
 use Rattle.om_session.proofs.StreamLemmas.{stream_once, spell_once}
 use Rattle.om_session.proofs.WordLemmas.{check_or_compare}
 
--- a text is read in one way
+-- some text is read as this type, over declarations that some text is read as
+abbrev pub IsGiven : {D T : Type 0} → Language D T → T → Type 0
+IsGiven {D} language t = (text type : List ℕ) × (d : D) × language.ReadsDeclarations text (Ok d) × language.ReadsType d type (Ok t)
+
+-- so is the type of the work
+abbrev pub IsGivenWork : {D T : Type 0} → Language D T → Work T → Type 0
+IsGivenWork language (checks t) = IsGiven language t
+IsGivenWork language compares = Unit {0}
+
+-- a text is read in one way, and a value has one line at a type that was read
 pub record IsLawful {D T : Type 0} (language : Language D T) : Type 0 where
   pub declarations_once : (text : List ℕ) (d : D) (refusal : List ℕ) → language.ReadsDeclarations text (Ok d) → language.ReadsDeclarations text (Err refusal) → ⊥
   pub same_declarations : (text : List ℕ) (d e : D) → language.ReadsDeclarations text (Ok d) → language.ReadsDeclarations text (Ok e) → d ≡ e
+  pub same_refusal : (text refusal other : List ℕ) → language.ReadsDeclarations text (Err refusal) → language.ReadsDeclarations text (Err other) → refusal ≡ other
   pub type_once : (d : D) (text : List ℕ) (t : T) (refusal : List ℕ) → language.ReadsType d text (Ok t) → language.ReadsType d text (Err refusal) → ⊥
   pub same_type : (d : D) (text : List ℕ) (t u : T) → language.ReadsType d text (Ok t) → language.ReadsType d text (Ok u) → t ≡ u
-  pub verdict_once : (t : T) (tree : Tree) (line other : List ℕ) → language.LineOf t tree line true → language.LineOf t tree other false → ⊥
-
--- ---- lists
-
-lists_length : (n : ℕ) → length (flat_map (λ list. list) (replicate n (codes " list"))) ≡ 5 * n
-lists_length zero = refl
-lists_length (suc n) =
-    let more : length (codes " list" ++ flat_map (λ list. list) (replicate n (codes " list"))) ≡ 5 + length (flat_map (λ list. list) (replicate n (codes " list"))) =
-    length-append (codes " list") (flat_map (λ list. list) (replicate n (codes " list"))) in
-    let rest = lists_length n in omega (arith, more, rest)
-
-base_once : (b c : Base) (m n : ℕ) → base_text b ++ flat_map (λ list. list) (replicate m (codes " list")) ≡ base_text c ++ flat_map (λ list. list) (replicate n (codes " list"))
-    → (b ≡ c) × (m ≡ n)
-base_once bases.Int bases.Int m n e =
-    let one = length-append (codes "int") (flat_map (λ list. list) (replicate m (codes " list"))) in
-    let other = length-append (codes "int") (flat_map (λ list. list) (replicate n (codes " list"))) in
-    (refl, omega (arith, one, other, lists_length m, lists_length n, ap length e))
-base_once bases.Text bases.Text m n e =
-    let one = length-append (codes "string") (flat_map (λ list. list) (replicate m (codes " list"))) in
-    let other = length-append (codes "string") (flat_map (λ list. list) (replicate n (codes " list"))) in
-    (refl, omega (arith, one, other, lists_length m, lists_length n, ap length e))
-base_once bases.Int bases.Text m n e = let first : ◌≡◌ {A = ℕ} 105 115 = ap (λ xs. get_or xs 0 0) e in absurd (omega (arith, first))
-base_once bases.Text bases.Int m n e = let first : ◌≡◌ {A = ℕ} 115 105 = ap (λ xs. get_or xs 0 0) e in absurd (omega (arith, first))
-
-abbrev list_type : Base → ℕ → ListType
-list_type b n = record { base = b; lists = n }
-
-pub lists_lawful : FaultsExcludeTypes → IsLawful lists
-lists_lawful law = record {
-  declarations_once = λ text d refusal none some. some.0 none;
-  same_declarations = λ text d e none none'. refl;
-  type_once = λ d text t refusal is_text unread. unread.0 t is_text;
-  same_type = λ d text t u one other.
-      let e = base_once t.base u.base t.lists u.lists (sym one.spelled ∙ other.spelled) in
-      ap (λ b. list_type b t.lists) e.0 ∙ ap (λ n. list_type u.base n) e.1;
-  verdict_once = λ t tree line other has no_line. law (objects_of tree 0) (root tree 0) t no_line.fault no_line.is_fault has.0;
-}
+  pub same_type_refusal : (d : D) (text refusal other : List ℕ) → language.ReadsType d text (Err refusal) → language.ReadsType d text (Err other) → refusal ≡ other
+  pub line_once : (t : T) → IsGiven language t → (tree : Tree) (line other : List ℕ) (one two : Bool) → language.LineOf t tree line one → language.LineOf t tree other two → (line ≡ other) × (one ≡ two)
 
 -- ---- the stages
 
@@ -123,6 +92,29 @@ module _ {D T : Type 0} (language : Language D T) (lawful : IsLawful language) (
             let both : t ≡ x = cc in
             ap (λ t. Ok t) is ∙ (ap (λ w. Ok (record { work = w; limit = limit_of (check f u) })) (ours ∙ (ap (λ t. checks t) both ∙ sym theirs)) ∙ sym k)
 
+  -- the type of the work was read
+  pub prepares_given : (words : List (List ℕ)) (task : Task T) → Prepares language words file (Ok task) → IsGivenWork language task.work
+  prepares_given words task (Err s, h, same) = absurd (cc same)
+  prepares_given words task (Ok compare, asks, (Err s, h, same)) = absurd (cc same)
+  prepares_given words task (Ok compare, asks, (Ok work, h, told)) =
+      let one : task ≡ record { work = work; limit = limit_of compare } = cc in
+      let two : work ≡ compares = cc in
+      let is : task.work ≡ compares = ap (λ t. t.work) one ∙ two in
+      subst (IsGivenWork language) (sym is) tt
+  prepares_given words task (Ok (check f u), asks, (Err s, h, same)) = absurd (cc same)
+  prepares_given words task (Ok (check f u), asks, (Ok work, (Err s, reads, same), told)) = absurd (cc same)
+  prepares_given words task (Ok (check f u), asks, (Ok work, (Ok t, reads, same), told)) = type_given reads where
+    is : task.work ≡ checks t
+    is =
+        let one : task ≡ record { work = work; limit = limit_of (check f u) } = cc in
+        let two : work ≡ checks t = cc in
+        ap (λ t. t.work) one ∙ two
+
+    type_given : ReadsTypeOf language file (f, u) (Ok t) → IsGivenWork language task.work
+    type_given (Err s, h, other) = absurd (cc other)
+    type_given (Ok text, h, (Err s, g, other)) = absurd (cc other)
+    type_given (Ok text, h, (Ok d, g, given)) = subst (IsGivenWork language) (sym is) (text, u, d, g, given)
+
 -- ---- the values
 
 is_memory : (s : Status) → (s ≡ statuses.Memory) ⊎ (s ≢ statuses.Memory)
@@ -139,15 +131,14 @@ is_memory statuses.OpenFault = inr (λ e. cc e)
 is_memory statuses.TooLong = inr (λ e. cc e)
 
 module _ {D T : Type 0} (language : Language D T) (lawful : IsLawful language) where
-  says_well : (work : Work T) (k : ℕ) (trees : List Tree) (said : List Said) → AreAllWell language work trees → AllSay language work k trees said → all_well said ≡ true
-  says_well compares k trees said all h = silent language k trees said h
-  says_well (checks type) k [] [] all h = refl
-  says_well (checks type) k [] (first ∷ said) all h = absurd h
-  says_well (checks type) k (tree ∷ trees) [] all h = absurd h
-  says_well (checks type) k (tree ∷ trees) (first ∷ said) all h = first_well first.well h.0.1 (says_well (checks type) (suc k) trees said all.1 h.1) where
-    first_well : (well : Bool) → language.LineOf type tree h.0.0 well → all_well said ≡ true → (well && all_well said) ≡ true
-    first_well true line rest = rest
-    first_well false line rest = absurd (lawful.verdict_once type tree all.0.0 h.0.0 all.0.1 line)
+  says_well : (work : Work T) → IsGivenWork language work → (k : ℕ) (trees : List Tree) (said : List Said) → AreAllWell language work trees → AllSay language work k trees said → all_well said ≡ true
+  says_well compares given k trees said all h = silent language k trees said h
+  says_well (checks type) given k [] [] all h = refl
+  says_well (checks type) given k [] (first ∷ said) all h = absurd h
+  says_well (checks type) given k (tree ∷ trees) [] all h = absurd h
+  says_well (checks type) given k (tree ∷ trees) (first ∷ said) all h =
+      let here : true ≡ first.well = (lawful.line_once type given tree all.0.0 h.0.0 true first.well all.0.1 h.0.1).1 in
+      ap (λ well. well && all_well said) (sym here) ∙ says_well (checks type) given (suc k) trees said all.1 h.1
 
   -- the run ends well with a last reply in which nothing is wrong
   last_well : (said : List Said) (last : Reply) (final : Said) → all_well said ≡ true → final.well ≡ true → last ≡ says final → (ending_of (replies said last)).status ≡ statuses.Well
@@ -172,9 +163,9 @@ module _ {D T : Type 0} (language : Language D T) (lawful : IsLawful language) w
   never_stops compares limit (t ∷ u ∷ []) others rest stop all whole (two, some, is) = some (whole (sym two))
 
 module _ {D T : Type 0} (language : Language D T) (lawful : IsLawful language) (law : HasOneJudgement) (words : List (List ℕ)) (call : Call) where
-  values_well : (input : List ℕ) → AreBytes input → (task : Task T) (trees : List Tree) → SpellAll task.limit input trees [] → AreAllWell language task.work trees
+  values_well : (input : List ℕ) → AreBytes input → (task : Task T) → IsGivenWork language task.work → (trees : List Tree) → SpellAll task.limit input trees [] → AreAllWell language task.work trees
       → (all : Replies) → ValuesReply language task (whole input) all → (ending_of all).status ≡ statuses.Well
-  values_well input are_bytes task trees spelled well all v = go v.last where
+  values_well input are_bytes task given trees spelled well all v = go v.last where
     go : ((stop : Stop) × StopsAt language task.work task.limit v.trees v.rest stop × (fault_of at_end ≡ None) × (all.last ≡ stops stop))
         ⊎ ((end : End) × IsTail task.limit v.rest end × ((stop : Stop) → StopsAt language task.work task.limit v.trees v.rest stop → ⊥) × Closes language task.work v.trees at_end end all.last)
         → (ending_of all).status ≡ statuses.Well
@@ -185,7 +176,7 @@ module _ {D T : Type 0} (language : Language D T) (lawful : IsLawful language) (
         let once = stream_once law task.limit input trees v.trees end are_bytes spelled (v.rest, v.first.spelled, tail) in
         let said = subst (λ trees. AllSay language task.work 0 trees all.said) (sym once.0) v.first.all_say in
         finishes_well language lawful task.work v.trees all.said all.last (subst (λ trees. AreAllWell language task.work trees) once.0 well)
-        (says_well language lawful task.work 0 trees all.said well said) (subst (λ end. Closes language task.work v.trees at_end end all.last) once.1 closes)
+        (says_well language lawful task.work given 0 trees all.said well said) (subst (λ end. Closes language task.work v.trees at_end end all.last) once.1 closes)
 
   ends_well : (input : List ℕ) (files : List File) → AreBytes input → (all : IsAllWell language words input files) → (o : HasOutcome language words call input files) → call.status ≡ statuses.Well
   ends_well input files are_bytes all o = o.status ∙ from o.outcome.0 (prepares_once language lawful (λ name. found_of (contents_of files name)) words all.task o.outcome.0 all.prepared o.outcome.1) o.outcome.2 where
@@ -194,7 +185,7 @@ module _ {D T : Type 0} (language : Language D T) (lawful : IsLawful language) (
     from (Err s) e h = absurd (cc e)
     from (Ok task) e h =
         let same : task ≡ all.task = cc in
-        values_well input are_bytes all.task all.trees all.spelled all.well o.all (subst (λ task. ValuesReply language task (whole input) o.all) same h)
+        values_well input are_bytes all.task (prepares_given language lawful (λ name. found_of (contents_of files name)) words all.task all.prepared) all.trees all.spelled all.well o.all (subst (λ task. ValuesReply language task (whole input) o.all) same h)
 
   pub complete : TellsBytes call.input → Account language words call → IsComplete language words call
   complete tells a input files honest all = decide (is_memory call.status) where

@@ -1,20 +1,18 @@
--- An outcome has one status.
+-- Words, files and an input have one outcome.
 use Rattle.std.proofs.Common.{◌≡◌, ◌⊎◌, ℕ, suc, ◌+◌, ◌≤◌, Bool, true, false, List, [], ◌∷◌, ◌++◌, length, length-append, arith, None, Result, Ok, Err, inl, inr, refl, sym, ap, ◌∙◌, subst}
 use Rattle.std.specs.Prelude.{MatchResult, ◌&&◌, ◌↔◌, IsTrue, if◌then◌else◌}
-use Rattle.om_model.specs.declared.status.Status.{Status}
-use Rattle.om_model.specs.declared.status.Status.TheVariants as statuses
-use Rattle.om_session.proofs.ValueLemmas.{few_said, all_well-snoc}
+use Rattle.om_session.proofs.ValueLemmas.{few_said}
 use Rattle.om_model.specs.Bytes.{AreBytes}
 use Rattle.om_format.specs.Laws.{HasOneJudgement}
 use Rattle.om_format.specs.Tree.{Tree}
 use Rattle.om_format.specs.Stream.{SpellAll, End, clean, refused, cut, IsTail, Stream}
-use Rattle.om_outcome.specs.Outcome.{whole, at_end, Found, opened, missing, failed, unfetched, Stop, fault_of, usage, declarations, requested_type, status_of, stopped, Request, check, compare, Asks, Then, OrRefusal, Work, checks, compares, Task, Language, ReadsFile, ReadsTypeOf, Prepares, Said, nothing_said, says, not_two_values, comparison, AreSame, stops, Reply, Replies, replies, all_well, ending_of, Says, AllSay, StopsAt, ValuesReply, Finishes, Closes, limit_of, found_of, Outcome}
+use Rattle.om_outcome.specs.Outcome.{whole, at_end, Found, opened, missing, failed, unfetched, Stop, fault_of, usage, declarations, requested_type, stopped, Request, check, compare, Asks, Then, OrRefusal, Work, checks, compares, Task, Language, ReadsFile, ReadsTypeOf, Prepares, Said, nothing_said, says, not_two_values, comparison, AreSame, stops, Reply, Replies, replies, line, ending_of, Says, AllSay, StopsAt, ValuesReply, Finishes, Closes, limit_of, found_of, Outcome}
 use Rattle.om_edge.specs.Files.{File, contents_of}
 use Rattle.om_session.specs.Call.{Call}
 use Rattle.om_session.specs.Given.{TellsBytes}
 use Rattle.om_session.specs.Run.{Account, IsDecided}
 use Rattle.om_session.proofs.HeadlineLemmas.{headline}
-use Rattle.om_session.proofs.CompleteLemmas.{IsLawful, prepares_once}
+use Rattle.om_session.proofs.CompleteLemmas.{IsGivenWork, IsLawful, prepares_once, prepares_given}
 use Rattle.om_session.proofs.StreamLemmas.{streams_once, spell_once, spell_append, spell_bytes, stream_of}
 
 -- ---- the stages before the values
@@ -33,23 +31,26 @@ module _ {D T : Type 0} (language : Language D T) (lawful : IsLawful language) (
   abbrev Unread : List ℕ → List ℕ → Stop → Type 0
   Unread u text s = Then (OrRefusal (language.ReadsDeclarations text) declarations) (λ decls. OrRefusal (language.ReadsType decls u) requested_type) (Err s)
 
-  unread_statuses : (u text : List ℕ) (s s' : Stop) → Unread u text s → Unread u text s' → status_of s ≡ status_of s'
-  unread_statuses u text s s' (Err a, g, same) (Err b, g', same') =
+  unread_once : (u text : List ℕ) (s s' : Stop) → Unread u text s → Unread u text s' → s ≡ s'
+  unread_once u text s s' (Err a, g, same) (Err b, g', same') =
       let k = g.2 in let k' = g'.2 in
-      let one : s ≡ declarations g.0 = cc in let other : s' ≡ declarations g'.0 = cc in ap status_of one ∙ sym (ap status_of other)
-  unread_statuses u text s s' (Err a, g, same) (Ok d, g', is) = absurd (lawful.declarations_once text d g.0 g' g.1)
-  unread_statuses u text s s' (Ok d, g, is) (Err a, g', same) = absurd (lawful.declarations_once text d g'.0 g g'.1)
-  unread_statuses u text s s' (Ok d, g, is) (Ok e, g', is') = ap status_of is.2 ∙ sym (ap status_of is'.2)
+      let one : s ≡ declarations g.0 = cc in let other : s' ≡ declarations g'.0 = cc in
+      one ∙ (ap declarations (lawful.same_refusal text g.0 g'.0 g.1 g'.1) ∙ sym other)
+  unread_once u text s s' (Err a, g, same) (Ok d, g', is) = absurd (lawful.declarations_once text d g.0 g' g.1)
+  unread_once u text s s' (Ok d, g, is) (Err a, g', same) = absurd (lawful.declarations_once text d g'.0 g g'.1)
+  unread_once u text s s' (Ok d, g, is) (Ok e, g', is') =
+      let moved = subst (λ d. language.ReadsType d u (Err is.0)) (lawful.same_declarations text d e g g') is.1 in
+      is.2 ∙ (ap requested_type (lawful.same_type_refusal e u is.0 is'.0 moved is'.1) ∙ sym is'.2)
 
-  type_statuses : (f u : List ℕ) (s s' : Stop) → ReadsTypeOf language file (f, u) (Err s) → ReadsTypeOf language file (f, u) (Err s') → status_of s ≡ status_of s'
-  type_statuses f u s s' (Err a, h, same) (Err b, h', same') =
+  type_stop_once : (f u : List ℕ) (s s' : Stop) → ReadsTypeOf language file (f, u) (Err s) → ReadsTypeOf language file (f, u) (Err s') → s ≡ s'
+  type_stop_once f u s s' (Err a, h, same) (Err b, h', same') =
       let once : a ≡ b = fault_once f (file f) a b h h' in
-      let one : s ≡ a = cc in let other : s' ≡ b = cc in ap status_of (one ∙ (once ∙ sym other))
-  type_statuses f u s s' (Err a, h, same) (Ok text, h', rest) = absurd (read_or_fault f text a h' h)
-  type_statuses f u s s' (Ok text, h, rest) (Err b, h', same') = absurd (read_or_fault f text b h h')
-  type_statuses f u s s' (Ok text, h, rest) (Ok text', h', rest') =
+      let one : s ≡ a = cc in let other : s' ≡ b = cc in one ∙ (once ∙ sym other)
+  type_stop_once f u s s' (Err a, h, same) (Ok text, h', rest) = absurd (read_or_fault f text a h' h)
+  type_stop_once f u s s' (Ok text, h, rest) (Err b, h', same') = absurd (read_or_fault f text b h h')
+  type_stop_once f u s s' (Ok text, h, rest) (Ok text', h', rest') =
       let all : whole text ≡ whole text' = cc in
-      unread_statuses u text' s s' (subst (λ b. Unread u b s) (ap (λ t. t.bytes) all) rest) rest'
+      unread_once u text' s s' (subst (λ b. Unread u b s) (ap (λ t. t.bytes) all) rest) rest'
 
   -- why there is no task
   abbrev Unprepared : List (List ℕ) → Stop → Type 0
@@ -68,49 +69,34 @@ module _ {D T : Type 0} (language : Language D T) (lawful : IsLawful language) (
     type_stop (Err b) (Ok t) reads told same = absurd (cc told)
     type_stop (Err b) (Err c) reads told same = let is : c ≡ s = cc in subst (λ c. ReadsTypeOf language file (f, u) (Err c)) is reads
 
-  stop_statuses : (words : List (List ℕ)) (s s' : Stop) → Unprepared words s → Unprepared words s' → status_of s ≡ status_of s'
-  stop_statuses words s s' (inl (none, e)) (inl (none', e')) = ap status_of (e ∙ sym e')
-  stop_statuses words s s' (inl (none, e)) (inr (f, u, asks, reads)) = absurd (none (check f u) asks)
-  stop_statuses words s s' (inr (f, u, asks, reads)) (inl (none, e)) = absurd (none (check f u) asks)
-  stop_statuses words s s' (inr (f, u, asks, reads)) (inr (g, v, asks', reads')) =
+  stop_once : (words : List (List ℕ)) (s s' : Stop) → Unprepared words s → Unprepared words s' → s ≡ s'
+  stop_once words s s' (inl (none, e)) (inl (none', e')) = e ∙ sym e'
+  stop_once words s s' (inl (none, e)) (inr (f, u, asks, reads)) = absurd (none (check f u) asks)
+  stop_once words s s' (inr (f, u, asks, reads)) (inl (none, e)) = absurd (none (check f u) asks)
+  stop_once words s s' (inr (f, u, asks, reads)) (inr (g, v, asks', reads')) =
       let one = asks.0 in let two = asks'.0 in
       let names : g ≡ f = cc in
       let types : v ≡ u = cc in
-      type_statuses f u s s' reads (subst (λ u. ReadsTypeOf language file (f, u) (Err s')) types (subst (λ f. ReadsTypeOf language file (f, v) (Err s')) names reads'))
+      type_stop_once f u s s' reads (subst (λ u. ReadsTypeOf language file (f, u) (Err s')) types (subst (λ f. ReadsTypeOf language file (f, v) (Err s')) names reads'))
 
 -- ---- the values
 
 module _ {D T : Type 0} (language : Language D T) (lawful : IsLawful language) where
-  one_wellness : (work : Work T) (k : ℕ) (tree : Tree) (said other : Said) → Says language work k tree said → Says language work k tree other → said.well ≡ other.well
-  one_wellness (checks t) k tree said other h g = same said.well other.well h.1 g.1 where
-    same : (a b : Bool) → language.LineOf t tree h.0 a → language.LineOf t tree g.0 b → a ≡ b
-    same true true one two = refl
-    same false false one two = refl
-    same true false one two = absurd (lawful.verdict_once t tree h.0 g.0 one two)
-    same false true one two = absurd (lawful.verdict_once t tree g.0 h.0 two one)
-  one_wellness compares k tree said other h g = ap (λ s. s.well) (h.1 ∙ sym g.1)
+  pub one_said : (work : Work T) → IsGivenWork language work → (k : ℕ) (tree : Tree) (said other : Said) → Says language work k tree said → Says language work k tree other → said ≡ other
+  one_said (checks t) given k tree said other h g =
+      let once = lawful.line_once t given tree h.0 g.0 said.well other.well h.1 g.1 in
+      let text : said.text ≡ other.text = h.2 ∙ (ap line once.0 ∙ sym g.2) in
+      ap (λ w. let s : Said = record { text = said.text; well = w } in s) once.1 ∙ ap (λ x. let s : Said = record { text = x; well = other.well } in s) text
+  one_said compares given k tree said other h g = h.1 ∙ sym g.1
 
-  all_wellness : (work : Work T) (k : ℕ) (trees : List Tree) (said others : List Said) → AllSay language work k trees said → AllSay language work k trees others → all_well said ≡ all_well others
-  all_wellness work k [] [] [] h g = refl
-  all_wellness work k [] (first ∷ said) others h g = absurd h
-  all_wellness work k [] [] (other ∷ others) h g = absurd g
-  all_wellness work k (tree ∷ trees) [] others h g = absurd h
-  all_wellness work k (tree ∷ trees) (first ∷ said) [] h g = absurd g
-  all_wellness work k (tree ∷ trees) (first ∷ said) (other ∷ others) h g =
-      ap (λ w. w && all_well said) (one_wellness work k tree first other h.0 g.0) ∙ ap (λ w. other.well && w) (all_wellness work (suc k) trees said others h.1 g.1)
-
-  abbrev status : List Said → Reply → Status
-  status said last = (ending_of (replies said last)).status
-
-  -- two last replies in which the same is wrong
-  says_once : (said others : List Said) (last other : Reply) (final final' : Said) → all_well said ≡ all_well others → final.well ≡ final'.well → last ≡ says final → other ≡ says final'
-      → status said last ≡ status others other
-  says_once said others last other final final' same fine h g =
-      let well = all_well-snoc said final ∙ (ap (λ w. w && final.well) same ∙ (ap (λ w. all_well others && w) fine ∙ sym (all_well-snoc others final'))) in
-      ap (λ l. status said l) h ∙ (ap (λ w. if w then statuses.Well else statuses.No) well ∙ sym (ap (λ l. status others l) g))
-
-  stops_once : (said others : List Said) (last other : Reply) (stop : Stop) → last ≡ stops stop → other ≡ stops stop → status said last ≡ status others other
-  stops_once said others last other stop h g = ap (λ l. status said l) h ∙ sym (ap (λ l. status others l) g)
+  said_once : (work : Work T) → IsGivenWork language work → (k : ℕ) (trees : List Tree) (said others : List Said) → AllSay language work k trees said → AllSay language work k trees others → said ≡ others
+  said_once work given k [] [] [] h g = refl
+  said_once work given k [] (first ∷ said) others h g = absurd h
+  said_once work given k [] [] (other ∷ others) h g = absurd g
+  said_once work given k (tree ∷ trees) [] others h g = absurd h
+  said_once work given k (tree ∷ trees) (first ∷ said) [] h g = absurd g
+  said_once work given k (tree ∷ trees) (first ∷ said) (other ∷ others) h g =
+      ap (λ s. s ∷ said) (one_said work given k tree first other h.0 g.0) ∙ ap (λ s. other ∷ s) (said_once work given (suc k) trees said others h.1 g.1)
 
   -- a line on two values says what they are
   one_answer : (a b : Bool) (P : Type 0) → (IsTrue a ↔ P) → (IsTrue b ↔ P) → a ≡ b
@@ -118,25 +104,27 @@ module _ {D T : Type 0} (language : Language D T) (lawful : IsLawful language) w
   one_answer false true P is other = is.1 (other.0 refl)
   one_answer false false P is other = refl
 
-  finishes_once : (work : Work T) (trees : List Tree) (said others : List Said) (last other : Reply) → all_well said ≡ all_well others
-      → Finishes language work trees last → Finishes language work trees other → status said last ≡ status others other
-  finishes_once (checks t) trees said others last other same h g = says_once said others last other nothing_said nothing_said same refl h g
-  finishes_once compares [] said others last other same h g = stops_once said others last other not_two_values h g
-  finishes_once compares (t ∷ []) said others last other same h g = stops_once said others last other not_two_values h g
-  finishes_once compares (t ∷ u ∷ v ∷ trees) said others last other same h g = stops_once said others last other not_two_values h g
-  finishes_once compares (t ∷ u ∷ []) said others last other same (a, is, h) (b, is', g) =
-      says_once said others last other (comparison a) (comparison b) same (ap (λ a. (comparison a).well) (one_answer a b (AreSame t u) is is')) h g
+  finishes_once : (work : Work T) (trees : List Tree) (last other : Reply) → Finishes language work trees last → Finishes language work trees other → last ≡ other
+  finishes_once (checks t) trees last other h g = h ∙ sym g
+  finishes_once compares [] last other h g = h ∙ sym g
+  finishes_once compares (t ∷ []) last other h g = h ∙ sym g
+  finishes_once compares (t ∷ u ∷ v ∷ trees) last other h g = h ∙ sym g
+  finishes_once compares (t ∷ u ∷ []) last other (a, is, h) (b, is', g) =
+      h ∙ (ap (λ a. says (comparison a)) (one_answer a b (AreSame t u) is is') ∙ sym g)
 
-  closes_once : (work : Work T) (trees : List Tree) (end : End) (said others : List Said) (last other : Reply) → all_well said ≡ all_well others
-      → Closes language work trees at_end end last → Closes language work trees at_end end other → status said last ≡ status others other
-  closes_once work trees clean said others last other same h g = finishes_once work trees said others last other same h g
-  closes_once work trees (refused r) said others last other same h g = stops_once said others last other _ h g
-  closes_once work trees (cut n) said others last other same h g = stops_once said others last other _ h g
+  closes_once : (work : Work T) (trees : List Tree) (end : End) (last other : Reply) → Closes language work trees at_end end last → Closes language work trees at_end end other → last ≡ other
+  closes_once work trees clean last other h g = finishes_once work trees last other h g
+  closes_once work trees (refused r) last other h g = h ∙ sym g
+  closes_once work trees (cut n) last other h g = h ∙ sym g
 
   -- a stop is one
   same_stop : (work : Work T) (limit : ℕ) (trees trees' : List Tree) (rest rest' : List ℕ) (stop stop' : Stop) → StopsAt language work limit trees rest stop → StopsAt language work limit trees' rest' stop' → stop ≡ stop'
   same_stop (checks t) limit trees trees' rest rest' stop stop' at at' = absurd at
   same_stop compares limit trees trees' rest rest' stop stop' at at' = at.2 ∙ sym at'.2
+
+  two_values : (work : Work T) (limit : ℕ) (trees trees' : List Tree) (rest rest' : List ℕ) (stop stop' : Stop) → StopsAt language work limit trees rest stop → StopsAt language work limit trees' rest' stop' → length trees ≡ length trees'
+  two_values (checks t) limit trees trees' rest rest' stop stop' at at' = absurd at
+  two_values compares limit trees trees' rest rest' stop stop' at at' = at.0 ∙ sym at'.0
 
   pub few_of : (work : Work T) (trees : List Tree) (said : List Said) → AllSay language work 0 trees said → work ≡ compares → length trees ≤ 2
   few_of work trees said all_say e = let n = few_said language 0 trees said (omega arith) (subst (λ w. AllSay language w 0 trees said) e all_say) in omega (arith, n)
@@ -157,17 +145,22 @@ module _ {D T : Type 0} (language : Language D T) (lawful : IsLawful language) w
       let same : rest ≡ rest' = (spell_once law limit input trees trees' rest rest' are_bytes (two ∙ sym two') spelled spelled').1 in
       none stop (two', (λ e. at.1 (same ∙ e)), at.2)
 
-  values_status : (law : HasOneJudgement) (task : Task T) (input : List ℕ) → AreBytes input → (all other : Replies)
-      → ValuesReply language task (whole input) all → ValuesReply language task (whole input) other → (ending_of all).status ≡ (ending_of other).status
-  values_status law task input are_bytes all other v w = go v.last w.last where
+  values_once : (law : HasOneJudgement) (task : Task T) → IsGivenWork language task.work → (input : List ℕ) → AreBytes input → (all other : Replies)
+      → ValuesReply language task (whole input) all → ValuesReply language task (whole input) other → all ≡ other
+  values_once law task given input are_bytes all other v w = go v.last w.last where
+    both : all.said ≡ other.said → all.last ≡ other.last → all ≡ other
+    both said last = ap (λ s. replies s all.last) said ∙ ap (λ l. replies other.said l) last
+
     go : ((stop : Stop) × StopsAt language task.work task.limit v.trees v.rest stop × (fault_of at_end ≡ None) × (all.last ≡ stops stop))
         ⊎ ((end : End) × IsTail task.limit v.rest end × ((stop : Stop) → StopsAt language task.work task.limit v.trees v.rest stop → ⊥) × Closes language task.work v.trees at_end end all.last)
         → ((stop : Stop) × StopsAt language task.work task.limit w.trees w.rest stop × (fault_of at_end ≡ None) × (other.last ≡ stops stop))
         ⊎ ((end : End) × IsTail task.limit w.rest end × ((stop : Stop) → StopsAt language task.work task.limit w.trees w.rest stop → ⊥) × Closes language task.work w.trees at_end end other.last)
-        → (ending_of all).status ≡ (ending_of other).status
+        → all ≡ other
     go (inl (stop, at, free, is)) (inl (stop', at', free', is')) =
-        stops_once all.said other.said all.last other.last stop is
-        (is' ∙ ap (λ s. stops s) (sym (same_stop task.work task.limit v.trees w.trees v.rest w.rest stop stop' at at')))
+        let sizes : length v.trees ≡ length w.trees = two_values task.work task.limit v.trees w.trees v.rest w.rest stop stop' at at' in
+        let trees = (spell_once law task.limit input v.trees w.trees v.rest w.rest are_bytes sizes v.first.spelled w.first.spelled).0 in
+        both (said_once task.work given 0 v.trees all.said other.said v.first.all_say (subst (λ trees. AllSay language task.work 0 trees other.said) (sym trees) w.first.all_say))
+        (is ∙ (ap (λ s. stops s) (same_stop task.work task.limit v.trees w.trees v.rest w.rest stop stop' at at') ∙ sym is'))
     go (inl (stop, at, free, is)) (inr (end, tail, none, closes)) =
         absurd (stop_or_end law task.work task.limit input are_bytes v.trees w.trees v.rest w.rest end stop v.first.spelled at w.first.spelled (few_of task.work w.trees other.said w.first.all_say) tail none)
     go (inr (end, tail, none, closes)) (inl (stop, at, free, is)) =
@@ -176,33 +169,33 @@ module _ {D T : Type 0} (language : Language D T) (lawful : IsLawful language) w
         let once = streams_once law task.limit input v.trees w.trees end end' are_bytes (v.rest, v.first.spelled, tail) (w.rest, w.first.spelled, tail') in
         let said = subst (λ trees. AllSay language task.work 0 trees other.said) (sym once.0) w.first.all_say in
         let here = subst (λ trees. Closes language task.work trees at_end end' other.last) (sym once.0) closes' in
-        closes_once task.work v.trees end all.said other.said all.last other.last (all_wellness task.work 0 v.trees all.said other.said v.first.all_say said)
-        closes (subst (λ end. Closes language task.work v.trees at_end end other.last) (sym once.1) here)
+        both (said_once task.work given 0 v.trees all.said other.said v.first.all_say said)
+        (closes_once task.work v.trees end all.last other.last closes (subst (λ end. Closes language task.work v.trees at_end end other.last) (sym once.1) here))
 
 -- ---- the whole run
 
 module _ {D T : Type 0} (language : Language D T) (lawful : IsLawful language) (law : HasOneJudgement) (words : List (List ℕ)) where
-  one_status : (files : List File) (input : List ℕ) → AreBytes input → (e e' : Replies)
-      → Outcome language words (contents_of files) input e → Outcome language words (contents_of files) input e' → (ending_of e).status ≡ (ending_of e').status
-  one_status files input are_bytes e e' (prepared, p, m) (prepared', p', m') = from prepared prepared' p p' m m' where
+  -- words, files and an input have one outcome
+  pub one_outcome : (files : List File) (input : List ℕ) → AreBytes input → (e e' : Replies)
+      → Outcome language words (contents_of files) input e → Outcome language words (contents_of files) input e' → e ≡ e'
+  one_outcome files input are_bytes e e' (prepared, p, m) (prepared', p', m') = from prepared prepared' p p' m m' where
     file : List ℕ → Found
     file name = found_of (contents_of files name)
 
     from : (prepared prepared' : Result (Task T) Stop) → Prepares language words file prepared → Prepares language words file prepared'
         → MatchResult prepared (λ task. ValuesReply language task (whole input) e) (λ stop. e ≡ stopped stop)
-        → MatchResult prepared' (λ task. ValuesReply language task (whole input) e') (λ stop. e' ≡ stopped stop) → (ending_of e).status ≡ (ending_of e').status
+        → MatchResult prepared' (λ task. ValuesReply language task (whole input) e') (λ stop. e' ≡ stopped stop) → e ≡ e'
     from (Ok task) (Err s) p p' m m' = let k = prepares_once language lawful file words task (Err s) p p' in absurd (cc k)
     from (Err s) (Ok task) p p' m m' = let k = prepares_once language lawful file words task (Err s) p' p in absurd (cc k)
     from (Err s) (Err s') p p' m m' =
-        ap (λ e. (ending_of e).status) m ∙ (stop_statuses language lawful file words s s' (unprepared language lawful file words s p) (unprepared language lawful file words s' p')
-        ∙ sym (ap (λ e. (ending_of e).status) m'))
+        m ∙ (ap stopped (stop_once language lawful file words s s' (unprepared language lawful file words s p) (unprepared language lawful file words s' p')) ∙ sym m')
     from (Ok task) (Ok task') p p' m m' =
         let k = prepares_once language lawful file words task (Ok task') p p' in
         let same : task' ≡ task = cc in
-        values_status language lawful law task input are_bytes e e' m (subst (λ task. ValuesReply language task (whole input) e') same m')
+        values_once language lawful law task (prepares_given language lawful file words task p) input are_bytes e e' m (subst (λ task. ValuesReply language task (whole input) e') same m')
 
   pub decided : (call : Call) → TellsBytes call.input → Account language words call → IsDecided language words call
   decided call tells a input files honest some all outcome =
       let are_bytes : AreBytes input = rw honest.well_read.input_told at tells in
       let o = headline language words call a input files honest some in
-      o.status ∙ one_status files input are_bytes o.all all o.outcome outcome
+      o.status ∙ ap (λ e. (ending_of e).status) (one_outcome files input are_bytes o.all all o.outcome outcome)

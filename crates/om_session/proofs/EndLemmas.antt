@@ -12,7 +12,7 @@ use Rattle.om_edge.specs.Sink.{Puts}
 use Rattle.om_session.specs.declared.values.Halt.{Halt}
 use Rattle.om_session.specs.declared.values.Halt.TheVariants as halts
 use Rattle.om_session.specs.declared.values.Values.{Values}
-use Rattle.om_session.specs.Lists.{lists}
+use Rattle.om_session.specs.Language.{declared_types}
 use Rattle.om_session.specs.Run.{HoldNoStop, IsPaced}
 use Rattle.om_session.specs.Stops.{stop_of}
 use Rattle.om_session.specs.Values.{StopsIn, HaltsIn, MayTake, ReadsPiece, EndsAt, EndsValues, AreSaid, work_of, task_of, word_limit}
@@ -22,7 +22,7 @@ use Rattle.om_session.proofs.TakeLemmas.{taken}
 use Rattle.om_session.proofs.ValueLemmas.{first_after, texts_of-append, texts_of-one, all_well-snoc}
 
 -- nothing is in hand
-pub paced_whole : (w : Work) (bytes : List ℕ) (said : List Said) (until : InputEnd) → HoldNoStop lists (task_of w) bytes said → IsPaced lists (task_of w) (taken bytes until) said
+pub paced_whole : (w : Work) (bytes : List ℕ) (said : List Said) (until : InputEnd) → HoldNoStop declared_types (task_of w) bytes said → IsPaced declared_types (task_of w) (taken bytes until) said
 paced_whole w bytes said until holds = record {
   earlier = bytes;
   in_hand = [];
@@ -32,28 +32,28 @@ paced_whole w bytes said until holds = record {
   asked = inr refl;
 }
 
-module _ (w : Work) (bytes : List ℕ) (said : List Said) (holds : HoldNoStop lists (task_of w) bytes said) where
+module _ (w : Work) (bytes : List ℕ) (said : List Said) (holds : HoldNoStop declared_types (task_of w) bytes said) where
   -- the input failed after these bytes, or there are too many
   ends_asking : (until : InputEnd) (stop : outcome.Stop)
-      → Closes lists (work_of w) holds.trees until clean (outcome.stops stop)
-      → ((n : ℕ) → Closes lists (work_of w) holds.trees until (cut n) (outcome.stops stop))
-      → ValuesReply lists (task_of w) (taken bytes until) (replies said (outcome.stops stop))
+      → Closes declared_types (work_of w) holds.trees until clean (outcome.stops stop)
+      → ((n : ℕ) → Closes declared_types (work_of w) holds.trees until (cut n) (outcome.stops stop))
+      → ValuesReply declared_types (task_of w) (taken bytes until) (replies said (outcome.stops stop))
   ends_asking until stop at_clean at_cut = from holds.front refl where
-    from : (front : List ℕ) → holds.front ≡ front → ValuesReply lists (task_of w) (taken bytes until) (replies said (outcome.stops stop))
+    from : (front : List ℕ) → holds.front ≡ front → ValuesReply declared_types (task_of w) (taken bytes until) (replies said (outcome.stops stop))
     from [] e = record { trees = holds.trees; rest = holds.front; first = holds.first; last = inr (clean, e, holds.goes_on, at_clean) }
     from (b ∷ front) e =
         let some : 0 < length holds.front = let size : length holds.front ≡ length (b ∷ front) = ap length e in omega (arith, size) in
         record { trees = holds.trees; rest = holds.front; first = holds.first; last = inr (cut (length holds.front), (some, refl, holds.is_front), holds.goes_on, at_cut (length holds.front)) }
 
-  pub ends_fault : ValuesReply lists (task_of w) (taken bytes at_fault) (replies said (outcome.stops read_fault))
+  pub ends_fault : ValuesReply declared_types (task_of w) (taken bytes at_fault) (replies said (outcome.stops read_fault))
   ends_fault = ends_asking at_fault read_fault refl (λ n. refl)
 
-  pub ends_length : ValuesReply lists (task_of w) (taken bytes at_length) (replies said (outcome.stops too_long))
+  pub ends_length : ValuesReply declared_types (task_of w) (taken bytes at_length) (replies said (outcome.stops too_long))
   ends_length = ends_asking at_length too_long refl (λ n. refl)
 
 -- the input's end, after all values
-ends_after : (w : Work) (bytes : List ℕ) (said : List Said) (trees : List Tree) → SayFirst lists (task_of w) bytes trees said [] → (last : outcome.Reply) → outcome.Finishes lists (work_of w) trees last
-    → ValuesReply lists (task_of w) (taken bytes at_end) (replies said last)
+ends_after : (w : Work) (bytes : List ℕ) (said : List Said) (trees : List Tree) → SayFirst declared_types (task_of w) bytes trees said [] → (last : outcome.Reply) → outcome.Finishes declared_types (work_of w) trees last
+    → ValuesReply declared_types (task_of w) (taken bytes at_end) (replies said last)
 ends_after w bytes said trees first last finishes = record { trees = trees; rest = []; first = first; last = inr (clean, refl, λ stop at. none_goes_on w word_limit trees stop at, finishes) }
 
 pub ends_input : (w : Work) (bytes : List ℕ) (said : List Said) (a b c : ByteState) (result : Result Bool Halt) → EndsAt w bytes said (change b c) result
@@ -69,14 +69,14 @@ ends_input w bytes said a b c (Err (halts.Stop stop)) (why, none) before = (
   stops why,
   subst (λ text. Puts (change a c) text) (append-nil (texts_of said)) (puts_then a b c (texts_of said) [] before none),
 ) where
-  ended : (trees : List Tree) → SayFirst lists (task_of w) bytes trees said [] → outcome.Finishes lists (work_of w) trees (outcome.stops (stop_of stop)) ⊎ (stop_of stop ≡ out_of_memory)
-      → ValuesReply lists (task_of w) (taken bytes at_end) (replies said (outcome.stops (stop_of stop))) ⊎ (stop_of stop ≡ out_of_memory)
+  ended : (trees : List Tree) → SayFirst declared_types (task_of w) bytes trees said [] → outcome.Finishes declared_types (work_of w) trees (outcome.stops (stop_of stop)) ⊎ (stop_of stop ≡ out_of_memory)
+      → ValuesReply declared_types (task_of w) (taken bytes at_end) (replies said (outcome.stops (stop_of stop))) ⊎ (stop_of stop ≡ out_of_memory)
   ended trees first (inl finishes) = inl (ends_after w bytes said trees first (outcome.stops (stop_of stop)) finishes)
   ended trees first (inr memory) = inr memory
 
-  stops : ((holds : HoldNoStop lists (task_of w) bytes said) × (0 < length holds.front) × (stop_of stop ≡ outcome.value (length holds.trees) (truncated_text (length holds.front))))
-      ⊎ ((trees : List Tree) × SayFirst lists (task_of w) bytes trees said [] × (outcome.Finishes lists (work_of w) trees (outcome.stops (stop_of stop)) ⊎ (stop_of stop ≡ out_of_memory)))
-      → ValuesReply lists (task_of w) (taken bytes at_end) (replies said (outcome.stops (stop_of stop))) ⊎ (stop_of stop ≡ out_of_memory)
+  stops : ((holds : HoldNoStop declared_types (task_of w) bytes said) × (0 < length holds.front) × (stop_of stop ≡ outcome.value (length holds.trees) (truncated_text (length holds.front))))
+      ⊎ ((trees : List Tree) × SayFirst declared_types (task_of w) bytes trees said [] × (outcome.Finishes declared_types (work_of w) trees (outcome.stops (stop_of stop)) ⊎ (stop_of stop ≡ out_of_memory)))
+      → ValuesReply declared_types (task_of w) (taken bytes at_end) (replies said (outcome.stops (stop_of stop))) ⊎ (stop_of stop ≡ out_of_memory)
   stops (inl (holds, some, is)) = inl (record {
     trees = holds.trees;
     rest = holds.front;
@@ -91,7 +91,7 @@ ends_input w bytes said a b c (Err halts.WriteFault) (trees, first, final, finis
 module _ (w : Work) (bytes : List ℕ) (said : List Said) (a b c : ByteState) (put : Puts (change a b) (texts_of said)) where
   pub record Halted (piece : List ℕ) (halt : Halt) : Type 0 where
     pub all : List Said
-    pub paced : IsPaced lists (task_of w) (taken (bytes ++ piece) unasked) all
+    pub paced : IsPaced declared_types (task_of w) (taken (bytes ++ piece) unasked) all
     pub ends : EndsValues w (taken (bytes ++ piece) unasked) all (change a c) (Err halt)
 
   in_piece : (done in_hand : List ℕ) (more : List Said) (between : ByteState) (halt : Halt) → length in_hand ≤ 4096
@@ -110,21 +110,21 @@ module _ (w : Work) (bytes : List ℕ) (said : List Said) (a b c : ByteState) (p
     ends = (replied why, subst (λ text. Puts (change a c) text) (append-nil (texts_of (said ++ more))) (puts_then a between c (texts_of (said ++ more)) [] before none));
   } where
     replied : StopsIn w holds.trees (holds.front ++ in_hand) stop
-        → ValuesReply lists (task_of w) (taken (bytes ++ (done ++ in_hand)) unasked) (replies (said ++ more) (outcome.stops (stop_of stop))) ⊎ (stop_of stop ≡ out_of_memory)
+        → ValuesReply declared_types (task_of w) (taken (bytes ++ (done ++ in_hand)) unasked) (replies (said ++ more) (outcome.stops (stop_of stop))) ⊎ (stop_of stop ≡ out_of_memory)
     replied (inl memory) = inr memory
     replied (inr why) = inl (record {
       trees = holds.trees;
       rest = holds.front ++ in_hand;
-      first = subst (λ b. SayFirst lists (task_of w) b holds.trees (said ++ more) (holds.front ++ in_hand)) (append_assoc bytes done in_hand)
-          (first_after lists (task_of w) (bytes ++ done) holds.trees (said ++ more) holds.front in_hand holds.first);
+      first = subst (λ b. SayFirst declared_types (task_of w) b holds.trees (said ++ more) (holds.front ++ in_hand)) (append_assoc bytes done in_hand)
+          (first_after declared_types (task_of w) (bytes ++ done) holds.trees (said ++ more) holds.front in_hand holds.first);
       last = last why;
     }) where
       last : ((refusal : ReadRefusal) × IsTail word_limit (holds.front ++ in_hand) (refused refusal) × MayTake w (length holds.trees) × (stop_of stop ≡ outcome.value (length holds.trees) (refusal_text refusal)))
-          ⊎ outcome.StopsAt lists (work_of w) word_limit holds.trees (holds.front ++ in_hand) (stop_of stop)
-          → ((s : outcome.Stop) × outcome.StopsAt lists (work_of w) word_limit holds.trees (holds.front ++ in_hand) s × (outcome.fault_of unasked ≡ None) × (outcome.stops (stop_of stop) ≡ outcome.stops s))
+          ⊎ outcome.StopsAt declared_types (work_of w) word_limit holds.trees (holds.front ++ in_hand) (stop_of stop)
+          → ((s : outcome.Stop) × outcome.StopsAt declared_types (work_of w) word_limit holds.trees (holds.front ++ in_hand) s × (outcome.fault_of unasked ≡ None) × (outcome.stops (stop_of stop) ≡ outcome.stops s))
           ⊎ ((end : End) × IsTail word_limit (holds.front ++ in_hand) end
-          × ((s : outcome.Stop) → outcome.StopsAt lists (work_of w) word_limit holds.trees (holds.front ++ in_hand) s → ⊥)
-          × Closes lists (work_of w) holds.trees unasked end (outcome.stops (stop_of stop)))
+          × ((s : outcome.Stop) → outcome.StopsAt declared_types (work_of w) word_limit holds.trees (holds.front ++ in_hand) s → ⊥)
+          × Closes declared_types (work_of w) holds.trees unasked end (outcome.stops (stop_of stop)))
       last (inl (refusal, tail, may, is)) =
           inr (refused refusal, tail, λ s at. may_go_on w word_limit holds.trees (holds.front ++ in_hand) s may at, ap (λ s. outcome.stops s) is)
       last (inr at) = inl (stop_of stop, at, refl, refl)

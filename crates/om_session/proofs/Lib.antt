@@ -1,9 +1,7 @@
-pub mod ListTexts
-pub mod SearchLemmas
-pub mod KindTexts
 pub mod PutLemmas
 pub mod TakeLemmas
 pub mod TypeLemmas
+pub mod VerdictLemmas
 pub mod ValueLemmas
 pub mod ReadLemmas
 pub mod WordLemmas
@@ -15,11 +13,10 @@ pub mod HeadlineLemmas
 pub mod LengthLemmas
 pub mod StreamLemmas
 pub mod CompleteLemmas
+pub mod LanguageLemmas
 pub mod DecidedLemmas
-pub mod TotalLemmas
 pub mod ExactLemmas
 pub mod FrontLemmas
 pub mod PaceLemmas
 pub mod PromiseLemmas
 pub mod CauseLemmas
-pub mod SameLemmas

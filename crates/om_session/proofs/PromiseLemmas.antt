@@ -12,9 +12,8 @@ use Rattle.om_session.proofs.ExactLemmas.{if_types, if_not_two, if_too_long, if_
 use Rattle.om_session.proofs.PaceLemmas.{if_input_fails}
 use Rattle.om_session.proofs.FrontLemmas.{if_memory, if_write_fault}
 use Rattle.om_session.proofs.HeadlineLemmas.{headline}
-use Rattle.om_session.proofs.TotalLemmas.{IsTotal}
 
-module _ {D T : Type 0} (language : Language D T) (lawful : IsLawful language) (total : IsTotal language) (law : HasOneJudgement) (words : List (List ℕ)) (call : Call)
+module _ {D T : Type 0} (language : Language D T) (lawful : IsLawful language) (law : HasOneJudgement) (words : List (List ℕ)) (call : Call)
     (tells : TellsBytes call.input) (a : Account language words call) where
   pub promises : Promises language words call
   promises = record {
@@ -36,8 +35,8 @@ module _ {D T : Type 0} (language : Language D T) (lawful : IsLawful language) (
     too_long_only = only_too_long language words call a;
     too_long_if = if_too_long language lawful words call a law tells;
     input_fails_if = if_input_fails language lawful words call a;
-    memory_if = if_memory language total law words call a tells;
-    write_fault_if = if_write_fault language total law words call a tells;
+    memory_if = if_memory language lawful law words call a tells;
+    write_fault_if = if_write_fault language lawful law words call a tells;
     tells_read_fault = tells_read_fault language words call a lawful;
     tells_open_fault = tells_open_fault language words call a;
     tells_write_fault = tells_write_fault language words call a;

@@ -4,6 +4,7 @@ use Rattle.std.proofs.lemmas.List.{length-take-le, take-append-drop}
 use Rattle.std.specs.Prelude.{◌&&◌, ◌↔◌, ◌≢◌, IsTrue, IsErrAnd, Vec}
 use Rattle.std.specs.List.{AllZip, AllByRecursion}
 use Rattle.std.proofs.lemmas.List.Elements.{All-from_recursion}
+use Rattle.std.specs.Borrow.{Bor}
 use Rattle.std.specs.declared.alloc.Global.{Global}
 use Rattle.om_edge.specs.Sink.{Puts, PutsPart}
 use Rattle.om_edge.specs.State.{ByteState, Change, change}
@@ -14,7 +15,6 @@ use Rattle.om_format.specs.Tree.{Tree, root, objects_of}
 use Rattle.om_format.specs.Iso.{Iso}
 use Rattle.om_model.specs.Graph.{IsValue}
 use Rattle.om_format.specs.Spelled.{SpelledUnder}
-use Rattle.om_types.specs.declared.list_type.ListType.{ListType}
 use Rattle.om_read.specs.declared.reader.Reader.{Reader}
 use Rattle.om_read.specs.declared.reader.Fed.{Fed}
 use Rattle.om_read.specs.declared.reader.Truncated.{Truncated}
@@ -26,10 +26,11 @@ use Rattle.om_session.proofs.LengthLemmas.{spelled_some}
 use Rattle.om_outcome.specs.RefusalText.{truncated_text}
 use Rattle.om_outcome.specs.Outcome as outcome
 use Rattle.om_outcome.specs.Outcome.{Said, Says, SayFirst, StopsAt, Finishes as FinishesRun, nothing_said, says, not_two_values, comparison, all_well, checks, compares}
+use Rattle.om_session.specs.declared.types.Requested.{Requested}
 use Rattle.om_session.specs.declared.values.Values.{Values}
 use Rattle.om_session.specs.declared.values.Halt.TheVariants as halts
 use Rattle.om_session.specs.declared.stop.Stop.TheVariants as stops
-use Rattle.om_session.specs.Lists.{lists, SaysLine}
+use Rattle.om_session.specs.Language.{TypeOver, declared_types, SaysLine}
 use Rattle.om_session.specs.Run.{HoldNoStop}
 use Rattle.om_session.specs.declared.stop.Stop.{Stop}
 use Rattle.om_format.specs.Front.{IsRefused}
@@ -42,26 +43,26 @@ use Rattle.om_session.proofs.PutLemmas.{puts_nothing}
 use Rattle.om_session.proofs.ValueLemmas.{not_whole, nothing_front, first_more, first_after, silent, and_true, all_well-snoc}
 
 -- where one more value may come, any bytes may
-pub may_go_on : (w : Work) (limit : ℕ) (trees : List Tree) (rest : List ℕ) (stop : outcome.Stop) → MayTake w (length trees) → StopsAt lists (work_of w) limit trees rest stop → ⊥
+pub may_go_on : (w : Work) (limit : ℕ) (trees : List Tree) (rest : List ℕ) (stop : outcome.Stop) → MayTake w (length trees) → StopsAt declared_types (work_of w) limit trees rest stop → ⊥
 may_go_on (works.Check t) limit trees rest stop may at = at
 may_go_on works.Compare limit trees rest stop may at = let two = at.0 in omega (arith, may, two)
 
 -- and where none come, nothing stops the run
-pub none_goes_on : (w : Work) (limit : ℕ) (trees : List Tree) (stop : outcome.Stop) → StopsAt lists (work_of w) limit trees [] stop → ⊥
+pub none_goes_on : (w : Work) (limit : ℕ) (trees : List Tree) (stop : outcome.Stop) → StopsAt declared_types (work_of w) limit trees [] stop → ⊥
 none_goes_on (works.Check t) limit trees stop at = at
 none_goes_on works.Compare limit trees stop at = at.1 refl
 
 -- what was taken holds no stop
-abbrev pub holds : (w : Work) (taken : List ℕ) (said : List Said) (values : Values) → HasRead w taken said values → HoldNoStop lists (task_of w) taken said
+abbrev pub holds : (w : Work) (taken : List ℕ) (said : List Said) (values : Values) → HasRead w taken said values → HoldNoStop declared_types (task_of w) taken said
 holds w taken said values h = record { trees = h.trees; front = h.front; first = h.first; is_front = h.is_front; goes_on = h.goes_on }
 
 -- ---- the input's end
 
 -- what is said after two values
 pub compares_alike : (kept : List Value) (trees : List Tree) → AllZip IsValueOf kept trees → (first second : Value) → kept ≡ first ∷ second ∷ [] → (alike : Bool)
-    → (IsTrue alike ↔ Iso first.heap first.root second.heap second.root) → FinishesRun lists compares trees (says (comparison alike))
+    → (IsTrue alike ↔ Iso first.heap first.root second.heap second.root) → FinishesRun declared_types compares trees (says (comparison alike))
 compares_alike kept trees are first second two alike is = at trees (subst (λ k. AllZip IsValueOf k trees) two are) where
-  at : (trees : List Tree) → AllZip IsValueOf (first ∷ second ∷ []) trees → FinishesRun lists compares trees (says (comparison alike))
+  at : (trees : List Tree) → AllZip IsValueOf (first ∷ second ∷ []) trees → FinishesRun declared_types compares trees (says (comparison alike))
   at [] h = absurd h
   at (t ∷ []) h = absurd h.1
   at (t ∷ u ∷ v ∷ rest) h = absurd h.1.1
@@ -73,13 +74,13 @@ compares_alike kept trees are first second two alike is = at trees (subst (λ k.
   )
 
 -- out failed within the line, by `?`
-pub last_fault : (trees : List Tree) (out : Change ByteState) (result : Result Bool Halt) → IsErrAnd result (λ h. h ≡ halts.WriteFault) → (final : Said) → FinishesRun lists compares trees (says final) → PutsPart out final.text
+pub last_fault : (trees : List Tree) (out : Change ByteState) (result : Result Bool Halt) → IsErrAnd result (λ h. h ≡ halts.WriteFault) → (final : Said) → FinishesRun declared_types compares trees (says final) → PutsPart out final.text
     → PutsLast compares trees out result
 last_fault trees out (Ok well) is final finishes part = absurd is
 last_fault trees out (Err halt) is final finishes part = subst (λ h. PutsLast compares trees out (Err h)) (sym is) (final, finishes, part)
 
 -- or other than two
-pub compares_none : (kept : List Value) (trees : List Tree) → AllZip IsValueOf kept trees → length kept ≢ 2 → FinishesRun lists compares trees (outcome.stops not_two_values)
+pub compares_none : (kept : List Value) (trees : List Tree) → AllZip IsValueOf kept trees → length kept ≢ 2 → FinishesRun declared_types compares trees (outcome.stops not_two_values)
 compares_none kept [] are not = refl
 compares_none kept (t ∷ []) are not = refl
 compares_none kept (t ∷ u ∷ v ∷ rest) are not = refl
@@ -98,8 +99,8 @@ kept_values kept trees are = All-from_recursion (λ v. IsValue (length v.heap) v
 
 module _ (w : Work) (taken : List ℕ) (said : List Said) (values : Values) (h : HasRead w taken said values) where
   -- the reader is at the end of a value
-  ended : EndsInput {U = Unit {0}} word_limit h.front (Ok tt) → SayFirst lists (task_of w) taken h.trees said []
-  ended (inl none) = subst (λ f. SayFirst lists (task_of w) taken h.trees said f) none h.first
+  ended : EndsInput {U = Unit {0}} word_limit h.front (Ok tt) → SayFirst declared_types (task_of w) taken h.trees said []
+  ended (inl none) = subst (λ f. SayFirst declared_types (task_of w) taken h.trees said f) none h.first
   ended (inr (tree, spelled)) = absurd (not_whole word_limit h.front tree h.leads.bytes h.is_front spelled)
 
   -- or within one
@@ -115,7 +116,7 @@ module _ (w : Work) (taken : List ℕ) (said : List Said) (values : Values) (h :
   )
 
 -- checked values are done with
-pub ends_checked : (t : ListType) (taken : List ℕ) (said : List Said) (values : Values) (h : HasRead (works.Check t) taken said values) → EndsInput {U = Unit {0}} word_limit h.front (Ok tt) → (o : ByteState)
+pub ends_checked : (t : Bor Requested) (taken : List ℕ) (said : List Said) (values : Values) (h : HasRead (works.Check t) taken said values) → EndsInput {U = Unit {0}} word_limit h.front (Ok tt) → (o : ByteState)
     → EndsAt (works.Check t) taken said (change o o) (Ok values.has_type)
 ends_checked t taken said values h e o = (h.trees, ended (works.Check t) taken said values h e, nothing_said, refl, h.has_type ∙ sym (and_true (all_well said)), puts_nothing o)
 
@@ -123,13 +124,13 @@ ends_checked t taken said values h e o = (h.trees, ended (works.Check t) taken s
 pub ends_compared : (taken : List ℕ) (said : List Said) (values : Values) (h : HasRead works.Compare taken said values) → EndsInput {U = Unit {0}} word_limit h.front (Ok tt) → (out : Change ByteState)
     (result : Result Bool Halt) → PutsLast compares h.trees out result → EndsAt works.Compare taken said out result
 ends_compared taken said values h e out (Ok well) (final, finishes, is, put) =
-    (h.trees, ended works.Compare taken said values h e, final, finishes, is ∙ sym (ap (λ b. b && final.well) (silent lists 0 h.trees said h.first.all_say)), put)
+    (h.trees, ended works.Compare taken said values h e, final, finishes, is ∙ sym (ap (λ b. b && final.well) (silent declared_types 0 h.trees said h.first.all_say)), put)
 ends_compared taken said values h e out (Err (halts.Stop stop)) (why, put) = (inr (h.trees, ended works.Compare taken said values h e, why), put)
 ends_compared taken said values h e out (Err halts.WriteFault) (final, finishes, part) = (h.trees, ended works.Compare taken said values h e, final, finishes, part)
 
 -- the same, where the work is known by an equation
 module _ (w : Work) (taken : List ℕ) (said : List Said) (values : Values) (h : HasRead w taken said values) where
-  pub ends_as_checked : (t : ListType) → w ≡ works.Check t → EndsInput {U = Unit {0}} word_limit h.front (Ok tt) → (o : ByteState) → EndsAt w taken said (change o o) (Ok values.has_type)
+  pub ends_as_checked : (t : Bor Requested) → w ≡ works.Check t → EndsInput {U = Unit {0}} word_limit h.front (Ok tt) → (o : ByteState) → EndsAt w taken said (change o o) (Ok values.has_type)
   ends_as_checked t is e o =
       let P : Work → Type 0 = λ w. (h : HasRead w taken said values) → EndsInput {U = Unit {0}} word_limit h.front (Ok tt) → EndsAt w taken said (change o o) (Ok values.has_type) in
       subst P (sym is) (λ h e. ends_checked t taken said values h e o) h e
@@ -146,8 +147,8 @@ module _ (w : Work) (taken : List ℕ) (said : List Said) (values : Values) (h :
       subst P (sym is) (λ h. kept_values values.kept.items h.trees h.kept.0) h
 
 -- the line of a value that was read whole
-pub says_read : (t : ListType) (k : ℕ) (value : Value) (tree : Tree) (text : List ℕ) (well : Bool) → IsValueOf value tree → SaysLine t value.heap value.root text well
-    → Says lists (checks t) k tree (record { text = text; well = well })
+pub says_read : (t : TypeOver) (k : ℕ) (value : Value) (tree : Tree) (text : List ℕ) (well : Bool) → IsValueOf value tree → SaysLine t value.heap value.root text well
+    → Says declared_types (checks t) k tree (record { text = text; well = well })
 says_read t k value tree text well is_value it_says =
     subst (λ v. SaysLine t (objects_of tree 0) v text well) is_value.root (subst (λ h. SaysLine t h value.root text well) is_value.heap it_says)
 
@@ -160,9 +161,10 @@ module _ (w : Work) (taken : List ℕ) (said : List Said) (values : Values) (h :
   -- they complete the value
   pub whole_read : MayTake w (length h.trees) → fed.done ≡ true → IsValueRead w (taken ++ take fed.taken rest) said after
   whole_read may done = record {
+    ready = h.ready;
     trees = h.trees;
     whole = h.front ++ take fed.taken rest;
-    first = first_after lists (task_of w) taken h.trees said h.front (take fed.taken rest) h.first;
+    first = first_after declared_types (task_of w) taken h.trees said h.front (take fed.taken rest) h.first;
     some = spelled_some word_limit (h.front ++ take fed.taken rest) (f.done done).1.0 (f.done done).1.1;
     may = may;
     leads = f.leads;
@@ -194,9 +196,10 @@ module _ (w : Work) (taken : List ℕ) (said : List Said) (values : Values) (h :
       let more = f.more not_done in
       let all : take fed.taken rest ≡ rest = take_all fed.taken rest (omega (arith, more.0)) in
       subst (λ s. HasRead w (taken ++ take fed.taken rest) s after) (sym (append-nil said)) (record {
+        ready = h.ready;
         trees = h.trees;
         front = h.front ++ take fed.taken rest;
-        first = first_after lists (task_of w) taken h.trees said h.front (take fed.taken rest) h.first;
+        first = first_after declared_types (task_of w) taken h.trees said h.front (take fed.taken rest) h.first;
         is_front = subst (λ b. IsFront word_limit (h.front ++ b)) (sym all) more.1;
         goes_on = λ stop at. may_go_on w word_limit h.trees (h.front ++ take fed.taken rest) stop may at;
         leads = f.leads;
@@ -207,16 +210,17 @@ module _ (w : Work) (taken : List ℕ) (said : List Said) (values : Values) (h :
 
 -- a value that was read whole, and what is said of it
 pub value_said : (w : Work) (taken : List ℕ) (said : List Said) (values : Values) (v : IsValueRead w taken said values) (tree : Tree) → SpelledUnder word_limit v.whole tree
-    → (next : Said) → Says lists (work_of w) (length v.trees) tree next → SayFirst lists (task_of w) taken (v.trees ++ tree ∷ []) (said ++ next ∷ []) []
+    → (next : Said) → Says declared_types (work_of w) (length v.trees) tree next → SayFirst declared_types (task_of w) taken (v.trees ++ tree ∷ []) (said ++ next ∷ []) []
 value_said w taken said values v tree spelled next it_says =
-    first_more lists (task_of w) taken v.trees said v.whole [] tree next (subst (λ b. SayFirst lists (task_of w) taken v.trees said b) (sym (append-nil v.whole)) v.first) spelled it_says
+    first_more declared_types (task_of w) taken v.trees said v.whole [] tree next (subst (λ b. SayFirst declared_types (task_of w) taken v.trees said b) (sym (append-nil v.whole)) v.first) spelled it_says
 
 -- the reader waits for the next one
 pub value_put : (w : Work) (taken : List ℕ) (said : List Said) (values : Values) (v : IsValueRead w taken said values) (tree : Tree) → SpelledUnder word_limit v.whole tree
-    → (next : Said) → Says lists (work_of w) (length v.trees) tree next → (reader : Reader) → Leads word_limit [] reader → (has_type : Bool) → has_type ≡ (values.has_type && next.well)
+    → (next : Said) → Says declared_types (work_of w) (length v.trees) tree next → (reader : Reader) → Leads word_limit [] reader → (has_type : Bool) → has_type ≡ (values.has_type && next.well)
     → (kept : Vec Value Global) → IsKept w (v.trees ++ tree ∷ []) kept.items
     → HasRead w taken (said ++ next ∷ []) (record { reader = reader; has_type = has_type; count = values.count + 1; kept = kept })
 value_put w taken said values v tree spelled next it_says reader leads has_type well kept are = record {
+  ready = v.ready;
   trees = v.trees ++ tree ∷ [];
   front = [];
   first = value_said w taken said values v tree spelled next it_says;
@@ -301,8 +305,8 @@ module _ (w : Work) (taken : List ℕ) (said : List Said) (values : Values) (h :
         (
           trees,
           left ++ drop n rest,
-          subst (λ b. SayFirst lists (task_of w) b trees (said ++ next ∷ []) (left ++ drop n rest)) all
-              (first_after lists (task_of w) (taken ++ take n rest) trees (said ++ next ∷ []) left (drop n rest) first),
+          subst (λ b. SayFirst declared_types (task_of w) b trees (said ++ next ∷ []) (left ++ drop n rest)) all
+              (first_after declared_types (task_of w) (taken ++ take n rest) trees (said ++ next ∷ []) left (drop n rest) first),
         ),
         part,
       )

@@ -114,6 +114,19 @@ module _ (law : HasOneJudgement) (limit : ℕ) where
       let next = spell_once more trees others rest other (bytes_after first more whole) (omega (arith, e)) all (subst (λ m. SpellAll limit m others other) (sym after) all') in
       (let head : t ≡ u = one.0 in let tails : trees ≡ others = next.0 in cc, next.1)
 
+  -- no more values than others of the same bytes are the first of them
+  pub spell_front : (bytes : List ℕ) (trees others : List Tree) (rest other : List ℕ) → AreBytes bytes → length trees ≤ length others → SpellAll limit bytes trees rest → SpellAll limit bytes others other
+      → (more : List Tree) × (others ≡ trees ++ more)
+  spell_front bytes [] others rest other are_bytes e h g = (others, refl)
+  spell_front bytes (t ∷ trees) [] rest other are_bytes e h g = absurd (omega (arith, e))
+  spell_front bytes (t ∷ trees) (u ∷ others) rest other are_bytes e (first, more, same, spelled, all) (first', more', same', spelled', all') =
+      let whole : AreBytes (first ++ more) = subst AreBytes same are_bytes in
+      let one = one_value first more first' more' t u whole (sym same ∙ same') spelled spelled' in
+      let after : more ≡ more' =
+      sym (drop-append_seam first more) ∙ (ap (λ n. drop n (first ++ more)) one.1 ∙ (ap (λ b. drop (length first') b) (sym same ∙ same') ∙ drop-append_seam first' more')) in
+      let next = spell_front more trees others rest other (bytes_after first more whole) (omega (arith, e)) all (subst (λ m. SpellAll limit m others other) (sym after) all') in
+      (next.0, ap (λ x. x ∷ others) (sym one.0) ∙ ap (λ xs. t ∷ xs) next.1)
+
 -- ---- a stream goes on
 
 pub spell_append : (limit : ℕ) (bytes rest tail : List ℕ) (trees more : List Tree) → SpellAll limit bytes trees rest → SpellAll limit rest more tail → SpellAll limit bytes (trees ++ more) tail

@@ -7,7 +7,7 @@ use Rattle.om_edge.specs.Sink.{Puts}
 use Rattle.om_edge.specs.State.{ByteState, Change}
 use Rattle.om_session.specs.declared.values.Work.{Work}
 use Rattle.om_session.specs.Given.{Gathers}
-use Rattle.om_session.specs.Lists.{lists}
+use Rattle.om_session.specs.Language.{declared_types}
 use Rattle.om_session.specs.Run.{PutsLine, PutsPartAfter, IsPaced}
 use Rattle.om_session.specs.Values.{task_of, AreSaid}
 
@@ -15,12 +15,12 @@ use Rattle.om_session.specs.Values.{task_of, AreSaid}
 -- out failed within the next text
 abbrev pub ClosesValues : Work → Taken → List Said → Change ByteState → Change ByteState → Status → Type 0
 ClosesValues w taken said out err status =
-    ((last : Reply) × (ValuesReply lists (task_of w) taken (replies said last) ⊎ (last ≡ stops out_of_memory))
+    ((last : Reply) × (ValuesReply declared_types (task_of w) taken (replies said last) ⊎ (last ≡ stops out_of_memory))
     × Puts out (ending_of (replies said last)).out × PutsLine err status (ending_of (replies said last)))
-    ⊎ ((next : Said) × (AreSaid w taken.bytes (said ++ next ∷ []) ⊎ ValuesReply lists (task_of w) taken (replies said (says next)))
+    ⊎ ((next : Said) × (AreSaid w taken.bytes (said ++ next ∷ []) ⊎ ValuesReply declared_types (task_of w) taken (replies said (says next)))
     × PutsPartAfter out (texts_of said) next.text × Puts err [] × (status ≡ WriteFault))
 
 -- the work is done with the values of what is taken from the input
 abbrev pub TakesValues : Work → Change ByteState → Change ByteState → Change ByteState → Status → Type 0
 TakesValues w input out err status =
-    (taken : Taken) × Gathers input taken × (said : List Said) × IsPaced lists (task_of w) taken said × ClosesValues w taken said out err status
+    (taken : Taken) × Gathers input taken × (said : List Said) × IsPaced declared_types (task_of w) taken said × ClosesValues w taken said out err status

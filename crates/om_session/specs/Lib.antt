@@ -1,11 +1,10 @@
 pub mod Verdict
-pub mod Search
 pub mod Call
 pub mod Ends
 pub mod Fetch
 pub mod Gathered
 pub mod Given
-pub mod Lists
+pub mod Language
 pub mod Run
 pub mod Stops
 pub mod Types

@@ -298,26 +298,24 @@ IfInputFails language words call = (call.status ≡ ReadFault) ⊎ (call.status 
 
 -- ---- where memory ran out, or out or err failed
 
--- this is said first in an outcome, or all that is said
-pub record IsFrontOfOutcome {D T : Type 0} (language : Language D T) (words : List (List ℕ)) (input : List ℕ) (files : List File) (said : List Said) : Type 0 where
-  pub all : Replies
-  pub later : List Said
-  pub outcome : Outcome language words (contents_of files) input all
-  pub front : all_said all ≡ said ++ later
+-- this is said first in the outcome, or all that is said; there is one outcome at most
+abbrev pub IsFrontOfOutcome : {D T : Type 0} → Language D T → List (List ℕ) → List ℕ → List File → List Said → Type 0
+IsFrontOfOutcome language words input files said =
+    (all : Replies) → Outcome language words (contents_of files) input all → (later : List Said) × (all_said all ≡ said ++ later)
 
--- 9: out has the first texts of an outcome, and err the line that tells it
+-- 9: out has the first texts of the outcome, and err the line that tells it
 abbrev pub IfMemory : {D T : Type 0} → Language D T → List (List ℕ) → Call → Type 0
 IfMemory language words call =
     (input : List ℕ) (files : List File) → IsWellRead call input files → call.status ≡ Memory
     → (said : List Said) × IsFrontOfOutcome language words input files said × Puts call.out (texts_of said) × Puts call.err (err_line (stop_text out_of_memory))
 
--- 7 by out: it has the first texts of an outcome, and of the next one a part, and err has nothing
+-- 7 by out: it has the first texts of the outcome, and of the next one a part, and err has nothing
 abbrev pub OutBreaks : {D T : Type 0} → Language D T → List (List ℕ) → Call → List ℕ → List File → Type 0
 OutBreaks language words call input files =
     (said : List Said) × (next : Said) × IsFrontOfOutcome language words input files (said ++ next ∷ [])
     × PutsPartAfter call.out (texts_of said) next.text × Puts call.err []
 
--- 7 by err: it has a proper front of a line, of an outcome or where memory ran out, and out what belongs to it
+-- 7 by err: it has a proper front of a line, of the outcome or where memory ran out, and out what belongs to it
 abbrev pub ErrBreaks : {D T : Type 0} → Language D T → List (List ℕ) → Call → List ℕ → List File → Type 0
 ErrBreaks language words call input files =
     (all : Replies) × Puts call.out (ending_of all).out × PutsPart call.err (ending_of all).err
@@ -393,9 +391,9 @@ pub record Promises {D T : Type 0} (language : Language D T) (words : List (List
   pub too_long_if : IfTooLong language words call
   -- 6 or 10: by the input, where what was taken holds no earlier stop and out has what is said of its values; or by FILE
   pub input_fails_if : IfInputFails language words call
-  -- 9: memory ran out, and out has a front of what an outcome puts
+  -- 9: memory ran out, and out has a front of what the outcome puts
   pub memory_if : IfMemory language words call
-  -- 7: out or err failed, and has a front of what an outcome puts
+  -- 7: out or err failed, and has a front of what the outcome puts
   pub write_fault_if : IfWriteFault language words call
   -- no failed call is taken for one that went well
   pub tells_read_fault : TellsReadFault call

@@ -1,7 +1,12 @@
 -- The stops of the code, and what is put of them.
-use Rattle.std.specs.Prelude.{◌≡◌, ◌⊎◌, codes}
+use Rattle.std.specs.Prelude.{ℕ, ◌≡◌, ◌⊎◌, List, [], Option, Some, None, codes}
 use Rattle.om_model.specs.declared.status.Status.{Status}
 use Rattle.om_model.specs.declared.status.Status.TheVariants.{WriteFault}
+use Rattle.om_grammar.specs.Grammar.{FileTree}
+use Rattle.om_decl.specs.declared.fault.DeclFault.{DeclFault}
+use Rattle.om_decl.specs.Answer.{Answer}
+use Rattle.om_decl.specs.Fault.{told}
+use Rattle.om_decl.specs.Text.{answer_text}
 use Rattle.om_outcome.specs.RefusalText.{refusal_text, truncated_text}
 use Rattle.om_outcome.specs.Outcome as outcome
 use Rattle.om_edge.specs.Sink.{Puts, PutsPart}
@@ -9,12 +14,21 @@ use Rattle.om_edge.specs.State.{ByteState, Change}
 use Rattle.om_session.specs.declared.stop.Stop.{Stop}
 use Rattle.om_session.specs.declared.stop.Stop.TheVariants as stops
 
+abbrev pub text_if : {Tree : Type 0} → Option (Answer Tree) → List ℕ
+text_if None = []
+text_if (Some answer) = answer_text answer
+
+-- the text of a fault of declarations or of a type
+abbrev pub declared_text : DeclFault → List ℕ
+declared_text fault = text_if (told {Tree = FileTree} fault)
+
 abbrev pub stop_of : Stop → outcome.Stop
 stop_of stops.Usage = outcome.usage
 stop_of stops.NotTwoValues = outcome.not_two_values
 stop_of (stops.CannotOpen name) = outcome.cannot_open name.now
-stop_of stops.Declarations = outcome.declarations (codes "NotYet")
-stop_of stops.RequestedType = outcome.requested_type (codes "NotYet")
+stop_of (stops.Declarations fault) = outcome.declarations (declared_text fault)
+stop_of (stops.RequestedType fault) = outcome.requested_type (declared_text fault)
+stop_of stops.TooManyTypes = outcome.requested_type (codes "TooManyTypes")
 stop_of (stops.Refused number refusal) = outcome.value number (refusal_text refusal)
 stop_of (stops.Cut number taken) = outcome.value number (truncated_text taken)
 stop_of stops.ReadFault = outcome.read_fault

@@ -1,7 +1,6 @@
 -- What is said of the values of the input, as their bytes come.
 use Rattle.std.specs.Prelude.{ℕ, ◌^◌, ◌<◌, ◌≤◌, ◌≡◌, ◌≢◌, ◌⊎◌, ◌&&◌, Bool, List, [], ◌∷◌, ◌++◌, length, take, Result, Ok, Err, All}
 use Rattle.std.specs.List.{AllZip}
-use Rattle.om_types.specs.declared.list_type.ListType.{ListType}
 use Rattle.om_model.specs.declared.out_of_memory.Memory.{Memory}
 use Rattle.om_model.specs.declared.refusal.ReadRefusal.{ReadRefusal}
 use Rattle.om_model.specs.declared.refusal.ReadRefusal.TheVariants as refusals
@@ -24,20 +23,26 @@ use Rattle.om_session.specs.declared.values.Values.{Values}
 use Rattle.om_session.specs.declared.values.Work.{Work}
 use Rattle.om_session.specs.declared.values.Work.TheVariants as works
 use Rattle.om_session.specs.Given.{Gathers}
-use Rattle.om_session.specs.Lists.{lists}
+use Rattle.om_session.specs.Language.{TypeOver, declared_types}
 use Rattle.om_session.specs.Run.{HoldNoStop, IsPaced, PutsPartAfter}
 use Rattle.om_session.specs.Stops.{stop_of}
+use Rattle.om_session.specs.Types.{type_over, IsReady}
 
 -- the limit of words
 abbrev pub word_limit : ℕ
 word_limit = 2 ^ 27
 
-abbrev pub work_of : Work → outcome.Work ListType
-work_of (works.Check t) = checks t
+abbrev pub work_of : Work → outcome.Work TypeOver
+work_of (works.Check r) = checks (type_over r.now)
 work_of works.Compare = compares
 
+-- the table that values are checked by is the type's
+abbrev pub IsReadyWork : Work → Type 0
+IsReadyWork (works.Check r) = IsReady r.now
+IsReadyWork works.Compare = Unit {0}
+
 -- the work with the values
-abbrev pub task_of : Work → Task ListType
+abbrev pub task_of : Work → Task TypeOver
 task_of w = task (work_of w) word_limit
 
 -- ---- between two calls on the input
@@ -63,11 +68,12 @@ IsKept works.Compare trees kept = AllZip IsValueOf kept trees × (length trees �
 -- Of these bytes the reader has taken what comes after the values, a front of the next one, and nothing stops the run; this
 -- is said of the values.
 pub record HasRead (w : Work) (taken : List ℕ) (said : List Said) (values : Values) : Type 0 where
+  pub ready : IsReadyWork w
   pub trees : List Tree
   pub front : List ℕ
-  pub first : SayFirst lists (task_of w) taken trees said front
+  pub first : SayFirst declared_types (task_of w) taken trees said front
   pub is_front : IsFront word_limit front
-  pub goes_on : (stop : outcome.Stop) → StopsAt lists (work_of w) word_limit trees front stop → ⊥
+  pub goes_on : (stop : outcome.Stop) → StopsAt declared_types (work_of w) word_limit trees front stop → ⊥
   pub leads : Leads word_limit front values.reader
   pub counted : values.count ≡ length trees
   pub has_type : values.has_type ≡ all_well said
@@ -75,9 +81,10 @@ pub record HasRead (w : Work) (taken : List ℕ) (said : List Said) (values : Va
 
 -- The same where the reader has taken all of the next one.
 pub record IsValueRead (w : Work) (taken : List ℕ) (said : List Said) (values : Values) : Type 0 where
+  pub ready : IsReadyWork w
   pub trees : List Tree
   pub whole : List ℕ
-  pub first : SayFirst lists (task_of w) taken trees said whole
+  pub first : SayFirst declared_types (task_of w) taken trees said whole
   pub some : 0 < length whole
   pub may : MayTake w (length trees)
   pub leads : Leads word_limit whole values.reader
@@ -88,7 +95,7 @@ pub record IsValueRead (w : Work) (taken : List ℕ) (said : List Said) (values 
 
 -- this is said of the first values of the bytes
 abbrev pub AreSaid : Work → List ℕ → List Said → Type 0
-AreSaid w bytes said = (trees : List Tree) × (rest : List ℕ) × SayFirst lists (task_of w) bytes trees said rest
+AreSaid w bytes said = (trees : List Tree) × (rest : List ℕ) × SayFirst declared_types (task_of w) bytes trees said rest
 
 -- the value that is there is kept
 abbrev pub KeepsNext : {U : Type 0} → List ℕ → List Said → Values → Result U Memory → Type 0
@@ -115,15 +122,15 @@ abbrev pub StopsIn : Work → List Tree → List ℕ → Stop → Type 0
 StopsIn w trees rest stop =
     (stop_of stop ≡ out_of_memory)
     ⊎ (((refusal : ReadRefusal) × IsTail word_limit rest (refused refusal) × MayTake w (length trees) × (stop_of stop ≡ value (length trees) (refusal_text refusal)))
-    ⊎ StopsAt lists (work_of w) word_limit trees rest (stop_of stop))
+    ⊎ StopsAt declared_types (work_of w) word_limit trees rest (stop_of stop))
 
 -- The bytes before those in hand hold no stop. With those in hand the run stops, or the next value ends, and its line could
 -- not be put whole.
 abbrev pub HaltsIn : Work → List ℕ → List ℕ → List Said → Change ByteState → Halt → Type 0
 HaltsIn w earlier in_hand said out (halts.Stop stop) =
-    (holds : HoldNoStop lists (task_of w) earlier said) × StopsIn w holds.trees (holds.front ++ in_hand) stop × Puts out []
+    (holds : HoldNoStop declared_types (task_of w) earlier said) × StopsIn w holds.trees (holds.front ++ in_hand) stop × Puts out []
 HaltsIn w earlier in_hand said out halts.WriteFault =
-    HoldNoStop lists (task_of w) earlier said
+    HoldNoStop declared_types (task_of w) earlier said
     × (next : Said) × AreSaid w (earlier ++ in_hand) (said ++ next ∷ []) × PutsPart out next.text
 
 -- some of the bytes in hand are taken, and what is said of the value that they end is put
@@ -143,10 +150,10 @@ ReadsPiece w taken said piece out new (Err halt) =
 -- ---- the input's end
 
 -- the line on the values is put, and the answer is whether nothing is wrong with it
-abbrev pub PutsLast : outcome.Work ListType → List Tree → Change ByteState → Result Bool Halt → Type 0
-PutsLast work trees out (Ok well) = (final : Said) × Finishes lists work trees (says final) × (well ≡ final.well) × Puts out final.text
-PutsLast work trees out (Err (halts.Stop stop)) = (Finishes lists work trees (outcome.stops (stop_of stop)) ⊎ (stop_of stop ≡ out_of_memory)) × Puts out []
-PutsLast work trees out (Err halts.WriteFault) = (final : Said) × Finishes lists work trees (says final) × PutsPart out final.text
+abbrev pub PutsLast : outcome.Work TypeOver → List Tree → Change ByteState → Result Bool Halt → Type 0
+PutsLast work trees out (Ok well) = (final : Said) × Finishes declared_types work trees (says final) × (well ≡ final.well) × Puts out final.text
+PutsLast work trees out (Err (halts.Stop stop)) = (Finishes declared_types work trees (outcome.stops (stop_of stop)) ⊎ (stop_of stop ≡ out_of_memory)) × Puts out []
+PutsLast work trees out (Err halts.WriteFault) = (final : Said) × Finishes declared_types work trees (says final) × PutsPart out final.text
 
 -- the values that are kept are compared, whatever their trees
 abbrev pub Compares : List Value → Change ByteState → Result Bool Halt → Type 0
@@ -155,28 +162,28 @@ Compares kept out result = (trees : List Tree) → AllZip IsValueOf kept trees �
 -- the bytes end with a value, and what is said after all is put; or they cut the next one
 abbrev pub EndsAt : Work → List ℕ → List Said → Change ByteState → Result Bool Halt → Type 0
 EndsAt w taken said out (Ok well) =
-    (trees : List Tree) × SayFirst lists (task_of w) taken trees said []
-    × (final : Said) × Finishes lists (work_of w) trees (says final) × (well ≡ (all_well said && final.well)) × Puts out final.text
+    (trees : List Tree) × SayFirst declared_types (task_of w) taken trees said []
+    × (final : Said) × Finishes declared_types (work_of w) trees (says final) × (well ≡ (all_well said && final.well)) × Puts out final.text
 EndsAt w taken said out (Err (halts.Stop stop)) =
-    (((holds : HoldNoStop lists (task_of w) taken said) × (0 < length holds.front)
+    (((holds : HoldNoStop declared_types (task_of w) taken said) × (0 < length holds.front)
     × (stop_of stop ≡ value (length holds.trees) (truncated_text (length holds.front))))
-    ⊎ ((trees : List Tree) × SayFirst lists (task_of w) taken trees said []
-    × (Finishes lists (work_of w) trees (outcome.stops (stop_of stop)) ⊎ (stop_of stop ≡ out_of_memory)))) × Puts out []
+    ⊎ ((trees : List Tree) × SayFirst declared_types (task_of w) taken trees said []
+    × (Finishes declared_types (work_of w) trees (outcome.stops (stop_of stop)) ⊎ (stop_of stop ≡ out_of_memory)))) × Puts out []
 EndsAt w taken said out (Err halts.WriteFault) =
-    (trees : List Tree) × SayFirst lists (task_of w) taken trees said [] × (final : Said) × Finishes lists (work_of w) trees (says final) × PutsPart out final.text
+    (trees : List Tree) × SayFirst declared_types (task_of w) taken trees said [] × (final : Said) × Finishes declared_types (work_of w) trees (says final) × PutsPart out final.text
 
 -- ---- all values
 
 -- what was put, and what the answer follows from
 abbrev pub EndsValues : Work → Taken → List Said → Change ByteState → Result Bool Halt → Type 0
 EndsValues w taken said out (Ok well) =
-    (final : Said) × ValuesReply lists (task_of w) taken (replies said (says final)) × (well ≡ all_well (said ++ final ∷ [])) × Puts out (texts_of (said ++ final ∷ []))
+    (final : Said) × ValuesReply declared_types (task_of w) taken (replies said (says final)) × (well ≡ all_well (said ++ final ∷ [])) × Puts out (texts_of (said ++ final ∷ []))
 EndsValues w taken said out (Err (halts.Stop stop)) =
-    (ValuesReply lists (task_of w) taken (replies said (outcome.stops (stop_of stop))) ⊎ (stop_of stop ≡ out_of_memory)) × Puts out (texts_of said)
+    (ValuesReply declared_types (task_of w) taken (replies said (outcome.stops (stop_of stop))) ⊎ (stop_of stop ≡ out_of_memory)) × Puts out (texts_of said)
 EndsValues w taken said out (Err halts.WriteFault) =
-    (next : Said) × (AreSaid w taken.bytes (said ++ next ∷ []) ⊎ ValuesReply lists (task_of w) taken (replies said (says next))) × PutsPartAfter out (texts_of said) next.text
+    (next : Said) × (AreSaid w taken.bytes (said ++ next ∷ []) ⊎ ValuesReply declared_types (task_of w) taken (replies said (says next))) × PutsPartAfter out (texts_of said) next.text
 
 -- the input is taken piece by piece, and what is said of its values is put
 abbrev pub PutsValues : Work → Change ByteState → Change ByteState → Result Bool Halt → Type 0
 PutsValues w input out result =
-    (taken : Taken) × Gathers input taken × (said : List Said) × IsPaced lists (task_of w) taken said × EndsValues w taken said out result
+    (taken : Taken) × Gathers input taken × (said : List Said) × IsPaced declared_types (task_of w) taken said × EndsValues w taken said out result

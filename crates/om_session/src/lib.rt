@@ -1,11 +1,10 @@
 //! The top call: the words, the files, the type, and the values of the input one by one.
 #![tactic(auto)]
 
-mod check;
 mod fetch;
 mod gather;
 pub mod laws;
-mod list_type;
+mod put;
 mod refusal_text;
 mod report;
 mod stop;

@@ -4,6 +4,7 @@
 ghost use Rattle.std.specs.Prelude.{◌≤◌};
 
 mod comparisons;
+mod declared;
 mod failing_calls;
 mod refusals;
 mod requests;

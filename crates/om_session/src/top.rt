@@ -5,35 +5,38 @@ ghost use Rattle.om_outcome.specs.Outcome.{Asks, check as check_of, compare};
 ghost use Rattle.om_edge.specs.State.{change};
 ghost use Rattle.om_session.specs.Call.{call};
 ghost use Rattle.om_session.specs.Ends.{TakesValues};
-ghost use Rattle.om_session.specs.Lists.{lists};
+ghost use Rattle.om_session.specs.Language.{declared_types};
 ghost use Rattle.om_session.specs.Run.{Account, Promises};
+ghost use Rattle.om_session.specs.Values.{IsReadyWork};
 ghost use Rattle.om_session.specs.Words.{texts};
 
 use crate::stop::{Stop, report_stop};
 use crate::types::find_type;
 use crate::values::{Halt, Work, put_values};
 use crate::words::{Command, read_words};
+use om_decl::laws::one_answer;
 use om_edge::{Opener, Sink, Source};
 use om_format::laws::one_judgement;
 use om_model::status::Status;
-use om_types::laws::faults_exclude_types;
-use om_typing::each_has_a_line;
+use om_table::type_or_fault;
+use om_told::{files_are_well_formed, types_are_sound};
 use std::alloc::Global;
 
 // Does the work with the values of the input.
 fn take_values<S: Source, K: Sink, E: Sink>(
     alloc: Global,
-    work: Work,
+    work: Work<'_>,
     input: &mut S,
     out: &mut K,
     err: &mut E,
 ) -> Status
-    ensures { TakesValues work (change (S.state input.old) (S.state input.new)) (change (K.state out.old) (K.state out.new)) (change (E.state err.old) (E.state err.new)) result }
+    requires { IsReadyWork work }
+    ensures { TakesValues work.entry (change (S.state input.old) (S.state input.new)) (change (K.state out.old) (K.state out.new)) (change (E.state err.old) (E.state err.new)) result }
 {
     match put_values(alloc, work, input, out) {
         Ok(true) => Status::Well,
         Ok(false) => Status::No,
-        Err(Halt::Stop(stop)) => report_stop(alloc, err, stop),
+        Err(Halt::Stop(stop)) => report_stop(alloc, err, &stop),
         Err(Halt::WriteFault) => Status::WriteFault,
     }
 }
@@ -48,13 +51,13 @@ fn check<S: Source, O: Opener, K: Sink, E: Sink>(
     out: &mut K,
     err: &mut E,
 ) -> Status
-    ensures { (words : List (List ℕ)) → Asks words (check_of file.now type_text.now) → Account lists words
+    ensures { (words : List (List ℕ)) → Asks words (check_of file.now type_text.now) → Account declared_types words
         (call (change (S.state input.old) (S.state input.new)) (change (O.state files.old) (O.state files.new))
         (change (K.state out.old) (K.state out.new)) (change (E.state err.old) (E.state err.new)) result) }
 {
     match find_type(alloc, files, file, type_text) {
-        Ok(ty) => take_values(alloc, Work::Check(ty), input, out, err),
-        Err(stop) => report_stop(alloc, err, stop),
+        Ok(requested) => take_values(alloc, Work::Check(&requested), input, out, err),
+        Err(stop) => report_stop(alloc, err, &stop),
     }
 }
 
@@ -67,7 +70,7 @@ fn run_command<S: Source, O: Opener, K: Sink, E: Sink>(
     out: &mut K,
     err: &mut E,
 ) -> Status
-    ensures { Account lists (texts words.now)
+    ensures { Account declared_types (texts words.now)
         (call (change (S.state input.old) (S.state input.new)) (change (O.state files.old) (O.state files.new))
         (change (K.state out.old) (K.state out.new)) (change (E.state err.old) (E.state err.new)) result) }
 {
@@ -76,7 +79,7 @@ fn run_command<S: Source, O: Opener, K: Sink, E: Sink>(
             check(alloc, file, type_text, input, files, out, err)
         }
         Some(Command::Same) => take_values(alloc, Work::Compare, input, out, err),
-        None => report_stop(alloc, err, Stop::Usage),
+        None => report_stop(alloc, err, &Stop::Usage),
     }
 }
 
@@ -90,13 +93,15 @@ pub fn run<S: Source, O: Opener, K: Sink, E: Sink>(
     out: &mut K,
     err: &mut E,
 ) -> Status
-    ensures { Promises lists (texts words.now)
+    ensures { Promises declared_types (texts words.now)
         (call (change (S.state input.old) (S.state input.new)) (change (O.state files.old) (O.state files.new))
         (change (K.state out.old) (K.state out.new)) (change (E.state err.old) (E.state err.new)) result) }
 {
     input.tells_bytes();
     one_judgement();
-    faults_exclude_types();
-    each_has_a_line();
+    one_answer();
+    files_are_well_formed();
+    types_are_sound();
+    type_or_fault();
     run_command(alloc, words, input, files, out, err)
 }

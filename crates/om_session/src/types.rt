@@ -1,34 +1,98 @@
 //! The type that a run asks for: its FILE, and its TYPE.
 
-ghost use Rattle.std.specs.Prelude.{ℕ, List};
+ghost use Rattle.std.specs.Prelude.{ℕ, List as Seq};
+ghost use Rattle.om_types.specs.Accepted.{AreWellFormed};
 ghost use Rattle.om_outcome.specs.Outcome.{opened};
 ghost use Rattle.om_edge.specs.State.{change};
 ghost use Rattle.om_session.specs.Gathered.{taken_of};
-ghost use Rattle.om_session.specs.Types.{GivesType, FindsTypeIn};
+ghost use Rattle.om_session.specs.Types.{IsDeclarationsStop, IsTypeStop, GivesDeclarations, GivesRequested, GivesType, FindsTypeIn};
 
 use crate::fetch::{Fetch, fetch_file};
 use crate::gather::{Gathered, InputEnd};
-use crate::list_type::read_list_type;
 use crate::stop::Stop;
+use om_decl::{DeclFault, read_decls, read_type};
 use om_edge::Opener;
-use om_types::list_type::ListType;
+use om_model::list::List;
+use om_type_table::TypeTable;
+use om_typeintern::{TypeFault, build};
+use om_types::decl::Decl;
+use om_types::ty::Ty;
 use std::alloc::Global;
 
-// Reads the declarations, of which there are none yet, and the type.
-fn read_type<'a>(gathered: &Gathered, type_text: &str) -> Result<ListType, Stop<'a>>
-    ensures { (file : List ℕ) → GivesType file type_text.now (opened (taken_of gathered.now)) result }
+/// A type over declarations, and the table that values are checked by.
+#[derive(Drop)]
+pub struct Requested {
+    pub decls: List<Decl>,
+    pub ty: Ty,
+    pub table: TypeTable,
+}
+
+/// The stop of declarations that are refused.
+fn declarations_stop<'a>(fault: DeclFault) -> Stop<'a>
+    ensures { IsDeclarationsStop fault result }
+{
+    match fault {
+        DeclFault::Memory => Stop::Memory,
+        _ => Stop::Declarations(fault),
+    }
+}
+
+/// The stop of a type that is refused.
+fn type_stop<'a>(fault: DeclFault) -> Stop<'a>
+    ensures { IsTypeStop fault result }
+{
+    match fault {
+        DeclFault::Memory => Stop::Memory,
+        _ => Stop::RequestedType(fault),
+    }
+}
+
+// Reads the declarations.
+fn read_declarations<'a>(alloc: Global, text: &[u8]) -> Result<List<Decl>, Stop<'a>>
+    ensures { GivesDeclarations text.now result }
+{
+    match read_decls(alloc, text) {
+        Ok(decls) => Ok(decls),
+        Err(fault) => Err(declarations_stop(fault)),
+    }
+}
+
+// Makes the table of a type over the declarations.
+fn read_requested<'a>(
+    alloc: Global,
+    decls: List<Decl>,
+    type_text: &[u8],
+) -> Result<Requested, Stop<'a>>
+    requires { AreWellFormed decls }
+    ensures { GivesRequested decls type_text.now result }
+{
+    let ty = match read_type(alloc, decls.as_slice(), type_text) {
+        Ok(ty) => ty,
+        Err(fault) => return Err(type_stop(fault)),
+    };
+    match build(alloc, decls.as_slice(), &ty) {
+        Ok(table) => Ok(Requested { decls, ty, table }),
+        Err(TypeFault::TooManyTypes) => Err(Stop::TooManyTypes),
+        Err(TypeFault::Memory) => Err(Stop::Memory),
+    }
+}
+
+// Reads the declarations that were gathered, and the type over them.
+fn read_gathered<'a>(
+    alloc: Global,
+    gathered: &Gathered,
+    type_text: &str,
+) -> Result<Requested, Stop<'a>>
+    ensures { (file : Seq ℕ) → GivesType file type_text.now (opened (taken_of gathered.now)) result }
 {
     match gathered.until {
         InputEnd::Fault => return Err(Stop::ReadFault),
         InputEnd::Length => return Err(Stop::TooLong),
         InputEnd::End => {}
     }
-    if !gathered.bytes.is_empty() {
-        return Err(Stop::Declarations);
-    }
-    match read_list_type(type_text.as_bytes()) {
-        Some(ty) => Ok(ty),
-        None => Err(Stop::RequestedType),
+    match read_declarations(alloc, gathered.bytes.as_slice()) {
+        Ok(decls) => read_requested(alloc, decls, type_text.as_bytes()),
+        Err(stop) => Err(stop),
     }
 }
 
@@ -38,11 +102,11 @@ pub fn find_type<'a, O: Opener>(
     files: &mut O,
     file: &'a str,
     type_text: &str,
-) -> Result<ListType, Stop<'a>>
+) -> Result<Requested, Stop<'a>>
     ensures { FindsTypeIn (change (O.state files.old) (O.state files.new)) file.now type_text.now result }
 {
     match fetch_file(alloc, files, file) {
-        Ok(Fetch::Opened(gathered)) => read_type(&gathered, type_text),
+        Ok(Fetch::Opened(gathered)) => read_gathered(alloc, &gathered, type_text),
         Ok(Fetch::Missing) => Err(Stop::CannotOpen(file)),
         Ok(Fetch::Failed) => Err(Stop::CannotOpen(file)),
         Err(_) => Err(Stop::Memory),

@@ -4,11 +4,13 @@ ghost use Rattle.std.specs.Prelude.{◌≡◌, ◌<◌, ◌≤◌, ◌+◌, ◌^
 ghost use Rattle.om_model.specs.Bytes.{AreBytes};
 ghost use Rattle.om_outcome.specs.Outcome.{Said, comparison};
 ghost use Rattle.om_edge.specs.State.{change};
+ghost use Rattle.om_session.specs.declared.values.Work.{Work as AnyWork};
 ghost use Rattle.om_session.specs.declared.values.Work.TheVariants as works;
-ghost use Rattle.om_session.specs.Values.{IsStopOf, AreValues, IsFull, MayTake, HasRead, IsValueRead, KeepsNext, PutsNext, ReadsSome, ReadsPiece, Compares, EndsAt, PutsValues};
+ghost use Rattle.om_session.specs.Values.{IsReadyWork, IsStopOf, AreValues, IsFull, MayTake, HasRead, IsValueRead, KeepsNext, PutsNext, ReadsSome, ReadsPiece, Compares, EndsAt, PutsValues};
 
 use crate::gather::LENGTH_LIMIT;
 use crate::stop::Stop;
+use crate::types::Requested;
 use crate::verdict::verdict_line;
 use om_edge::{Failed, Sink, Source, put_all};
 use om_iso::same;
@@ -16,7 +18,6 @@ use om_model::Memory;
 use om_model::bytes::skip;
 use om_model::refusal::ReadRefusal;
 use om_read::{Reader, Truncated, Value};
-use om_types::list_type::ListType;
 use std::alloc::Global;
 use std::mem;
 
@@ -28,13 +29,13 @@ const PIECE: usize = 4096;
 
 /// What is done with the values: each is checked at a type, or the two are compared.
 #[derive(Clone, Copy)]
-pub enum Work {
-    Check(ListType),
+pub enum Work<'a> {
+    Check(&'a Requested),
     Compare,
 }
 
 /// Why the values are read no further: the run stops, or out failed.
-#[derive(Clone, Copy)]
+#[derive(Drop)]
 pub enum Halt {
     Stop(Stop<'static>),
     WriteFault,
@@ -113,7 +114,7 @@ struct Values {
 impl Values {
     /// No byte was taken.
     fn new(alloc: Global) -> Values
-        ensures { (work : Work) → HasRead work [] [] result }
+        ensures { (work : AnyWork) → IsReadyWork work → HasRead work [] [] result }
     {
         Values {
             reader: Reader::new(alloc, WORD_LIMIT),
@@ -124,9 +125,9 @@ impl Values {
     }
 
     /// Whether any more byte stops the run.
-    fn is_full(&self, work: Work) -> bool
+    fn is_full(&self, work: Work<'_>) -> bool
         requires { (taken : List ℕ) × (said : List Said) × HasRead work taken said self.now }
-        ensures { MatchBool result (IsFull work self.now.count) (MayTake work self.now.count) }
+        ensures { MatchBool result (IsFull work.entry self.now.count) (MayTake work.entry self.now.count) }
     {
         match work {
             Work::Check(_) => false,
@@ -135,14 +136,14 @@ impl Values {
     }
 
     /// Puts the line of the value that the reader has whole. A new reader waits for the next one, in the memory of this one.
-    fn put_line<K: Sink>(&mut self, alloc: Global, ty: ListType, out: &mut K) -> Result<(), Halt>
-        requires { (taken : List ℕ) × (said : List Said) × IsValueRead (works.Check ty) taken said self.old × (length taken < 2 ^ 64) }
-        ensures { (taken : List ℕ) (said : List Said) → IsValueRead (works.Check ty) taken said self.old →
-            PutsNext (works.Check ty) taken said (change (K.state out.old) (K.state out.new)) self.new result }
+    fn put_line<K: Sink>(&mut self, alloc: Global, requested: &Requested, out: &mut K) -> Result<(), Halt>
+        requires { (taken : List ℕ) × (said : List Said) × IsValueRead (works.Check requested) taken said self.old × (length taken < 2 ^ 64) }
+        ensures { (taken : List ℕ) (said : List Said) → IsValueRead (works.Check requested.entry) taken said self.old →
+            PutsNext (works.Check requested.entry) taken said (change (K.state out.old) (K.state out.new)) self.new result }
     {
         let reader = mem::replace(&mut self.reader, Reader::new(alloc, WORD_LIMIT));
         let value = reader.finish();
-        let line = verdict_line(alloc, &value.heap, value.root, ty)?;
+        let line = verdict_line(alloc, &value.heap, value.root, requested)?;
         put_all(out, line.text.as_slice())?;
         self.reader = Reader::over(alloc, WORD_LIMIT, value.heap);
         self.has_type &= line.has_type;
@@ -162,13 +163,13 @@ impl Values {
     }
 
     /// Says what is said of the value that the reader has whole.
-    fn put_value<K: Sink>(&mut self, alloc: Global, work: Work, out: &mut K) -> Result<(), Halt>
+    fn put_value<K: Sink>(&mut self, alloc: Global, work: Work<'_>, out: &mut K) -> Result<(), Halt>
         requires { (taken : List ℕ) × (said : List Said) × IsValueRead work taken said self.old × (length taken < 2 ^ 64) }
-        ensures { (taken : List ℕ) (said : List Said) → IsValueRead work taken said self.old →
-            PutsNext work taken said (change (K.state out.old) (K.state out.new)) self.new result }
+        ensures { (taken : List ℕ) (said : List Said) → IsValueRead work.entry taken said self.old →
+            PutsNext work.entry taken said (change (K.state out.old) (K.state out.new)) self.new result }
     {
         match work {
-            Work::Check(ty) => self.put_line(alloc, ty, out),
+            Work::Check(requested) => self.put_line(alloc, requested, out),
             Work::Compare => Ok(self.keep_value(alloc)?),
         }
     }
@@ -177,14 +178,14 @@ impl Values {
     fn read_some<K: Sink>(
         &mut self,
         alloc: Global,
-        work: Work,
+        work: Work<'_>,
         rest: &[u8],
         out: &mut K,
     ) -> Result<usize, Halt>
         requires some { 0 < length rest.now }
         requires reads { (taken : List ℕ) × (said : List Said) × HasRead work taken said self.old × (length taken + length rest.now < 2 ^ 63) }
-        ensures { (taken : List ℕ) (said : List Said) → HasRead work taken said self.old →
-            ReadsSome work taken said rest.now (change (K.state out.old) (K.state out.new)) self.new result }
+        ensures { (taken : List ℕ) (said : List Said) → HasRead work.entry taken said self.old →
+            ReadsSome work.entry taken said rest.now (change (K.state out.old) (K.state out.new)) self.new result }
     {
         if self.is_full(work) {
             return Err(Halt::Stop(Stop::NotTwoValues));
@@ -204,14 +205,14 @@ impl Values {
     fn read_piece<K: Sink>(
         &mut self,
         alloc: Global,
-        work: Work,
+        work: Work<'_>,
         piece: &[u8],
         out: &mut K,
     ) -> Result<(), Halt>
         requires short { length piece.now ≤ 4096 }
         requires reads { (taken : List ℕ) × (said : List Said) × HasRead work taken said self.old × (length taken < 2 ^ 48) }
-        ensures reads { (taken : List ℕ) (said : List Said) → HasRead work taken said self.old →
-            ReadsPiece work taken said piece.now (change (K.state out.old) (K.state out.new)) self.new result }
+        ensures reads { (taken : List ℕ) (said : List Said) → HasRead work.entry taken said self.old →
+            ReadsPiece work.entry taken said piece.now (change (K.state out.old) (K.state out.new)) self.new result }
         ensures are_bytes { AreBytes piece.now }
     {
         let mut rest = piece;
@@ -223,10 +224,10 @@ impl Values {
     }
 
     /// The input ends here: whether nothing is wrong with any value, or a value is cut. Two values are compared.
-    fn finish<K: Sink>(&self, alloc: Global, work: Work, out: &mut K) -> Result<bool, Halt>
+    fn finish<K: Sink>(&self, alloc: Global, work: Work<'_>, out: &mut K) -> Result<bool, Halt>
         requires { (taken : List ℕ) × (said : List Said) × HasRead work taken said self.now }
-        ensures { (taken : List ℕ) (said : List Said) → HasRead work taken said self.now →
-            EndsAt work taken said (change (K.state out.old) (K.state out.new)) result }
+        ensures { (taken : List ℕ) (said : List Said) → HasRead work.entry taken said self.now →
+            EndsAt work.entry taken said (change (K.state out.old) (K.state out.new)) result }
     {
         match self.reader.at_end() {
             Ok(()) => match work {
@@ -242,11 +243,12 @@ impl Values {
 /// at the input's end is whether nothing is wrong with any value.
 pub fn put_values<S: Source, K: Sink>(
     alloc: Global,
-    work: Work,
+    work: Work<'_>,
     input: &mut S,
     out: &mut K,
 ) -> Result<bool, Halt>
-    ensures { PutsValues work (change (S.state input.old) (S.state input.new)) (change (K.state out.old) (K.state out.new)) result }
+    requires { IsReadyWork work }
+    ensures { PutsValues work.entry (change (S.state input.old) (S.state input.new)) (change (K.state out.old) (K.state out.new)) result }
 {
     let mut values = Values::new(alloc);
     let mut buffer = [0; PIECE];

@@ -7,7 +7,6 @@ pub mod Fitting
 pub mod Head
 pub mod Lawful
 pub mod LeastFault
-pub mod ListShapes
 pub mod Names
 pub mod Nodes
 pub mod Occurrence
@@ -22,5 +21,4 @@ pub mod Ty
 pub mod TyCode
 pub mod TypeText
 pub mod Typing
-pub mod VerdictLaws
 pub mod VerdictText

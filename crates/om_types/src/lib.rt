@@ -5,8 +5,6 @@
 pub mod decl;
 pub mod fault;
 pub mod head;
-pub mod laws;
-pub mod list_type;
 pub mod names;
 pub mod shape;
 #[cfg(test)]

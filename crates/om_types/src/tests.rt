@@ -1,14 +1,6 @@
-use crate::laws::{faults_exclude_types, list_types_are_lawful};
 use crate::ty::{Node, Ty};
 use om_model::list::List;
 use std::test::Fail;
-
-// Laws can be called.
-#[test]
-fn laws_are_called() {
-    list_types_are_lawful();
-    faults_exclude_types();
-}
 
 // `int list`: the nodes are lent as they were given.
 #[test]

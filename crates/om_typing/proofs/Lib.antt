@@ -3,9 +3,8 @@ pub mod NeedLemmas
 pub mod PathLemmas
 pub mod ValueLemmas
 pub mod Decision
-pub mod VerdictLines
-pub mod ListDecision
 pub mod SearchedLemmas
 pub mod LeastLemmas
 pub mod WayLemmas
 pub mod StepLemmas
+pub mod OnceLemmas

@@ -1,5 +1,5 @@
 -- A value without a fault has the type: it has the one or the other.
-use Rattle.std.specs.Prelude.{ℕ, ◌⊎◌, Bool, List}
+use Rattle.std.specs.Prelude.{◌⊎◌, List}
 use Rattle.om_model.specs.declared.value.Val.{Val}
 use Rattle.om_model.specs.declared.value.Obj.{Obj}
 use Rattle.om_types.specs.declared.fault.Fault.{Fault}
@@ -7,7 +7,6 @@ use Rattle.om_types.specs.Shapes.{Shapes}
 use Rattle.om_types.specs.Lawful.{AreLawful, Everything}
 use Rattle.om_types.specs.Typing.{HasType}
 use Rattle.om_types.specs.Fault.{IsFault}
-use Rattle.om_types.specs.VerdictText.{IsLine}
 use Rattle.om_typing.specs.Decidable.{AreDecidable, ReachesFew}
 
 -- some path, or two, tell a fault
@@ -22,8 +21,3 @@ abbrev pub FaultsAreComplete : Type 1
 FaultsAreComplete =
     (T : Type 0) (shapes : Shapes T) → AreLawful shapes Everything → AreDecidable shapes
     → (graph : List Obj) (v : Val) (t : T) → ReachesFew shapes t → HasTypeOrFault shapes graph v t
-
--- some line is the value's
-abbrev pub HasLine : {T : Type 0} → Shapes T → (T → List ℕ) → List Obj → Val → T → Type 0
-HasLine shapes type_text graph v t =
-    (line : List ℕ) × (has_type : Bool) × IsLine shapes type_text graph v t line has_type

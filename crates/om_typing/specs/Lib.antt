@@ -1,6 +1,5 @@
 pub mod Decidable
 pub mod Complete
-pub mod ListLaws
 pub mod SearchLaws
 pub mod LeastWay
 pub mod StepLaws

@@ -56,40 +56,6 @@ fn words_that_are_not_plain_are_refused_unread(rt: HostRuntime) -> Result<(), Fa
     Ok(())
 }
 
-static OTHER_TYPES: [&str; 15] = [
-    "foo",
-    "Int",
-    "bool",
-    "list",
-    "'a",
-    " int",
-    "int ",
-    "intlist",
-    "int  list",
-    "int\tlist",
-    "int lists",
-    "list int",
-    "int int",
-    "(int)",
-    "int*string",
-];
-
-fn expect_other_type(rt: &impl Abort, alloc: Global, type_text: &str) -> Result<(), Fail> {
-    let err = "omarshal: type: NotYet\n";
-    let mut row = check_row(alloc, type_text, INTEGER, Status::Types, "", err)?;
-    row.failing_take = Some(0);
-    expect_row(rt, alloc, type_text, &row)
-}
-
-// The input is at hand to fail: a type that is refused takes nothing from it.
-#[test]
-fn other_types_are_refused_before_the_input(rt: HostRuntime) -> Result<(), Fail> {
-    for type_text in &OTHER_TYPES {
-        expect_other_type(&rt, rt.alloc(), type_text)?;
-    }
-    Ok(())
-}
-
 /// A FILE and a TYPE, the bytes of `t.ml`, the fetch and the read that fail, the status, and the line.
 struct FileCase {
     shows: &'static str,
@@ -104,11 +70,9 @@ struct FileCase {
 
 const MISSING: &str = "omarshal: cannot open t.ml\n";
 
-const NOT_YET: &str = "omarshal: types: NotYet\n";
-
 const READ_FAULT: &str = "omarshal: read fault\n";
 
-static FILES: [FileCase; 10] = [
+static FILES: [FileCase; 7] = [
     FileCase {
         shows: "there is no file",
         name: "t.ml",
@@ -178,36 +142,6 @@ static FILES: [FileCase; 10] = [
         type_text: "foo",
         status: Status::ReadFault,
         err: READ_FAULT,
-    },
-    FileCase {
-        shows: "a declaration",
-        name: "t.ml",
-        file: Some("type t = int"),
-        fetch: None,
-        read: None,
-        type_text: "t",
-        status: Status::Types,
-        err: NOT_YET,
-    },
-    FileCase {
-        shows: "a space",
-        name: "t.ml",
-        file: Some(" "),
-        fetch: None,
-        read: None,
-        type_text: "int",
-        status: Status::Types,
-        err: NOT_YET,
-    },
-    FileCase {
-        shows: "the file comes before the type",
-        name: "t.ml",
-        file: Some("\n"),
-        fetch: None,
-        read: None,
-        type_text: "foo",
-        status: Status::Types,
-        err: NOT_YET,
     },
 ];
 

@@ -196,36 +196,3 @@ fn values_come_after_one_another(rt: HostRuntime) -> Result<(), Fail> {
     }
     Ok(())
 }
-
-// The empty list, at a type of so many lists.
-fn expect_lists(
-    rt: &impl Abort,
-    alloc: Global,
-    lists: u8,
-    status: Status,
-    out: &str,
-    err: &str,
-) -> Result<(), Fail> {
-    let zero = Input::Small(1, 0, 0, 0, "40");
-    let mut type_text = String::from_str(alloc, "string")?;
-    for _ in 0..lists {
-        type_text.push_str(" list")?;
-    }
-    let row = check_row(alloc, type_text.as_str(), zero, status, out, err)?;
-    expect_row(rt, alloc, type_text.as_str(), &row)
-}
-
-// The empty list has each of them but `string` itself.
-#[test]
-fn a_type_has_at_most_199_lists(rt: HostRuntime) -> Result<(), Fail> {
-    let no = "no .: expected string, found int 0\n";
-    let refused = "omarshal: type: NotYet\n";
-    expect_lists(&rt, rt.alloc(), 0, Status::No, no, "")?;
-    for lists in [1, 2, 199] {
-        expect_lists(&rt, rt.alloc(), lists, Status::Well, "yes\n", "")?;
-    }
-    for lists in [200, 201] {
-        expect_lists(&rt, rt.alloc(), lists, Status::Types, "", refused)?;
-    }
-    Ok(())
-}

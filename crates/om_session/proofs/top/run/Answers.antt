@@ -1,9 +1,10 @@
-use Rattle.om_session.specs.Lists.{lists}
+use Rattle.om_session.specs.Language.{declared_types}
+use Rattle.om_session.proofs.LanguageLemmas.{declared_lawful}
 use Rattle.om_session.proofs.PromiseLemmas.{promises}
-use Rattle.om_session.proofs.CompleteLemmas.{lists_lawful}
-use Rattle.om_session.proofs.TotalLemmas.{lists_total}
 use Rattle.om_session.proofs.top.run.Goals as goal
 
 pub returns : goal.returns
 returns g c =
-    promises lists (lists_lawful c.faults_exclude_types.ensures) (lists_total c.each_has_a_line.ensures) c.one_judgement.ensures _ _ c.tells_bytes.ensures c.run_command.ensures
+    promises declared_types
+    (declared_lawful c.one_answer.ensures.files c.one_answer.ensures.types c.files_are_well_formed.ensures c.types_are_sound.ensures c.type_or_fault.ensures.never_both)
+    c.one_judgement.ensures _ _ c.tells_bytes.ensures c.run_command.ensures

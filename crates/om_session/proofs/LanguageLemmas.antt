@@ -1,0 +1,138 @@
+-- What is read of a text is one thing, and a value has one line at a type that is read.
+use Rattle.std.proofs.Common.{◌≡◌, ◌≢◌, ◌⊎◌, ℕ, Bool, true, false, List, [], Result, Ok, Err, inl, inr, refl, sym, ap, ◌∙◌, subst}
+use Rattle.om_model.specs.declared.value.Val.{Val}
+use Rattle.om_model.specs.declared.value.Obj.{Obj}
+use Rattle.om_types.specs.declared.decl.Decl.{Decl}
+use Rattle.om_types.specs.Ty.{Ty}
+use Rattle.om_types.specs.Accepted.{AreWellFormed, IsSoundType}
+use Rattle.om_types.specs.Equal.{declared_shapes}
+use Rattle.om_types.specs.TypeText.{type_text}
+use Rattle.om_types.specs.VerdictText.{IsNoLine}
+use Rattle.om_typing.proofs.OnceLemmas.{no_line_once}
+use Rattle.om_table.specs.TableDecides.{NeverBoth}
+use Rattle.om_table.proofs.FewLemmas.{few_not_many}
+use Rattle.om_format.specs.Tree.{Tree, root, objects_of}
+use Rattle.om_types.specs.Scope.{Rule, KeepsAll, BreaksInFile, BreaksInType}
+use Rattle.om_sites.specs.InFile.{file_places}
+use Rattle.om_sites.specs.InText.{in_texpr}
+use Rattle.om_grammar.specs.Grammar.{Kinds, FileTree, Texpr, file_kinds, texpr}
+use Rattle.om_grammar.specs.Depths.{file_ends, texpr_ends}
+use Rattle.om_grammar.specs.Refusals.{IsText, text_read, syntax_at, too_deep_at}
+use Rattle.om_parse.specs.Parsed.{kinds_of}
+use Rattle.om_parse.specs.Written.{declarations_of, type_of_texpr}
+use Rattle.om_told.specs.Told.{FilesAreWellFormed, TypesAreSound}
+use Rattle.om_decl.specs.Answer.{Answer, accepted, no_lexemes, no_text, too_deep, broken, IsAnswer, IsFileAnswer, IsTypeAnswer, HasOneAnswer}
+use Rattle.om_decl.specs.Read.{IsDeclared, IsTypeOf}
+use Rattle.om_decl.specs.Text.{answer_text}
+use Rattle.om_session.specs.Language.{TypeOver, declared_types, IsRefusal, ReachesFew, IsTooMuch, IsAccepted, IsTypeLine, ReadsDeclarations, ReadsType}
+use Rattle.om_session.proofs.CompleteLemmas.{IsGiven, IsLawful}
+
+-- ---- answers
+
+tree_or : {Tree : Type 0} → Tree → Answer Tree → Tree
+tree_or other (accepted tree) = tree
+tree_or other (no_lexemes fault) = other
+tree_or other (no_text place) = other
+tree_or other (too_deep place) = other
+tree_or other (broken rule place) = other
+
+accepted_once : {Tree : Type 0} (one other : Tree) → ◌≡◌ {A = Answer Tree} (accepted one) (accepted other) → one ≡ other
+unfolding tree_or
+accepted_once one other same = ap (tree_or one) same
+
+module _ {Tree : Type 0} (Is : List ℕ → Answer Tree → Type 0) (once : HasOneAnswer Is) (text : List ℕ) where
+  trees_once : (tree other : Tree) → Is text (accepted tree) → Is text (accepted other) → tree ≡ other
+  trees_once tree other one two = accepted_once tree other (once text (accepted tree) (accepted other) one two)
+
+  never_refused : (tree : Tree) (refusal : List ℕ) → Is text (accepted tree) → IsRefusal (Is text) refusal → ⊥
+  never_refused tree refusal one r = r.refuses tree (once text r.answer (accepted tree) r.is one)
+
+  refusals_once : (refusal other : List ℕ) → IsRefusal (Is text) refusal → IsRefusal (Is text) other → refusal ≡ other
+  refusals_once refusal other r s = r.spelled ∙ (ap answer_text (once text r.answer s.answer r.is s.is) ∙ sym s.spelled)
+
+-- ---- what is accepted
+
+-- a tree that is accepted is that of some lexemes, and breaks no rule
+module _ {Tree : Type 0} (spelled : Tree → Kinds) (ends : Tree → List ℕ) (Breaks : Tree → Rule → ℕ → Type 0) (text : List ℕ) (tree : Tree) where
+  record IsKept : Type 0 where
+    lexemes : Kinds
+    reads : IsText spelled ends lexemes tree
+    keeps : KeepsAll (Breaks tree)
+
+  kept : IsAnswer spelled ends Breaks text (accepted tree) → IsKept
+  kept (Err fault, lexes, other) = absurd (cc other)
+  kept (Ok lexemes, lexes, (syntax_at k, is, other)) = absurd (cc other)
+  kept (Ok lexemes, lexes, (too_deep_at k, is, other)) = absurd (cc other)
+  kept (Ok lexemes, lexes, (text_read own, is, (same, keeps))) = record {
+    lexemes = kinds_of lexemes;
+    reads = subst (IsText spelled ends (kinds_of lexemes)) same is;
+    keeps = subst (λ t. KeepsAll (Breaks t)) same keeps;
+  }
+
+-- ---- the language
+
+module _ (files_once : HasOneAnswer IsFileAnswer) (types_once : (decls : List Decl) → HasOneAnswer (IsTypeAnswer decls))
+    (files_well : FilesAreWellFormed) (types_sound : TypesAreSound) (never_both : NeverBoth) where
+  same_decls : (text : List ℕ) (decls others : List Decl) → IsDeclared text decls → IsDeclared text others → decls ≡ others
+  same_decls text decls others d e =
+      d.stand ∙ (ap declarations_of (trees_once IsFileAnswer files_once text d.tree e.tree d.answer e.answer) ∙ sym e.stand)
+
+  same_types : (decls : List Decl) (text : List ℕ) (t u : Ty) → IsTypeOf decls text t → IsTypeOf decls text u → t ≡ u
+  same_types decls text t u one other =
+      one.stands ∙ (ap type_of_texpr (trees_once (IsTypeAnswer decls) (types_once decls) text one.tree other.tree one.answer other.answer) ∙ sym other.stands)
+
+  never_too_much : (decls : List Decl) (text refusal : List ℕ) (t : TypeOver) → IsAccepted decls text t → IsTooMuch decls text refusal → ⊥
+  never_too_much decls text refusal t a much =
+      let same : t.type ≡ much.type = same_types decls text t.type much.type a.written much.written in
+      few_not_many decls much.type a.few.types (rw (← same) a.few.reached) a.few.few much.many
+
+  type_or_refusal : (decls : List Decl) (text : List ℕ) (t : TypeOver) (refusal : List ℕ) → IsAccepted decls text t → ReadsType decls text (Err refusal) → ⊥
+  type_or_refusal decls text t refusal a (inl r) = never_refused (IsTypeAnswer decls) (types_once decls) text a.written.tree refusal a.written.answer r
+  type_or_refusal decls text t refusal a (inr much) = never_too_much decls text refusal t a much
+
+  type_refusals : (decls : List Decl) (text refusal other : List ℕ) → ReadsType decls text (Err refusal) → ReadsType decls text (Err other) → refusal ≡ other
+  type_refusals decls text refusal other (inl r) (inl s) = refusals_once (IsTypeAnswer decls) (types_once decls) text refusal other r s
+  type_refusals decls text refusal other (inl r) (inr s) = absurd (never_refused (IsTypeAnswer decls) (types_once decls) text s.written.tree refusal s.written.answer r)
+  type_refusals decls text refusal other (inr r) (inl s) = absurd (never_refused (IsTypeAnswer decls) (types_once decls) text r.written.tree other r.written.answer s)
+  type_refusals decls text refusal other (inr r) (inr s) = r.spelled ∙ sym s.spelled
+
+  -- declarations that are read are well-formed, and types over them sound
+  decls_well : (text : List ℕ) (decls : List Decl) → IsDeclared text decls → AreWellFormed decls
+  decls_well text decls d =
+      let k = kept file_kinds file_ends (λ tree. BreaksInFile (file_places tree)) text d.tree d.answer in
+      subst AreWellFormed (sym d.stand) (files_well k.lexemes d.tree k.reads k.keeps)
+
+  type_sound : (decls : List Decl) (text : List ℕ) (t : Ty) → AreWellFormed decls → IsTypeOf decls text t → IsSoundType decls t
+  type_sound decls text t well is =
+      let k = kept texpr texpr_ends (λ tree. BreaksInType decls (in_texpr 0 false tree)) text is.tree is.answer in
+      subst (IsSoundType decls) (sym is.stands) (types_sound decls is.tree well k.keeps)
+
+  -- a value has the type or a fault, and not both
+  module _ (t : TypeOver) (well : AreWellFormed t.decls) (sound : IsSoundType t.decls t.type) (few : ReachesFew t.decls t.type) (graph : List Obj) (v : Val) where
+    lines_once : (line other : List ℕ) (one two : Bool) → IsTypeLine t graph v line one → IsTypeLine t graph v other two → (line ≡ other) × (one ≡ two)
+    lines_once line other true true has its = (has.1 ∙ sym its.1, refl)
+    lines_once line other false false its is = (no_line_once (declared_shapes t.decls) graph v t.type type_text line other its is, refl)
+    lines_once line other true false has is = absurd (never_both t.decls t.type few.types well sound few.reached graph v is.fault is.least.is_fault has.0)
+    lines_once line other false true is has = absurd (never_both t.decls t.type few.types well sound few.reached graph v is.fault is.least.is_fault has.0)
+
+  given_once : (t : TypeOver) → IsGiven declared_types t → (tree : Tree) (line other : List ℕ) (one two : Bool)
+      → IsTypeLine t (objects_of tree 0) (root tree 0) line one → IsTypeLine t (objects_of tree 0) (root tree 0) other two → (line ≡ other) × (one ≡ two)
+  given_once t (text, type, decls, declared, is) tree =
+      let well : AreWellFormed t.decls = subst AreWellFormed (sym is.over) (decls_well text decls declared) in
+      let written : IsTypeOf t.decls type t.type = subst (λ d. IsTypeOf d type t.type) (sym is.over) is.written in
+      let few : ReachesFew t.decls t.type = subst (λ d. ReachesFew d t.type) (sym is.over) is.few in
+      lines_once t well (type_sound t.decls type t.type well written) few (objects_of tree 0) (root tree 0)
+
+  pub declared_lawful : IsLawful declared_types
+  declared_lawful = record {
+    declarations_once = λ text d refusal is refused. never_refused IsFileAnswer files_once text is.tree refusal is.answer refused;
+    same_declarations = same_decls;
+    same_refusal = λ text refusal other. refusals_once IsFileAnswer files_once text refusal other;
+    type_once = λ d text t refusal is refused. type_or_refusal d text t refusal is refused;
+    same_type = λ d text t u one other.
+        let types = same_types d text t.type u.type one.written other.written in
+        ap (λ d. let t : TypeOver = record { decls = d; type = t.type } in t) (one.over ∙ sym other.over)
+        ∙ ap (λ x. let t : TypeOver = record { decls = u.decls; type = x } in t) types;
+    same_type_refusal = type_refusals;
+    line_once = given_once;
+  }

@@ -1,0 +1,59 @@
+-- A value has one least fault at a type, and a fault has one text.
+use Rattle.std.proofs.Common.{ℕ, ◌≡◌, ◌∙◌, inl, inr, List, Some, refl, sym, ap, ◌++◌}
+use Rattle.std.specs.Prelude.{codes}
+use Rattle.std.proofs.lemmas.Option.{same_Some}
+use Rattle.om_model.specs.declared.value.Val.{Val}
+use Rattle.om_model.specs.declared.value.Obj.{Obj}
+use Rattle.om_types.specs.declared.fault.Fault.{Fault}
+use Rattle.om_types.specs.declared.fault.Fault.TheVariants.{Misfit, Clash}
+use Rattle.om_types.specs.Shapes.{Shapes}
+use Rattle.om_types.specs.Fault.{value_at, IsBefore}
+use Rattle.om_types.specs.LeastFault.{IsToldBefore, IsLeastFault}
+use Rattle.om_types.specs.VerdictText.{misfit_text, clash_text, IsFaultText, IsNoLine}
+use Rattle.om_typing.proofs.PathLemmas.{OneOfThree, paths_compare}
+
+-- of two faults one is told before the other, or they are the same
+faults_compare : (one other : Fault) → OneOfThree (IsToldBefore one other) (one ≡ other) (IsToldBefore other one)
+faults_compare (Misfit p) (Misfit q) = at (paths_compare p q) where
+  at : OneOfThree (IsBefore p q) (p ≡ q) (IsBefore q p) → OneOfThree (IsBefore p q) (Misfit p ≡ Misfit q) (IsBefore q p)
+  at (inl before) = inl before
+  at (inr (inl same)) = inr (inl (ap Misfit same))
+  at (inr (inr after)) = inr (inr after)
+faults_compare (Misfit p) (Clash first second) = inl tt
+faults_compare (Clash first second) (Misfit p) = inr (inr tt)
+faults_compare (Clash first second) (Clash one other) = at (paths_compare second other) (paths_compare first one) where
+  at : OneOfThree (IsBefore second other) (second ≡ other) (IsBefore other second) → OneOfThree (IsBefore first one) (first ≡ one) (IsBefore one first)
+      → OneOfThree (IsToldBefore (Clash first second) (Clash one other)) (Clash first second ≡ Clash one other) (IsToldBefore (Clash one other) (Clash first second))
+  at (inl before) rest = inl (inl before)
+  at (inr (inr after)) rest = inr (inr (inl after))
+  at (inr (inl same)) (inl before) = inl (inr (same, before))
+  at (inr (inl same)) (inr (inr after)) = inr (inr (inr (sym same, after)))
+  at (inr (inl same)) (inr (inl equal)) = inr (inl (ap (λ p. Clash p second) equal ∙ ap (λ q. Clash one q) same))
+
+module _ {T : Type 0} (shapes : Shapes T) (graph : List Obj) (v : Val) (t : T) where
+  -- there is one least fault
+  pub least_once : (one other : Fault) → IsLeastFault shapes graph v t one → IsLeastFault shapes graph v t other → one ≡ other
+  least_once one other is its = at (faults_compare one other) where
+    at : OneOfThree (IsToldBefore one other) (one ≡ other) (IsToldBefore other one) → one ≡ other
+    at (inl before) = absurd (its.least one is.is_fault before)
+    at (inr (inl same)) = same
+    at (inr (inr after)) = absurd (is.least other its.is_fault after)
+
+  module _ (type_text : T → List ℕ) where
+    one_place : (path : List ℕ) (v1 v2 : Val) (t1 t2 : T) → value_at shapes graph v t path ≡ Some (v1, t1) → value_at shapes graph v t path ≡ Some (v2, t2) → ◌≡◌ {A = Val × T} (v1, t1) (v2, t2)
+    one_place path v1 v2 t1 t2 one other = same_Some (v1, t1) (v2, t2) (sym one ∙ other)
+
+    -- a fault has one text
+    pub fault_text_once : (fault : Fault) (text other : List ℕ) → IsFaultText shapes type_text graph v t fault text → IsFaultText shapes type_text graph v t fault other → text ≡ other
+    fault_text_once (Misfit path) text other (w, u, at, is) (w', u', at', is') =
+        is ∙ (ap (λ (p : Val × T). misfit_text type_text graph path p.0 p.1) (one_place path w w' u u' at at') ∙ sym is')
+    fault_text_once (Clash first second) text other (o, one, two, at, at2, is) (o', one', two', at', at2', is') =
+        is ∙ (ap (λ (p : Val × T). clash_text type_text first p.1 second two) (one_place first o o' one one' at at')
+        ∙ (ap (λ (p : Val × T). clash_text type_text first one' second p.1) (one_place second o o' two two' at2 at2') ∙ sym is'))
+
+    -- and so a value has one line that tells a fault
+    pub no_line_once : (line other : List ℕ) → IsNoLine shapes type_text graph v t line → IsNoLine shapes type_text graph v t other → line ≡ other
+    no_line_once line other one two =
+        let same = least_once one.fault two.fault one.least two.least in
+        let text = fault_text_once two.fault one.text two.text (rw (← same) one.is_text) two.is_text in
+        one.spelled ∙ (ap (λ t. codes "no " ++ t) text ∙ sym two.spelled)
