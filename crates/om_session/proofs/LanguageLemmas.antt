@@ -20,7 +20,7 @@ use Rattle.om_grammar.specs.Depths.{file_ends, texpr_ends}
 use Rattle.om_grammar.specs.Refusals.{IsText, text_read, syntax_at, too_deep_at}
 use Rattle.om_parse.specs.Parsed.{kinds_of}
 use Rattle.om_parse.specs.Written.{declarations_of, type_of_texpr}
-use Rattle.om_told.specs.Told.{FilesAreWellFormed, TypesAreSound}
+use Rattle.om_decl.specs.Told.{FilesAreWellFormed, TypesAreSound}
 use Rattle.om_decl.specs.Answer.{Answer, accepted, no_lexemes, no_text, too_deep, broken, IsAnswer, IsFileAnswer, IsTypeAnswer, HasOneAnswer}
 use Rattle.om_decl.specs.Read.{IsDeclared, IsTypeOf}
 use Rattle.om_decl.specs.Text.{answer_text}

@@ -15,11 +15,11 @@ use crate::types::find_type;
 use crate::values::{Halt, Work, put_values};
 use crate::words::{Command, read_words};
 use om_decl::laws::one_answer;
+use om_decl::told::{files_are_well_formed, types_are_sound};
 use om_edge::{Opener, Sink, Source};
 use om_format::laws::one_judgement;
 use om_model::status::Status;
 use om_table::type_or_fault;
-use om_told::{files_are_well_formed, types_are_sound};
 use std::alloc::Global;
 
 // Does the work with the values of the input.
