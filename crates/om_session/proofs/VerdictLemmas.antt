@@ -18,7 +18,7 @@ use Rattle.om_equal.specs.TableLaws.{TablesHaveTheLeastFault}
 use Rattle.om_table.specs.TableDecides.{TheRootIsFirst, TablesDecide, IsMadeFor}
 use Rattle.om_type_table.specs.Made.{types_of, table_of, IsTypeTable, IsLawful}
 use Rattle.om_type_table.specs.Laws.{MadeAreLawful}
-use Rattle.om_fault.specs.Texts.{text_at}
+use Rattle.om_fault.specs.Text.{text_at}
 use Rattle.om_fault.specs.Laws.{TextsAreOfTypes}
 use Rattle.om_check.specs.declared.typing.Typing.{Typing}
 use Rattle.om_check.specs.declared.verdict.Verdict.{Verdict}
