@@ -2,6 +2,7 @@ use super::*;
 use om_lex::tokens;
 use om_model::list::List;
 use om_parse::{parse_file, parse_type};
+use om_scope::{BracketItem, TypeBrackets};
 use om_scope::{Placed, Site, Use};
 use om_types::ty::Node;
 use std::alloc::{AllocError, Global};
