@@ -16,9 +16,9 @@ use Rattle.om_types.specs.Searched.{Entry}
 use Rattle.om_types.specs.Table.{Table, table_shapes, node_or_none}
 use Rattle.om_types.specs.Typing.{IsListed, IsTyped, HasType}
 use Rattle.om_type_table.specs.Made.{IsLawful}
-use Rattle.om_check.specs.declared.needs.Needs.{Needs}
+use Rattle.om_fits.specs.declared.needs.Needs.{Needs}
 use Rattle.om_check.specs.declared.visits.Visit.{Visit}
-use Rattle.om_check.specs.Needs.{needs_in}
+use Rattle.om_fits.specs.Needs.{needs_in}
 use Rattle.om_check.specs.Told.{IsPathOf, IsClashOf}
 use Rattle.om_check.specs.Clash.{NoneClash, IsFirstClash}
 use Rattle.om_check.specs.Explored.{root_of, ComesBefore, AreExplored, IsExplored}

@@ -1,4 +1,3 @@
-pub mod NeedLemmas
 pub mod OrderLemmas
 pub mod PlaceLemmas
 pub mod ToldLemmas

@@ -11,10 +11,10 @@ use Rattle.om_types.specs.Fitting.{or_none, fields_of}
 use Rattle.om_types.specs.Steps.{most_steps}
 use Rattle.om_types.specs.Table.{Table, table_shapes, node_or_none}
 use Rattle.om_type_table.specs.Made.{IsLawful}
-use Rattle.om_check.specs.declared.needs.Needs.{Needs}
+use Rattle.om_fits.specs.declared.needs.Needs.{Needs}
 use Rattle.om_check.specs.declared.visits.Visit.{Visit}
 use Rattle.om_check.specs.declared.visits.Visits.{Visits}
-use Rattle.om_check.specs.Needs.{needs_in}
+use Rattle.om_fits.specs.Needs.{needs_in}
 use Rattle.om_check.specs.Visits.{AreLinked}
 use Rattle.om_check.specs.Explored.{IsExplored}
 use Rattle.om_check.specs.Search.{visit_needs, cost_of, cost_or_none, cost_at, spent, TestsVisit, IsSearching}

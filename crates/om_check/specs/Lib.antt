@@ -1,4 +1,3 @@
-pub mod Needs
 pub mod Visits
 pub mod Told
 pub mod Explored

@@ -5,8 +5,8 @@ ghost use Rattle.om_type_table.specs.Made.{table_of};
 ghost use Rattle.om_check.specs.Visits.{AreLinked, AreLinkedBack};
 ghost use Rattle.om_check.specs.Clash.{mutable_at, IsWithin, ClashesBack, IsFirstOf, NoneClash, IsFirstClash};
 
-use crate::parts::is_mutable;
 use crate::visits::Visit;
+use om_fits::is_mutable;
 use om_heap::Heap;
 use om_type_table::TypeTable;
 

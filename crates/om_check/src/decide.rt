@@ -10,13 +10,13 @@ ghost use Rattle.om_check.specs.Told.{AreOrdered, IsClashOf};
 ghost use Rattle.om_check.specs.Verdict.{IsVerdict};
 
 use crate::clash::first_clash;
-use crate::needs::needs_of;
 use crate::path::path_of;
 use crate::search::search;
 use crate::steps::Steps;
 use crate::typing::Typing;
 use crate::verdict::Verdict;
 use crate::visits::{Visit, Visits};
+use om_fits::needs_of;
 use om_heap::Heap;
 use om_model::Memory;
 use om_model::path::Path;

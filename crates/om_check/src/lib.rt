@@ -3,8 +3,6 @@
 
 mod clash;
 mod decide;
-mod needs;
-mod parts;
 mod path;
 mod search;
 mod steps;

@@ -8,9 +8,9 @@ ghost use Rattle.om_check.specs.Visits.{AreLinked};
 ghost use Rattle.om_check.specs.Explored.{IsExplored};
 ghost use Rattle.om_check.specs.Search.{TestsNeed, TestsVisit, Searches, cost_at};
 
-use crate::needs::needs_of;
 use crate::steps::Steps;
 use crate::visits::Visits;
+use om_fits::needs_of;
 use om_heap::Heap;
 use om_model::Memory;
 use om_model::value::Val;

@@ -4,7 +4,7 @@ use Rattle.std.proofs.lemmas.Option.{slice_get_read}
 use Rattle.om_type_table.specs.Made.{table_of}
 use Rattle.om_check.specs.declared.search.Need.{Need}
 use Rattle.om_check.specs.Clash.{IsWithin}
-use Rattle.om_check.specs.Needs.{needs_in}
+use Rattle.om_fits.specs.Needs.{needs_in}
 use Rattle.om_check.specs.Search.{TestsNeed, visit_needs}
 use Rattle.om_check.proofs.VisitLemmas.{IsNeedOf, visit_within, visit_fits, types_within, need_field, need_node, testing_more, testing_until, testing_all}
 use Rattle.om_check.proofs.TestLemmas.{needs_are, never_unfit, cost_of_needs, cost_is}
