@@ -14,3 +14,6 @@ mod users;
 mod waits;
 
 pub use all_classes::classes;
+
+#[cfg(test)]
+mod tests;
