@@ -7,7 +7,7 @@ use Rattle.om_session.proofs.top.check.Goals as goal
 pub returns-in-Ok : goal.returns-in-Ok
 returns-in-Ok g c = λ words asks.
     let found = c.in-Ok.ensures in
-    let lent : Bor Requested = record { ref_ptr = 0; now = c.in-Ok.requested } in
+    let lent : Bor Requested = record { ref_ptr = (0, 0); now = c.in-Ok.requested } in
     check_account words c.args.file.now c.args.type_text.now asks
     (change (g.O.Opener.state c.args.files.now) (g.O.Opener.state c.find_type.new.files))
     found.0 found.1 lent found.2
