@@ -136,7 +136,12 @@ impl Values {
     }
 
     /// Puts the line of the value that the reader has whole. A new reader waits for the next one, in the memory of this one.
-    fn put_line<K: Sink>(&mut self, alloc: Global, requested: &Requested, out: &mut K) -> Result<(), Halt>
+    fn put_line<K: Sink>(
+        &mut self,
+        alloc: Global,
+        requested: &Requested,
+        out: &mut K,
+    ) -> Result<(), Halt>
         requires { (taken : List ℕ) × (said : List Said) × IsValueRead (works.Check requested) taken said self.old × (length taken < 2 ^ 64) }
         ensures { (taken : List ℕ) (said : List Said) → IsValueRead (works.Check requested.entry) taken said self.old →
             PutsNext (works.Check requested.entry) taken said (change (K.state out.old) (K.state out.new)) self.new result }

@@ -18,10 +18,10 @@ struct Declared {
 
 const PAIRS: &str = "type p = int * string type q = p list";
 
-const MUTABLE: &str = "type t = A | B of {mutable x: int; y: string} type u = U | V of {mutable x: int; y: string}";
+const MUTABLE: &str =
+    "type t = A | B of {mutable x: int; y: string} type u = U | V of {mutable x: int; y: string}";
 
-const TAGS: &str =
-    "type t = [ `A of t | `B ] type u = [ `A of u | `B ] type v = [ `A of v | `C ]";
+const TAGS: &str = "type t = [ `A of t | `B ] type u = [ `A of u | `B ] type v = [ `A of v | `C ]";
 
 /// Two fields that are one object.
 const ONE_OBJECT: Input = Input::Small(7, 3, 8, 8, "a0a04121610402");
