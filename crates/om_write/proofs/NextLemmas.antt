@@ -1,5 +1,5 @@
 -- One call of `next`.
-use Rattle.std.proofs.Common.{ℕ, zero, suc, ◌≡◌, ◌≢◌, ◌+◌, ◌*◌, ◌-◌, ◌<◌, ◌≤◌, ◌^◌, ◌∙◌, true, List, ◌∷◌, length, map, drop, refl, sym, ap, subst, arith, length-drop, ℤ}
+use Rattle.std.proofs.Common.{ℕ, zero, suc, ◌≡◌, ◌≢◌, ◌+◌, ◌*◌, ◌-◌, ◌<◌, ◌≤◌, ◌^◌, ◌∙◌, true, List, ◌∷◌, ◌++◌, length, map, drop, refl, sym, ap, subst, arith, length-drop, ℤ}
 use Rattle.std.specs.Prelude.{slice_index, slice_set, All, vec_len, vec_capacity}
 use Rattle.std.proofs.lemmas.Option.{slice_get_within}
 use Rattle.om_model.specs.declared.value.Val.{Val}
@@ -13,10 +13,10 @@ use Rattle.om_format.specs.Canonical.{data_spelling}
 use Rattle.om_format.specs.Iso.{IsTreeOf}
 use Rattle.om_canonical.proofs.CanonLemmas.{tokens-le}
 use Rattle.om_canonical.proofs.Walk.{has_one_tree, numbering}
-use Rattle.om_heap.specs.Heap.{object_at, IsHeap}
+use Rattle.om_heap.specs.Heap.{object_at, place, IsHeap}
 use Rattle.om_write.specs.Step.{object_token, token_in}
 use Rattle.om_write.specs.Marks.{marks_of}
-use Rattle.om_write.specs.Walking.{AreLeft, IsAt, IsWalk, IsFrame, IsMet, left_in, pending}
+use Rattle.om_write.specs.Walking.{AreLeft, IsAt, IsWalk, IsFrame, IsOuter, IsMet, left_of, root_left, pending}
 use Rattle.om_write.specs.declared.walk.Step.{Step}
 use Rattle.om_write.specs.declared.walk.Step.TheVariants as steps
 use Rattle.om_write.specs.declared.marks.Marks.{Marks}
@@ -47,9 +47,36 @@ some_token : (tree : Tree) (ks : List ℕ) (c : ℕ) (forest : Forest) (v : Val)
 some_token tree ks c none v values left = absurd left.alike
 some_token tree ks c (more (node t s) f) v values left = omega arith
 
-module _ (g : List Obj) (walk nv : Walk) (v : Val) (w : IsWalk g walk) (value : pending g walk ≡ v ∷ left_in g nv.frames.items)
-    (frames : All (IsFrame g) nv.frames.items) (depth : vec_len nv.frames ≤ vec_len walk.frames) (capacity : vec_capacity nv.frames ≡ vec_capacity walk.frames)
-    (frame : nv ≡ record walk { frames = nv.frames }) where
+-- where no value is left nothing changes
+pub still_walk : (g : List Obj) (walk nv : Walk) → IsWalk g walk → IsFrame g nv.last → All (IsOuter g) nv.frames.items → vec_len nv.frames ≤ vec_len walk.frames
+    → vec_capacity nv.frames ≡ vec_capacity walk.frames → nv ≡ record walk { last = nv.last; frames = nv.frames } → left_of g nv ≡ left_of g walk → IsWalk g nv
+still_walk g walk nv w last frames depth capacity frame left =
+    subst (IsWalk g) (sym frame) (record {
+      heap = w.heap;
+      value = w.value;
+      last = last;
+      frames = frames;
+      depth = omega (arith, depth, w.depth);
+      marks = w.marks;
+      met = w.met;
+      next = w.next;
+      room = omega (arith, w.room, capacity);
+      at = λ tree is_of.
+          let at = w.at tree is_of in record {
+            ks = at.ks;
+            numbering = at.numbering;
+            forest = at.forest;
+            tokens_left = at.tokens_left;
+            within = at.within;
+            left = subst (AreLeft tree at.ks walk.count at.forest) (ap (λ vs. root_left walk ++ vs) (sym left)) at.left;
+            marked = at.marked;
+            order = at.order;
+          };
+    })
+
+module _ (g : List Obj) (walk nv : Walk) (v : Val) (w : IsWalk g walk) (value : pending g walk ≡ v ∷ left_of g nv)
+    (last : IsFrame g nv.last) (frames : All (IsOuter g) nv.frames.items) (depth : vec_len nv.frames ≤ vec_len walk.frames) (capacity : vec_capacity nv.frames ≡ vec_capacity walk.frames)
+    (frame : nv ≡ record walk { last = nv.last; frames = nv.frames }) where
   same_root : nv.root ≡ walk.root
   same_root = ap (λ (x : Walk). x.root) frame
 
@@ -58,6 +85,9 @@ module _ (g : List Obj) (walk nv : Walk) (v : Val) (w : IsWalk g walk) (value : 
 
   same_count : nv.count ≡ walk.count
   same_count = ap (λ (x : Walk). x.count) frame
+
+  same_next : nv.next ≡ walk.next
+  same_next = ap (λ (x : Walk). x.next) frame
 
   same_again : nv.again ≡ walk.again
   same_again = ap (λ (x : Walk). x.again) frame
@@ -70,7 +100,7 @@ module _ (g : List Obj) (walk nv : Walk) (v : Val) (w : IsWalk g walk) (value : 
       let t = has_one_tree g walk.root w.heap.is_graph w.value in
       let at = w.at t.tree t.is in
       let b = bounded g walk.root t.tree w.heap w.value t.is in
-      let some = some_token t.tree at.ks walk.count at.forest v (left_in g nv.frames.items) (subst (AreLeft t.tree at.ks walk.count at.forest) value at.left) in
+      let some = some_token t.tree at.ks walk.count at.forest v (left_of g nv) (subst (AreLeft t.tree at.ks walk.count at.forest) value at.left) in
       let left : length (drop walk.given (tokens t.tree)) ≡ length (forest_tokens at.forest) = ap length at.tokens_left in
       omega (arith, same_given, length-drop walk.given (tokens t.tree), b.words, b.bytes, b.tokens)
 
@@ -86,26 +116,31 @@ module _ (g : List Obj) (walk nv : Walk) (v : Val) (w : IsWalk g walk) (value : 
   pub met_count : nv.marks.ordered ≡ true → nv.marks.met ≡ nv.count
   met_count ordered = ap (λ (ms : Marks). ms.met) same_marks ∙ w.met (sym (ap (λ (ms : Marks). ms.ordered) same_marks) ∙ ordered) ∙ sym same_count
 
+  pub next_place : nv.marks.ordered ≡ true → nv.next ≡ 8 * place g nv.count
+  next_place ordered = same_next ∙ w.next (sym (ap (λ (ms : Marks). ms.ordered) same_marks) ∙ ordered) ∙ ap (λ n. 8 * place g n) (sym same_count)
+
   after : ((tree : Tree) → IsTreeOf g walk.root tree → IsAt g tree stepped) → IsWalk g stepped
   after at = record {
     heap = w.heap;
     value = subst (IsValue (length g)) (sym same_root) w.value;
+    last = last;
     frames = frames;
     depth = omega (arith, same_count, w.depth);
     marks = marks_many;
     met = met_count;
+    next = next_place;
     room = omega (arith, w.room);
     at = λ tree is_of. at tree (subst (λ r. IsTreeOf g r tree) same_root is_of);
   }
 
   pub integer_advances : (z : ℤ) → v ≡ vals.Int z → (tree : Tree) → IsTreeOf g walk.root tree → Advances g tree walk stepped (integer z)
-  integer_advances z is tree is_of = advance_integer g tree walk stepped z (w.at tree is_of) keeps (subst (λ x. pending g walk ≡ x ∷ left_in g nv.frames.items) is value)
+  integer_advances z is tree is_of = advance_integer g tree walk stepped z (w.at tree is_of) keeps (subst (λ x. pending g walk ≡ x ∷ left_of g nv) is value)
 
   pub integer_walk : (z : ℤ) → v ≡ vals.Int z → IsWalk g stepped
   integer_walk z is = after (λ tree is_of. (integer_advances z is tree is_of).at)
 
   pub atom_advances : (tag : ℕ) → v ≡ vals.Atom tag → (tree : Tree) → IsTreeOf g walk.root tree → Advances g tree walk stepped (atom tag)
-  atom_advances tag is tree is_of = advance_atom g tree walk stepped tag (w.at tree is_of) keeps (subst (λ x. pending g walk ≡ x ∷ left_in g nv.frames.items) is value)
+  atom_advances tag is tree is_of = advance_atom g tree walk stepped tag (w.at tree is_of) keeps (subst (λ x. pending g walk ≡ x ∷ left_of g nv) is value)
 
   pub atom_walk : (tag : ℕ) → v ≡ vals.Atom tag → IsWalk g stepped
   atom_walk tag is = after (λ tree is_of. (atom_advances tag is tree is_of).at)
@@ -119,11 +154,11 @@ module _ (g : List Obj) (walk nv : Walk) (v : Val) (w : IsWalk g walk) (value : 
       rw (same_count, same_marks) (marks_behind g at.ks walk.count k (marks_of walk.marks) at.marked)
 
   meets_next : (tree : Tree) (at : IsAt g tree walk) (k : ℕ) → v ≡ vals.Ref k → slice_index (marks_of walk.marks) k ≡ 0
-      → Meets g tree at.ks walk.count at.forest k (left_in g nv.frames.items)
+      → Meets g tree at.ks walk.count at.forest k (left_of g nv)
   meets_next tree at k is new =
-      let left : AreLeft tree at.ks walk.count at.forest (vals.Ref k ∷ left_in g nv.frames.items) =
-      subst (λ x. AreLeft tree at.ks walk.count at.forest (x ∷ left_in g nv.frames.items)) is (subst (AreLeft tree at.ks walk.count at.forest) value at.left) in
-      object_next g walk.root tree at.ks walk.count k (marks_of walk.marks) at.forest (left_in g nv.frames.items) at.numbering at.marked new left
+      let left : AreLeft tree at.ks walk.count at.forest (vals.Ref k ∷ left_of g nv) =
+      subst (λ x. AreLeft tree at.ks walk.count at.forest (x ∷ left_of g nv)) is (subst (AreLeft tree at.ks walk.count at.forest) value at.left) in
+      object_next g walk.root tree at.ks walk.count k (marks_of walk.marks) at.forest (left_of g nv) at.numbering at.marked new left
 
   -- before an object that is met first, fewer were met than there are
   fewer_met : (k : ℕ) → v ≡ vals.Ref k → slice_index (marks_of walk.marks) k ≡ 0 → walk.count < length g
@@ -160,7 +195,7 @@ module _ (g : List Obj) (walk nv : Walk) (v : Val) (w : IsWalk g walk) (value : 
 
   met_first : (k : ℕ) (new : Walk) (step : Step) → v ≡ vals.Ref k → k < length g → slice_index (marks_of nv.marks) k ≡ 0 → IsMet g k stepped new step → Follows new step
   met_first k new step is inside mark met =
-      let enters : Enters g k (left_in g nv.frames.items) walk new = record {
+      let enters : Enters g k (left_of g nv) walk new = record {
         root = met.root ∙ same_root;
         given = met.given ∙ ap (λ n. n + 1) same_given;
         count = met.count ∙ ap (λ n. n + 1) same_count;
@@ -170,17 +205,19 @@ module _ (g : List Obj) (walk nv : Walk) (v : Val) (w : IsWalk g walk) (value : 
         left = met.left;
       } in
       let goes : (tree : Tree) → IsTreeOf g walk.root tree → Advances g tree walk new (object_token (object_at g k)) = λ tree is_of.
-      advance_object g tree walk new k (left_in g nv.frames.items) (w.at tree is_of) enters inside (mark_is_old k 0 mark)
-      (subst (λ x. pending g walk ≡ x ∷ left_in g nv.frames.items) is value) in record {
+      advance_object g tree walk new k (left_of g nv) (w.at tree is_of) enters inside (mark_is_old k 0 mark)
+      (subst (λ x. pending g walk ≡ x ∷ left_of g nv) is value) in record {
         advances = λ tree is_of. subst (Advances g tree walk new) (sym met.token) (goes tree is_of);
         more_given = enters.given;
         is_walk = record {
           heap = w.heap;
           value = subst (IsValue (length g)) (sym enters.root) w.value;
+          last = met.last;
           frames = met.frames;
           depth = omega (arith, met.depth, met.count, same_count, w.depth);
           marks = met.many_marks ∙ marks_many;
           met = met.met;
+          next = met.next;
           room = omega (arith, w.room, met.capacity);
           at = λ tree is_of. (goes tree (subst (λ r. IsTreeOf g r tree) enters.root is_of)).at;
         };
@@ -191,7 +228,7 @@ module _ (g : List Obj) (walk nv : Walk) (v : Val) (w : IsWalk g walk) (value : 
       let offset : walk.count - i ≡ nv.count - (slice_index (marks_of nv.marks) k - 1) = omega (arith, same_count) in
       let goes : (tree : Tree) → IsTreeOf g walk.root tree → Advances g tree walk stepped (shared (walk.count - i)) = λ tree is_of.
       advance_reference g tree walk stepped k i (w.at tree is_of) keeps (mark_is_old k (suc i) mark)
-      (subst (λ x. pending g walk ≡ x ∷ left_in g nv.frames.items) is value) in record {
+      (subst (λ x. pending g walk ≡ x ∷ left_of g nv) is value) in record {
         advances = λ tree is_of. subst (λ n. Advances g tree walk stepped (shared n)) offset (goes tree is_of);
         more_given = keeps.given;
         is_walk = after (λ tree is_of. (goes tree is_of).at);

@@ -88,6 +88,16 @@ pub flush_failed : (old new : ByteState) (buffer : List ℕ) → PutsPart (chang
 flush_failed old new buffer part before text carries =
     part_more before new text [] (subst (PutsPart (change before new)) carries.whole (puts_part before old new carries.front buffer carries.puts part))
 
+-- the front of a piece
+pub adds_first : (a b : ByteState) (x y z piece : List ℕ) (n : ℕ) → AddsAll a b x y [] → z ≡ take (length y + n) (y ++ piece) → AddsAll a b x z (take n piece)
+adds_first a b x y z piece n first is before text carries =
+    let r = first before text carries in
+    let end : z ≡ y ++ take n piece = is ∙ take_over y piece n in record {
+      front = r.front;
+      whole = ap (λ t. r.front ++ t) end ∙ sym (append_assoc r.front y (take n piece)) ∙ ap (λ t. t ++ take n piece) (r.whole ∙ append-nil text);
+      puts = r.puts;
+    }
+
 -- one piece, and then another
 pub adds_both : (a b c : ByteState) (x y z p q : List ℕ) → AddsAll a b x y p → AddsAll b c y z q → AddsAll a c x z (p ++ q)
 adds_both a b c x y z p q first second before text carries =

@@ -1,8 +1,9 @@
 -- A walk from token to token.
-use Rattle.std.proofs.Common.{ℕ, zero, suc, ◌≡◌, ◌≢◌, ◌==◌, true, false, cond, eqb, eqb-true, ◌+◌, ◌-◌, ◌<◌, ◌≤◌, ◌∙◌, replicate, length-drop, List, [], ◌∷◌, ◌++◌, length, drop, Some, refl, sym, ap, subst, arith, inl, inr, append-nil, add-one, get_or, length-set, get_or-set_same, get_or-set_other, ℤ}
-use Rattle.std.specs.Prelude.{slice_get, slice_index, slice_set, vec_len, vec_capacity}
+use Rattle.std.proofs.Common.{ℕ, zero, suc, ◌≡◌, ◌≢◌, ◌==◌, true, false, cond, eqb, eqb-true, ◌+◌, ◌-◌, ◌<◌, ◌≤◌, ◌∙◌, replicate, length-drop, List, [], ◌∷◌, ◌++◌, length, map, drop, Some, refl, sym, ap, subst, arith, inl, inr, append-nil, add-one, get_or, length-set, get_or-set_same, get_or-set_other, ℤ}
+use Rattle.std.specs.Prelude.{All, slice_get, slice_index, slice_set, vec_len, vec_capacity}
 use Rattle.std.proofs.lemmas.Bool.{cases_Bool}
 use Rattle.std.proofs.lemmas.List.{length-replicate, drop_all}
+use Rattle.std.proofs.lemmas.List.Elements.{All-nil}
 use Rattle.std.proofs.lemmas.Option.{same_Some, slice_get_within}
 use Rattle.std.proofs.lemmas.Slice.Zip.{AllZip-long}
 use Rattle.om_model.proofs.Options.{same_or_not}
@@ -15,10 +16,12 @@ use Rattle.om_format.specs.Iso.{IsTreeOf}
 use Rattle.om_format.specs.Tree.{Tree, Forest, node, none, more, tokens, forest_tokens, objects_of, all_objects}
 use Rattle.om_canonical.specs.Numbering.{AreDistinct, IsNumbering, Shows}
 use Rattle.om_canonical.proofs.Walk.{numbering}
-use Rattle.om_heap.specs.Heap.{object_at, fields_of, IsHeap}
+use Rattle.om_heap.specs.Heap.{object_at, fields_of, IsHeap, place, word_of}
+use Rattle.om_heap.proofs.PlaceLemmas.{place-zero}
 use Rattle.om_write.specs.Step.{object_token}
 use Rattle.om_write.specs.Marks.{in_order, marks_of}
-use Rattle.om_write.specs.Walking.{AreMarked, AreInOrder, AreLeft, IsAt, IsWalk, left_in, pending}
+use Rattle.om_write.specs.Walking.{AreMarked, AreInOrder, AreLeft, IsAt, IsWalk, IsFrame, fields_left, left_of, pending}
+use Rattle.om_write.specs.declared.walk.Frame.{Frame}
 use Rattle.om_write.proofs.MarkLemmas.{met_in_order}
 use Rattle.om_write.specs.declared.marks.Marks.{Marks}
 use Rattle.om_write.specs.declared.walk.Walk.{Walk}
@@ -73,20 +76,35 @@ marks_behind g ks c k marks marked = behind (slice_index marks k) refl where
 
 -- ---- the first token
 
+-- a frame without words
+pub record IsEmpty (g : List Obj) (frame : Frame) : Type 0 where
+  pub nothing : fields_left g frame ≡ []
+  pub is_frame : IsFrame g frame
+
+pub no_words : (g : List Obj) (frame : Frame) → frame.rest.now ≡ [] → IsEmpty g frame
+no_words g frame empty =
+    let fs = fields_of (object_at g frame.block) in
+    let nothing : fields_left g frame ≡ [] = drop_all (length fs - length frame.rest.now) fs (omega (arith, ap length empty)) in record {
+      nothing = nothing;
+      is_frame = record { words = empty ∙ sym (ap (map (word_of g)) nothing); valid = subst (All (IsValue (length g))) (sym nothing) (All-nil (IsValue (length g))) };
+    }
+
 -- the numbers of the objects of each tree, in the order of its tokens; and where they are known, whether that order is theirs
 abbrev pub Numbers : List Obj → Walk → Type 0
 Numbers g walk = (tree : Tree) → IsTreeOf g walk.root tree
     → (ks : List ℕ) × IsNumbering g walk.root tree ks × (walk.again ≡ true → walk.marks.ordered ≡ true → AreInOrder ks)
 
-pub start_walk : (g : List Obj) (walk : Walk) → IsHeap g → IsValue (length g) walk.root → walk.given ≡ 0 → walk.count ≡ 0 → walk.frames.items ≡ [] → vec_len walk.frames ≡ 0
+pub start_walk : (g : List Obj) (walk : Walk) → IsHeap g → IsValue (length g) walk.root → walk.given ≡ 0 → walk.count ≡ 0 → walk.next ≡ 0 → walk.last.rest.now ≡ [] → walk.frames.items ≡ [] → vec_len walk.frames ≡ 0
     → marks_of walk.marks ≡ replicate (length g) 0 → walk.marks.met ≡ 0 → length g ≤ vec_capacity walk.frames → Numbers g walk → IsWalk g walk
-start_walk g walk heap value given count frames depth marks met room numbers = record {
+start_walk g walk heap value given count next last frames depth marks met room numbers = record {
   heap = heap;
   value = value;
+  last = (no_words g walk.last last).is_frame;
   frames = rw frames (λ k d less. absurd (omega arith));
   depth = omega arith;
   marks = ap length marks ∙ length-replicate {A = ℕ} (length g) 0;
   met = λ ordered. met ∙ sym count;
+  next = λ ordered. omega (arith, next, count, ap (place g) count, place-zero g);
   room = room;
   at = λ tree is_of.
       let n = numbers tree is_of in
@@ -102,19 +120,19 @@ start_walk g walk heap value given count frames depth marks met room numbers = r
         tokens_left = rw given (sym (append-nil (tokens tree)));
         within = omega arith;
         left = subst (λ m. AreLeft tree n.0 m (more tree none) (pending g walk)) (sym count)
-            (subst (AreLeft tree n.0 0 (more tree none)) (sym (only_root g walk given frames)) left);
+            (subst (AreLeft tree n.0 0 (more tree none)) (sym (only_root g walk given last frames)) left);
         marked = rw (count, marks) (no_marks g n.0);
         order = n.2;
       };
 } where
-  only_root : (g : List Obj) (walk : Walk) → walk.given ≡ 0 → walk.frames.items ≡ [] → pending g walk ≡ walk.root ∷ []
-  only_root g walk given frames = rw (given, frames) refl
+  only_root : (g : List Obj) (walk : Walk) → walk.given ≡ 0 → walk.last.rest.now ≡ [] → walk.frames.items ≡ [] → pending g walk ≡ walk.root ∷ []
+  only_root g walk given last frames = rw (given, (no_words g walk.last last).nothing, frames) refl
 
 -- before the first walk nothing is known of the order
-pub first_walk : (g : List Obj) (walk : Walk) → IsHeap g → IsValue (length g) walk.root → walk.given ≡ 0 → walk.count ≡ 0 → walk.frames.items ≡ [] → vec_len walk.frames ≡ 0
+pub first_walk : (g : List Obj) (walk : Walk) → IsHeap g → IsValue (length g) walk.root → walk.given ≡ 0 → walk.count ≡ 0 → walk.next ≡ 0 → walk.last.rest.now ≡ [] → walk.frames.items ≡ [] → vec_len walk.frames ≡ 0
     → marks_of walk.marks ≡ replicate (length g) 0 → walk.marks.met ≡ 0 → length g ≤ vec_capacity walk.frames → walk.again ≡ false → IsWalk g walk
-first_walk g walk heap value given count frames depth marks met room first =
-    start_walk g walk heap value given count frames depth marks met room (λ tree is_of.
+first_walk g walk heap value given count next last frames depth marks met room first =
+    start_walk g walk heap value given count next last frames depth marks met room (λ tree is_of.
     let n = numbering g walk.root tree heap.is_graph value is_of in (n.0, n.1, λ again. absurd (not_both (sym again ∙ first)))) where
       not_both : true ≡ false → ⊥
       not_both e = cc
@@ -126,7 +144,7 @@ pub record IsDropped {X : Type 0} (n : ℕ) (xs : List X) (x : X) (ys : List X) 
   pub after : drop (n + 1) xs ≡ ys
   pub within : n < length xs
 
-drop_next : {X : Type 0} (n : ℕ) (xs : List X) (x : X) (ys : List X) → drop n xs ≡ x ∷ ys → IsDropped n xs x ys
+pub drop_next : {X : Type 0} (n : ℕ) (xs : List X) (x : X) (ys : List X) → drop n xs ≡ x ∷ ys → IsDropped n xs x ys
 drop_next zero [] x ys is = absurd (cc)
 drop_next zero (y ∷ xs) x ys is = record { at_n = cc; after = cc; within = omega arith }
 drop_next (suc n) [] x ys is = absurd (cc)
@@ -145,13 +163,17 @@ pub record Advances (g : List Obj) (tree : Tree) (walk new : Walk) (token : Toke
   pub more_given : walk.given < length (tokens tree)
   pub at : IsAt g tree new
 
-nothing_at_root : (g : List Obj) (walk : Walk) (n : ℕ) → walk.given ≡ n + 1 → pending g walk ≡ left_in g walk.frames.items
+nothing_at_root : (g : List Obj) (walk : Walk) (n : ℕ) → walk.given ≡ n + 1 → pending g walk ≡ left_of g walk
 nothing_at_root g walk n given =
     let test : (walk.given == 0) ≡ false = not_same walk.given 0 (λ same. omega (arith, given)) in
-    ap (λ b. cond b (walk.root ∷ []) [] ++ left_in g walk.frames.items) test
+    ap (λ b. cond b (walk.root ∷ []) [] ++ left_of g walk) test
+
+-- after the first token
+pub later : (g : List Obj) (walk : Walk) → walk.given ≢ 0 → pending g walk ≡ left_of g walk
+later g walk other = ap (λ b. cond b (walk.root ∷ []) [] ++ left_of g walk) (not_same walk.given 0 other)
 
 advance : (g : List Obj) (tree : Tree) (walk new : Walk) (token : Token) (at : IsAt g tree walk) → new.root ≡ walk.root → new.given ≡ walk.given + 1
-    → Goes tree at.ks walk.count at.forest token new.count (left_in g new.frames.items) → AreMarked g at.ks new.count (marks_of new.marks) → new.again ≡ walk.again
+    → Goes tree at.ks walk.count at.forest token new.count (left_of g new) → AreMarked g at.ks new.count (marks_of new.marks) → new.again ≡ walk.again
     → (new.marks.ordered ≡ true → walk.marks.ordered ≡ true) → Advances g tree walk new token
 advance g tree walk new token at root given goes marked again was =
     let next = drop_next walk.given (tokens tree) token (forest_tokens goes.rest) (at.tokens_left ∙ goes.tokens_are) in record {
@@ -183,26 +205,26 @@ still_ordered walk new keeps ordered = sym (ap (λ (m : Marks). m.ordered) keeps
 still_marked : (g : List Obj) (ks : List ℕ) (walk new : Walk) → Keeps walk new → AreMarked g ks walk.count (marks_of walk.marks) → AreMarked g ks new.count (marks_of new.marks)
 still_marked g ks walk new keeps marked = rw (keeps.count, keeps.marks) marked
 
-pub advance_integer : (g : List Obj) (tree : Tree) (walk new : Walk) (z : ℤ) → IsAt g tree walk → Keeps walk new → pending g walk ≡ vals.Int z ∷ left_in g new.frames.items → Advances g tree walk new (integer z)
+pub advance_integer : (g : List Obj) (tree : Tree) (walk new : Walk) (z : ℤ) → IsAt g tree walk → Keeps walk new → pending g walk ≡ vals.Int z ∷ left_of g new → Advances g tree walk new (integer z)
 advance_integer g tree walk new z at keeps is =
-    let left : AreLeft tree at.ks walk.count at.forest (vals.Int z ∷ left_in g new.frames.items) = subst (AreLeft tree at.ks walk.count at.forest) is at.left in
+    let left : AreLeft tree at.ks walk.count at.forest (vals.Int z ∷ left_of g new) = subst (AreLeft tree at.ks walk.count at.forest) is at.left in
     advance g tree walk new (integer z) at keeps.root keeps.given
-    (rw keeps.count (integer_next tree at.ks walk.count at.forest z (left_in g new.frames.items) left))
+    (rw keeps.count (integer_next tree at.ks walk.count at.forest z (left_of g new) left))
     (still_marked g at.ks walk new keeps at.marked) keeps.again (still_ordered walk new keeps)
 
-pub advance_atom : (g : List Obj) (tree : Tree) (walk new : Walk) (tag : ℕ) → IsAt g tree walk → Keeps walk new → pending g walk ≡ vals.Atom tag ∷ left_in g new.frames.items → Advances g tree walk new (atom tag)
+pub advance_atom : (g : List Obj) (tree : Tree) (walk new : Walk) (tag : ℕ) → IsAt g tree walk → Keeps walk new → pending g walk ≡ vals.Atom tag ∷ left_of g new → Advances g tree walk new (atom tag)
 advance_atom g tree walk new tag at keeps is =
-    let left : AreLeft tree at.ks walk.count at.forest (vals.Atom tag ∷ left_in g new.frames.items) = subst (AreLeft tree at.ks walk.count at.forest) is at.left in
+    let left : AreLeft tree at.ks walk.count at.forest (vals.Atom tag ∷ left_of g new) = subst (AreLeft tree at.ks walk.count at.forest) is at.left in
     advance g tree walk new (atom tag) at keeps.root keeps.given
-    (rw keeps.count (atom_next tree at.ks walk.count at.forest tag (left_in g new.frames.items) left))
+    (rw keeps.count (atom_next tree at.ks walk.count at.forest tag (left_of g new) left))
     (still_marked g at.ks walk new keeps at.marked) keeps.again (still_ordered walk new keeps)
 
 pub advance_reference : (g : List Obj) (tree : Tree) (walk new : Walk) (k i : ℕ) → IsAt g tree walk → Keeps walk new → slice_index (marks_of walk.marks) k ≡ suc i
-    → pending g walk ≡ vals.Ref k ∷ left_in g new.frames.items → Advances g tree walk new (shared (walk.count - i))
+    → pending g walk ≡ vals.Ref k ∷ left_of g new → Advances g tree walk new (shared (walk.count - i))
 advance_reference g tree walk new k i at keeps mark is =
-    let left : AreLeft tree at.ks walk.count at.forest (vals.Ref k ∷ left_in g new.frames.items) = subst (AreLeft tree at.ks walk.count at.forest) is at.left in
+    let left : AreLeft tree at.ks walk.count at.forest (vals.Ref k ∷ left_of g new) = subst (AreLeft tree at.ks walk.count at.forest) is at.left in
     advance g tree walk new (shared (walk.count - i)) at keeps.root keeps.given
-    (rw keeps.count (reference_next g walk.root tree at.ks walk.count k i (marks_of walk.marks) at.forest (left_in g new.frames.items) at.numbering at.marked mark left))
+    (rw keeps.count (reference_next g walk.root tree at.ks walk.count k i (marks_of walk.marks) at.forest (left_of g new) at.numbering at.marked mark left))
     (still_marked g at.ks walk new keeps at.marked) keeps.again (still_ordered walk new keeps)
 
 -- what a step to an object changes
@@ -213,7 +235,7 @@ pub record Enters (g : List Obj) (k : ℕ) (values : List Val) (walk new : Walk)
   pub again : new.again ≡ walk.again
   pub was : new.marks.ordered ≡ true → walk.marks.ordered ≡ true
   pub marks : marks_of new.marks ≡ slice_set (marks_of walk.marks) k (walk.count + 1)
-  pub left : left_in g new.frames.items ≡ fields_of (object_at g k) ++ values
+  pub left : left_of g new ≡ fields_of (object_at g k) ++ values
 
 pub advance_object : (g : List Obj) (tree : Tree) (walk new : Walk) (k : ℕ) (values : List Val) → IsAt g tree walk → Enters g k values walk new → k < length g → slice_index (marks_of walk.marks) k ≡ 0
     → pending g walk ≡ vals.Ref k ∷ values → Advances g tree walk new (object_token (object_at g k))

@@ -1,10 +1,11 @@
 -- The tokens that a walk gives.
 use Rattle.std.specs.Prelude.{ℕ, ◌+◌, ◌^◌, ◌<◌, ◌≤◌, ◌≡◌, List, length, Option, Some, None, slice_get}
+use Rattle.om_model.specs.declared.value.Val.TheVariants as vals
 use Rattle.om_model.specs.declared.value.Obj.{Obj}
 use Rattle.om_model.specs.declared.value.Obj.TheVariants as objects
 use Rattle.om_model.specs.Graph.{IsInteger}
 use Rattle.om_format.specs.Token.{Token, integer, atom, shared, block, leaf}
-use Rattle.om_heap.specs.Heap.{object_at}
+use Rattle.om_heap.specs.Heap.{object_at, word_of}
 use Rattle.om_write.specs.declared.walk.Step.{Step}
 use Rattle.om_write.specs.declared.walk.Step.TheVariants as steps
 
@@ -14,7 +15,7 @@ token_in g (steps.Integer z) = integer z
 token_in g (steps.Atom tag) = atom tag
 token_in g (steps.Shared offset) = shared offset
 token_in g (steps.Block tag size) = block tag size
-token_in g (steps.Leaf k) = leaf (object_at g k)
+token_in g (steps.Leaf k word) = leaf (object_at g k)
 
 -- its numbers are in range
 abbrev pub IsHeld : List Obj → Step → Type 0
@@ -22,7 +23,7 @@ IsHeld g (steps.Integer z) = IsInteger z
 IsHeld g (steps.Atom tag) = tag ≤ 243
 IsHeld g (steps.Shared offset) = 1 ≤ offset
 IsHeld g (steps.Block tag size) = (tag ≤ 243) × (size < 2 ^ 54)
-IsHeld g (steps.Leaf k) = k < length g
+IsHeld g (steps.Leaf k word) = (k < length g) × (word ≡ word_of g (vals.Ref k))
 
 -- token number n of all, or none where there are n
 abbrev pub IsNext : List Obj → List Token → ℕ → Option Step → ℕ → Type 0

@@ -1,5 +1,5 @@
 -- Where a walk is among the tokens of a value.
-use Rattle.std.specs.Prelude.{ℕ, suc, ◌+◌, ◌<◌, ◌≤◌, ◌≡◌, ◌==◌, true, List, [], ◌∷◌, ◌++◌, length, drop, All, Some, slice_get, slice_index, slice_set, vec_len, vec_capacity, if◌then◌else◌}
+use Rattle.std.specs.Prelude.{ℕ, suc, ◌+◌, ◌-◌, ◌*◌, ◌<◌, ◌≤◌, ◌≡◌, ◌==◌, true, List, [], ◌∷◌, ◌++◌, length, map, drop, All, Option, None, Some, slice_get, slice_index, slice_set, vec_len, vec_capacity, if◌then◌else◌}
 use Rattle.std.specs.List.{AllZip}
 use Rattle.om_model.specs.declared.value.Val.{Val}
 use Rattle.om_model.specs.declared.value.Obj.{Obj}
@@ -7,7 +7,7 @@ use Rattle.om_model.specs.Graph.{IsValue}
 use Rattle.om_format.specs.Tree.{Tree, Forest, tokens, forest_tokens, AreTrees, AllReferBack, roots, objects_of, all_objects}
 use Rattle.om_format.specs.Iso.{AreAlike, IsTreeOf}
 use Rattle.om_canonical.specs.Numbering.{numbered, IsNumbering}
-use Rattle.om_heap.specs.Heap.{object_at, fields_of, IsHeap}
+use Rattle.om_heap.specs.Heap.{object_at, fields_of, IsHeap, place, word_of}
 use Rattle.om_write.specs.Marks.{marks_of}
 use Rattle.om_write.specs.Step.{token_in, object_token}
 use Rattle.om_write.specs.declared.walk.Step.{Step}
@@ -16,23 +16,37 @@ use Rattle.om_write.specs.declared.walk.Walk.{Walk}
 
 -- ---- the values that are still to come
 
--- a block that has fields left
-abbrev pub IsFrame : List Obj → Frame → Type 0
-IsFrame g frame = (frame.next < frame.size) × (frame.size ≡ length (fields_of (object_at g frame.block)))
-
+-- those of a block whose words are left
 abbrev pub fields_left : List Obj → Frame → List Val
-fields_left g frame = drop frame.next (fields_of (object_at g frame.block))
+fields_left g frame = drop (length (fields_of (object_at g frame.block)) - length frame.rest.now) (fields_of (object_at g frame.block))
+
+-- the words are theirs
+pub record IsFrame (g : List Obj) (frame : Frame) : Type 0 where
+  pub words : frame.rest.now ≡ map (word_of g) (fields_left g frame)
+  pub valid : All (IsValue (length g)) (fields_left g frame)
+
+-- a block further out has some
+abbrev pub IsOuter : List Obj → Frame → Type 0
+IsOuter g frame = IsFrame g frame × (0 < length frame.rest.now)
 
 -- those of the last block come first
 abbrev pub left_in : List Obj → List Frame → List Val
 left_in g [] = []
 left_in g (frame ∷ frames) = left_in g frames ++ fields_left g frame
 
+abbrev pub left_of : List Obj → Walk → List Val
+left_of g walk = fields_left g walk.last ++ left_in g walk.frames.items
+
+-- the word of the first of them is taken, if there is one
+abbrev pub Takes : List Obj → List Val → List Val → Option ℕ → Type 0
+Takes g old new None = (old ≡ []) × (new ≡ [])
+Takes g old new (Some word) = (v : Val) × (old ≡ v ∷ new) × IsValue (length g) v × (word ≡ word_of g v)
+
 abbrev pub root_left : Walk → List Val
 root_left walk = if walk.given == 0 then walk.root ∷ [] else []
 
 abbrev pub pending : List Obj → Walk → List Val
-pending g walk = root_left walk ++ left_in g walk.frames.items
+pending g walk = root_left walk ++ left_of g walk
 
 -- ---- objects that are met first
 
@@ -44,8 +58,10 @@ pub record IsMet (g : List Obj) (k : ℕ) (old new : Walk) (step : Step) : Type 
   pub met : new.marks.ordered ≡ true → new.marks.met ≡ new.count
   pub again : new.again ≡ old.again
   pub was : new.marks.ordered ≡ true → old.marks.ordered ≡ true
-  pub left : left_in g new.frames.items ≡ fields_of (object_at g k) ++ left_in g old.frames.items
-  pub frames : All (IsFrame g) new.frames.items
+  pub next : new.marks.ordered ≡ true → new.next ≡ 8 * place g new.count
+  pub left : left_of g new ≡ fields_of (object_at g k) ++ left_of g old
+  pub last : IsFrame g new.last
+  pub frames : All (IsOuter g) new.frames.items
   pub many_marks : length (marks_of new.marks) ≡ length (marks_of old.marks)
   pub depth : vec_len new.frames ≤ vec_len old.frames + 1
   pub capacity : vec_capacity new.frames ≡ vec_capacity old.frames
@@ -84,9 +100,11 @@ pub record IsAt (g : List Obj) (tree : Tree) (walk : Walk) : Type 0 where
 pub record IsWalk (g : List Obj) (walk : Walk) : Type 0 where
   pub heap : IsHeap g
   pub value : IsValue (length g) walk.root
-  pub frames : All (IsFrame g) walk.frames.items
+  pub last : IsFrame g walk.last
+  pub frames : All (IsOuter g) walk.frames.items
   pub depth : vec_len walk.frames ≤ walk.count
   pub marks : length (marks_of walk.marks) ≡ length g
   pub met : walk.marks.ordered ≡ true → walk.marks.met ≡ walk.count
+  pub next : walk.marks.ordered ≡ true → walk.next ≡ 8 * place g walk.count
   pub room : length g ≤ vec_capacity walk.frames
   pub at : (tree : Tree) → IsTreeOf g walk.root tree → IsAt g tree walk

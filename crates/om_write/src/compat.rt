@@ -29,7 +29,7 @@ pub enum Compat {
 }
 
 /// The first token of a walk that is too large.
-pub fn first_large(heap: &Heap, walk: &mut Walk) -> Option<Compat>
+pub fn first_large<'a>(heap: &'a Heap, walk: &mut Walk<'a>) -> Option<Compat>
     requires walk { IsWalk heap.now walk.old }
     requires first { walk.old.given ≡ 0 }
     requires again { walk.old.again ≡ true }
@@ -69,7 +69,7 @@ fn step_compat(heap: &Heap, step: Step) -> Option<Compat>
         Step::Integer(-0x4000_0000..0x4000_0000) => None,
         Step::Integer(z) => Some(Compat::Int(z)),
         Step::Block(_, size) if size > 0x3f_ffff => Some(Compat::Block(size)),
-        Step::Leaf(k) => leaf_compat(heap, k),
+        Step::Leaf(k, _) => leaf_compat(heap, k),
         _ => None,
     }
 }

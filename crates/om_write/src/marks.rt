@@ -33,7 +33,16 @@ impl Marks {
         }
     }
 
+    /// Whether objects were met in the order of their numbers.
+    #[inline(always)]
+    pub fn is_ordered(&self) -> bool
+        ensures { result ≡ self.now.ordered }
+    {
+        self.ordered
+    }
+
     /// The mark of object k.
+    #[inline(always)]
     pub fn get(&self, k: u64) -> u64
         requires { k < length (marks_of self.now) }
         ensures { result ≡ slice_index (marks_of self.now) k }
@@ -46,6 +55,7 @@ impl Marks {
     }
 
     /// Marks object k. Only a first object out of order takes memory.
+    #[inline(always)]
     pub fn set(&mut self, k: u64, mark: u64) -> Result<(), Memory>
         requires inside { k < length (marks_of self.old) }
         requires some { 0 < mark }
@@ -53,6 +63,7 @@ impl Marks {
         ensures met { OnOk result (self.new.ordered ≡ true → self.new.met ≡ mark) }
         ensures table { self.old.ordered ≡ false → IsOk result }
         ensures next { k ≡ self.old.met → mark ≡ self.old.met + 1 → IsOk result }
+        ensures order { OnOk result (self.new.ordered ≡ true → k ≡ self.old.met) }
         ensures was { self.new.ordered ≡ true → self.old.ordered ≡ true }
     {
         if self.ordered {
@@ -79,6 +90,7 @@ impl Marks {
 }
 
 // The mark of object k, where the first ones are met.
+#[inline(always)]
 fn mark_of(met: u64, k: u64) -> u64
     ensures { result ≡ mark_in_order met k }
 {
@@ -86,6 +98,7 @@ fn mark_of(met: u64, k: u64) -> u64
 }
 
 // The marks of so many objects, of which the first ones are met.
+#[cold]
 fn make_table(alloc: Global, objects: u64, met: u64) -> Result<Vec<u64>, Memory>
     ensures { IfOk result (λ table. table.items ≡ in_order met objects) }
 {

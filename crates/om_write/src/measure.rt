@@ -6,12 +6,13 @@ ghost use Rattle.om_format.specs.Tree.{Tree, tokens};
 ghost use Rattle.om_format.specs.Token.{leaf};
 ghost use Rattle.om_format.specs.Canonical.{canonical_head};
 ghost use Rattle.om_headers.specs.Counting.{IsCountable};
-ghost use Rattle.om_heap.specs.Heap.{IsHeap, object_at};
+ghost use Rattle.om_model.specs.declared.value.Val.TheVariants as vals;
+ghost use Rattle.om_heap.specs.Heap.{IsHeap, object_at, word_of};
 ghost use Rattle.om_write.specs.Step.{token_in, IsHeld};
 ghost use Rattle.om_write.specs.Sums.{token_totals, object_totals, plus, head_of_totals, measure_of_custom, FitTotals};
 ghost use Rattle.om_write.specs.Walking.{IsWalk};
 
-use crate::walk::{Step, Walk};
+use crate::walk::{Step, Walk, kind_at};
 use om_codes::{spell_block, spell_double_array_len, spell_int, spell_shared, spell_string_len};
 use om_headers::{Head, Measure, words_of};
 use om_heap::{Heap, Kind};
@@ -29,6 +30,7 @@ pub struct Totals {
 
 impl Totals {
     // Of a token that makes no object.
+    #[inline(always)]
     fn of_bytes(length: usize) -> Totals
         ensures { result ≡ record { length = length; objects = 0; w32 = 0; w64 = 0 } }
     {
@@ -41,6 +43,7 @@ impl Totals {
     }
 
     // Of one that makes an object.
+    #[inline(always)]
     fn of_object(length: u64, measure: Measure) -> Totals
         requires { IsCountable measure }
         ensures { result ≡ object_totals length measure }
@@ -54,6 +57,7 @@ impl Totals {
         }
     }
 
+    #[inline(always)]
     fn add(&mut self, other: Totals)
         requires { FitTotals (plus self.old other) }
         ensures { self.new ≡ plus self.old other }
@@ -79,7 +83,7 @@ impl Totals {
 }
 
 /// The header of the value that a walk begins.
-pub fn measure(heap: &Heap, walk: &mut Walk) -> Result<Head, Memory>
+pub fn measure<'a>(heap: &'a Heap, walk: &mut Walk<'a>) -> Result<Head, Memory>
     requires walk { IsWalk heap.now walk.old }
     requires first { walk.old.given ≡ 0 }
     ensures walk { OnOk result (IsWalk heap.now walk.new) }
@@ -95,6 +99,7 @@ pub fn measure(heap: &Heap, walk: &mut Walk) -> Result<Head, Memory>
 }
 
 // What one token adds.
+#[inline(always)]
 fn step_totals(heap: &Heap, step: Step) -> Totals
     requires heap { IsHeap heap.now }
     requires held { IsHeld heap.now step }
@@ -107,16 +112,18 @@ fn step_totals(heap: &Heap, step: Step) -> Totals
         Step::Block(tag, size) => {
             Totals::of_object(spell_block(tag, size).1 as u64, Measure::Block(size))
         }
-        Step::Leaf(k) => leaf_totals(heap, k),
+        Step::Leaf(k, word) => leaf_totals(heap, k, word),
     }
 }
 
-fn leaf_totals(heap: &Heap, k: u64) -> Totals
+#[inline(always)]
+fn leaf_totals(heap: &Heap, k: u64, word: u64) -> Totals
     requires heap { IsHeap heap.now }
     requires inside { k < length heap.now }
+    requires word { word ≡ word_of heap.now (vals.Ref k) }
     ensures { result ≡ token_totals (leaf (object_at heap.now k)) }
 {
-    match heap.kind(k) {
+    match kind_at(heap, k, word) {
         Kind::Block(..) => Totals::of_bytes(0),
         Kind::Bytes(n) => Totals::of_object(spell_string_len(n).1 as u64 + n, Measure::Bytes(n)),
         Kind::Double => Totals::of_object(9, Measure::Double),

@@ -3,19 +3,20 @@
 ghost use Rattle.std.specs.Prelude.{◌≡◌, ◌<◌, ◌≤◌, length, take, vec_capacity, flat_map};
 ghost use Rattle.om_format.specs.Canonical.{spelling, leaf_spelling, double_bytes};
 ghost use Rattle.om_model.specs.declared.value.Obj.TheVariants as objects;
-ghost use Rattle.om_heap.specs.Heap.{IsHeap, object_at, bytes_of, doubles_of};
+ghost use Rattle.om_model.specs.declared.value.Val.TheVariants as vals;
+ghost use Rattle.om_heap.specs.Heap.{IsHeap, object_at, bytes_of, doubles_of, word_of};
 ghost use Rattle.om_heap.specs.Words.{body_of};
 ghost use Rattle.om_write.specs.Step.{token_in, IsHeld};
 ghost use Rattle.om_write.specs.Text.{Adds};
 
-use crate::text::{LIMIT, add, add_byte};
-use crate::walk::Step;
+use crate::text::{LIMIT, add, add_byte, add_first};
+use crate::walk::{Step, kind_at};
 use om_codes::{spell_block, spell_double_array_len, spell_int, spell_shared, spell_string_len};
 use om_edge::{Failed, Sink};
 use om_heap::{Heap, Kind};
-use om_model::value::Val;
 
 /// Lengthens the text by the spelling of a token.
+#[inline(always)]
 pub fn add_step<K: Sink>(
     heap: &Heap,
     step: Step,
@@ -33,11 +34,12 @@ pub fn add_step<K: Sink>(
         Step::Atom(tag) => add_front(spell_block(tag, 0), out, buffer),
         Step::Shared(offset) => add_front(spell_shared(offset), out, buffer),
         Step::Block(tag, size) => add_front(spell_block(tag, size), out, buffer),
-        Step::Leaf(k) => add_leaf(heap, k, out, buffer),
+        Step::Leaf(k, word) => add_leaf(heap, k, word, out, buffer),
     }
 }
 
 // The first of nine bytes.
+#[inline(always)]
 fn add_front<K: Sink>(
     front: ([u8; 9], usize),
     out: &mut K,
@@ -51,31 +53,42 @@ fn add_front<K: Sink>(
     let (bytes, len) = front;
     match len {
         1 => add_byte(out, buffer, bytes[0]),
-        _ => add(out, buffer, &bytes[..len]),
+        2 => add(out, buffer, &bytes[..2]),
+        3 => add(out, buffer, &bytes[..3]),
+        5 => add(out, buffer, &bytes[..5]),
+        _ => add_first(out, buffer, &bytes, len),
     }
 }
 
 // An object without fields.
-fn add_leaf<K: Sink>(heap: &Heap, k: u64, out: &mut K, buffer: &mut Vec<u8>) -> Result<(), Failed>
+#[inline(always)]
+fn add_leaf<K: Sink>(
+    heap: &Heap,
+    k: u64,
+    word: u64,
+    out: &mut K,
+    buffer: &mut Vec<u8>,
+) -> Result<(), Failed>
     requires heap { IsHeap heap.now }
     requires inside { k < length heap.now }
+    requires word { word ≡ word_of heap.now (vals.Ref k) }
     requires room { LIMIT ≤ vec_capacity buffer.old }
     ensures adds { Adds (K.state out.old) (K.state out.new) buffer.old.items buffer.new.items (leaf_spelling (object_at heap.now k)) result }
     ensures room { LIMIT ≤ vec_capacity buffer.new }
 {
-    match heap.kind(k) {
+    match kind_at(heap, k, word) {
         Kind::Block(..) => Ok(()),
         Kind::Bytes(n) => {
             add_front(spell_string_len(n), out, buffer)?;
-            add_bytes(heap, k, n, out, buffer)
+            add_bytes(heap, k, word, n, out, buffer)
         }
         Kind::Double => {
             add(out, buffer, &[0x0c])?;
-            add_doubles(heap, k, 1, out, buffer)
+            add_doubles(heap, k, word, 1, out, buffer)
         }
         Kind::Doubles(n) => {
             add_front(spell_double_array_len(n), out, buffer)?;
-            add_doubles(heap, k, n, out, buffer)
+            add_doubles(heap, k, word, n, out, buffer)
         }
         Kind::Custom(c) => {
             let (bytes, len) = om_customs::spell(c);
@@ -85,53 +98,64 @@ fn add_leaf<K: Sink>(heap: &Heap, k: u64, out: &mut K, buffer: &mut Vec<u8>) -> 
 }
 
 // The n bytes of a string, which its words have, the least significant first.
+#[inline(always)]
 fn add_bytes<K: Sink>(
     heap: &Heap,
     k: u64,
+    word: u64,
     n: u64,
     out: &mut K,
     buffer: &mut Vec<u8>,
 ) -> Result<(), Failed>
     requires heap { IsHeap heap.now }
     requires inside { k < length heap.now }
+    requires word { word ≡ word_of heap.now (vals.Ref k) }
     requires string { object_at heap.now k ≡ objects.Bytes (bytes_of (object_at heap.now k)) }
     requires all { n ≡ length (bytes_of (object_at heap.now k)) }
     requires room { LIMIT ≤ vec_capacity buffer.old }
     ensures adds { Adds (K.state out.old) (K.state out.new) buffer.old.items buffer.new.items (bytes_of (object_at heap.now k)) result }
     ensures room { LIMIT ≤ vec_capacity buffer.new }
 {
-    let words = body(heap, k);
+    let words = body(heap, k, word);
     let whole = n as usize / 8;
     for j in 0..whole {
         add(out, buffer, &words[j].to_le_bytes())?;
     }
     let last = words[whole].to_le_bytes();
-    add(out, buffer, &last[..n as usize % 8])
+    add_first(out, buffer, &last, n as usize % 8)
 }
 
 // The words of an object after its header.
-fn body(heap: &Heap, k: u64) -> &[u64]
-    requires { k < length heap.now }
+#[inline(always)]
+fn body(heap: &Heap, k: u64, word: u64) -> &[u64]
+    requires inside { k < length heap.now }
+    requires word { word ≡ word_of heap.now (vals.Ref k) }
     ensures { result.now ≡ body_of heap.now (object_at heap.now k) }
 {
-    heap.body_at(heap.word(Val::Ref(k)))
+    heap.body_at(word)
 }
 
 // The n doubles of an array, or one double.
+#[inline(always)]
 fn add_doubles<K: Sink>(
     heap: &Heap,
     k: u64,
+    word: u64,
     n: u64,
     out: &mut K,
     buffer: &mut Vec<u8>,
 ) -> Result<(), Failed>
+    requires inside { k < length heap.now }
+    requires word { word ≡ word_of heap.now (vals.Ref k) }
+    requires doubles { body_of heap.now (object_at heap.now k) ≡ doubles_of (object_at heap.now k) }
     requires all { n ≡ length (doubles_of (object_at heap.now k)) }
     requires room { LIMIT ≤ vec_capacity buffer.old }
     ensures adds { Adds (K.state out.old) (K.state out.new) buffer.old.items buffer.new.items (flat_map double_bytes (doubles_of (object_at heap.now k))) result }
     ensures room { LIMIT ≤ vec_capacity buffer.new }
 {
-    for i in 0..n {
-        add(out, buffer, &heap.double(k, i).to_le_bytes())?;
+    let words = body(heap, k, word);
+    for i in 0..n as usize {
+        add(out, buffer, &words[i].to_le_bytes())?;
     }
     Ok(())
 }

@@ -1,6 +1,6 @@
 //! Text that goes to a sink through a buffer.
 
-ghost use Rattle.std.specs.Prelude.{◌≡◌, ◌+◌, ◌≤◌, [], ◌∷◌, length, IfOk, OnOk, vec_len, vec_capacity};
+ghost use Rattle.std.specs.Prelude.{◌≡◌, ◌+◌, ◌≤◌, [], ◌∷◌, length, take, IfOk, OnOk, vec_len, vec_capacity};
 ghost use Rattle.om_write.specs.Text.{Adds};
 
 use om_edge::{Failed, Sink, put_all};
@@ -19,6 +19,7 @@ pub fn new_buffer(alloc: Global) -> Result<Vec<u8>, Memory>
 }
 
 /// Puts what the buffer has.
+#[inline(never)]
 pub fn flush<K: Sink>(out: &mut K, buffer: &mut Vec<u8>) -> Result<(), Failed>
     ensures adds { Adds (K.state out.old) (K.state out.new) buffer.old.items buffer.new.items [] result }
     ensures empty { OnOk result (buffer.new.items ≡ []) }
@@ -31,6 +32,7 @@ pub fn flush<K: Sink>(out: &mut K, buffer: &mut Vec<u8>) -> Result<(), Failed>
 }
 
 // Puts what the buffer has where there is no room for n more bytes.
+#[inline(always)]
 fn make_room<K: Sink>(out: &mut K, buffer: &mut Vec<u8>, n: usize) -> Result<(), Failed>
     requires { n ≤ LIMIT }
     ensures adds { Adds (K.state out.old) (K.state out.new) buffer.old.items buffer.new.items [] result }
@@ -44,6 +46,7 @@ fn make_room<K: Sink>(out: &mut K, buffer: &mut Vec<u8>, n: usize) -> Result<(),
 }
 
 /// Lengthens the text by a short piece.
+#[inline(always)]
 pub fn add<K: Sink>(out: &mut K, buffer: &mut Vec<u8>, piece: &[u8]) -> Result<(), Failed>
     requires short { length piece.now ≤ LIMIT }
     requires room { LIMIT ≤ vec_capacity buffer.old }
@@ -55,7 +58,29 @@ pub fn add<K: Sink>(out: &mut K, buffer: &mut Vec<u8>, piece: &[u8]) -> Result<(
     Ok(())
 }
 
+/// Lengthens the text by the first n bytes of a short piece.
+#[inline(always)]
+pub fn add_first<K: Sink>(
+    out: &mut K,
+    buffer: &mut Vec<u8>,
+    piece: &[u8],
+    n: usize,
+) -> Result<(), Failed>
+    requires short { length piece.now ≤ LIMIT }
+    requires inside { n ≤ length piece.now }
+    requires room { LIMIT ≤ vec_capacity buffer.old }
+    ensures adds { Adds (K.state out.old) (K.state out.new) buffer.old.items buffer.new.items (take n piece.now) result }
+    ensures room { LIMIT ≤ vec_capacity buffer.new }
+{
+    make_room(out, buffer, piece.len())?;
+    let end = buffer.len() + n;
+    buffer.extend_from_slice(piece).unwrap();
+    buffer.truncate(end);
+    Ok(())
+}
+
 /// Lengthens the text by a byte.
+#[inline(always)]
 pub fn add_byte<K: Sink>(out: &mut K, buffer: &mut Vec<u8>, byte: u8) -> Result<(), Failed>
     requires { LIMIT ≤ vec_capacity buffer.old }
     ensures adds { Adds (K.state out.old) (K.state out.new) buffer.old.items buffer.new.items (byte ∷ []) result }

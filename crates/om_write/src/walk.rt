@@ -1,14 +1,15 @@
 //! The tokens of a value, depth first and fields from left to right: an object where it is met first, and references to
 //! it after that.
 
-ghost use Rattle.std.specs.Prelude.{◌≡◌, ◌≢◌, ◌+◌, ◌-◌, ◌≤◌, ◌<◌, ◌^◌, ◌∷◌, ◌++◌, [], length, true, All, IfSome, IfNone, IfOk, IsOk, OnOk, MatchOption, vec_len, vec_capacity, slice_index};
+ghost use Rattle.std.specs.Prelude.{◌≡◌, ◌≢◌, ◌+◌, ◌-◌, ◌*◌, ◌≤◌, ◌<◌, ◌^◌, ◌∷◌, ◌++◌, [], length, true, All, IfSome, IfNone, IfOk, IsOk, OnOk, MatchOption, vec_len, vec_capacity, slice_index};
+ghost use Rattle.om_model.specs.declared.value.Val.TheVariants as vals;
 ghost use Rattle.om_model.specs.Graph.{IsValue};
 ghost use Rattle.om_format.specs.Iso.{IsTreeOf};
 ghost use Rattle.om_format.specs.Tree.{Tree, tokens};
-ghost use Rattle.om_heap.specs.Heap.{IsHeap, object_at, fields_of};
+ghost use Rattle.om_heap.specs.Heap.{IsHeap, IsFieldWord, IsOfKind, object_at, fields_of, kind_of, place, word_of};
 ghost use Rattle.om_write.specs.Marks.{marks_of};
 ghost use Rattle.om_write.specs.Step.{IsNext, IsHeld, token_in, object_token};
-ghost use Rattle.om_write.specs.Walking.{IsFrame, left_in, pending, IsMet, IsWalk};
+ghost use Rattle.om_write.specs.Walking.{IsFrame, IsOuter, fields_left, left_in, left_of, pending, Takes, IsMet, IsWalk};
 
 use crate::marks::Marks;
 use om_heap::{Heap, Kind};
@@ -16,7 +17,7 @@ use om_model::Memory;
 use om_model::value::Val;
 use std::alloc::Global;
 
-/// A token; an object without fields by its number.
+/// A token; an object without fields by its number and the word that refers to it.
 #[derive(Clone, Copy, Debug, PartialEq, Eq)]
 pub enum Step {
     Integer(i64),
@@ -24,20 +25,33 @@ pub enum Step {
     /// A reference to the object so many places back from the next one.
     Shared(u64),
     Block(u8, u64),
-    Leaf(u64),
+    Leaf(u64, u64),
 }
 
-/// A block of which fields are still to come, from the next one on.
-#[derive(Clone, Copy, Debug)]
-pub struct Frame {
+/// A block, and the words of its fields that are still to come.
+#[derive(Clone, Copy)]
+pub struct Frame<'a> {
     block: u64,
-    next: u64,
-    size: u64,
+    rest: &'a [u64],
+}
+
+impl<'a> Frame<'a> {
+    // Takes the word of the next field.
+    #[inline(always)]
+    fn take(&mut self, heap: &Heap) -> Option<u64>
+        requires { IsFrame heap.now self.old }
+        ensures takes { Takes heap.now (fields_left heap.now self.old) (fields_left heap.now self.new) result }
+        ensures frame { IsFrame heap.now self.new }
+    {
+        let (word, rest) = self.rest.split_first()?;
+        self.rest = rest;
+        Some(*word)
+    }
 }
 
 /// A place among the tokens of a value.
 #[derive(Drop)]
-pub struct Walk {
+pub struct Walk<'a> {
     root: Val,
     // how many tokens were given, and how many objects were met
     given: u64,
@@ -45,12 +59,16 @@ pub struct Walk {
     // whether all tokens were given before
     again: bool,
     marks: Marks,
-    frames: Vec<Frame>,
+    // the word of the object after those met, where they are met in order
+    next: u64,
+    // the innermost block, and those further out that have fields left
+    last: Frame<'a>,
+    frames: Vec<Frame<'a>>,
 }
 
-impl Walk {
+impl<'a> Walk<'a> {
     /// Before the first token of a value.
-    pub fn new(alloc: Global, heap: &Heap, root: Val) -> Result<Walk, Memory>
+    pub fn new(alloc: Global, heap: &'a Heap, root: Val) -> Result<Walk<'a>, Memory>
         requires { IsValue (length heap.now) root }
         ensures walk { IfOk result (IsWalk heap.now) }
         ensures root { IfOk result (λ w. w.root ≡ root) }
@@ -63,6 +81,11 @@ impl Walk {
             count: 0,
             again: false,
             marks: Marks::new(alloc, objects),
+            next: 0,
+            last: Frame {
+                block: 0,
+                rest: &[],
+            },
             frames: Vec::with_capacity(alloc, objects as usize)?,
         })
     }
@@ -81,11 +104,17 @@ impl Walk {
         self.count = 0;
         self.again = true;
         self.marks.clear();
+        self.next = 0;
+        self.last = Frame {
+            block: 0,
+            rest: &[],
+        };
         self.frames.clear();
     }
 
     /// The next token. It may take memory where not all tokens were given before.
-    pub fn next(&mut self, heap: &Heap) -> Result<Option<Step>, Memory>
+    #[inline(always)]
+    pub fn next(&mut self, heap: &'a Heap) -> Result<Option<Step>, Memory>
         requires { IsWalk heap.now self.old }
         ensures walk { OnOk result (IsWalk heap.now self.new) }
         ensures root { OnOk result (self.new.root ≡ self.old.root) }
@@ -95,19 +124,20 @@ impl Walk {
         ensures held { IfOk result (λ step. IfSome step (IsHeld heap.now)) }
         ensures succeeds { self.old.again ≡ true → IsOk result }
     {
-        let Some(v) = self.next_value(heap) else {
+        let Some((v, word)) = self.next_value(heap) else {
             return Ok(None);
         };
         self.given += 1;
         match v {
             Val::Int(z) => Ok(Some(Step::Integer(z))),
             Val::Atom(tag) => Ok(Some(Step::Atom(tag))),
-            Val::Ref(k) => Ok(Some(self.meet(heap, k)?)),
+            Val::Ref(k) => Ok(Some(self.meet(heap, k, word)?)),
         }
     }
 
     /// The next token, where all were given before.
-    pub fn next_again(&mut self, heap: &Heap) -> Option<Step>
+    #[inline(always)]
+    pub fn next_again(&mut self, heap: &'a Heap) -> Option<Step>
         requires walk { IsWalk heap.now self.old }
         requires again { self.old.again ≡ true }
         ensures walk { IsWalk heap.now self.new }
@@ -123,33 +153,77 @@ impl Walk {
         }
     }
 
-    // The next value: the root, and then the next field of the block met last that has one left.
-    fn next_value(&mut self, heap: &Heap) -> Option<Val>
-        requires frames { All (IsFrame heap.now) self.old.frames.items }
-        requires room { vec_len self.old.frames ≤ vec_capacity self.old.frames }
+    // The next value and its word: the root, and then the next field of the block met last that has one left.
+    #[inline(always)]
+    fn next_value(&mut self, heap: &Heap) -> Option<(Val, u64)>
+        requires heap { IsHeap heap.now }
+        requires last { IsFrame heap.now self.old.last }
+        requires frames { All (IsOuter heap.now) self.old.frames.items }
         requires root { IsValue (length heap.now) self.old.root }
+        requires next { self.old.marks.ordered ≡ true → self.old.next ≡ 8 * place heap.now self.old.count }
         ensures value { MatchOption result (pending heap.now self.old ≡ [])
-            (λ v. pending heap.now self.old ≡ v ∷ left_in heap.now self.new.frames.items) }
-        ensures valid { IfSome result (IsValue (length heap.now)) }
-        ensures frames { All (IsFrame heap.now) self.new.frames.items }
+            (λ r. pending heap.now self.old ≡ r.0 ∷ left_of heap.now self.new) }
+        ensures valid { IfSome result (λ r. IsValue (length heap.now) r.0) }
+        ensures word { IfSome result (λ r. r.1 ≡ word_of heap.now r.0) }
+        ensures last { IsFrame heap.now self.new.last }
+        ensures frames { All (IsOuter heap.now) self.new.frames.items }
         ensures depth { vec_len self.new.frames ≤ vec_len self.old.frames }
         ensures capacity { vec_capacity self.new.frames ≡ vec_capacity self.old.frames }
-        ensures frame { self.new ≡ record self.old { frames = self.new.frames } }
-        ensures none { IfNone result (self.new.frames.items ≡ self.old.frames.items) }
+        ensures frame { self.new ≡ record self.old { last = self.new.last; frames = self.new.frames } }
+        ensures none { IfNone result (left_of heap.now self.new ≡ left_of heap.now self.old) }
     {
         if self.given == 0 {
-            return Some(self.root);
+            return Some((self.root, heap.word(self.root)));
         }
-        pop_value(heap, &mut self.frames)
+        let word = self.next_word(heap)?;
+        Some((self.value_of(heap, word), word))
+    }
+
+    // The word of the next field of the block met last that has one left.
+    #[inline(always)]
+    fn next_word(&mut self, heap: &Heap) -> Option<u64>
+        requires last { IsFrame heap.now self.old.last }
+        requires frames { All (IsOuter heap.now) self.old.frames.items }
+        ensures takes { Takes heap.now (left_of heap.now self.old) (left_of heap.now self.new) result }
+        ensures last { IsFrame heap.now self.new.last }
+        ensures frames { All (IsOuter heap.now) self.new.frames.items }
+        ensures depth { vec_len self.new.frames ≤ vec_len self.old.frames }
+        ensures capacity { vec_capacity self.new.frames ≡ vec_capacity self.old.frames }
+        ensures frame { self.new ≡ record self.old { last = self.new.last; frames = self.new.frames } }
+    {
+        if let Some(word) = self.last.take(heap) {
+            return Some(word);
+        }
+        self.last = self.frames.pop()?;
+        self.last.take(heap)
+    }
+
+    // The value of a word. The object after those met is known by its word where they are met in order.
+    #[inline(always)]
+    fn value_of(&self, heap: &Heap, word: u64) -> Val
+        requires heap { IsHeap heap.now }
+        requires word { IsFieldWord heap.now word }
+        requires next { self.now.marks.ordered ≡ true → self.now.next ≡ 8 * place heap.now self.now.count }
+        ensures word { word ≡ word_of heap.now result }
+        ensures valid { IsValue (length heap.now) result }
+    {
+        if word % 8 == 0 && self.marks.is_ordered() && word == self.next {
+            Val::Ref(self.count)
+        } else {
+            heap.value_of(word)
+        }
     }
 
     // The token of an object: itself where it was not met before, and then it is from now on.
-    fn meet(&mut self, heap: &Heap, k: u64) -> Result<Step, Memory>
+    #[inline(always)]
+    fn meet(&mut self, heap: &'a Heap, k: u64, word: u64) -> Result<Step, Memory>
         requires heap { IsHeap heap.now }
         requires inside { k < length heap.now }
+        requires word { word ≡ word_of heap.now (vals.Ref k) }
         requires marks { length (marks_of self.old.marks) ≡ length heap.now }
         requires behind { slice_index (marks_of self.old.marks) k ≤ self.old.count }
-        requires frames { All (IsFrame heap.now) self.old.frames.items }
+        requires last { IsFrame heap.now self.old.last }
+        requires frames { All (IsOuter heap.now) self.old.frames.items }
         requires room { slice_index (marks_of self.old.marks) k ≡ 0 → vec_len self.old.frames < vec_capacity self.old.frames }
         requires few { slice_index (marks_of self.old.marks) k ≡ 0 → self.old.count + 1 < 2 ^ 64 }
         requires met { self.old.marks.ordered ≡ true → self.old.marks.met ≡ self.old.count }
@@ -167,58 +241,73 @@ impl Walk {
         }
         self.marks.set(k, self.count + 1)?;
         self.count += 1;
-        Ok(self.enter(heap, k))
+        Ok(self.enter(heap, k, word))
     }
 
     // The token of an object that is met first. The fields of a block come next.
-    fn enter(&mut self, heap: &Heap, k: u64) -> Step
+    #[inline(always)]
+    fn enter(&mut self, heap: &'a Heap, k: u64, word: u64) -> Step
         requires heap { IsHeap heap.now }
         requires inside { k < length heap.now }
-        requires frames { All (IsFrame heap.now) self.old.frames.items }
+        requires word { word ≡ word_of heap.now (vals.Ref k) }
+        requires last { IsFrame heap.now self.old.last }
+        requires frames { All (IsOuter heap.now) self.old.frames.items }
         requires room { vec_len self.old.frames < vec_capacity self.old.frames }
-        ensures left { left_in heap.now self.new.frames.items ≡ fields_of (object_at heap.now k) ++ left_in heap.now self.old.frames.items }
-        ensures frames { All (IsFrame heap.now) self.new.frames.items }
+        ensures left { left_of heap.now self.new ≡ fields_of (object_at heap.now k) ++ left_of heap.now self.old }
+        ensures last { IsFrame heap.now self.new.last }
+        ensures frames { All (IsOuter heap.now) self.new.frames.items }
         ensures depth { vec_len self.new.frames ≤ vec_len self.old.frames + 1 }
         ensures capacity { vec_capacity self.new.frames ≡ vec_capacity self.old.frames }
         ensures token { token_in heap.now result ≡ object_token (object_at heap.now k) }
         ensures held { IsHeld heap.now result }
-        ensures frame { self.new ≡ record self.old { frames = self.new.frames } }
+        ensures next { self.new.next ≡ 8 * place heap.now (k + 1) }
+        ensures frame { self.new ≡ record self.old { next = self.new.next; last = self.new.last; frames = self.new.frames } }
     {
-        match heap.kind(k) {
-            Kind::Block(tag, size) => {
-                let frame = Frame {
+        let header = heap.header_at(word);
+        self.next = word + 8 * (header / 1024 + 1);
+        if header % 1024 < 244 {
+            self.open(
+                heap,
+                Frame {
                     block: k,
-                    next: 0,
-                    size,
-                };
-                self.frames.push_reserved(frame);
-                Step::Block(tag, size)
-            }
-            _ => Step::Leaf(k),
+                    rest: heap.fields_at(word),
+                },
+            );
+            Step::Block((header % 1024) as u8, header / 1024)
+        } else {
+            Step::Leaf(k, word)
         }
+    }
+
+    // The fields of a frame come next.
+    #[inline(always)]
+    fn open(&mut self, heap: &Heap, inner: Frame<'a>)
+        requires last { IsFrame heap.now self.old.last }
+        requires frames { All (IsOuter heap.now) self.old.frames.items }
+        requires room { vec_len self.old.frames < vec_capacity self.old.frames }
+        ensures last { self.new.last ≡ inner.entry }
+        ensures left { left_in heap.now self.new.frames.items ≡ left_of heap.now self.old }
+        ensures frames { All (IsOuter heap.now) self.new.frames.items }
+        ensures depth { vec_len self.new.frames ≤ vec_len self.old.frames + 1 }
+        ensures capacity { vec_capacity self.new.frames ≡ vec_capacity self.old.frames }
+        ensures frame { self.new ≡ record self.old { last = self.new.last; frames = self.new.frames } }
+    {
+        if self.last.rest.is_empty() {
+            self.last = inner;
+            return;
+        }
+        self.frames.push_reserved(self.last);
+        self.last = inner;
     }
 }
 
-// Takes the next field of the last block.
-fn pop_value(heap: &Heap, frames: &mut Vec<Frame>) -> Option<Val>
-    requires frames { All (IsFrame heap.now) frames.old.items }
-    requires room { vec_len frames.old ≤ vec_capacity frames.old }
-    ensures value { MatchOption result (left_in heap.now frames.old.items ≡ [])
-        (λ v. left_in heap.now frames.old.items ≡ v ∷ left_in heap.now frames.new.items) }
-    ensures valid { IfSome result (IsValue (length heap.now)) }
-    ensures frames { All (IsFrame heap.now) frames.new.items }
-    ensures depth { vec_len frames.new ≤ vec_len frames.old }
-    ensures capacity { vec_capacity frames.new ≡ vec_capacity frames.old }
-    ensures none { IfNone result (frames.new.items ≡ frames.old.items) }
+/// Which object it is, and how large.
+#[inline(always)]
+pub fn kind_at(heap: &Heap, k: u64, word: u64) -> Kind
+    requires inside { k < length heap.now }
+    requires word { word ≡ word_of heap.now (vals.Ref k) }
+    ensures kind { result ≡ kind_of (object_at heap.now k) }
+    ensures object { IsOfKind result (object_at heap.now k) }
 {
-    let frame = frames.pop()?;
-    let v = heap.field(frame.block, frame.next);
-    if frame.next + 1 < frame.size {
-        let rest = Frame {
-            next: frame.next + 1,
-            ..frame
-        };
-        frames.push_reserved(rest);
-    }
-    Some(v)
+    heap.kind_at(word)
 }

@@ -39,10 +39,10 @@ pub fn write<K: Sink>(alloc: Global, heap: &Heap, root: Val, out: &mut K) -> Res
 }
 
 /// Puts a header, and then the tokens of a walk.
-pub fn put_value<K: Sink>(
-    heap: &Heap,
+pub fn put_value<'a, K: Sink>(
+    heap: &'a Heap,
     head: Head,
-    walk: &mut Walk,
+    walk: &mut Walk<'a>,
     out: &mut K,
     buffer: &mut Vec<u8>,
 ) -> Result<(), Failed>
@@ -63,9 +63,9 @@ pub fn put_value<K: Sink>(
 }
 
 // Lengthens the text by the tokens of a walk.
-fn add_tokens<K: Sink>(
-    heap: &Heap,
-    walk: &mut Walk,
+fn add_tokens<'a, K: Sink>(
+    heap: &'a Heap,
+    walk: &mut Walk<'a>,
     out: &mut K,
     buffer: &mut Vec<u8>,
 ) -> Result<(), Failed>

@@ -27,4 +27,4 @@ loop-j-preserved g c =
 pub returns-clause-adds : goal.returns-clause-adds
 returns-clause-adds g c =
     let has = string_body _ _ _ c.requires.heap c.requires.inside c.requires.string c.body-words.ensures in
-    last_adds _ _ _ has _ _ _ _ _ _ c.loop-j.j c.args.n c.add-2.result (omega arith) c.requires.all c.to_le_bytes-last.ensures c.loop-j.invariant.adds c.add-2.ensures.adds
+    last_adds _ _ _ has _ _ _ _ _ _ c.loop-j.j c.args.n c.add_first.result (omega arith) c.requires.all c.to_le_bytes-last.ensures c.loop-j.invariant.adds c.add_first.ensures.adds

@@ -1,4 +1,5 @@
-use Rattle.std.proofs.Common.{◌+◌, ◌∙◌, length, ap, sym, length-set}
+use Rattle.std.proofs.Common.{◌+◌, ◌*◌, ◌∙◌, arith, length, ap, sym, length-set}
+use Rattle.om_heap.specs.Heap.{place}
 use Rattle.om_write.specs.Marks.{marks_of}
 use Rattle.om_write.specs.declared.walk.Walk.{Walk}
 use Rattle.om_write.proofs.walk.Walk.meet.Goals as goal
@@ -15,7 +16,11 @@ returns-clause-met c = λ _.
       met = λ is. ap (λ (w : Walk). w.marks.met) same ∙ c.in_ok-set.ensures.met (sym ordered ∙ is) ∙ sym count;
       again = ap (λ (w : Walk). w.again) same;
       was = λ is. c.in_ok-set.ensures.was (sym ordered ∙ is);
+      next = λ is.
+          let o = sym ordered ∙ is in
+          c.enter.ensures.next ∙ ap (λ n. 8 * place c.args.heap.now n) (omega (arith, c.in_ok-set.ensures.order o, c.requires.met (c.in_ok-set.ensures.was o), count));
       left = c.enter.ensures.left;
+      last = c.enter.ensures.last;
       frames = c.enter.ensures.frames;
       many_marks = ap (λ (w : Walk). length (marks_of w.marks)) same ∙ ap length c.in_ok-set.ensures.marks
           ∙ length-set (marks_of c.args.self.now.marks) c.args.k (c.args.self.now.count + 1);

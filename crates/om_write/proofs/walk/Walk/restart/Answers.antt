@@ -4,7 +4,7 @@ use Rattle.om_write.proofs.walk.Walk.restart.Goals as goal
 
 pub returns-clause-walk : goal.returns-clause-walk
 returns-clause-walk c =
-    start_walk _ _ c.count-graph.ensures.heap c.requires.walk.value refl refl c.clear-2.ensures.items c.clear-2.ensures.len
+    start_walk _ _ c.count-graph.ensures.heap c.requires.walk.value refl refl refl refl c.clear-2.ensures.items c.clear-2.ensures.len
     (c.clear.ensures.marks ∙ ap (λ n. replicate n 0) c.requires.walk.marks) c.clear.ensures.met (omega (arith, c.requires.walk.room, c.clear-2.ensures.capacity))
     (λ tree is_of.
     let at = c.requires.walk.at tree is_of in
