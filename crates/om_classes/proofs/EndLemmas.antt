@@ -14,7 +14,7 @@ use Rattle.om_classes.specs.declared.form.Form.{Form}
 use Rattle.om_classes.specs.declared.look.Look.{Look}
 use Rattle.om_classes.specs.Form.{AreForms}
 use Rattle.om_classes.specs.Users.{AreUsers}
-use Rattle.om_classes.specs.Lists.{Has, Keeps, IsTaken, HasRooms}
+use Rattle.om_classes.specs.Lists.{Has, Keeps, IsTaken, HasRooms, KeepsMembers}
 use Rattle.om_classes.specs.Parting.{IsReady, MarksUsers, IsSignOf, SignAt, SignedAt, AreNamed, AreMoved, HasMembers, IsLook, IsUnderWay, IsOpen, PartsNoEqual}
 use Rattle.om_classes.specs.Start.{KeepsEqual, IsParted}
 use Rattle.om_classes.specs.Found.{AreClasses}
@@ -159,6 +159,30 @@ opened forms class signs members waiting new todo taken c under is = record {
     within = λ d among. subst (λ n. d < n) (sym is.many) (under.ready.within d (Contains-append_left todo (c ∷ []) d among));
   };
 }
+
+pub open_members : (forms : List Form) (class : List ℕ) (signs members now waiting : List (Vec ℕ)) (todo taken : List ℕ) (c : ℕ)
+    → KeepsMembers class members now → IsOpen forms class signs members waiting todo taken c
+    → IsOpen forms class signs now waiting todo taken c
+open_members forms class signs members now waiting todo taken c keeps was = record {
+  many = was.many;
+  inside = was.inside;
+  within = was.within;
+  rooms = keeps.many ∙ was.rooms;
+  waits = was.waits;
+  has = λ i below. keeps.kept i below (was.has i below);
+  here = was.here;
+  settled = was.settled;
+  ready = was.ready;
+}
+
+pub open_same : (forms : List Form) (class class' : List ℕ) (signs signs' members waiting waiting' : List (Vec ℕ))
+    (todo todo' taken : List ℕ) (c : ℕ) → class' ≡ class → signs' ≡ signs → waiting' ≡ waiting → todo' ≡ todo
+    → IsOpen forms class signs members waiting todo taken c → IsOpen forms class' signs' members waiting' todo' taken c
+open_same forms class class' signs signs' members waiting waiting' todo todo' taken c one two three four was =
+    subst (λ l. IsOpen forms l signs' members waiting' todo' taken c) (sym one)
+    (subst (λ l. IsOpen forms class l members waiting' todo' taken c) (sym two)
+    (subst (λ l. IsOpen forms class signs members l todo' taken c) (sym three)
+    (subst (λ l. IsOpen forms class signs members waiting l taken c) (sym four) was)))
 
 module _ (forms : List Form) (class : List ℕ) (parted : ℕ) (look : Look) (is_look : IsLook forms class parted look) where
   pub looked_in : All (λ i. i < length class) look.looked.items

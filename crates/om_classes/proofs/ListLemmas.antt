@@ -9,7 +9,7 @@ use Rattle.std.proofs.lemmas.List.Elements.{Contains-append_left, Contains-push,
 use Rattle.std.proofs.lemmas.Option.{same_Some, slice_get-get_or}
 use Rattle.om_model.proofs.Options.{Contains-none, same_or_not}
 use Rattle.om_store.proofs.HeldLemmas.{there_kept}
-use Rattle.om_classes.specs.Lists.{Has, Keeps, IsPut, IsTaken, HasRooms, IsOfClass}
+use Rattle.om_classes.specs.Lists.{Has, Keeps, IsPut, IsTaken, HasRooms, IsOfClass, IsShorter, KeepsMembers}
 use Rattle.om_classes.specs.Sign.{IsSetOf}
 
 -- ---- an element that is replaced
@@ -69,6 +69,32 @@ module _ (lists : List (Vec ℕ)) (at : ℕ) (v w : Vec ℕ) (below : at < lengt
         (same_Some has.0 w (sym has.1 ∙ ap (slice_get (set lists at w)) here ∙ set_here lists at w below)) has.2))))
         (λ other. (other, (has.0, sym (set_other lists at d w other) ∙ has.1, has.2)))
         (same_or_not d at)
+
+  pub shorter_is : (class shorter : List ℕ) → IsOfClass v.items class at shorter → w.items ≡ shorter
+      → IsShorter class at lists (set lists at w)
+  shorter_is class shorter held all = record {
+    many = length-set lists at w;
+    of_class = λ y has. held.is y (subst (λ l. Contains l y) all (subst (λ (u : Vec ℕ). Contains u.items y)
+        (same_Some has.0 w (sym has.1 ∙ set_here lists at w below)) has.2));
+    kept = kept;
+  } where
+    kept : (y : ℕ) → y < length class → Has lists (slice_index class y) y → Has (set lists at w) (slice_index class y) y
+    kept y under has = ⊎_elim
+        (λ here. (
+          w,
+          ap (slice_get (set lists at w)) here ∙ set_here lists at w below,
+          subst (λ l. Contains l y) (sym all) (held.has y (subst (λ (u : Vec ℕ). Contains u.items y)
+              (same_Some has.0 v (sym has.1 ∙ ap (slice_get lists) here ∙ at_read)) has.2) under here),
+        ))
+        (λ other. (has.0, set_other lists at (slice_index class y) w other ∙ has.1, has.2))
+        (same_or_not (slice_index class y) at)
+
+pub members_same : (class : List ℕ) (lists : List (Vec ℕ)) → KeepsMembers class lists lists
+members_same class lists = record { many = refl; kept = λ y under has. has }
+
+pub members_shorter : (class : List ℕ) (wanted : ℕ) (old new : List (Vec ℕ)) → IsShorter class wanted old new
+    → KeepsMembers class old new
+members_shorter class wanted old new is = record { many = is.many; kept = is.kept }
 
 -- ---- lists with nothing
 

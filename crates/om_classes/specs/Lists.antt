@@ -34,3 +34,14 @@ pub record HasRooms (old : List (Vec ℕ)) (count : ℕ) (new : List (Vec ℕ)) 
 pub record IsOfClass (numbers class : List ℕ) (wanted : ℕ) (found : List ℕ) : Type 0 where
   pub is : (x : ℕ) → Contains found x → (x < length class) × (slice_index class x ≡ wanted)
   pub has : (x : ℕ) → Contains numbers x → x < length class → slice_index class x ≡ wanted → Contains found x
+
+-- one list has no more than the numbers that have its class, all that it had of these, and the others have what they had
+pub record IsShorter (class : List ℕ) (wanted : ℕ) (old new : List (Vec ℕ)) : Type 0 where
+  pub many : length new ≡ length old
+  pub of_class : (y : ℕ) → Has new wanted y → (y < length class) × (slice_index class y ≡ wanted)
+  pub kept : (y : ℕ) → y < length class → Has old (slice_index class y) y → Has new (slice_index class y) y
+
+-- there are as many lists, and each number that the list of its class has is there still
+pub record KeepsMembers (class : List ℕ) (old new : List (Vec ℕ)) : Type 0 where
+  pub many : length new ≡ length old
+  pub kept : (y : ℕ) → y < length class → Has old (slice_index class y) y → Has new (slice_index class y) y

@@ -1,7 +1,7 @@
 //! Lists of numbers, one for each class or for each number.
 
 ghost use Rattle.std.specs.Prelude.{◌≡◌, ◌<◌, ◌≤◌, ◌↔◌, IsTrue, length, vec_len, slice_index, IfOk, OnOk};
-ghost use Rattle.om_classes.specs.Lists.{IsPut, IsTaken, HasRooms, IsOfClass};
+ghost use Rattle.om_classes.specs.Lists.{IsPut, IsTaken, HasRooms, IsOfClass, IsShorter};
 
 use crate::set::as_set;
 use om_model::Memory;
@@ -23,6 +23,21 @@ pub fn taken(alloc: Global, lists: &mut Vec<Vec<usize>>, at: usize) -> Vec<usize
     ensures { IsTaken lists.old.items at result.items lists.new.items }
 {
     mem::replace(&mut lists[at], Vec::new(alloc))
+}
+
+/// Leaves in the list of a class only those that have the class, each once.
+pub fn shorten(
+    alloc: Global,
+    lists: &mut Vec<Vec<usize>>,
+    class: &[usize],
+    wanted: usize,
+) -> Result<(), Memory>
+    requires { wanted < vec_len lists.old }
+    ensures { OnOk result (IsShorter class.now wanted lists.old.items lists.new.items) }
+{
+    let shorter = of_class(alloc, lists[wanted].as_slice(), class, wanted)?;
+    lists[wanted] = shorter;
+    Ok(())
 }
 
 /// Adds lists with nothing in them, until there are so many.

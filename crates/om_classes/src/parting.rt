@@ -1,12 +1,13 @@
 //! Numbers that are parted into classes, one class at a time.
 
-ghost use Rattle.std.specs.Prelude.{◌++◌, ◌∷◌, [], IfOk, OnOk};
+ghost use Rattle.std.specs.Prelude.{◌≡◌, ◌<◌, ◌++◌, ◌∷◌, [], vec_len, IfOk, OnOk};
+ghost use Rattle.om_classes.specs.Lists.{KeepsMembers};
 ghost use Rattle.om_classes.specs.Users.{AreUsers};
 ghost use Rattle.om_classes.specs.Parting.{IsLook, IsUnderWay, PartsNoEqual};
 ghost use Rattle.om_classes.specs.Start.{IsUnderWayAt, IsOpenAt};
 
 use crate::form::Form;
-use crate::lists::{make_rooms, taken};
+use crate::lists::{make_rooms, shorten, taken};
 use crate::look::{Look, look_at_all, look_at_few};
 use crate::moves::{add_members, move_all, name_places};
 use crate::sign::class_at;
@@ -21,7 +22,7 @@ pub struct Parting {
     pub class: Vec<usize>,
     /// For each class the sign of those that do not wait.
     pub signs: Vec<Vec<usize>>,
-    /// For each class its members, among numbers that have left it.
+    /// For each class its members, among numbers that have left it since all members were looked at.
     pub members: Vec<Vec<usize>>,
     /// For each class the members that wait to be looked at.
     pub waiting: Vec<Vec<usize>>,
@@ -46,8 +47,41 @@ pub fn turn(
     ensures keeps { OnOk result (PartsNoEqual forms.now parting.old.class.items parting.new.class.items) }
 {
     let waited = taken(alloc, &mut parting.waiting, class);
+    shorten_members(alloc, parting, waited.as_slice(), class)?;
     part(alloc, forms, users, parting, waited.as_slice(), class)?;
     Ok(())
+}
+
+/// Where all members of a class will be looked at, it forgets those that left it. So it takes a step for each that stays
+/// or left since the time before, and a class that shrinks by little is not walked whole again and again.
+fn shorten_members(
+    alloc: Global,
+    parting: &mut Parting,
+    waited: &[usize],
+    parted: usize,
+) -> Result<(), Memory>
+    requires { parted < vec_len parting.old.members }
+    ensures class { parting.new.class ≡ parting.old.class }
+    ensures signs { parting.new.signs ≡ parting.old.signs }
+    ensures waiting { parting.new.waiting ≡ parting.old.waiting }
+    ensures todo { parting.new.todo ≡ parting.old.todo }
+    ensures members { OnOk result (KeepsMembers parting.old.class.items parting.old.members.items parting.new.members.items) }
+{
+    if waits_few(parting, waited, parted) {
+        return Ok(());
+    }
+    shorten(
+        alloc,
+        &mut parting.members,
+        parting.class.as_slice(),
+        parted,
+    )?;
+    Ok(())
+}
+
+/// Whether those that waited are fewer than half of the members.
+fn waits_few(parting: &Parting, waited: &[usize], parted: usize) -> bool {
+    waited.len() < count_of(parting.counts.as_slice(), parted) / 2
 }
 
 /// Parts a class.
@@ -100,7 +134,7 @@ fn look_at(
 {
     let class = parting.class.as_slice();
     let signs = parting.signs.as_slice();
-    if waited.len() < count_of(parting.counts.as_slice(), parted) / 2 {
+    if waits_few(parting, waited, parted) {
         let look = look_at_few(alloc, forms, class, signs, waited, parted)?;
         return Ok(look);
     }
