@@ -14,6 +14,3 @@ mod users;
 mod waits;
 
 pub use all_classes::classes;
-
-#[cfg(test)]
-mod tests;

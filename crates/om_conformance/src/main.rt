@@ -1,13 +1,15 @@
 //! Answers that are compared with stored ones. The first word of a line of standard input says which table it belongs to:
 //! `stream NAME at TYPE` asks what `run` says of a stream of the folder that OCaml wrote (`make.sh`), `prefixes LIMIT BYTES`
 //! what becomes of each prefix of some bytes, `again NAME` what is written of the values of such a stream, `decls TEXT` what
-//! becomes of declarations, `type TYPE over TEXT` of a type over them.
+//! becomes of declarations, `type TYPE over TEXT` of a type over them, `table TYPE over TEXT` the table of the types that it
+//! reaches.
 #![tactic(auto)]
 
 mod again;
 mod compare;
 mod prefixes;
 mod streams;
+mod tables;
 mod texts;
 
 use std::io;
@@ -23,6 +25,7 @@ fn main(rt: HostRuntime) -> io::Result<()> {
             Some(("prefixes", rest)) => prefixes::answer(&rt, rest)?,
             Some(("decls", rest)) => texts::answer(&rt, rest)?,
             Some(("type", rest)) => texts::answer_type(&rt, rest)?,
+            Some(("table", rest)) => tables::answer(&rt, rest)?,
             _ => return Err(ErrorKind::InvalidInput.into()),
         }
     }

@@ -1,0 +1,89 @@
+//! The table of the types that a type reaches: a line for each, with its text, its shape over numbers, the first type that is
+//! equal to it, and its names.
+
+use om_decl::{DeclFault, read_decls, read_type};
+use om_model::Memory;
+use om_model::list::List;
+use om_plain_table::{Row, line, lines};
+use om_type_table::TypeTable;
+use om_typeintern::{TypeFault, build};
+use om_types::decl::Decl;
+use om_types::ty::Ty;
+use std::alloc::Global;
+use std::io;
+use std::io::ErrorKind;
+
+// The first type that has the class of this one.
+fn first_of_class(table: &TypeTable, number: usize) -> usize {
+    let classes = table.classes.as_slice();
+    for other in 0..number {
+        if classes.get(other) == classes.get(number) {
+            return other;
+        }
+    }
+    number
+}
+
+// The lines of a table.
+fn lines_of(alloc: Global, table: &TypeTable) -> Result<Vec<List<u8>>, Memory> {
+    let mut found = Vec::new(alloc);
+    for number in 0..table.len() {
+        let row = Row {
+            text: table.text(alloc, number)?,
+            shape: table.shape(number),
+            first: first_of_class(table, number),
+            names: table.names(number),
+        };
+        found.push(line(alloc, &row, None)?)?;
+    }
+    Ok(found)
+}
+
+// The declarations and the type of a question that are accepted.
+fn accepted(alloc: Global, question: &str) -> Option<(List<Decl>, Ty)> {
+    let (ty, text) = question.split_once(" over ")?;
+    let decls = read_decls(alloc, text.as_bytes()).ok()?;
+    let ty = read_type(alloc, decls.as_slice(), ty.as_bytes()).ok()?;
+    Some((decls, ty))
+}
+
+// Prints lines, and those of the plain program where they differ.
+fn put_lines(rt: &HostRuntime, found: &[List<u8>], plain: &[List<u8>]) -> io::Result<()> {
+    for (at, line) in found.iter().enumerate() {
+        print!(rt; "{at} ")?;
+        rt.stdout().write_all(line.as_slice())?;
+        println!(rt; "")?;
+    }
+    if found.len() != plain.len() {
+        return println!(rt; "but by the definitions there are {} types", plain.len());
+    }
+    for (line, other) in found.iter().zip(plain) {
+        if line.as_slice() != other.as_slice() {
+            print!(rt; "but by the definitions ")?;
+            rt.stdout().write_all(other.as_slice())?;
+            println!(rt; "")?;
+        }
+    }
+    Ok(())
+}
+
+/// Prints the table of `TYPE over TEXT`, and what the plain program says where it differs.
+pub fn answer(rt: &HostRuntime, question: &str) -> io::Result<()> {
+    let alloc = rt.alloc();
+    let Some((decls, ty)) = accepted(alloc, question) else {
+        return Err(ErrorKind::InvalidInput.into());
+    };
+    match build(alloc, decls.as_slice(), &ty) {
+        Ok(table) => {
+            let Ok(found) = lines_of(alloc, &table) else {
+                return Err(ErrorKind::OutOfMemory.into());
+            };
+            let Ok(plain) = lines(alloc, decls.as_slice(), &ty) else {
+                return Err(ErrorKind::OutOfMemory.into());
+            };
+            put_lines(rt, found.as_slice(), plain.as_slice())
+        }
+        Err(TypeFault::TooManyTypes) => println!(rt; "TooManyTypes"),
+        Err(TypeFault::Memory) => Err(ErrorKind::OutOfMemory.into()),
+    }
+}
