@@ -6,6 +6,7 @@ use om_model::Memory;
 use om_model::list::List;
 use om_plain_table::{Row, line, lines};
 use om_type_table::TypeTable;
+use om_type_table::laws::tables_are_lawful;
 use om_typeintern::{TypeFault, build};
 use om_types::decl::Decl;
 use om_types::ty::Ty;
@@ -26,6 +27,7 @@ fn first_of_class(table: &TypeTable, number: usize) -> usize {
 
 // The lines of a table.
 fn lines_of(alloc: Global, table: &TypeTable) -> Result<Vec<List<u8>>, Memory> {
+    tables_are_lawful();
     let mut found = Vec::new(alloc);
     for number in 0..table.len() {
         let row = Row {

@@ -7,6 +7,3 @@ mod text;
 mod waiting;
 
 pub use table::TypeTable;
-
-#[cfg(test)]
-mod tests;

@@ -4,4 +4,3 @@ pub mod MetLemmas
 pub mod PartLemmas
 pub mod ListingLemmas
 pub mod WholeLemmas
-pub mod ExampleLemmas

@@ -11,6 +11,3 @@ mod table;
 
 pub use fault::TypeFault;
 pub use table::build;
-
-#[cfg(test)]
-mod tests;
