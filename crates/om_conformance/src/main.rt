@@ -2,12 +2,13 @@
 //! `stream NAME at TYPE` asks what `run` says of a stream of the folder that OCaml wrote (`make.sh`), `prefixes LIMIT BYTES`
 //! what becomes of each prefix of some bytes, `again NAME` what is written of the values of such a stream, `decls TEXT` what
 //! becomes of declarations, `type TYPE over TEXT` of a type over them, `table TYPE over TEXT` the table of the types that it
-//! reaches.
+//! reaches, and `run`, with what a run is given between tabs, how it ends (`runs.rt`).
 #![tactic(auto)]
 
 mod again;
 mod compare;
 mod prefixes;
+mod runs;
 mod streams;
 mod tables;
 mod texts;
@@ -26,6 +27,7 @@ fn main(rt: HostRuntime) -> io::Result<()> {
             Some(("decls", rest)) => texts::answer(&rt, rest)?,
             Some(("type", rest)) => texts::answer_type(&rt, rest)?,
             Some(("table", rest)) => tables::answer(&rt, rest)?,
+            Some(("run", rest)) => runs::answer(&rt, rest)?,
             _ => return Err(ErrorKind::InvalidInput.into()),
         }
     }

@@ -14,6 +14,3 @@ pub use accept::{read_decls, read_type};
 pub use fault::DeclFault;
 pub use read::{Named, NamedType, read_names, read_type_names};
 pub use text::fault_text;
-
-#[cfg(test)]
-mod tests;

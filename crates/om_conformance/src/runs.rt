@@ -1,0 +1,175 @@
+//! What whole runs end with, in memory: the input comes in pieces of several sizes, and calls may fail. A question gives
+//! between tabs settings, the input in hexadecimal digits, the text of `f.ml` behind `=`, or `none`, and the words.
+//!
+//! A setting is `fetch=N`, `read=N`, `take=N` or `put=N` where the call N of this kind fails, counted from 0; `out=N` or
+//! `err=N` where so many bytes fit there; and `piece=N` where a take gives at most so many bytes.
+
+use om_edge::{MemFiles, MemSink, MemSource};
+use om_session::run;
+use std::alloc::Global;
+use std::io;
+use std::io::{ErrorKind, Write};
+
+/// What a run is given.
+#[derive(Drop)]
+struct Given {
+    settings: String,
+    input: Vec<u8>,
+    file: Option<Vec<u8>>,
+    words: Vec<String>,
+}
+
+/// The number of a setting.
+fn setting(given: &Given, name: &str) -> Option<u64> {
+    for setting in given.settings.as_str().split(' ') {
+        match setting.split_once('=') {
+            Some((key, number)) => {
+                if key == name {
+                    return number.parse().ok();
+                }
+            }
+            None => {}
+        }
+    }
+    None
+}
+
+// The calls of a kind that fail.
+fn failing(alloc: Global, given: &Given, name: &str) -> io::Result<Vec<u64>> {
+    let mut found = Vec::new(alloc);
+    if let Some(number) = setting(given, name) {
+        found.push(number)?;
+    }
+    Ok(found)
+}
+
+// How many bytes fit.
+fn room(given: &Given, name: &str) -> usize {
+    match setting(given, name) {
+        Some(room) => room as usize,
+        None => 20_000,
+    }
+}
+
+// The files: f.ml alone, or none.
+fn files_of(alloc: Global, given: &Given) -> io::Result<Vec<(String, Vec<u8>)>> {
+    let mut pairs = Vec::new(alloc);
+    if let Some(text) = &given.file {
+        let name = String::from_str(alloc, "f.ml")?;
+        let text = Vec::from_slice(alloc, text.as_slice())?;
+        pairs.push((name, text))?;
+    }
+    Ok(pairs)
+}
+
+// Puts what was written, and whether its last line was cut.
+fn put_written(text: &mut Vec<u8>, before: &[u8], written: &[u8]) -> io::Result<()> {
+    match written {
+        [] => Ok(()),
+        [.., last] => {
+            text.extend_from_slice(before)?;
+            text.extend_from_slice(written)?;
+            if *last != b'\n' {
+                text.extend_from_slice(b" (cut)\n")?;
+            }
+            Ok(())
+        }
+    }
+}
+
+// Puts how many calls of a kind failed, if some did.
+fn put_faults(text: &mut Vec<u8>, kind: &str, faults: u64) -> io::Result<()> {
+    if faults > 0 {
+        writeln!(text, "failed to {kind}: {faults}")?;
+    }
+    Ok(())
+}
+
+/// What a run puts on out, what on err, its status, and how many calls failed, with the input in pieces of at most so many
+/// bytes.
+fn ending(alloc: Global, given: &Given, piece: usize) -> io::Result<Vec<u8>> {
+    let bytes = Vec::from_slice(alloc, given.input.as_slice())?;
+    let pairs = files_of(alloc, given)?;
+    let fetches = failing(alloc, given, "fetch")?;
+    let reads = failing(alloc, given, "read")?;
+    let takes = failing(alloc, given, "take")?;
+    let puts = failing(alloc, given, "put")?;
+    let no_puts = failing(alloc, given, "put")?;
+    let (Ok(mut out), Ok(mut err)) = (
+        MemSink::new(alloc, room(given, "out"), puts),
+        MemSink::new(alloc, room(given, "err"), no_puts),
+    ) else {
+        return Err(ErrorKind::OutOfMemory.into());
+    };
+    if piece == 0 || !MemFiles::have_no_name_twice(pairs.as_slice()) {
+        return Err(ErrorKind::InvalidInput.into());
+    }
+    let mut files = MemFiles::new(alloc, pairs, fetches, reads);
+    let mut input = MemSource::new(bytes, piece, takes);
+    let status = run(
+        alloc,
+        given.words.as_slice(),
+        &mut input,
+        &mut files,
+        &mut out,
+        &mut err,
+    );
+    let mut text = Vec::new(alloc);
+    put_written(&mut text, b"", out.written())?;
+    put_written(&mut text, b"err: ", err.written())?;
+    writeln!(text, "status {}", status.code())?;
+    put_faults(&mut text, "fetch", files.open_faults())?;
+    put_faults(&mut text, "read", files.read_faults())?;
+    put_faults(&mut text, "take", input.faults())?;
+    Ok(text)
+}
+
+// The file's text: none, or what stands behind `=`.
+fn file_of(alloc: Global, text: &str) -> io::Result<Option<Vec<u8>>> {
+    match text.strip_prefix("=") {
+        Some(text) => Ok(Some(Vec::from_slice(alloc, text.as_bytes())?)),
+        None => Ok(None),
+    }
+}
+
+// What a question gives.
+fn given_by(alloc: Global, question: &str) -> io::Result<Given> {
+    let mut parts = question.split('\t');
+    let (Some(settings), Some(digits), Some(file)) = (parts.next(), parts.next(), parts.next())
+    else {
+        return Err(ErrorKind::InvalidInput.into());
+    };
+    let Ok(input) = hex::decode(alloc, digits) else {
+        return Err(ErrorKind::InvalidInput.into());
+    };
+    let mut words = Vec::new(alloc);
+    for word in parts {
+        words.push(String::from_str(alloc, word)?)?;
+    }
+    Ok(Given {
+        settings: String::from_str(alloc, settings)?,
+        input,
+        file: file_of(alloc, file)?,
+        words,
+    })
+}
+
+/// Prints the ending of a run. Where no size of pieces is set, it prints too where the run ends otherwise with smaller ones.
+pub fn answer(rt: &HostRuntime, question: &str) -> io::Result<()> {
+    let alloc = rt.alloc();
+    let given = given_by(alloc, question)?;
+    if let Some(piece) = setting(&given, "piece") {
+        let text = ending(alloc, &given, piece as usize)?;
+        return rt.stdout().write_all(text.as_slice());
+    }
+    let whole = ending(alloc, &given, 4096)?;
+    rt.stdout().write_all(whole.as_slice())?;
+    for piece in [1, 2, 3, 7, 1000] {
+        let other = ending(alloc, &given, piece)?;
+        if other.as_slice() != whole.as_slice() {
+            println!(rt; "but in pieces of {piece}:")?;
+            rt.stdout().write_all(other.as_slice())?;
+        }
+    }
+    Ok(())
+}
