@@ -236,13 +236,13 @@ module _ (table : Table) (graph : List Obj) where
       (slice_get-push_cases all v k w at_k)
 
   new_explored :
-      (all : List Visit) (n r : ℕ) (need : Need) (o earlier : ℕ) (x : IsExplored table graph all n r) (t : Told all n r need x)
+      (all : List Visit) (n r : ℕ) (need : Need) (o : ℕ) (x : IsExplored table graph all n r) (t : Told all n r need x)
       → need.parent ≡ n → need.ty < length table.nodes → o < length graph
       → field_of graph (vals.Ref need.object) need.step ≡ Some (vals.Ref o) → (table_shapes table).fits graph (vals.Ref o) need.ty
       → ¬ IsMet table all o (slice_get table.classes need.ty)
-      → IsExplored table graph (all ++ record { object = o; ty = need.ty; parent = need.parent; step = need.step; earlier = earlier } ∷ []) n (suc r)
-  new_explored all n r need o earlier x t parent type object field fit new =
-      let v : Visit = record { object = o; ty = need.ty; parent = need.parent; step = need.step; earlier = earlier } in
+      → IsExplored table graph (all ++ record { object = o; ty = need.ty; parent = need.parent; step = need.step } ∷ []) n (suc r)
+  new_explored all n r need o x t parent type object field fit new =
+      let v : Visit = record { object = o; ty = need.ty; parent = need.parent; step = need.step } in
       let f : Entry ℕ = record { path = t.entry.path ++ need.step ∷ []; object = o; type = need.ty } in
       let inside = slice_get_within x.told n t.entry t.at in
       let some : 0 < length x.told = omega arith in
@@ -273,14 +273,14 @@ module _ (table : Table) (graph : List Obj) where
       subst (λ v. IsExplored table graph v n (suc r)) (sym met.1)
       (same_explored all n r need (vals.Ref o) x t field fit (met_entered all n r need o x t met.0))
   fitting_explored all new n r need (vals.Ref o) x t parent type valid field fit (inr unmet) =
-      subst (λ v. IsExplored table graph v n (suc r)) (sym unmet.1.1)
-      (new_explored all n r need o unmet.1.0 x t parent type valid field fit unmet.0)
+      subst (λ v. IsExplored table graph v n (suc r)) (sym unmet.1)
+      (new_explored all n r need o x t parent type valid field fit unmet.0)
 
   enters_grows : (all new : List Visit) (need : Need) (w : Val) → EntersValue table all new need w → Grows all new
   enters_grows all new need (vals.Int z) enters = subst (Grows all) (sym enters) (grows_not all)
   enters_grows all new need (vals.Atom tag) enters = subst (Grows all) (sym enters) (grows_not all)
   enters_grows all new need (vals.Ref o) (inl met) = subst (Grows all) (sym met.1) (grows_not all)
-  enters_grows all new need (vals.Ref o) (inr unmet) = record { added = _; extends = unmet.1.1 }
+  enters_grows all new need (vals.Ref o) (inr unmet) = record { added = _; extends = unmet.1 }
 
   still_need : (old now : List Visit) (n r : ℕ) (need : Need) → Grows old now → IsNeedOf old n r need → IsNeedOf now n r need
   still_need old now n r need grows is = record {

@@ -1,3 +1,4 @@
+pub mod Row
 pub mod Visits
 pub mod Told
 pub mod Explored

@@ -1,7 +1,9 @@
 //! Whether a value has a type, which is a number of a table, and if not the least fault.
 #![tactic(auto)]
 
+mod cells;
 mod clash;
+mod column;
 mod decide;
 mod path;
 mod search;

@@ -4,7 +4,7 @@ ghost use Rattle.std.specs.Prelude.{◌≡◌, ◌<◌, ◌≤◌, ◌+◌, leng
 ghost use Rattle.om_heap.specs.Heap.{object_at, fields_of};
 ghost use Rattle.om_types.specs.Steps.{most_steps};
 ghost use Rattle.om_type_table.specs.Made.{table_of, IsLawful};
-ghost use Rattle.om_check.specs.Visits.{AreLinked};
+ghost use Rattle.om_check.specs.Visits.{listed, AreLinked};
 ghost use Rattle.om_check.specs.Explored.{IsExplored};
 ghost use Rattle.om_check.specs.Search.{TestsNeed, TestsVisit, Searches, cost_at};
 
@@ -34,14 +34,14 @@ pub fn search(
     steps: &mut Steps,
 ) -> Result<Option<(usize, u64)>, Memory>
     requires lawful { IsLawful (table_of table.now) }
-    requires linked { AreLinked (length heap.now) visits.old }
-    requires explored { IsExplored (table_of table.now) heap.now visits.old.all.items 0 0 }
-    ensures linked { OnOk result (AreLinked (length heap.now) visits.new) }
-    ensures searches { IfOk result (Searches (table_of table.now) heap.now visits.old.all.items visits.new.all.items) }
+    requires linked { AreLinked (table_of table.now) (length heap.now) visits.old }
+    requires explored { IsExplored (table_of table.now) heap.now (listed visits.old) 0 0 }
+    ensures linked { OnOk result (AreLinked (table_of table.now) (length heap.now) visits.new) }
+    ensures searches { IfOk result (Searches (table_of table.now) heap.now (listed visits.old) (listed visits.new)) }
     ensures steps { steps.new + 1 ≤ steps.old + most_steps (table_of table.now) heap.now }
 {
     let mut n = 0;
-    while n < visits.all.len() {
+    while n < visits.len() {
         if let Some(step) = test_visit(heap, table, visits, n, steps)? {
             return Ok(Some((n, step)));
         }
@@ -58,16 +58,16 @@ fn test_visit(
     n: usize,
     steps: &mut Steps,
 ) -> Result<Option<u64>, Memory>
-    requires in_range { n < length visits.old.all.items }
+    requires in_range { n < length (listed visits.old) }
     requires lawful { IsLawful (table_of table.now) }
-    requires linked { AreLinked (length heap.now) visits.old }
-    requires explored { IsExplored (table_of table.now) heap.now visits.old.all.items n 0 }
-    ensures linked { OnOk result (AreLinked (length heap.now) visits.new) }
-    ensures tests { IfOk result (TestsVisit (table_of table.now) heap.now visits.old.all.items visits.new.all.items n) }
-    ensures steps { steps.new ≤ steps.old + cost_at (table_of table.now) heap.now visits.old.all.items n }
+    requires linked { AreLinked (table_of table.now) (length heap.now) visits.old }
+    requires explored { IsExplored (table_of table.now) heap.now (listed visits.old) n 0 }
+    ensures linked { OnOk result (AreLinked (table_of table.now) (length heap.now) visits.new) }
+    ensures tests { IfOk result (TestsVisit (table_of table.now) heap.now (listed visits.old) (listed visits.new) n) }
+    ensures steps { steps.new ≤ steps.old + cost_at (table_of table.now) heap.now (listed visits.old) n }
 {
     steps.raise();
-    let visit = visits.all[n];
+    let visit = visits.get(n);
     let Some(needs) = needs_of(heap, Val::Ref(visit.object), table.shape(visit.ty)) else {
         return Ok(None);
     };
@@ -98,10 +98,10 @@ fn test_need(
     requires field { need.step < length (fields_of (object_at heap.now need.object)) }
     requires node { need.ty < length table.now.nodes }
     requires class { need.ty < length table.now.classes }
-    requires types { All (λ visit. visit.ty < length table.now.classes) visits.old.all.items }
-    requires linked { AreLinked (length heap.now) visits.old }
-    ensures linked { OnOk result (AreLinked (length heap.now) visits.new) }
-    ensures tests { IfOk result (TestsNeed (table_of table.now) heap.now visits.old.all.items visits.new.all.items need) }
+    requires types { All (λ visit. visit.ty < length table.now.classes) (listed visits.old) }
+    requires linked { AreLinked (table_of table.now) (length heap.now) visits.old }
+    ensures linked { OnOk result (AreLinked (table_of table.now) (length heap.now) visits.new) }
+    ensures tests { IfOk result (TestsNeed (table_of table.now) heap.now (listed visits.old) (listed visits.new) need) }
 {
     let value = heap.field(need.object, need.step);
     if needs_of(heap, value, table.shape(need.ty)).is_none() {
