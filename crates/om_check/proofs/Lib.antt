@@ -10,3 +10,4 @@ pub mod VerdictLemmas
 pub mod TestLemmas
 pub mod DecideLemmas
 pub mod ExploredLemmas
+pub mod RowsLemmas

@@ -36,7 +36,7 @@ use Rattle.om_check.proofs.PlaceLemmas.{slice_get-append_left, slice_get-append_
 use Rattle.om_check.proofs.ExploredLemmas.{need_before, need_leads, entries_before, explored_same, explored_more, explored_next}
 
 -- the fields of an object, in the words of the heap
-fields_are_values : (object : Obj) → values_of object ≡ fields_of object
+pub fields_are_values : (object : Obj) → values_of object ≡ fields_of object
 fields_are_values (objects.Block tag values) = refl
 fields_are_values (objects.Bytes bytes) = refl
 fields_are_values (objects.Double bits) = refl
@@ -120,6 +120,12 @@ module _ (table : Table) (graph : List Obj) where
       let is : object_at graph v.object ≡ object = get_or_from_slice_get graph v.object object (objects.I32 (pos 0)) at_o in
       let short = slice_get_within (values_of object) i there.0 at_i in
       subst (λ o. i < length (fields_of o)) (sym is) (subst (λ vs. i < length vs) (fields_are_values object) short))
+
+  -- what needs something has fields
+  pub some_fields : (v : Visit) → v.object < length graph → 0 < length (visit_needs table graph v) → 0 < length (fields_of (object_at graph v.object))
+  some_fields v inside some =
+      let first = slice_get_there (visit_needs table graph v) 0 some in
+      let field = need_field v 0 first.0.0 first.0.1 inside first.1 in omega (arith, field)
 
   pub need_node : IsLawful table → (v : Visit) (k i a : ℕ) → v.ty < length table.nodes → slice_get (visit_needs table graph v) k ≡ Some (i, a) → a < length table.nodes
   need_node lawful v k i a inside at_k =

@@ -5,3 +5,4 @@ pub mod Explored
 pub mod Search
 pub mod Clash
 pub mod Verdict
+pub mod Rows

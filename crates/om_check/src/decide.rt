@@ -64,7 +64,7 @@ fn check_object(
     ensures steps { steps.new + 1 ≤ steps.old + most_steps (table_of table.now) heap.now }
 {
     let mut visits = Visits::new(alloc, heap.count(), table, object)?;
-    if let Some((n, step)) = search(heap, table, &mut visits, steps)? {
+    if let Some((n, step)) = search(alloc, heap, table, &mut visits, steps)? {
         let mut path = path_of(alloc, &visits, n)?;
         path.push(step)?;
         return Ok(Verdict::No(Fault::Misfit(path)));

@@ -6,6 +6,7 @@ mod clash;
 mod column;
 mod decide;
 mod path;
+mod rows;
 mod search;
 mod steps;
 mod typing;

@@ -1,13 +1,13 @@
-use Rattle.std.proofs.Common.{◌<◌, ◌≡◌, ◌∙◌, length, Some, refl, sym, ap, subst, arith}
+use Rattle.std.proofs.Common.{◌<◌, ◌≡◌, ◌∙◌, length, refl, sym, ap, subst, arith}
 use Rattle.std.specs.Prelude.{slice_get}
 use Rattle.om_type_table.specs.Made.{table_of}
 use Rattle.om_check.specs.declared.search.Need.{Need}
-use Rattle.om_check.specs.Clash.{IsWithin}
 use Rattle.om_fits.specs.Needs.{needs_in}
 use Rattle.om_check.specs.Search.{TestsNeed, visit_needs}
-use Rattle.om_check.proofs.VisitLemmas.{IsNeedOf, visit_within, visit_fits, types_within, need_field, need_node, testing_more, testing_until, testing_all}
+use Rattle.om_check.proofs.VisitLemmas.{IsNeedOf, visit_within, visit_fits, types_within, need_field, need_node, testing_first, testing_more, testing_until, testing_all, some_fields}
 use Rattle.om_check.proofs.TestLemmas.{needs_are, never_unfit, cost_of_needs, cost_is}
 use Rattle.om_check.specs.Visits.{listed}
+use Rattle.om_check.proofs.RowsLemmas.{word_inside, field_word}
 use Rattle.om_check.proofs.search.test_visit.Goals as goal
 
 pub shape-requires : goal.shape-requires
@@ -45,29 +45,23 @@ test_need-requires-clause-object c =
     let at_n = c.get-visit.ensures in
     (visit_within (table_of c.args.table.now) c.args.heap.now all c.args.n 0 c.args.n v c.requires.explored at_n).0
 
-needed : (c : goal.After-test_need-arg-1) → slice_get (visit_needs (table_of c.args.table.now) c.args.heap.now c.get-visit.result) c.loop-k.k ≡ Some (c.get-step.result.0, c.get-step.result.1)
-needed c =
-    ap (λ needs. slice_get needs c.loop-k.k)
-    (needs_are (table_of c.args.table.now) c.args.heap.now c.get-visit.result c.shape.result.now c.needs_of.result c.in-Some.needs c.shape.ensures c.needs_of.ensures c.in-Some.is)
-    ∙ c.get-step.ensures
-
-within : (c : goal.After-test_need-arg-1) → IsWithin (table_of c.args.table.now) c.args.heap.now c.get-visit.result
-within c =
-    let all = (listed c.args.visits.now) in
-    let at_n = c.get-visit.ensures in
-    visit_within (table_of c.args.table.now) c.args.heap.now all c.args.n 0 c.args.n c.get-visit.result c.requires.explored at_n
-
 pub test_need-requires-clause-field : goal.test_need-requires-clause-field
 test_need-requires-clause-field c =
-    need_field (table_of c.args.table.now) c.args.heap.now c.get-visit.result c.loop-k.k c.get-step.result.0 c.get-step.result.1 (within c).0 (needed c)
+    need_field (table_of c.args.table.now) c.args.heap.now c.get-visit.result c.loop-k.k c.get-step.result.0 c.get-step.result.1 (visit_within (table_of c.args.table.now) c.args.heap.now (listed c.args.visits.now) c.args.n 0 c.args.n c.get-visit.result c.requires.explored c.get-visit.ensures).0 (ap (λ needs. slice_get needs c.loop-k.k)
+    (needs_are (table_of c.args.table.now) c.args.heap.now c.get-visit.result c.shape.result.now c.needs_of.result c.in-Some.needs c.shape.ensures c.needs_of.ensures c.in-Some.is)
+    ∙ c.get-step.ensures)
 
 pub test_need-requires-clause-node : goal.test_need-requires-clause-node
 test_need-requires-clause-node c =
-    need_node (table_of c.args.table.now) c.args.heap.now c.requires.lawful c.get-visit.result c.loop-k.k c.get-step.result.0 c.get-step.result.1 (within c).1 (needed c)
+    need_node (table_of c.args.table.now) c.args.heap.now c.requires.lawful c.get-visit.result c.loop-k.k c.get-step.result.0 c.get-step.result.1 (visit_within (table_of c.args.table.now) c.args.heap.now (listed c.args.visits.now) c.args.n 0 c.args.n c.get-visit.result c.requires.explored c.get-visit.ensures).1 (ap (λ needs. slice_get needs c.loop-k.k)
+    (needs_are (table_of c.args.table.now) c.args.heap.now c.get-visit.result c.shape.result.now c.needs_of.result c.in-Some.needs c.shape.ensures c.needs_of.ensures c.in-Some.is)
+    ∙ c.get-step.ensures)
 
 pub test_need-requires-clause-class : goal.test_need-requires-clause-class
 test_need-requires-clause-class c =
-    let node = need_node (table_of c.args.table.now) c.args.heap.now c.requires.lawful c.get-visit.result c.loop-k.k c.get-step.result.0 c.get-step.result.1 (within c).1 (needed c) in
+    let node = need_node (table_of c.args.table.now) c.args.heap.now c.requires.lawful c.get-visit.result c.loop-k.k c.get-step.result.0 c.get-step.result.1 (visit_within (table_of c.args.table.now) c.args.heap.now (listed c.args.visits.now) c.args.n 0 c.args.n c.get-visit.result c.requires.explored c.get-visit.ensures).1 (ap (λ needs. slice_get needs c.loop-k.k)
+    (needs_are (table_of c.args.table.now) c.args.heap.now c.get-visit.result c.shape.result.now c.needs_of.result c.in-Some.needs c.shape.ensures c.needs_of.ensures c.in-Some.is)
+    ∙ c.get-step.ensures) in
     subst (λ m. c.get-step.result.1 < m) (sym c.requires.lawful.classed) node
 
 pub test_need-requires-clause-types : goal.test_need-requires-clause-types
@@ -142,3 +136,35 @@ returns-clause-steps c =
     let are = needs_are (table_of c.args.table.now) c.args.heap.now v c.shape.result.now c.needs_of.result c.in-Some.needs c.shape.ensures c.needs_of.ensures c.in-Some.is in
     let cost = cost_of_needs (table_of c.args.table.now) c.args.heap.now all c.args.n v (needs_in c.in-Some.needs) at_n are in
     omega (arith, cost, c.loop-k.invariant.few, c.loop-k-test.false, c.len-k-end.ensures)
+
+pub returns-then-len-eq0-clause-tests : goal.returns-then-len-eq0-clause-tests
+returns-then-len-eq0-clause-tests c =
+    let none : length (visit_needs (table_of c.args.table.now) c.args.heap.now c.get-visit.result) ≡ 0 = ap length (needs_are (table_of c.args.table.now) c.args.heap.now c.get-visit.result c.shape.result.now c.needs_of.result c.in-Some.needs c.shape.ensures c.needs_of.ensures c.in-Some.is) ∙ sym c.len.ensures ∙ c.if-len-eq0.true in
+    testing_all (table_of c.args.table.now) c.args.heap.now (listed c.args.visits.now) (listed c.args.visits.now) c.args.n 0 c.get-visit.result
+    (testing_first (table_of c.args.table.now) c.args.heap.now (listed c.args.visits.now) c.args.n c.requires.explored) c.get-visit.ensures none
+
+pub fields-words-requires : goal.fields-words-requires
+fields-words-requires c =
+    let are = (needs_are (table_of c.args.table.now) c.args.heap.now c.get-visit.result c.shape.result.now c.needs_of.result c.in-Some.needs c.shape.ensures c.needs_of.ensures c.in-Some.is) in
+    let many = ap length are in
+    some_fields (table_of c.args.table.now) c.args.heap.now c.get-visit.result (visit_within (table_of c.args.table.now) c.args.heap.now (listed c.args.visits.now) c.args.n 0 c.args.n c.get-visit.result c.requires.explored c.get-visit.ensures).0
+    (omega (arith, many, c.len.ensures, c.if-len-eq0.false))
+
+pub offset_bounds-words-step : goal.offset_bounds-words-step
+offset_bounds-words-step c =
+    let inside = word_inside c.args.heap.now c.get-visit.result.object c.get-step.result.0 c.fields-words.result.now c.fields-words.ensures.words
+    (need_field (table_of c.args.table.now) c.args.heap.now c.get-visit.result c.loop-k.k c.get-step.result.0 c.get-step.result.1 (visit_within (table_of c.args.table.now) c.args.heap.now (listed c.args.visits.now) c.args.n 0 c.args.n c.get-visit.result c.requires.explored c.get-visit.ensures).0
+    (ap (λ needs. slice_get needs c.loop-k.k) (needs_are (table_of c.args.table.now) c.args.heap.now c.get-visit.result c.shape.result.now c.needs_of.result c.in-Some.needs c.shape.ensures c.needs_of.ensures c.in-Some.is) ∙ c.get-step.ensures)) in
+    omega (arith, inside, c.type_inv.words)
+
+pub bounds-words-step : goal.bounds-words-step
+bounds-words-step c =
+    word_inside c.args.heap.now c.get-visit.result.object c.get-step.result.0 c.fields-words.result.now c.fields-words.ensures.words
+    (need_field (table_of c.args.table.now) c.args.heap.now c.get-visit.result c.loop-k.k c.get-step.result.0 c.get-step.result.1 (visit_within (table_of c.args.table.now) c.args.heap.now (listed c.args.visits.now) c.args.n 0 c.args.n c.get-visit.result c.requires.explored c.get-visit.ensures).0
+    (ap (λ needs. slice_get needs c.loop-k.k) (needs_are (table_of c.args.table.now) c.args.heap.now c.get-visit.result c.shape.result.now c.needs_of.result c.in-Some.needs c.shape.ensures c.needs_of.ensures c.in-Some.is) ∙ c.get-step.ensures))
+
+pub test_need-requires-clause-word : goal.test_need-requires-clause-word
+test_need-requires-clause-word c =
+    let short = need_field (table_of c.args.table.now) c.args.heap.now c.get-visit.result c.loop-k.k c.get-step.result.0 c.get-step.result.1 (visit_within (table_of c.args.table.now) c.args.heap.now (listed c.args.visits.now) c.args.n 0 c.args.n c.get-visit.result c.requires.explored c.get-visit.ensures).0
+    (ap (λ needs. slice_get needs c.loop-k.k) (needs_are (table_of c.args.table.now) c.args.heap.now c.get-visit.result c.shape.result.now c.needs_of.result c.in-Some.needs c.shape.ensures c.needs_of.ensures c.in-Some.is) ∙ c.get-step.ensures) in
+    field_word c.args.heap.now c.get-visit.result.object c.get-step.result.0 (visit_within (table_of c.args.table.now) c.args.heap.now (listed c.args.visits.now) c.args.n 0 c.args.n c.get-visit.result c.requires.explored c.get-visit.ensures).0 short c.fields-words.result.now _ c.fields-words.ensures.words refl

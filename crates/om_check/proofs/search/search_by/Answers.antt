@@ -3,7 +3,7 @@ use Rattle.om_type_table.specs.Made.{table_of}
 use Rattle.om_check.specs.Search.{TestsVisit}
 use Rattle.om_check.specs.Visits.{listed}
 use Rattle.om_check.proofs.TestLemmas.{search_few, searched_few, searching_more}
-use Rattle.om_check.proofs.search.search.Goals as goal
+use Rattle.om_check.proofs.search.search_by.Goals as goal
 
 pub returns-in_err-step-clause-steps : goal.returns-in_err-step-clause-steps
 returns-in_err-step-clause-steps c =
