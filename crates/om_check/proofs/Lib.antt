@@ -11,3 +11,4 @@ pub mod TestLemmas
 pub mod DecideLemmas
 pub mod ExploredLemmas
 pub mod RowsLemmas
+pub mod MadeLemmas

@@ -6,3 +6,4 @@ pub mod Search
 pub mod Clash
 pub mod Verdict
 pub mod Rows
+pub mod ByHand

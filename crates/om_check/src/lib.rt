@@ -9,6 +9,8 @@ mod path;
 mod rows;
 mod search;
 mod steps;
+#[cfg(test)]
+mod tests;
 mod typing;
 mod verdict;
 mod visits;
