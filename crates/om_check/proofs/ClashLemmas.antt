@@ -1,183 +1,207 @@
--- The first visit that clashes with one before it, found by one look back.
-use Rattle.std.proofs.Common.{ℕ, zero, suc, ◌+◌, ◌-◌, ◌<◌, ◌≤◌, ◌≡◌, ◌∙◌, ◌⊎◌, inl, inr, ⊎_elim, List, length, Some, sym, ap, subst, arith}
-use Rattle.std.specs.Prelude.{slice_get, IsTrue, ◌↔◌}
-use Rattle.std.proofs.lemmas.Option.{same_Some, slice_get_within}
-use Rattle.om_model.proofs.Options.{slice_get_there}
+-- The first visit that clashes with one before it, found by the first visit of each object.
+use Rattle.std.proofs.Common.{ℕ, zero, suc, ◌+◌, ◌-◌, ◌<◌, ◌≤◌, ◌≡◌, ◌∙◌, ◌⊎◌, inl, inr, ⊎_elim, List, length, Some, refl, sym, ap, subst, arith}
+use Rattle.std.specs.Prelude.{slice_get, slice_index, All, IsTrue}
+use Rattle.std.proofs.lemmas.List.Elements.{All-contains}
+use Rattle.std.proofs.lemmas.Option.{same_Some}
+use Rattle.om_model.proofs.Options.{slice_get_there, slice_get-Contains}
 use Rattle.om_model.specs.declared.value.Obj.{Obj}
 use Rattle.om_types.specs.Table.{Table}
 use Rattle.om_check.specs.declared.visits.Visit.{Visit}
-use Rattle.om_check.specs.Visits.{AreLinkedBack}
-use Rattle.om_check.specs.Clash.{mutable_at, ClashAt, NoneClash, ClashesBack, IsFirstOf, IsFirstClash, IsSameObject}
+use Rattle.om_check.specs.declared.visits.Visits.{Visits}
+use Rattle.om_check.specs.Visits.{listed, AreLinked, IsFirstAt}
+use Rattle.om_check.proofs.ColumnLemmas.{read_at}
+use Rattle.om_check.specs.Clash.{IsWithin, mutable_at, AreApart, ClashAt, NoneClash, ClashesBack, IsFirstOf, IsFirstClash}
 
-less_or : (m n : ℕ) → (m < n) ⊎ (n ≤ m)
+pub less_or : (m n : ℕ) → (m < n) ⊎ (n ≤ m)
 less_or m zero = inr (omega arith)
 less_or zero (suc n) = inl (omega arith)
 less_or (suc m) (suc n) = ⊎_elim (λ less. inl (omega arith)) (λ more. inr (omega arith)) (less_or m n)
 
-pub first_is :
-    (all : List Visit) (k at : ℕ) (v : Visit) → AreLinkedBack all → IsSameObject all k at → slice_get all at ≡ Some v
-    → v.earlier ≤ 0 → IsFirstOf all k at
-first_is all k at v linked same at_v none = record {
-  within = same.within;
-  first = v;
-  at_first = at_v;
-  same = λ w at_k. same.same w v at_k at_v;
-  none = λ j w less at_j is. let before = (linked at v at_v).last j w less at_j is in omega arith;
-}
+-- the type of an object's first visit
+abbrev pub AllHaveFirst : List Visit → Type 0
+AllHaveFirst all = (k : ℕ) (v : Visit) → slice_get all k ≡ Some v → (t : ℕ) × IsFirstAt all v.object t
 
--- one look back in the loop
-pub still_same :
-    (all : List Visit) (k at : ℕ) (v : Visit) → AreLinkedBack all → IsSameObject all k at → slice_get all at ≡ Some v
-    → 0 < v.earlier → IsSameObject all k (v.earlier - 1)
-still_same all k at v linked same at_v some =
-    let latest = linked at v at_v in
-    let less = latest.within in
-    let within = same.within in
-    record {
-      within = omega arith;
-      same = λ u w at_k at_w. latest.own (v.earlier - 1) w (omega arith) at_w ∙ same.same u v at_k at_v;
+module _ (table : Table) (objects : ℕ) (visits : Visits) (linked : AreLinked table objects visits) where
+  pub first_noted :
+      (k o : ℕ) (v : Visit) → slice_get (listed visits) k ≡ Some v → v.object ≡ o → o < objects
+      → (t : ℕ) × (slice_get visits.first o ≡ Some (suc t))
+  first_noted k o v at_k is inside =
+      let cell = slice_get_there visits.first o (omega (arith, inside, linked.many)) in
+      number cell.0 cell.1 where
+        number : (n : ℕ) → slice_get visits.first o ≡ Some n → (t : ℕ) × (slice_get visits.first o ≡ Some (suc t))
+        number zero at_o = absurd (linked.noted.unmet o k v at_o at_k is)
+        number (suc t) at_o = (t, at_o)
+
+pub own_within : (table : Table) (graph : List Obj) (all : List Visit) (k : ℕ) (v : Visit) → All (IsWithin table graph) all → slice_get all k ≡ Some v → IsWithin table graph v
+own_within table graph all k v within at_k = All-contains (IsWithin table graph) all v within (slice_get-Contains all k v at_k)
+
+pub all_have_first :
+    (table : Table) (graph : List Obj) (visits : Visits) → AreLinked table (length graph) visits → All (IsWithin table graph) (listed visits)
+    → AllHaveFirst (listed visits)
+all_have_first table graph visits linked within k v at_k =
+    let object = (own_within table graph (listed visits) k v within at_k).0 in
+    let cell = first_noted table (length graph) visits linked k v.object v at_k refl object in
+    (cell.0, linked.noted.met v.object cell.0 cell.1)
+
+pub first_within : (table : Table) (graph : List Obj) (all : List Visit) (o t : ℕ) → All (IsWithin table graph) all → IsFirstAt all o t → t < length table.nodes
+first_within table graph all o t within first =
+    subst (λ i. i < length table.nodes) first.type (All-contains (IsWithin table graph) all first.visit within (slice_get-Contains all first.place first.visit first.at)).1
+
+-- the number that is noted of a visit's object
+pub first_read :
+    (table : Table) (graph : List Obj) (visits : Visits) (k n : ℕ) (v : Visit) → AreLinked table (length graph) visits
+    → All (IsWithin table graph) (listed visits) → slice_get (listed visits) k ≡ Some v → n ≡ slice_index visits.first v.object
+    → (0 < n) × IsFirstAt (listed visits) v.object (n - 1)
+first_read table graph visits k n v linked within at_k is =
+    let object = (own_within table graph (listed visits) k v within at_k).0 in
+    let cell = first_noted table (length graph) visits linked k v.object v at_k refl object in
+    let read = read_at visits.first v.object n (omega (arith, object, linked.many)) is in
+    let same : n ≡ suc cell.0 = same_Some n (suc cell.0) (sym read ∙ cell.1) in
+    let back : cell.0 ≡ n - 1 = omega (arith, same) in
+    (omega (arith, same), subst (IsFirstAt (listed visits) v.object) back (linked.noted.met v.object cell.0 cell.1))
+
+module _ (table : Table) (graph : List Obj) (all : List Visit) where
+  -- ---- one visit against the first of its object
+
+  module _ (k t : ℕ) (v : Visit) (at_k : slice_get all k ≡ Some v) (first : IsFirstAt all v.object t) where
+    place_within : first.place ≤ k
+    place_within = ⊎_elim
+        (λ less. absurd (first.none k v less at_k (ap (λ (u : Visit). u.object) (same_Some v v at_k'))))
+        (λ more. more)
+        (less_or k first.place) where
+          at_k' : Some v ≡ Some v
+          at_k' = sym at_k ∙ at_k
+
+    pub first_of_own : IsFirstOf all k first.place
+    first_of_own = record {
+      within = place_within;
+      first = first.visit;
+      at_first = first.at;
+      same = λ w at_w. first.object ∙ ap (λ (u : Visit). u.object) (same_Some v w (sym at_k ∙ at_w));
+      none = λ j w less at_j is. first.none j w less at_j (is ∙ first.object);
     }
 
-pub earlier_within :
-    (all : List Visit) → AreLinkedBack all → (k : ℕ) (v : Visit) → slice_get all k ≡ Some v → 0 < v.earlier
-    → v.earlier - 1 < length all
-earlier_within all linked k v at_k some =
-    let latest = linked k v at_k in
-    let within = latest.within in
-    let here = slice_get_within all k v at_k in
-    omega arith
+    own_place : (f : ℕ) → IsFirstOf all k f → first.place ≡ f
+    own_place f is = ⊎_elim
+        (λ less. absurd (is.none first.place first.visit less first.at (first.object ∙ sym (is.same v at_k))))
+        (λ more. ⊎_elim
+        (λ less'. absurd (first.none f is.first less' is.at_first (is.same v at_k)))
+        (λ more'. omega (arith, more, more'))
+        (less_or f first.place))
+        (less_or first.place f)
 
-module _ (table : Table) (graph : List Obj) (all : List Visit) (linked : AreLinkedBack all) where
-  back_of :
-      (k j : ℕ) (v w : Visit) → slice_get all k ≡ Some v → slice_get all j ≡ Some w → v.earlier ≡ suc j
-      → IsTrue (mutable_at table graph w) ⊎ IsTrue (mutable_at table graph v) → ClashesBack table graph all k
-  back_of k j v w at_k at_j is mutable =
-      let latest = linked k v at_k in
-      let within = latest.within in (
-        v,
-        j,
-        at_k,
-        is,
+    first_mutable : (w : Visit) → w.object ≡ v.object → w.ty ≡ t → mutable_at table graph first.visit ≡ mutable_at table graph w
+    first_mutable w object type =
+        ap (λ o. mutable_at table graph (record { object = o; ty = first.visit.ty; parent = 0; step = 0 })) (first.object ∙ sym object)
+        ∙ ap (λ i. mutable_at table graph (record { object = w.object; ty = i; parent = 0; step = 0 })) (first.type ∙ sym type)
+
+    -- at another class
+    pub clash_from :
+        (w : Visit) → w.object ≡ v.object → w.ty ≡ t → ¬ (slice_get table.classes t ≡ slice_get table.classes v.ty)
+        → IsTrue (mutable_at table graph w) ⊎ IsTrue (mutable_at table graph v) → ClashesBack table graph all k
+    clash_from w object type other mutable = (
+      first.place,
+      first_of_own,
+      record {
+        one = first.visit;
+        other = v;
+        at_first = first.at;
+        at_second = at_k;
+        before = ⊎_elim (λ less. less) (λ more. absurd (other (same_class (omega (arith, more, place_within))))) (less_or first.place k);
+        same = first.object;
+        mutable = ⊎_elim (λ one. inl (first_mutable w object type ∙ one)) (λ own. inr own) mutable;
+      },
+    ) where
+      same_class : first.place ≡ k → slice_get table.classes t ≡ slice_get table.classes v.ty
+      same_class place =
+          let is : first.visit ≡ v = same_Some first.visit v (sym first.at ∙ ap (slice_get all) place ∙ at_k) in
+          ap (slice_get table.classes) (sym first.type ∙ ap (λ (u : Visit). u.ty) is)
+
+    pub clash_to :
+        (w : Visit) → w.object ≡ v.object → w.ty ≡ t → ClashesBack table graph all k
+        → IsTrue (mutable_at table graph w) ⊎ IsTrue (mutable_at table graph v)
+    clash_to w object type back =
+        let c = back.2 in
+        let place = own_place back.0 back.1 in
+        let one : first.visit ≡ c.one = same_Some first.visit c.one (sym first.at ∙ ap (slice_get all) place ∙ c.at_first) in
+        let own : c.other ≡ v = same_Some c.other v (sym c.at_second ∙ at_k) in
+        ⊎_elim
+        (λ mutable. inl (sym (first_mutable w object type) ∙ ap (mutable_at table graph) one ∙ mutable))
+        (λ mutable. inr (ap (mutable_at table graph) (sym own) ∙ mutable))
+        c.mutable
+
+    pub no_clash : AreApart table all → slice_get table.classes t ≡ slice_get table.classes v.ty → ¬ ClashesBack table graph all k
+    no_clash apart class back =
+        let c = back.2 in
+        let place = own_place back.0 back.1 in
+        let same = apart first.place k first.visit v first.at at_k first.object (ap (slice_get table.classes) first.type ∙ class) in
+        let before = c.before in omega (arith, place, same, before)
+
+  -- ---- the loop
+
+  -- a clash with any visit before is one with the first of them, where none before clash
+  found_back : AllHaveFirst all → (k i : ℕ) → NoneClash table graph all k → ClashAt table graph all i k → ClashesBack table graph all k
+  found_back firsts k i none c =
+      let f = firsts k c.other c.at_second in
+      let first = f.1 in
+      let before = c.before in
+      let within : first.place ≤ i = ⊎_elim (λ less. absurd (first.none i c.one less c.at_first c.same)) (λ more. more) (less_or i first.place) in (
+        first.place,
+        first_of_own k f.0 c.other c.at_second first,
         record {
-          one = w;
-          other = v;
-          at_first = at_j;
-          at_second = at_k;
-          before = omega arith;
-          same = latest.own j w is at_j;
-          mutable = mutable;
+          one = first.visit;
+          other = c.other;
+          at_first = first.at;
+          at_second = c.at_second;
+          before = omega (arith, within, before);
+          same = first.object;
+          mutable = ⊎_elim
+              (λ one. ⊎_elim
+              (λ less. absurd (none first.place i before (record {
+                one = first.visit;
+                other = c.one;
+                at_first = first.at;
+                at_second = c.at_first;
+                before = less;
+                same = first.object ∙ sym c.same;
+                mutable = inr one;
+              })))
+              (λ more.
+              let place : i ≡ first.place = omega (arith, more, within) in
+              let is : c.one ≡ first.visit = same_Some c.one first.visit (sym c.at_first ∙ ap (slice_get all) place ∙ first.at) in
+              inl (ap (mutable_at table graph) (sym is) ∙ one))
+              (less_or first.place i))
+              (λ other. inr other)
+              c.mutable;
         },
       )
 
-  -- the object may be changed at the visit's own type
-  pub clashes_at_own :
-      (k : ℕ) (v : Visit) → slice_get all k ≡ Some v → 0 < v.earlier → IsTrue (mutable_at table graph v)
-      → ClashesBack table graph all k
-  clashes_at_own k v at_k some mutable =
-      let j = v.earlier - 1 in
-      let latest = linked k v at_k in
-      let within = latest.within in
-      let here = slice_get_within all k v at_k in
-      let inside : v.earlier - 1 < length all = omega arith in
-      let w = slice_get_there all (v.earlier - 1) inside in
-      back_of k (v.earlier - 1) v w.0 at_k w.1 (omega arith) (inr mutable)
-
-  -- else it is the type of the visit before that counts
-  pub clashes_at_earlier :
-      (k : ℕ) (v w : Visit) → slice_get all k ≡ Some v → 0 < v.earlier → slice_get all (v.earlier - 1) ≡ Some w
-      → ¬ IsTrue (mutable_at table graph v) → IsTrue (mutable_at table graph w) ↔ ClashesBack table graph all k
-  clashes_at_earlier k v w at_k some at_w own = (
-    λ mutable. back_of k (v.earlier - 1) v w at_k at_w (omega arith) (inl mutable),
-    λ back. let is_v : back.0 ≡ v = same_Some back.0 v (sym back.2 ∙ at_k) in
-        let e = ap (λ (u : Visit). u.earlier) is_v in
-        let place : back.1 ≡ v.earlier - 1 = omega (arith, back.3, e) in
-        let c = back.4 in
-        ⊎_elim
-        (λ first.
-        let is_w : c.one ≡ w = same_Some c.one w (sym c.at_first ∙ ap (slice_get all) place ∙ at_w) in
-        subst (λ u. IsTrue (mutable_at table graph u)) is_w first)
-        (λ second.
-        let is_o : c.other ≡ v = same_Some c.other v (sym c.at_second ∙ at_k) in
-        absurd (own (subst (λ u. IsTrue (mutable_at table graph u)) is_o second)))
-        c.mutable,
-  )
-
-  -- a clash with any visit before is one with the last of them, where none before clash
-  found_back : (k i : ℕ) → NoneClash table graph all k → ClashAt table graph all i k → ClashesBack table graph all k
-  found_back k i none c =
-      let v = c.other in
-      let latest = linked k c.other c.at_second in
-      let less : i < c.other.earlier = latest.last i c.one c.before c.at_first c.same in
-      let within = latest.within in
-      let here = slice_get_within all k c.other c.at_second in
-      let inside : c.other.earlier - 1 < length all = omega arith in
-      let w = slice_get_there all (c.other.earlier - 1) inside in
-      let is : c.other.earlier ≡ suc (c.other.earlier - 1) = omega arith in
-      let own = latest.own (c.other.earlier - 1) w.0 is w.1 in
-      ⊎_elim
-      (λ first. ⊎_elim
-      (λ before. absurd (none i (c.other.earlier - 1) (omega arith) (record {
-        one = c.one;
-        other = w.0;
-        at_first = c.at_first;
-        at_second = w.1;
-        before = before;
-        same = c.same ∙ sym own;
-        mutable = inl first;
-      })))
-      (λ after.
-      let place : i ≡ c.other.earlier - 1 = omega arith in
-      let is_w : c.one ≡ w.0 = same_Some c.one w.0 (sym c.at_first ∙ ap (slice_get all) place ∙ w.1) in
-      back_of k (c.other.earlier - 1) c.other w.0 c.at_second w.1 is (inl (subst (λ u. IsTrue (mutable_at table graph u)) is_w first)))
-      (less_or i (c.other.earlier - 1)))
-      (λ second. back_of k (c.other.earlier - 1) c.other w.0 c.at_second w.1 is (inr second))
-      c.mutable
-
-  pub none_more : (k : ℕ) → NoneClash table graph all k → ¬ ClashesBack table graph all k → NoneClash table graph all (k + 1)
-  none_more k none back i m less c = ⊎_elim
+  pub none_more : AllHaveFirst all → (k : ℕ) → NoneClash table graph all k → ¬ ClashesBack table graph all k → NoneClash table graph all (k + 1)
+  none_more firsts k none back i m less c = ⊎_elim
       (λ earlier. none i m earlier c)
-      (λ late. let here : m ≡ k = omega arith in back (found_back k i none (subst (ClashAt table graph all i) here c)))
+      (λ late. let here : m ≡ k = omega (arith, less, late) in back (found_back firsts k i none (subst (ClashAt table graph all i) here c)))
       (less_or m k)
 
   pub first_clash_is :
-      (k f : ℕ) → NoneClash table graph all k → ClashesBack table graph all k → IsFirstOf all k f
-      → IsFirstClash table graph all f k
+      (k f : ℕ) → NoneClash table graph all k → ClashesBack table graph all k → IsFirstOf all k f → IsFirstClash table graph all f k
   first_clash_is k f none back first =
-      let c = back.4 in
+      let c = back.2 in
       let own : first.first.object ≡ c.other.object = first.same c.other c.at_second in
-      let before = c.before in
       record {
-        clash = ⊎_elim
-            (λ early. absurd (first.none back.1 c.one early c.at_first (c.same ∙ sym own)))
-            (λ late. record {
-              one = first.first;
-              other = c.other;
-              at_first = first.at_first;
-              at_second = c.at_second;
-              before = omega arith;
-              same = own;
-              mutable = ⊎_elim
-                  (λ one. ⊎_elim
-                  (λ less. absurd (none f back.1 c.before (record {
-                    one = first.first;
-                    other = c.one;
-                    at_first = first.at_first;
-                    at_second = c.at_first;
-                    before = less;
-                    same = own ∙ sym c.same;
-                    mutable = inr one;
-                  })))
-                  (λ more.
-                  let place : back.1 ≡ f = omega arith in
-                  let is : c.one ≡ first.first = same_Some c.one first.first (sym c.at_first ∙ ap (slice_get all) place ∙ first.at_first) in
-                  inl (subst (λ u. IsTrue (mutable_at table graph u)) is one))
-                  (less_or f back.1))
-                  (λ other. inr other)
-                  c.mutable;
-            })
-            (less_or back.1 f);
+        clash = subst (λ g. ClashAt table graph all g k) same_place c;
         second = none;
         first = λ j less d.
             let is : d.other ≡ c.other = same_Some d.other c.other (sym d.at_second ∙ c.at_second) in
-            first.none j d.one less d.at_first (d.same ∙ ap (λ u. u.object) is ∙ sym own);
-      }
+            first.none j d.one less d.at_first (d.same ∙ ap (λ (u : Visit). u.object) is ∙ sym own);
+      } where
+        same_place : back.0 ≡ f
+        same_place =
+            let c = back.2 in
+            let one = back.1 in
+            ⊎_elim
+            (λ less. absurd (first.none back.0 one.first less one.at_first (one.same c.other c.at_second ∙ sym (first.same c.other c.at_second))))
+            (λ more. ⊎_elim
+            (λ less'. absurd (one.none f first.first less' first.at_first (first.same c.other c.at_second ∙ sym (one.same c.other c.at_second))))
+            (λ more'. omega (arith, more, more'))
+            (less_or f back.0))
+            (less_or back.0 f)

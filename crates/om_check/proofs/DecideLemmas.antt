@@ -35,7 +35,7 @@ module _ (table : Table) (graph : List Obj) where
   -- ---- the start
 
   abbrev start : ℕ → Visit
-  start o = record { object = o; ty = 0; parent = 0; step = 0; earlier = 0 }
+  start o = record { object = o; ty = 0; parent = 0; step = 0 }
 
   start_explored :
       (o : ℕ) → IsLawful table → o < length graph → (table_shapes table).fits graph (vals.Ref o) 0

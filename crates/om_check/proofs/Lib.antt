@@ -1,6 +1,8 @@
 pub mod OrderLemmas
 pub mod PlaceLemmas
 pub mod ToldLemmas
+pub mod ColumnLemmas
+pub mod NotedLemmas
 pub mod ClashLemmas
 pub mod VisitLemmas
 pub mod SpentLemmas
@@ -8,3 +10,5 @@ pub mod VerdictLemmas
 pub mod TestLemmas
 pub mod DecideLemmas
 pub mod ExploredLemmas
+pub mod RowsLemmas
+pub mod MadeLemmas

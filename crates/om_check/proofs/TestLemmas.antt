@@ -15,7 +15,7 @@ use Rattle.om_fits.specs.declared.needs.Needs.{Needs}
 use Rattle.om_check.specs.declared.visits.Visit.{Visit}
 use Rattle.om_check.specs.declared.visits.Visits.{Visits}
 use Rattle.om_fits.specs.Needs.{needs_in}
-use Rattle.om_check.specs.Visits.{AreLinked}
+use Rattle.om_check.specs.Visits.{listed, AreLinked}
 use Rattle.om_check.specs.Explored.{IsExplored}
 use Rattle.om_check.specs.Search.{visit_needs, cost_of, cost_or_none, cost_at, spent, TestsVisit, IsSearching}
 use Rattle.om_check.proofs.VisitLemmas.{grows_twice}
@@ -73,25 +73,25 @@ module _ (table : Table) (graph : List Obj) where
       let bound = spent_few table graph all n 0 n lawful x in omega (arith, few, bound)
 
   pub searching_more :
-      (old now new : Visits) (n start steps more : ℕ) → IsSearching table graph old now n start steps → n < length now.all.items
-      → AreLinked (length graph) new → TestsVisit table graph now.all.items new.all.items n None
-      → more ≤ steps + cost_at table graph now.all.items n → IsSearching table graph old new (n + 1) start more
+      (old now new : Visits) (n start steps more : ℕ) → IsSearching table graph old now n start steps → n < length (listed now)
+      → AreLinked table (length graph) new → TestsVisit table graph (listed now) (listed new) n None
+      → more ≤ steps + cost_at table graph (listed now) n → IsSearching table graph old new (n + 1) start more
   searching_more old now new n start steps more searching inside linked tests cost =
-      let all = now.all.items in
-      let v = slice_get_there now.all.items n inside in
-      let is = cost_is now.all.items n v.0 v.1 in
-      let next = spent_next table graph now.all.items n v.0 v.1 in
+      let all = (listed now) in
+      let v = slice_get_there (listed now) n inside in
+      let is = cost_is (listed now) n v.0 v.1 in
+      let next = spent_next table graph (listed now) n v.0 v.1 in
       let added = tests.grows.added in
-      let less : n + 1 ≤ length now.all.items = omega arith in
-      let still : spent table graph new.all.items (n + 1) ≡ spent table graph now.all.items (n + 1) =
-      ap (λ vs. spent table graph vs (n + 1)) tests.grows.extends ∙ spent-append table graph now.all.items added (n + 1) less in
-      let long : length new.all.items ≡ length now.all.items + length added = ap length tests.grows.extends ∙ length-append now.all.items added in
+      let less : n + 1 ≤ length (listed now) = omega arith in
+      let still : spent table graph (listed new) (n + 1) ≡ spent table graph (listed now) (n + 1) =
+      ap (λ vs. spent table graph vs (n + 1)) tests.grows.extends ∙ spent-append table graph (listed now) added (n + 1) less in
+      let long : length (listed new) ≡ length (listed now) + length added = ap length tests.grows.extends ∙ length-append (listed now) added in
       let few = searching.few in
       let one : suc n ≡ n + 1 = omega arith in
       record {
         linked = linked;
-        grows = grows_twice old.all.items now.all.items new.all.items searching.grows tests.grows;
-        explored = subst (λ m. IsExplored table graph new.all.items m 0) one tests.tested;
+        grows = grows_twice (listed old) (listed now) (listed new) searching.grows tests.grows;
+        explored = subst (λ m. IsExplored table graph (listed new) m 0) one tests.tested;
         within = omega (arith, long, less);
         few = omega (arith, few, cost, is, next, still);
       }

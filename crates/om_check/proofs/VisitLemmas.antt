@@ -36,7 +36,7 @@ use Rattle.om_check.proofs.PlaceLemmas.{slice_get-append_left, slice_get-append_
 use Rattle.om_check.proofs.ExploredLemmas.{need_before, need_leads, entries_before, explored_same, explored_more, explored_next}
 
 -- the fields of an object, in the words of the heap
-fields_are_values : (object : Obj) → values_of object ≡ fields_of object
+pub fields_are_values : (object : Obj) → values_of object ≡ fields_of object
 fields_are_values (objects.Block tag values) = refl
 fields_are_values (objects.Bytes bytes) = refl
 fields_are_values (objects.Double bits) = refl
@@ -120,6 +120,12 @@ module _ (table : Table) (graph : List Obj) where
       let is : object_at graph v.object ≡ object = get_or_from_slice_get graph v.object object (objects.I32 (pos 0)) at_o in
       let short = slice_get_within (values_of object) i there.0 at_i in
       subst (λ o. i < length (fields_of o)) (sym is) (subst (λ vs. i < length vs) (fields_are_values object) short))
+
+  -- what needs something has fields
+  pub some_fields : (v : Visit) → v.object < length graph → 0 < length (visit_needs table graph v) → 0 < length (fields_of (object_at graph v.object))
+  some_fields v inside some =
+      let first = slice_get_there (visit_needs table graph v) 0 some in
+      let field = need_field v 0 first.0.0 first.0.1 inside first.1 in omega (arith, field)
 
   pub need_node : IsLawful table → (v : Visit) (k i a : ℕ) → v.ty < length table.nodes → slice_get (visit_needs table graph v) k ≡ Some (i, a) → a < length table.nodes
   need_node lawful v k i a inside at_k =
@@ -236,13 +242,13 @@ module _ (table : Table) (graph : List Obj) where
       (slice_get-push_cases all v k w at_k)
 
   new_explored :
-      (all : List Visit) (n r : ℕ) (need : Need) (o earlier : ℕ) (x : IsExplored table graph all n r) (t : Told all n r need x)
+      (all : List Visit) (n r : ℕ) (need : Need) (o : ℕ) (x : IsExplored table graph all n r) (t : Told all n r need x)
       → need.parent ≡ n → need.ty < length table.nodes → o < length graph
       → field_of graph (vals.Ref need.object) need.step ≡ Some (vals.Ref o) → (table_shapes table).fits graph (vals.Ref o) need.ty
       → ¬ IsMet table all o (slice_get table.classes need.ty)
-      → IsExplored table graph (all ++ record { object = o; ty = need.ty; parent = need.parent; step = need.step; earlier = earlier } ∷ []) n (suc r)
-  new_explored all n r need o earlier x t parent type object field fit new =
-      let v : Visit = record { object = o; ty = need.ty; parent = need.parent; step = need.step; earlier = earlier } in
+      → IsExplored table graph (all ++ record { object = o; ty = need.ty; parent = need.parent; step = need.step } ∷ []) n (suc r)
+  new_explored all n r need o x t parent type object field fit new =
+      let v : Visit = record { object = o; ty = need.ty; parent = need.parent; step = need.step } in
       let f : Entry ℕ = record { path = t.entry.path ++ need.step ∷ []; object = o; type = need.ty } in
       let inside = slice_get_within x.told n t.entry t.at in
       let some : 0 < length x.told = omega arith in
@@ -273,14 +279,14 @@ module _ (table : Table) (graph : List Obj) where
       subst (λ v. IsExplored table graph v n (suc r)) (sym met.1)
       (same_explored all n r need (vals.Ref o) x t field fit (met_entered all n r need o x t met.0))
   fitting_explored all new n r need (vals.Ref o) x t parent type valid field fit (inr unmet) =
-      subst (λ v. IsExplored table graph v n (suc r)) (sym unmet.1.1)
-      (new_explored all n r need o unmet.1.0 x t parent type valid field fit unmet.0)
+      subst (λ v. IsExplored table graph v n (suc r)) (sym unmet.1)
+      (new_explored all n r need o x t parent type valid field fit unmet.0)
 
   enters_grows : (all new : List Visit) (need : Need) (w : Val) → EntersValue table all new need w → Grows all new
   enters_grows all new need (vals.Int z) enters = subst (Grows all) (sym enters) (grows_not all)
   enters_grows all new need (vals.Atom tag) enters = subst (Grows all) (sym enters) (grows_not all)
   enters_grows all new need (vals.Ref o) (inl met) = subst (Grows all) (sym met.1) (grows_not all)
-  enters_grows all new need (vals.Ref o) (inr unmet) = record { added = _; extends = unmet.1.1 }
+  enters_grows all new need (vals.Ref o) (inr unmet) = record { added = _; extends = unmet.1 }
 
   still_need : (old now : List Visit) (n r : ℕ) (need : Need) → Grows old now → IsNeedOf old n r need → IsNeedOf now n r need
   still_need old now n r need grows is = record {

@@ -1,5 +1,5 @@
 -- Which visits clash, by their places.
-use Rattle.std.specs.Prelude.{ℕ, suc, ◌≡◌, ◌⊎◌, ◌<◌, ◌≤◌, Bool, IsTrue, List, length, Some, slice_get}
+use Rattle.std.specs.Prelude.{ℕ, ◌≡◌, ◌⊎◌, ◌<◌, ◌≤◌, Bool, IsTrue, List, length, Some, slice_get}
 use Rattle.om_model.specs.declared.value.Obj.{Obj}
 use Rattle.om_types.specs.Fitting.{is_mutable}
 use Rattle.om_types.specs.Table.{Table, node_or_none}
@@ -27,10 +27,11 @@ pub record ClashAt (table : Table) (graph : List Obj) (all : List Visit) (i k : 
 abbrev pub NoneClash : Table → List Obj → List Visit → ℕ → Type 0
 NoneClash table graph all n = (i k : ℕ) → k < n → ¬ ClashAt table graph all i k
 
--- visit k clashes with its object's visit before it
-abbrev pub ClashesBack : Table → List Obj → List Visit → ℕ → Type 0
-ClashesBack table graph all k =
-    (v : Visit) × (j : ℕ) × (slice_get all k ≡ Some v) × (v.earlier ≡ suc j) × ClashAt table graph all j k
+-- no object is visited twice at one class
+abbrev pub AreApart : Table → List Visit → Type 0
+AreApart table all =
+    (j k : ℕ) (v w : Visit) → slice_get all j ≡ Some v → slice_get all k ≡ Some w → v.object ≡ w.object
+    → slice_get table.classes v.ty ≡ slice_get table.classes w.ty → j ≡ k
 
 -- visit f is of the object of visit k, and none before it is
 pub record IsFirstOf (all : List Visit) (k f : ℕ) : Type 0 where
@@ -40,13 +41,12 @@ pub record IsFirstOf (all : List Visit) (k f : ℕ) : Type 0 where
   pub same : (v : Visit) → slice_get all k ≡ Some v → first.object ≡ v.object
   pub none : (j : ℕ) (v : Visit) → j < f → slice_get all j ≡ Some v → ¬ (v.object ≡ first.object)
 
+-- visit k clashes with its object's first visit
+abbrev pub ClashesBack : Table → List Obj → List Visit → ℕ → Type 0
+ClashesBack table graph all k = (f : ℕ) × IsFirstOf all k f × ClashAt table graph all f k
+
 -- visit k is the first that clashes with one before it, and i the first that it clashes with
 pub record IsFirstClash (table : Table) (graph : List Obj) (all : List Visit) (i k : ℕ) : Type 0 where
   pub clash : ClashAt table graph all i k
   pub second : NoneClash table graph all k
   pub first : (j : ℕ) → j < i → ¬ ClashAt table graph all j k
-
--- visit f is of the object of visit k, and not after it
-pub record IsSameObject (all : List Visit) (k f : ℕ) : Type 0 where
-  pub within : f ≤ k
-  pub same : (v w : Visit) → slice_get all k ≡ Some v → slice_get all f ≡ Some w → w.object ≡ v.object

@@ -11,7 +11,7 @@ use Rattle.om_types.specs.Table.{Table, table_shapes}
 use Rattle.om_check.specs.declared.visits.Visit.{Visit}
 use Rattle.om_check.specs.declared.search.Need.{Need}
 use Rattle.om_check.specs.declared.visits.Visits.{Visits}
-use Rattle.om_check.specs.Visits.{AreLinked, Enters}
+use Rattle.om_check.specs.Visits.{listed, AreLinked, Enters}
 use Rattle.om_check.specs.Told.{AreOrdered, IsPathOf}
 use Rattle.om_check.specs.Explored.{IsExplored, root_of}
 
@@ -92,14 +92,14 @@ pairs_of all = map (λ (v : Visit). (v.object, v.ty)) all
 
 -- The first r needs of visit n were tested, in at most so many steps.
 pub record IsTestingVisit (table : Table) (graph : List Obj) (old now : Visits) (n r start steps : ℕ) : Type 0 where
-  pub linked : AreLinked (length graph) now
-  pub testing : IsTesting table graph old.all.items now.all.items n r
+  pub linked : AreLinked table (length graph) now
+  pub testing : IsTesting table graph (listed old) (listed now) n r
   pub few : steps ≤ start + 1 + r
 
 -- The needs of the first n visits were tested, in at most so many steps.
 pub record IsSearching (table : Table) (graph : List Obj) (old now : Visits) (n start steps : ℕ) : Type 0 where
-  pub linked : AreLinked (length graph) now
-  pub grows : Grows old.all.items now.all.items
-  pub explored : IsExplored table graph now.all.items n 0
-  pub within : n ≤ length now.all.items
-  pub few : steps ≤ start + spent table graph now.all.items n
+  pub linked : AreLinked table (length graph) now
+  pub grows : Grows (listed old) (listed now)
+  pub explored : IsExplored table graph (listed now) n 0
+  pub within : n ≤ length (listed now)
+  pub few : steps ≤ start + spent table graph (listed now) n

@@ -1,26 +1,26 @@
--- The visits of a check, and how those of one object are linked.
-use Rattle.std.specs.Prelude.{ℕ, suc, ◌≡◌, ◌⊎◌, ◌<◌, ◌≤◌, List, [], ◌∷◌, ◌++◌, length, Option, Some, slice_get}
+-- The visits of a check, and what is noted of the objects that they are of.
+use Rattle.std.specs.Prelude.{ℕ, suc, ◌≡◌, ◌⊎◌, ◌<◌, List, [], ◌∷◌, ◌++◌, length, IsTrue, Option, Some, slice_get}
+use Rattle.std.specs.declared.cmp.Ordering.{Ordering}
+use Rattle.std.specs.Ordering.{nat_cmp, ordering_then}
+use Rattle.std.specs.BTreeSet.{contains}
 use Rattle.om_types.specs.Table.{Table}
 use Rattle.om_check.specs.declared.visits.Visit.{Visit}
 use Rattle.om_check.specs.declared.visits.Visits.{Visits}
 
--- One more than the place of the last visit of object o among the first n, or 0.
-pub record IsLatest (all : List Visit) (n o k : ℕ) : Type 0 where
-  pub within : k ≤ n
-  pub last : (j : ℕ) (v : Visit) → j < n → slice_get all j ≡ Some v → v.object ≡ o → j < k
-  pub own : (j : ℕ) (v : Visit) → k ≡ suc j → slice_get all j ≡ Some v → v.object ≡ o
+-- visits from their parts
+abbrev pub zipped : (objects types parents steps : List ℕ) → List Visit
+zipped (o ∷ os) (t ∷ ts) (p ∷ ps) (s ∷ ss) =
+    record { object = o; ty = t; parent = p; step = s } ∷ zipped os ts ps ss
+zipped objects types parents steps = []
 
--- each visit knows the visit of its object before it
-abbrev pub AreLinkedBack : List Visit → Type 0
-AreLinkedBack all = (k : ℕ) (v : Visit) → slice_get all k ≡ Some v → IsLatest all k v.object v.earlier
+abbrev pub listed : Visits → List Visit
+listed v = zipped v.objects v.types v.parents v.steps
 
--- The visits of each object are linked, from the last one back.
-pub record AreLinked (objects : ℕ) (visits : Visits) : Type 0 where
-  pub many : length visits.latest.items ≡ objects
-  pub latest :
-      (o k : ℕ) → slice_get visits.latest.items o ≡ Some k
-      → IsLatest visits.all.items (length visits.all.items) o k
-  pub back : AreLinkedBack visits.all.items
+-- the columns have one length
+pub record AreAligned (v : Visits) : Type 0 where
+  pub types : length v.types ≡ length v.objects
+  pub parents : length v.parents ≡ length v.objects
+  pub steps : length v.steps ≡ length v.objects
 
 -- some visit is of the object at a type of the class
 abbrev pub IsMet : Table → List Visit → ℕ → Option ℕ → Type 0
@@ -28,22 +28,40 @@ IsMet table all o class =
     (k : ℕ) × (v : Visit) × (slice_get all k ≡ Some v) × (v.object ≡ o)
     × (slice_get table.classes v.ty ≡ class)
 
+-- the first visit of the object is at this type
+pub record IsFirstAt (all : List Visit) (o t : ℕ) : Type 0 where
+  pub place : ℕ
+  pub visit : Visit
+  pub at : slice_get all place ≡ Some visit
+  pub object : visit.object ≡ o
+  pub type : visit.ty ≡ t
+  pub none : (j : ℕ) (v : Visit) → j < place → slice_get all j ≡ Some v → ¬ (v.object ≡ o)
+
+-- objects with classes are ordered by the object, then by the class
+abbrev pub pair_cmp : ℕ × ℕ → ℕ × ℕ → Ordering
+pair_cmp x y = ordering_then (nat_cmp x.0 y.0) (nat_cmp x.1 y.1)
+
+-- For each object it is noted at which type it was met first, and at which other classes.
+pub record AreNoted (table : Table) (all : List Visit) (first : List ℕ) (later : ℕ → ℕ → Type 0) : Type 0 where
+  pub unmet : (o k : ℕ) (v : Visit) → slice_get first o ≡ Some 0 → slice_get all k ≡ Some v → ¬ (v.object ≡ o)
+  pub met : (o t : ℕ) → slice_get first o ≡ Some (suc t) → IsFirstAt all o t
+  pub known :
+      (o t k c : ℕ) (v : Visit) → slice_get first o ≡ Some (suc t) → slice_get all k ≡ Some v → v.object ≡ o
+      → slice_get table.classes v.ty ≡ Some c → (slice_get table.classes t ≡ Some c) ⊎ later o c
+  pub there : (o c : ℕ) → later o c → IsMet table all o (Some c)
+
+pub record AreLinked (table : Table) (objects : ℕ) (visits : Visits) : Type 0 where
+  pub aligned : AreAligned visits
+  pub many : length visits.first ≡ objects
+  pub noted : AreNoted table (listed visits) visits.first (λ o c. IsTrue (contains pair_cmp visits.later (o, c)))
+
 -- one visit more, at the end
 abbrev pub IsAppended : List Visit → List Visit → ℕ → ℕ → ℕ → ℕ → Type 0
 IsAppended old new o t parent step =
-    (earlier : ℕ)
-    × (new ≡ old ++ record { object = o; ty = t; parent = parent; step = step; earlier = earlier } ∷ [])
+    new ≡ old ++ record { object = o; ty = t; parent = parent; step = step } ∷ []
 
 -- The object was met at the type's class, and nothing changed; or it was not, and is entered.
 abbrev pub Enters : Table → List Visit → List Visit → ℕ → ℕ → ℕ → ℕ → Type 0
 Enters table old new o t parent step =
     (IsMet table old o (slice_get table.classes t) × (new ≡ old))
     ⊎ ((¬ IsMet table old o (slice_get table.classes t)) × IsAppended old new o t parent step)
-
--- The object's visits from number at on are not at a type of the class, and the one before is its last before them.
-pub record IsLookedUp (table : Table) (all : List Visit) (o class at : ℕ) : Type 0 where
-  pub within : at ≤ length all
-  pub none :
-      (j : ℕ) (v : Visit) → at ≤ j → slice_get all j ≡ Some v → v.object ≡ o
-      → ¬ (slice_get table.classes v.ty ≡ Some class)
-  pub own : (j : ℕ) (v : Visit) → at ≡ suc j → slice_get all j ≡ Some v → v.object ≡ o

@@ -1,41 +1,50 @@
 //! The first two visits of one object that clash: their types differ, and at one of them the object may be changed.
 
-ghost use Rattle.std.specs.Prelude.{◌≡◌, ◌<◌, ◌↔◌, length, All, IsTrue, MatchOption};
+ghost use Rattle.std.specs.Prelude.{◌≡◌, ◌<◌, ◌↔◌, length, slice_get, Some, All, IsTrue, MatchOption};
 ghost use Rattle.om_type_table.specs.Made.{table_of};
-ghost use Rattle.om_check.specs.Visits.{AreLinked, AreLinkedBack};
-ghost use Rattle.om_check.specs.Clash.{mutable_at, IsWithin, ClashesBack, IsFirstOf, NoneClash, IsFirstClash};
+ghost use Rattle.om_check.specs.Visits.{listed, AreAligned, AreLinked};
+ghost use Rattle.om_check.specs.Clash.{mutable_at, IsWithin, AreApart, ClashesBack, IsFirstOf, NoneClash, IsFirstClash};
 
-use crate::visits::Visit;
+use crate::visits::{Visit, Visits};
 use om_fits::is_mutable;
 use om_heap::Heap;
 use om_type_table::TypeTable;
 
 /// The first visit that clashes with one before it, and the first one that it clashes with, which comes first here.
-pub fn first_clash(heap: &Heap, table: &TypeTable, all: &[Visit]) -> Option<(usize, usize)>
-    requires within { All (IsWithin (table_of table.now) heap.now) all.now }
-    requires linked { AreLinkedBack all.now }
-    ensures { MatchOption result (NoneClash (table_of table.now) heap.now all.now (length all.now)) (λ two. IsFirstClash (table_of table.now) heap.now all.now two.0 two.1) }
+pub fn first_clash(heap: &Heap, table: &TypeTable, visits: &Visits) -> Option<(usize, usize)>
+    requires within { All (IsWithin (table_of table.now) heap.now) (listed visits.now) }
+    requires classed { length table.now.classes ≡ length table.now.nodes }
+    requires apart { AreApart (table_of table.now) (listed visits.now) }
+    requires linked { AreLinked (table_of table.now) (length heap.now) visits.now }
+    ensures { MatchOption result (NoneClash (table_of table.now) heap.now (listed visits.now) (length (listed visits.now))) (λ two. IsFirstClash (table_of table.now) heap.now (listed visits.now) two.0 two.1) }
 {
-    for k in 0..all.len() {
-        if clashes_back(heap, table, all, k) {
-            return Some((first_of(all, k), k));
+    for k in 0..visits.len() {
+        if clashes_back(heap, table, visits, k) {
+            return Some((first_of(visits, k), k));
         }
     }
     None
 }
 
-/// Whether visit k or the object's visit before it is at a type at which the object may be changed.
-fn clashes_back(heap: &Heap, table: &TypeTable, all: &[Visit], k: usize) -> bool
-    requires in_range { k < length all.now }
-    requires within { All (IsWithin (table_of table.now) heap.now) all.now }
-    requires linked { AreLinkedBack all.now }
-    ensures { IsTrue result ↔ ClashesBack (table_of table.now) heap.now all.now k }
+/// Whether visit k is of an object that was met before at another class, and may be changed at the type of the visit or
+/// at the first one.
+fn clashes_back(heap: &Heap, table: &TypeTable, visits: &Visits, k: usize) -> bool
+    requires in_range { k < length (listed visits.now) }
+    requires within { All (IsWithin (table_of table.now) heap.now) (listed visits.now) }
+    requires classed { length table.now.classes ≡ length table.now.nodes }
+    requires apart { AreApart (table_of table.now) (listed visits.now) }
+    requires linked { AreLinked (table_of table.now) (length heap.now) visits.now }
+    ensures { IsTrue result ↔ ClashesBack (table_of table.now) heap.now (listed visits.now) k }
 {
-    let visit = all[k];
-    if visit.earlier == 0 {
+    let visit = visits.get(k);
+    let first = Visit {
+        ty: visits.first.get(visit.object as usize) as usize - 1,
+        ..visit
+    };
+    if table.class(first.ty) == table.class(visit.ty) {
         return false;
     }
-    is_mutable_at(heap, table, visit) || is_mutable_at(heap, table, all[visit.earlier - 1])
+    is_mutable_at(heap, table, visit) || is_mutable_at(heap, table, first)
 }
 
 /// Whether the visit's object may be changed at its type.
@@ -47,14 +56,16 @@ fn is_mutable_at(heap: &Heap, table: &TypeTable, visit: Visit) -> bool
 }
 
 /// The first visit of the object of visit k.
-fn first_of(all: &[Visit], k: usize) -> usize
-    requires in_range { k < length all.now }
-    requires linked { AreLinkedBack all.now }
-    ensures { IsFirstOf all.now k result }
+fn first_of(visits: &Visits, k: usize) -> usize
+    requires in_range { k < length (listed visits.now) }
+    requires aligned { AreAligned visits.now }
+    ensures { IsFirstOf (listed visits.now) k result }
 {
-    let mut at = k;
-    while all[at].earlier > 0 {
-        at = all[at].earlier - 1;
+    let object = visits.get(k).object;
+    for f in 0..k {
+        if visits.get(f).object == object {
+            return f;
+        }
     }
-    at
+    k
 }

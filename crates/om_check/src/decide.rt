@@ -7,6 +7,7 @@ ghost use Rattle.om_types.specs.Table.{table_shapes};
 ghost use Rattle.om_types.specs.Steps.{most_steps};
 ghost use Rattle.om_type_table.specs.Made.{table_of, IsLawful};
 ghost use Rattle.om_check.specs.Told.{AreOrdered, IsClashOf};
+ghost use Rattle.om_check.specs.Visits.{listed, AreAligned};
 ghost use Rattle.om_check.specs.Verdict.{IsVerdict};
 
 use crate::clash::first_clash;
@@ -15,7 +16,7 @@ use crate::search::search;
 use crate::steps::Steps;
 use crate::typing::Typing;
 use crate::verdict::Verdict;
-use crate::visits::{Visit, Visits};
+use crate::visits::Visits;
 use om_fits::needs_of;
 use om_heap::Heap;
 use om_model::Memory;
@@ -44,7 +45,7 @@ pub fn check(
     }
     match root {
         Val::Ref(object) => check_object(alloc, heap, object, table, steps),
-        _ => Ok(Verdict::Yes(Typing::of(Visits::none(alloc)))),
+        _ => Ok(Verdict::Yes(Typing::of(Visits::none(alloc)?))),
     }
 }
 
@@ -62,15 +63,15 @@ fn check_object(
     ensures verdict { IfOk result (IsVerdict (table_of table.now) heap.now (vals.Ref object)) }
     ensures steps { steps.new + 1 ≤ steps.old + most_steps (table_of table.now) heap.now }
 {
-    let mut visits = Visits::new(alloc, heap.count(), object)?;
-    if let Some((n, step)) = search(heap, table, &mut visits, steps)? {
-        let mut path = path_of(alloc, visits.all.as_slice(), n)?;
+    let mut visits = Visits::new(alloc, heap.count(), table, object)?;
+    if let Some((n, step)) = search(alloc, heap, table, &mut visits, steps)? {
+        let mut path = path_of(alloc, &visits, n)?;
         path.push(step)?;
         return Ok(Verdict::No(Fault::Misfit(path)));
     }
-    match first_clash(heap, table, visits.all.as_slice()) {
+    match first_clash(heap, table, &visits) {
         Some((first, second)) => {
-            let fault = clash(alloc, visits.all.as_slice(), first, second)?;
+            let fault = clash(alloc, &visits, first, second)?;
             Ok(Verdict::No(fault))
         }
         None => Ok(Verdict::Yes(Typing::of(visits))),
@@ -78,13 +79,14 @@ fn check_object(
 }
 
 /// The clash of two visits.
-fn clash(alloc: Global, all: &[Visit], first: usize, second: usize) -> Result<Fault, Memory>
-    requires first { first < length all.now }
-    requires second { second < length all.now }
-    requires ordered { AreOrdered all.now }
-    ensures { IfOk result (IsClashOf all.now first second) }
+fn clash(alloc: Global, visits: &Visits, first: usize, second: usize) -> Result<Fault, Memory>
+    requires aligned { AreAligned visits.now }
+    requires first { first < length (listed visits.now) }
+    requires second { second < length (listed visits.now) }
+    requires ordered { AreOrdered (listed visits.now) }
+    ensures { IfOk result (IsClashOf (listed visits.now) first second) }
 {
-    let one = path_of(alloc, all, first)?;
-    let other = path_of(alloc, all, second)?;
+    let one = path_of(alloc, visits, first)?;
+    let other = path_of(alloc, visits, second)?;
     Ok(Fault::Clash(one, other))
 }

@@ -1,11 +1,16 @@
 //! Whether a value has a type, which is a number of a table, and if not the least fault.
 #![tactic(auto)]
 
+mod cells;
 mod clash;
+mod column;
 mod decide;
 mod path;
+mod rows;
 mod search;
 mod steps;
+#[cfg(test)]
+mod tests;
 mod typing;
 mod verdict;
 mod visits;

@@ -2,23 +2,26 @@
 
 ghost use Rattle.std.specs.Prelude.{◌≡◌, ◌<◌, ◌∷◌, ◌++◌, [], length, reverse, IfOk, OnOk};
 ghost use Rattle.om_check.specs.Told.{AreOrdered, IsPathOf};
+ghost use Rattle.om_check.specs.Visits.{listed, AreAligned};
 
-use crate::visits::Visit;
+use crate::visits::Visits;
 use om_model::Memory;
 use om_model::path::Path;
 use std::alloc::Global;
 
 /// The path to visit k: its steps are found from the last one back.
-pub fn path_of(alloc: Global, all: &[Visit], k: usize) -> Result<Path, Memory>
-    requires in_range { k < length all.now }
-    requires ordered { AreOrdered all.now }
-    ensures { IfOk result (λ path. IsPathOf all.now k path) }
+pub fn path_of(alloc: Global, visits: &Visits, k: usize) -> Result<Path, Memory>
+    requires aligned { AreAligned visits.now }
+    requires in_range { k < length (listed visits.now) }
+    requires ordered { AreOrdered (listed visits.now) }
+    ensures { IfOk result (λ path. IsPathOf (listed visits.now) k path) }
 {
     let mut steps = Vec::new(alloc);
     let mut at = k;
     while at > 0 {
-        put_step(&mut steps, all[at].step)?;
-        at = all[at].parent;
+        let visit = visits.get(at);
+        put_step(&mut steps, visit.step)?;
+        at = visit.parent;
     }
     reversed(alloc, steps)
 }

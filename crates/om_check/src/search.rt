@@ -1,20 +1,26 @@
 //! Breadth first, each object is taken once at each class, and what it needs there is tested.
 
-ghost use Rattle.std.specs.Prelude.{◌≡◌, ◌<◌, ◌≤◌, ◌+◌, length, All, IfOk, OnOk};
-ghost use Rattle.om_heap.specs.Heap.{object_at, fields_of};
+ghost use Rattle.std.specs.Prelude.{◌≡◌, ◌<◌, ◌≤◌, ◌+◌, ◌↔◌, length, All, IfOk, OnOk, IsTrue};
+ghost use Rattle.om_model.specs.Graph.{IsValue, IsGraph};
+ghost use Rattle.om_model.specs.declared.value.Val.{Val};
+ghost use Rattle.om_heap.specs.Heap.{object_at, fields_of, field_at, word_of, IsFieldWord};
+ghost use Rattle.om_types.specs.Table.{table_shapes};
+ghost use Rattle.om_check.specs.Rows.{AreRows};
 ghost use Rattle.om_types.specs.Steps.{most_steps};
 ghost use Rattle.om_type_table.specs.Made.{table_of, IsLawful};
-ghost use Rattle.om_check.specs.Visits.{AreLinked};
+ghost use Rattle.om_check.specs.Visits.{listed, AreLinked};
 ghost use Rattle.om_check.specs.Explored.{IsExplored};
 ghost use Rattle.om_check.specs.Search.{TestsNeed, TestsVisit, Searches, cost_at};
 
+use crate::rows::rows_of;
 use crate::steps::Steps;
 use crate::visits::Visits;
-use om_fits::needs_of;
+use om_fits::{Row, needs_of, surely_fits};
 use om_heap::Heap;
 use om_model::Memory;
 use om_model::value::Val;
 use om_type_table::TypeTable;
+use std::alloc::Global;
 
 /// What an object needs: its field `step` is to have the type. It is visited at place `parent`.
 #[derive(Clone, Copy)]
@@ -28,21 +34,44 @@ pub struct Need {
 /// Tests what each visit needs, and enters the objects that are met. The answer is the first misfit: the place of a
 /// visit, and the number of its field that does not fit.
 pub fn search(
+    alloc: Global,
     heap: &Heap,
     table: &TypeTable,
     visits: &mut Visits,
     steps: &mut Steps,
 ) -> Result<Option<(usize, u64)>, Memory>
+    requires graph { IsGraph heap.now }
     requires lawful { IsLawful (table_of table.now) }
-    requires linked { AreLinked (length heap.now) visits.old }
-    requires explored { IsExplored (table_of table.now) heap.now visits.old.all.items 0 0 }
-    ensures linked { OnOk result (AreLinked (length heap.now) visits.new) }
-    ensures searches { IfOk result (Searches (table_of table.now) heap.now visits.old.all.items visits.new.all.items) }
+    requires linked { AreLinked (table_of table.now) (length heap.now) visits.old }
+    requires explored { IsExplored (table_of table.now) heap.now (listed visits.old) 0 0 }
+    ensures linked { OnOk result (AreLinked (table_of table.now) (length heap.now) visits.new) }
+    ensures searches { IfOk result (Searches (table_of table.now) heap.now (listed visits.old) (listed visits.new)) }
+    ensures steps { steps.new + 1 ≤ steps.old + most_steps (table_of table.now) heap.now }
+{
+    let rows = rows_of(alloc, heap, table)?;
+    search_by(heap, table, &rows, visits, steps)
+}
+
+/// The same by these rows.
+fn search_by(
+    heap: &Heap,
+    table: &TypeTable,
+    rows: &[Row],
+    visits: &mut Visits,
+    steps: &mut Steps,
+) -> Result<Option<(usize, u64)>, Memory>
+    requires graph { IsGraph heap.now }
+    requires rows { AreRows table.now.nodes rows.now }
+    requires lawful { IsLawful (table_of table.now) }
+    requires linked { AreLinked (table_of table.now) (length heap.now) visits.old }
+    requires explored { IsExplored (table_of table.now) heap.now (listed visits.old) 0 0 }
+    ensures linked { OnOk result (AreLinked (table_of table.now) (length heap.now) visits.new) }
+    ensures searches { IfOk result (Searches (table_of table.now) heap.now (listed visits.old) (listed visits.new)) }
     ensures steps { steps.new + 1 ≤ steps.old + most_steps (table_of table.now) heap.now }
 {
     let mut n = 0;
-    while n < visits.all.len() {
-        if let Some(step) = test_visit(heap, table, visits, n, steps)? {
+    while n < visits.len() {
+        if let Some(step) = test_visit(heap, table, rows, visits, n, steps)? {
             return Ok(Some((n, step)));
         }
         n += 1;
@@ -54,23 +83,30 @@ pub fn search(
 fn test_visit(
     heap: &Heap,
     table: &TypeTable,
+    rows: &[Row],
     visits: &mut Visits,
     n: usize,
     steps: &mut Steps,
 ) -> Result<Option<u64>, Memory>
-    requires in_range { n < length visits.old.all.items }
+    requires in_range { n < length (listed visits.old) }
+    requires graph { IsGraph heap.now }
+    requires rows { AreRows table.now.nodes rows.now }
     requires lawful { IsLawful (table_of table.now) }
-    requires linked { AreLinked (length heap.now) visits.old }
-    requires explored { IsExplored (table_of table.now) heap.now visits.old.all.items n 0 }
-    ensures linked { OnOk result (AreLinked (length heap.now) visits.new) }
-    ensures tests { IfOk result (TestsVisit (table_of table.now) heap.now visits.old.all.items visits.new.all.items n) }
-    ensures steps { steps.new ≤ steps.old + cost_at (table_of table.now) heap.now visits.old.all.items n }
+    requires linked { AreLinked (table_of table.now) (length heap.now) visits.old }
+    requires explored { IsExplored (table_of table.now) heap.now (listed visits.old) n 0 }
+    ensures linked { OnOk result (AreLinked (table_of table.now) (length heap.now) visits.new) }
+    ensures tests { IfOk result (TestsVisit (table_of table.now) heap.now (listed visits.old) (listed visits.new) n) }
+    ensures steps { steps.new ≤ steps.old + cost_at (table_of table.now) heap.now (listed visits.old) n }
 {
     steps.raise();
-    let visit = visits.all[n];
+    let visit = visits.get(n);
     let Some(needs) = needs_of(heap, Val::Ref(visit.object), table.shape(visit.ty)) else {
         return Ok(None);
     };
+    if needs.len() == 0 {
+        return Ok(None);
+    }
+    let words = heap.fields(visit.object);
     for k in 0..needs.len() {
         let (step, ty) = needs.get(k);
         steps.raise();
@@ -80,35 +116,54 @@ fn test_visit(
             step,
             ty,
         };
-        if !test_need(heap, table, visits, need)? {
+        if !test_need(heap, table, rows, visits, need, words[step as usize])? {
             return Ok(Some(step));
         }
     }
     Ok(None)
 }
 
-/// Tests a need, and enters the object that is met.
+/// Tests a need, whose field has this word, and enters the object that is met.
 fn test_need(
     heap: &Heap,
     table: &TypeTable,
+    rows: &[Row],
     visits: &mut Visits,
     need: Need,
+    word: u64,
 ) -> Result<bool, Memory>
+    requires graph { IsGraph heap.now }
+    requires rows { AreRows table.now.nodes rows.now }
     requires object { need.object < length heap.now }
     requires field { need.step < length (fields_of (object_at heap.now need.object)) }
+    requires word { word ≡ word_of heap.now (field_at heap.now need.object need.step) }
     requires node { need.ty < length table.now.nodes }
     requires class { need.ty < length table.now.classes }
-    requires types { All (λ visit. visit.ty < length table.now.classes) visits.old.all.items }
-    requires linked { AreLinked (length heap.now) visits.old }
-    ensures linked { OnOk result (AreLinked (length heap.now) visits.new) }
-    ensures tests { IfOk result (TestsNeed (table_of table.now) heap.now visits.old.all.items visits.new.all.items need) }
+    requires types { All (λ visit. visit.ty < length table.now.classes) (listed visits.old) }
+    requires linked { AreLinked (table_of table.now) (length heap.now) visits.old }
+    ensures linked { OnOk result (AreLinked (table_of table.now) (length heap.now) visits.new) }
+    ensures tests { IfOk result (TestsNeed (table_of table.now) heap.now (listed visits.old) (listed visits.new) need) }
 {
-    let value = heap.field(need.object, need.step);
-    if needs_of(heap, value, table.shape(need.ty)).is_none() {
+    if !fits_type(heap, table, rows, need.ty, word) {
         return Ok(false);
     }
-    if let Val::Ref(object) = value {
+    if word % 8 == 0 {
+        let object = heap.number(word);
         visits.enter(table, object, need.ty, need.parent, need.step)?;
     }
     Ok(true)
+}
+
+/// Whether the value of a word fits a type.
+fn fits_type(heap: &Heap, table: &TypeTable, rows: &[Row], ty: usize, word: u64) -> bool
+    requires graph { IsGraph heap.now }
+    requires rows { AreRows table.now.nodes rows.now }
+    requires word { IsFieldWord heap.now word }
+    requires node { ty < length table.now.nodes }
+    ensures { (v : Val) → IsValue (length heap.now) v → word ≡ word_of heap.now v → IsTrue result ↔ (table_shapes (table_of table.now)).fits heap.now v ty }
+{
+    if ty < rows.len() && surely_fits(heap, rows[ty], word) {
+        return true;
+    }
+    needs_of(heap, heap.value_of(word), table.shape(ty)).is_some()
 }

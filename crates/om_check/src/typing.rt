@@ -2,6 +2,7 @@
 
 ghost use Rattle.std.specs.Prelude.{◌≡◌, ◌<◌, length, slice_get, Some};
 ghost use Rattle.om_check.specs.Search.{pairs_of};
+ghost use Rattle.om_check.specs.Visits.{listed, AreAligned};
 
 use crate::visits::Visits;
 use std::marker::Model;
@@ -18,14 +19,18 @@ impl Model for Typing {
     ghost Value = { List (ℕ × ℕ) };
 
     ghost use Rattle.om_check.specs.Search.{pairs_of};
+    ghost use Rattle.om_check.specs.Visits.{listed, AreAligned};
 
-    ghost view = { λ t. pairs_of t.visits.all.items };
+    ghost view = { λ t. pairs_of (listed t.visits) };
+
+    ghost invariant = { λ t. AreAligned t.visits };
 }
 
 impl Typing {
     /// The typing that the visits are.
     pub fn of(visits: Visits) -> Typing
-        ensures { result ≡ pairs_of visits.all.items }
+        requires { AreAligned visits }
+        ensures { result ≡ pairs_of (listed visits) }
     {
         Typing { visits }
     }
@@ -34,7 +39,7 @@ impl Typing {
     pub fn len(&self) -> usize
         ensures { result ≡ length self.now }
     {
-        self.visits.all.len()
+        self.visits.len()
     }
 
     /// Object and type number k.
@@ -42,7 +47,7 @@ impl Typing {
         requires { k < length self.now }
         ensures { slice_get self.now k ≡ Some (result.0, result.1) }
     {
-        let visit = self.visits.all[k];
+        let visit = self.visits.get(k);
         (visit.object, visit.ty)
     }
 }

@@ -1,12 +1,15 @@
 //! The objects that a check has met, each at a type, in the order in which it meets them.
 
-ghost use Rattle.std.specs.Prelude.{ℕ, ◌≡◌, ◌<◌, ◌↔◌, ◌∷◌, [], length, replicate, All, Some, IfOk, OnOk, IsTrue};
+ghost use Rattle.std.specs.Prelude.{ℕ, ◌≡◌, ◌<◌, ◌↔◌, ◌∷◌, ◌++◌, [], length, All, Some, slice_get, IfOk, OnOk, IsTrue};
 ghost use Rattle.om_type_table.specs.Made.{table_of};
-ghost use Rattle.om_check.specs.Visits.{AreLinked, IsMet, IsAppended, Enters};
+ghost use Rattle.om_check.specs.Visits.{listed, AreAligned, AreLinked, IsMet, IsAppended, Enters};
 
+use crate::cells::Cells;
+use crate::column::Column;
 use om_model::Memory;
 use om_type_table::TypeTable;
 use std::alloc::Global;
+use std::collections::BTreeSet;
 
 /// An object at a type: a field, by its number, of the visit at `parent` leads to it. The first visit is the root's.
 #[derive(Clone, Copy)]
@@ -15,39 +18,75 @@ pub struct Visit {
     pub ty: usize,
     pub parent: usize,
     pub step: u64,
-    /// One more than the place of the object's visit before this one, or 0.
-    pub earlier: usize,
 }
 
-/// All visits, and for each object one more than the place of its last one, or 0.
+/// All visits, by columns.
 #[derive(Drop)]
 pub struct Visits {
-    pub all: Vec<Visit>,
-    pub latest: Vec<usize>,
+    pub objects: Column,
+    pub types: Column,
+    pub parents: Column,
+    pub steps: Column,
+    /// For each object one more than the type of its first visit, or 0.
+    pub first: Cells,
+    /// What was met at a second class or a later one, with that class.
+    pub later: BTreeSet<(u64, usize)>,
 }
 
 impl Visits {
     /// The visit of the root alone.
-    pub fn new(alloc: Global, objects: u64, root: u64) -> Result<Visits, Memory>
-        requires { root < objects }
-        ensures linked { IfOk result (AreLinked objects) }
-        ensures root { IfOk result (λ visits. visits.all.items ≡ record { object = root; ty = 0; parent = 0; step = 0; earlier = 0 } ∷ []) }
+    pub fn new(alloc: Global, objects: u64, table: &TypeTable, root: u64) -> Result<Visits, Memory>
+        requires root { root < objects }
+        requires rooted { 0 < length table.now.classes }
+        ensures linked { IfOk result (AreLinked (table_of table.now) objects) }
+        ensures root { IfOk result (λ visits. listed visits ≡ record { object = root; ty = 0; parent = 0; step = 0 } ∷ []) }
     {
         let mut visits = Visits {
-            all: Vec::new(alloc),
-            latest: zeros(alloc, objects)?,
+            objects: Column::new(alloc),
+            types: Column::new(alloc),
+            parents: Column::new(alloc),
+            steps: Column::new(alloc),
+            first: Cells::new(alloc, objects as usize, table.classes.len())?,
+            later: BTreeSet::new(alloc),
         };
-        visits.append(root, 0, 0, 0)?;
+        visits.enter(table, root, 0, 0, 0)?;
         Ok(visits)
     }
 
     /// No visit.
-    pub fn none(alloc: Global) -> Visits
-        ensures { result.all.items ≡ [] }
+    pub fn none(alloc: Global) -> Result<Visits, Memory>
+        ensures aligned { IfOk result AreAligned }
+        ensures none { IfOk result (λ visits. listed visits ≡ []) }
     {
-        Visits {
-            all: Vec::new(alloc),
-            latest: Vec::new(alloc),
+        Ok(Visits {
+            objects: Column::new(alloc),
+            types: Column::new(alloc),
+            parents: Column::new(alloc),
+            steps: Column::new(alloc),
+            first: Cells::new(alloc, 0, 0)?,
+            later: BTreeSet::new(alloc),
+        })
+    }
+
+    /// How many there are.
+    pub fn len(&self) -> usize
+        requires { AreAligned self.now }
+        ensures { result ≡ length (listed self.now) }
+    {
+        self.objects.len()
+    }
+
+    /// Visit k.
+    pub fn get(&self, k: usize) -> Visit
+        requires aligned { AreAligned self.now }
+        requires in_range { k < length (listed self.now) }
+        ensures { slice_get (listed self.now) k ≡ Some result }
+    {
+        Visit {
+            object: self.objects.get(k),
+            ty: self.types.get(k) as usize,
+            parent: self.parents.get(k) as usize,
+            step: self.steps.get(k),
         }
     }
 
@@ -60,62 +99,46 @@ impl Visits {
         parent: usize,
         step: u64,
     ) -> Result<(), Memory>
-        requires object { object < length self.old.latest.items }
+        requires object { object < length self.old.first }
         requires ty { ty < length table.now.classes }
-        requires types { All (λ visit. visit.ty < length table.now.classes) self.old.all.items }
-        requires linked { AreLinked (length self.old.latest.items) self.old }
-        ensures linked { OnOk result (AreLinked (length self.old.latest.items) self.new) }
-        ensures enters { OnOk result (Enters (table_of table.now) self.old.all.items self.new.all.items object ty parent step) }
+        requires types { All (λ visit. visit.ty < length table.now.classes) (listed self.old) }
+        requires linked { AreLinked (table_of table.now) (length self.old.first) self.old }
+        ensures linked { OnOk result (AreLinked (table_of table.now) (length self.old.first) self.new) }
+        ensures enters { OnOk result (Enters (table_of table.now) (listed self.old) (listed self.new) object ty parent step) }
     {
-        if self.is_met(table, object, table.class(ty)) {
+        let first = self.first.get(object as usize);
+        if first == 0 {
+            let Some(cell) = (ty as u64).checked_add(1) else {
+                return Err(Memory);
+            };
+            self.first.set(object as usize, cell)?;
+            self.append(object, ty, parent, step)?;
             return Ok(());
         }
-        self.append(object, ty, parent, step)
-    }
-
-    /// Whether the object was met at a type of the class.
-    fn is_met(&self, table: &TypeTable, object: u64, class: usize) -> bool
-        requires object { object < length self.now.latest.items }
-        requires types { All (λ visit. visit.ty < length table.now.classes) self.now.all.items }
-        requires linked { AreLinked (length self.now.latest.items) self.now }
-        ensures { IsTrue result ↔ IsMet (table_of table.now) self.now.all.items object (Some class) }
-    {
-        let mut at = self.latest[object as usize];
-        while at > 0 {
-            let visit = self.all[at - 1];
-            if table.class(visit.ty) == class {
-                return true;
-            }
-            at = visit.earlier;
+        let class = table.class(ty);
+        if table.class(first as usize - 1) == class {
+            return Ok(());
         }
-        false
+        if self.later.contains(&(object, class)) {
+            return Ok(());
+        }
+        self.later.insert((object, class))?;
+        self.append(object, ty, parent, step)?;
+        Ok(())
     }
 
     /// Puts a visit of an object at the end.
     fn append(&mut self, object: u64, ty: usize, parent: usize, step: u64) -> Result<(), Memory>
-        requires object { object < length self.old.latest.items }
-        requires linked { AreLinked (length self.old.latest.items) self.old }
-        ensures linked { OnOk result (AreLinked (length self.old.latest.items) self.new) }
-        ensures all { OnOk result (IsAppended self.old.all.items self.new.all.items object ty parent step) }
+        requires { AreAligned self.old }
+        ensures aligned { OnOk result (AreAligned self.new) }
+        ensures all { OnOk result (IsAppended (listed self.old) (listed self.new) object ty parent step) }
+        ensures first { self.new.first ≡ self.old.first }
+        ensures later { self.new.later ≡ self.old.later }
     {
-        let earlier = self.latest[object as usize];
-        self.all.push(Visit {
-            object,
-            ty,
-            parent,
-            step,
-            earlier,
-        })?;
-        self.latest[object as usize] = self.all.len();
+        self.objects.push(object)?;
+        self.types.push(ty as u64)?;
+        self.parents.push(parent as u64)?;
+        self.steps.push(step)?;
         Ok(())
     }
-}
-
-/// So many zeros.
-fn zeros(alloc: Global, count: u64) -> Result<Vec<usize>, Memory>
-    ensures { IfOk result (λ zeros. zeros.items ≡ replicate count 0) }
-{
-    let mut zeros = Vec::new(alloc);
-    zeros.resize(count as usize, 0)?;
-    Ok(zeros)
 }

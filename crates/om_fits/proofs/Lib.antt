@@ -1,1 +1,2 @@
 pub mod NeedLemmas
+pub mod RowLemmas

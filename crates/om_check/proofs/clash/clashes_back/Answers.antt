@@ -1,30 +1,60 @@
-use Rattle.std.proofs.Common.{◌<◌, ◌∙◌, sym, arith, get_or}
+use Rattle.std.proofs.Common.{◌-◌, ◌∙◌, inl, inr, ⊎_elim, Some, refl, sym, ap, arith}
 use Rattle.std.proofs.lemmas.Bool.{false≢true}
-use Rattle.std.proofs.lemmas.Option.{slice_get-get_or}
+use Rattle.std.proofs.lemmas.Option.{same_Some}
 use Rattle.om_type_table.specs.Made.{table_of}
 use Rattle.om_check.specs.declared.visits.Visit.{Visit}
-use Rattle.om_check.proofs.ClashLemmas.{clashes_at_own, clashes_at_earlier, earlier_within}
+use Rattle.om_check.specs.Visits.{listed}
+use Rattle.om_check.proofs.ClashLemmas.{first_read, first_within, own_within, clash_from, clash_to, no_clash}
 use Rattle.om_check.proofs.clash.clashes_back.Goals as goal
 
-abbrev no_visit : Visit
-no_visit = record { object = 0; ty = 0; parent = 0; step = 0; earlier = 0 }
+pub class-requires : goal.class-requires
+class-requires c =
+    let all = listed c.args.visits.now in
+    let read = first_read (table_of c.args.table.now) c.args.heap.now c.args.visits.now c.args.k c.get.result c.get-visit.result c.requires.linked c.requires.within c.get-visit.ensures c.get.ensures in
+    let node = first_within (table_of c.args.table.now) c.args.heap.now (listed c.args.visits.now) c.get-visit.result.object (c.get.result - 1) c.requires.within read.1 in
+    omega (arith, node, c.requires.classed)
+
+pub class-requires-2 : goal.class-requires-2
+class-requires-2 c =
+    let own = own_within (table_of c.args.table.now) c.args.heap.now (listed c.args.visits.now) c.args.k c.get-visit.result c.requires.within c.get-visit.ensures in
+    omega (arith, own.1, c.requires.classed)
+
+pub returns-then-class : goal.returns-then-class
+returns-then-class c =
+    let read = first_read (table_of c.args.table.now) c.args.heap.now c.args.visits.now c.args.k c.get.result c.get-visit.result c.requires.linked c.requires.within c.get-visit.ensures c.get.ensures in (
+      λ never. absurd (false≢true never),
+      λ back. absurd (no_clash (table_of c.args.table.now) c.args.heap.now (listed c.args.visits.now) c.args.k (c.get.result - 1) c.get-visit.result c.get-visit.ensures read.1 c.requires.apart
+          (c.class.ensures ∙ ap (λ m. Some m) c.if-class.true ∙ sym c.class-2.ensures) back),
+    )
+
+pub is_mutable_at-requires : goal.is_mutable_at-requires
+is_mutable_at-requires c = own_within (table_of c.args.table.now) c.args.heap.now (listed c.args.visits.now) c.args.k c.get-visit.result c.requires.within c.get-visit.ensures
+
+pub is_mutable_at-requires-else-is_mutable_at : goal.is_mutable_at-requires-else-is_mutable_at
+is_mutable_at-requires-else-is_mutable_at c =
+    let own = own_within (table_of c.args.table.now) c.args.heap.now (listed c.args.visits.now) c.args.k c.get-visit.result c.requires.within c.get-visit.ensures in
+    let read = first_read (table_of c.args.table.now) c.args.heap.now c.args.visits.now c.args.k c.get.result c.get-visit.result c.requires.linked c.requires.within c.get-visit.ensures c.get.ensures in
+    (own.0, first_within (table_of c.args.table.now) c.args.heap.now (listed c.args.visits.now) c.get-visit.result.object (c.get.result - 1) c.requires.within read.1)
 
 pub returns-then-is_mutable_at : goal.returns-then-is_mutable_at
 returns-then-is_mutable_at c =
-    let at_k = slice_get-get_or c.args.all.now c.args.k no_visit c.requires.in_range in
-    let some : 0 < (get_or c.args.all.now c.args.k no_visit).earlier = omega (arith, c.if-visit-eq0.false) in (
-      λ mutable. clashes_at_own (table_of c.args.table.now) c.args.heap.now c.args.all.now c.requires.linked c.args.k (get_or c.args.all.now c.args.k no_visit) at_k some (sym c.is_mutable_at.ensures ∙ mutable),
+    let read = first_read (table_of c.args.table.now) c.args.heap.now c.args.visits.now c.args.k c.get.result c.get-visit.result c.requires.linked c.requires.within c.get-visit.ensures c.get.ensures in
+    let w : Visit = record { object = c.get-visit.result.object; ty = c.get.result - 1; parent = c.get-visit.result.parent; step = c.get-visit.result.step } in (
+      λ mutable. clash_from (table_of c.args.table.now) c.args.heap.now (listed c.args.visits.now) c.args.k (c.get.result - 1) c.get-visit.result c.get-visit.ensures read.1 w refl refl
+          (λ same. c.if-class.false (same_Some c.class.result c.class-2.result (sym c.class.ensures ∙ same ∙ c.class-2.ensures)))
+          (inr (sym c.is_mutable_at.ensures ∙ mutable)),
       λ back. c.if-is_mutable_at.true,
     )
 
 pub returns-else-is_mutable_at : goal.returns-else-is_mutable_at
 returns-else-is_mutable_at c =
-    let v = get_or c.args.all.now c.args.k no_visit in
-    let at_k = slice_get-get_or c.args.all.now c.args.k no_visit c.requires.in_range in
-    let some : 0 < (get_or c.args.all.now c.args.k no_visit).earlier = omega (arith, c.if-visit-eq0.false) in
-    let inside = earlier_within c.args.all.now c.requires.linked c.args.k v at_k some in
-    let both = clashes_at_earlier (table_of c.args.table.now) c.args.heap.now c.args.all.now c.requires.linked c.args.k v _ at_k some
-    (slice_get-get_or c.args.all.now _ no_visit inside) (λ own. false≢true (sym c.if-is_mutable_at.false ∙ c.is_mutable_at.ensures ∙ own)) in (
-      λ mutable. both.0 (sym c.is_mutable_at-else-is_mutable_at.ensures ∙ mutable),
-      λ back. c.is_mutable_at-else-is_mutable_at.ensures ∙ both.1 back,
+    let read = first_read (table_of c.args.table.now) c.args.heap.now c.args.visits.now c.args.k c.get.result c.get-visit.result c.requires.linked c.requires.within c.get-visit.ensures c.get.ensures in
+    let w : Visit = record { object = c.get-visit.result.object; ty = c.get.result - 1; parent = c.get-visit.result.parent; step = c.get-visit.result.step } in (
+      λ mutable. clash_from (table_of c.args.table.now) c.args.heap.now (listed c.args.visits.now) c.args.k (c.get.result - 1) c.get-visit.result c.get-visit.ensures read.1 w refl refl
+          (λ same. c.if-class.false (same_Some c.class.result c.class-2.result (sym c.class.ensures ∙ same ∙ c.class-2.ensures)))
+          (inl (sym c.is_mutable_at-else-is_mutable_at.ensures ∙ mutable)),
+      λ back. ⊎_elim
+          (λ one. c.is_mutable_at-else-is_mutable_at.ensures ∙ one)
+          (λ own. absurd (false≢true (sym c.if-is_mutable_at.false ∙ c.is_mutable_at.ensures ∙ own)))
+          (clash_to (table_of c.args.table.now) c.args.heap.now (listed c.args.visits.now) c.args.k (c.get.result - 1) c.get-visit.result c.get-visit.ensures read.1 w refl refl back),
     )

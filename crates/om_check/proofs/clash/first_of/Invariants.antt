@@ -1,8 +1,9 @@
-use Rattle.om_check.specs.Clash.{IsSameObject}
+use Rattle.std.proofs.Common.{◌<◌, ◌≡◌, Some}
+use Rattle.std.specs.Prelude.{ℕ, slice_get}
+use Rattle.om_check.specs.declared.visits.Visit.{Visit}
+use Rattle.om_check.specs.Visits.{listed}
 use Rattle.om_check.proofs.clash.first_of.Given as goal
 
-abbrev pub invariant-loop-at : goal.invariant-loop-at
-invariant-loop-at l = IsSameObject l.all l.k l.at
-
-abbrev pub decreases-loop-at : goal.decreases-loop-at
-decreases-loop-at l = l.at
+-- none so far is of the object
+abbrev pub invariant-loop-f : goal.invariant-loop-f
+invariant-loop-f l = (j : ℕ) (v : Visit) → j < l.f → slice_get (listed l.visits) j ≡ Some v → ¬ (v.object ≡ l.object)

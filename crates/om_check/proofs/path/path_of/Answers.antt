@@ -1,12 +1,12 @@
-use Rattle.std.proofs.lemmas.Option.{slice_get-get_or}
 use Rattle.std.proofs.lemmas.Result.{IfOk-weaker}
+use Rattle.om_check.specs.Visits.{listed}
 use Rattle.om_check.proofs.ToldLemmas.{rest_back, rest_at_root}
 use Rattle.om_check.proofs.path.path_of.Goals as goal
 
 pub loop-at-preserved : goal.loop-at-preserved
 loop-at-preserved c =
-    rest_back c.args.all.now c.args.k c.loop-at.at c.loop-at.steps.items c.put_step.new.steps.items _ c.requires.ordered c.loop-at.invariant c.loop-at-test.true
-    (slice_get-get_or c.args.all.now c.loop-at.at _ c.loop-at.invariant.within) c.in_ok-put_step.ensures
+    rest_back (listed c.args.visits.now) c.args.k c.loop-at.at c.loop-at.steps.items c.put_step.new.steps.items _ c.requires.ordered c.loop-at.invariant c.loop-at-test.true
+    c.get-visit.ensures c.in_ok-put_step.ensures
 
 pub returns : goal.returns
-returns c = IfOk-weaker c.reversed.result _ _ (λ path is. rest_at_root c.args.all.now c.args.k c.loop-at.at _ path c.loop-at.invariant c.loop-at-test.false is) c.reversed.ensures
+returns c = IfOk-weaker c.reversed.result _ _ (λ path is. rest_at_root (listed c.args.visits.now) c.args.k c.loop-at.at _ path c.loop-at.invariant c.loop-at-test.false is) c.reversed.ensures

@@ -1,4 +1,4 @@
-use Rattle.std.proofs.Common.{◌≡◌, ◌<◌, ◌∙◌, length, ap, subst, arith}
+use Rattle.std.proofs.Common.{◌<◌, ◌∙◌, length, ap, subst, arith}
 use Rattle.std.specs.Prelude.{slice_get}
 use Rattle.om_fits.specs.Needs.{needs_in}
 use Rattle.om_fits.proofs.NeedLemmas.{length-numbered, length-each, slice_get-numbered, slice_get-replicate}

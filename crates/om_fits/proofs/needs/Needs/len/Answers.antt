@@ -1,4 +1,4 @@
-use Rattle.std.proofs.Common.{◌≡◌, ◌∙◌, length, sym, ap}
+use Rattle.std.proofs.Common.{◌∙◌, length, sym, ap}
 use Rattle.om_fits.specs.Needs.{needs_in}
 use Rattle.om_fits.proofs.NeedLemmas.{length-numbered, length-each}
 use Rattle.om_fits.proofs.needs.Needs.len.Goals as goal

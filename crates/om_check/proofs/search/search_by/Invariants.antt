@@ -1,7 +1,7 @@
 use Rattle.std.proofs.Common.{◌-◌, ◌^◌}
 use Rattle.om_type_table.specs.Made.{table_of}
 use Rattle.om_check.specs.Search.{IsSearching}
-use Rattle.om_check.proofs.search.search.Given as goal
+use Rattle.om_check.proofs.search.search_by.Given as goal
 
 abbrev pub invariant-loop-n : goal.invariant-loop-n
 invariant-loop-n l = IsSearching (table_of l.table) l.heap l.fn.visits l.visits l.n l.fn.steps l.steps

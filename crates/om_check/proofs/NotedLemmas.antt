@@ -1,0 +1,257 @@
+-- What is noted of the objects that were met, while visits are added.
+use Rattle.std.proofs.Common.{ℕ, zero, suc, ◌<◌, ◌≡◌, ◌∙◌, ◌⊎◌, inl, inr, ⊎_elim, Bool, true, false, List, [], ◌∷◌, ◌++◌, length, Option, Some, cond, refl, sym, ap, subst, arith}
+use Rattle.std.specs.Prelude.{All, IsTrue, slice_get, slice_set, replicate}
+use Rattle.std.proofs.lemmas.List.Elements.{All-contains}
+use Rattle.std.specs.declared.cmp.Ordering.{Ordering}
+use Rattle.std.specs.Ordering.{is_eq, nat_cmp}
+use Rattle.std.specs.declared.cmp.Ordering.TheVariants.{Less, Equal, Greater}
+use Rattle.std.specs.List.{list_any}
+use Rattle.std.specs.BTreeMap.{is_at}
+use Rattle.std.specs.BTreeSet.{BTreeSet, contains, Updates}
+use Rattle.std.proofs.lemmas.Bool.{false≢true}
+use Rattle.std.proofs.lemmas.Map.Lookups.{exact_pairs, exact_unsigned}
+use Rattle.std.proofs.lemmas.Option.{same_Some, none-some, slice_get_within}
+use Rattle.om_model.proofs.Options.{same_or_not, slice_get-Contains}
+use Rattle.om_types.specs.Table.{Table}
+use Rattle.om_check.specs.declared.visits.Visit.{Visit}
+use Rattle.om_check.specs.declared.visits.Visits.{Visits}
+use Rattle.om_check.specs.Visits.{zipped, listed, IsMet, IsFirstAt, IsAppended, AreAligned, AreNoted, AreLinked, pair_cmp}
+use Rattle.om_check.proofs.PlaceLemmas.{slice_get-append_left, slice_get-append_below, slice_get-push_cases, slice_get-last}
+
+-- ---- lists
+
+slice_get-zeros : (n k x : ℕ) → slice_get (replicate n 0) k ≡ Some x → x ≡ 0
+slice_get-zeros zero k x at_k = absurd (none-some x at_k)
+slice_get-zeros (suc n) zero x at_k = sym (same_Some 0 x at_k)
+slice_get-zeros (suc n) (suc k) x at_k = slice_get-zeros n k x at_k
+
+slice_set_here : (xs : List ℕ) (k x y : ℕ) → slice_get (slice_set xs k y) k ≡ Some x → x ≡ y
+slice_set_here [] k x y at_k = absurd (none-some x at_k)
+slice_set_here (z ∷ xs) zero x y at_k = sym (same_Some y x at_k)
+slice_set_here (z ∷ xs) (suc k) x y at_k = slice_set_here xs k x y at_k
+
+slice_set_other : (xs : List ℕ) (k j y : ℕ) → ¬ (j ≡ k) → slice_get (slice_set xs k y) j ≡ slice_get xs j
+slice_set_other [] k j y other = refl
+slice_set_other (z ∷ xs) zero zero y other = absurd (other refl)
+slice_set_other (z ∷ xs) zero (suc j) y other = refl
+slice_set_other (z ∷ xs) (suc k) zero y other = refl
+slice_set_other (z ∷ xs) (suc k) (suc j) y other = slice_set_other xs k j y (λ same. other (ap suc same))
+
+-- ---- the set of what was met later
+
+equal_from : (o : Ordering) → is_eq o ≡ true → o ≡ Equal
+equal_from Less is = absurd (false≢true is)
+equal_from Equal is = refl
+equal_from Greater is = absurd (false≢true is)
+
+same_pair : (k q : ℕ × ℕ) → is_at (pair_cmp k) q ≡ true → k ≡ q
+same_pair k q is = exact_pairs nat_cmp nat_cmp exact_unsigned exact_unsigned k q (equal_from (pair_cmp k q) is)
+
+cond_true : (test other : Bool) → cond test true other ≡ true → (test ≡ true) ⊎ (other ≡ true)
+cond_true true other is = inl refl
+cond_true false other is = inr is
+
+cond_kept : (test other : Bool) → other ≡ true → cond test true other ≡ true
+cond_kept true other is = refl
+cond_kept false other is = is
+
+pub later_before :
+    (old new : BTreeSet (ℕ × ℕ)) (k q : ℕ × ℕ) → Updates pair_cmp old new k true → IsTrue (contains pair_cmp new q)
+    → IsTrue (contains pair_cmp old q) ⊎ (k ≡ q)
+later_before old new k q updates is = ⊎_elim
+    (λ same. inr (same_pair k q same))
+    (λ there. inl there)
+    (cond_true (is_at (pair_cmp k) q) (contains pair_cmp old q) (sym (updates.0 q) ∙ is))
+
+pub later_kept :
+    (old new : BTreeSet (ℕ × ℕ)) (k q : ℕ × ℕ) → Updates pair_cmp old new k true → IsTrue (contains pair_cmp old q)
+    → IsTrue (contains pair_cmp new q)
+later_kept old new k q updates is = updates.0 q ∙ cond_kept (is_at (pair_cmp k) q) (contains pair_cmp old q) is
+
+-- ---- the start
+
+module _ (table : Table) where
+  pub noted_none : (n : ℕ) (later : ℕ → ℕ → Type 0) → ((o c : ℕ) → ¬ later o c) → AreNoted table [] (replicate n 0) later
+  noted_none n later none = record {
+    unmet = λ o k v at_o at_k. absurd (none-some v at_k);
+    met = λ o t at_o. let is = slice_get-zeros n o (suc t) at_o in absurd (omega (arith, is));
+    known = λ o t k c v at_o at_k. absurd (none-some v at_k);
+    there = λ o c is. absurd (none o c is);
+  }
+
+module _ (table : Table) (all : List Visit) (first : List ℕ) (later : ℕ → ℕ → Type 0) (noted : AreNoted table all first later) where
+  -- ---- what was met
+
+  pub met_never : (o : ℕ) (class : Option ℕ) → slice_get first o ≡ Some 0 → ¬ IsMet table all o class
+  met_never o class at_o met = noted.unmet o met.0 met.1 at_o met.2 met.3
+
+  pub met_first : (o t : ℕ) → slice_get first o ≡ Some (suc t) → IsMet table all o (slice_get table.classes t)
+  met_first o t at_o =
+      let f = noted.met o t at_o in (f.place, f.visit, f.at, f.object, ap (slice_get table.classes) f.type)
+
+  pub met_nowhere :
+      (o t c : ℕ) → slice_get first o ≡ Some (suc t) → ¬ (slice_get table.classes t ≡ Some c) → ¬ later o c
+      → ¬ IsMet table all o (Some c)
+  met_nowhere o t c at_o other unknown met = ⊎_elim other unknown (noted.known o t met.0 c met.1 at_o met.2 met.3 met.4)
+
+  -- ---- one visit more
+
+  module _ (v : Visit) where
+    more : List Visit
+    more = all ++ v ∷ []
+
+    still_first : (o t : ℕ) → IsFirstAt all o t → IsFirstAt (all ++ v ∷ []) o t
+    still_first o t f =
+        let inside = slice_get_within all f.place f.visit f.at in
+        record {
+          place = f.place;
+          visit = f.visit;
+          at = slice_get-append_left all (v ∷ []) f.place f.visit f.at;
+          object = f.object;
+          type = f.type;
+          none = λ j w less at_j. f.none j w less (slice_get-append_below all (v ∷ []) j w (omega (arith, inside, less)) at_j);
+        }
+
+    still_met : (o : ℕ) (class : Option ℕ) → IsMet table all o class → IsMet table (all ++ v ∷ []) o class
+    still_met o class met = (met.0, met.1, slice_get-append_left all (v ∷ []) met.0 met.1 met.2, met.3, met.4)
+
+    -- the object's first visit
+    pub noted_first :
+        slice_get first v.object ≡ Some 0 → AreNoted table (all ++ v ∷ []) (slice_set first v.object (suc v.ty)) later
+    noted_first at_o = record {
+      unmet = λ o k w at at_k is. ⊎_elim
+          (λ same. let e = slice_set_here first v.object 0 (suc v.ty) (subst (λ p. slice_get (slice_set first v.object (suc v.ty)) p ≡ Some 0) same at) in absurd (omega (arith, e)))
+          (λ other. ⊎_elim
+          (λ here. noted.unmet o k w (sym (slice_set_other first v.object o (suc v.ty) other) ∙ at) here is)
+          (λ last. other (sym is ∙ ap (λ (u : Visit). u.object) (sym last.1)))
+          (slice_get-push_cases all v k w at_k))
+          (same_or_not o v.object);
+      met = λ o t at. ⊎_elim
+          (λ same. own o t same (slice_set_here first v.object (suc t) (suc v.ty) (subst (λ p. slice_get (slice_set first v.object (suc v.ty)) p ≡ Some (suc t)) same at)))
+          (λ other. still_first o t (noted.met o t (sym (slice_set_other first v.object o (suc v.ty) other) ∙ at)))
+          (same_or_not o v.object);
+      known = λ o t k c w at at_k is class. ⊎_elim
+          (λ same.
+          let e = slice_set_here first v.object (suc t) (suc v.ty) (subst (λ p. slice_get (slice_set first v.object (suc v.ty)) p ≡ Some (suc t)) same at) in
+          ⊎_elim
+          (λ here. absurd (noted.unmet v.object k w at_o here (is ∙ same)))
+          (λ last.
+          let ty : w.ty ≡ t = sym (ap (λ (u : Visit). u.ty) last.1) ∙ same_number e in
+          inl (subst (λ i. slice_get table.classes i ≡ Some c) ty class))
+          (slice_get-push_cases all v k w at_k))
+          (λ other. ⊎_elim
+          (λ here. noted.known o t k c w (sym (slice_set_other first v.object o (suc v.ty) other) ∙ at) here is class)
+          (λ last. absurd (other (sym is ∙ ap (λ (u : Visit). u.object) (sym last.1))))
+          (slice_get-push_cases all v k w at_k))
+          (same_or_not o v.object);
+      there = λ o c is. still_met o (Some c) (noted.there o c is);
+    } where
+      same_number : {t : ℕ} → suc t ≡ suc v.ty → v.ty ≡ t
+      same_number e = omega (arith, e)
+
+      own : (o t : ℕ) → o ≡ v.object → suc t ≡ suc v.ty → IsFirstAt (all ++ v ∷ []) o t
+      own o t same e = record {
+        place = length all;
+        visit = v;
+        at = slice_get-last all v;
+        object = sym same;
+        type = omega (arith, e);
+        none = λ j w less at_j is. noted.unmet v.object j w at_o (slice_get-append_below all (v ∷ []) j w less at_j) (is ∙ same);
+      }
+
+    -- a later one, at a class that is new for it
+    pub noted_later :
+        (t c : ℕ) (later' : ℕ → ℕ → Type 0) → slice_get first v.object ≡ Some (suc t) → slice_get table.classes v.ty ≡ Some c
+        → ((p d : ℕ) → later' p d → later p d ⊎ ((v.object ≡ p) × (c ≡ d))) → ((p d : ℕ) → later p d → later' p d) → later' v.object c
+        → AreNoted table (all ++ v ∷ []) first later'
+    noted_later t c later' at_o class before kept new = record {
+      unmet = λ o k w at at_k is. ⊎_elim
+          (λ here. noted.unmet o k w at here is)
+          (λ last.
+          let same : v.object ≡ o = ap (λ (u : Visit). u.object) last.1 ∙ is in
+          let e = same_Some 0 (suc t) (sym at ∙ ap (slice_get first) (sym same) ∙ at_o) in absurd (omega (arith, e)))
+          (slice_get-push_cases all v k w at_k);
+      met = λ o u at. still_first o u (noted.met o u at);
+      known = λ o u k d w at at_k is at_class. ⊎_elim
+          (λ here. ⊎_elim (λ same. inl same) (λ known. inr (kept o d known)) (noted.known o u k d w at here is at_class))
+          (λ last.
+          let same : v.object ≡ o = ap (λ (x : Visit). x.object) last.1 ∙ is in
+          let e : c ≡ d = same_Some c d (sym class ∙ ap (λ (x : Visit). slice_get table.classes x.ty) last.1 ∙ at_class) in
+          inr (subst (λ p. later' p d) same (subst (λ b. later' v.object b) e new)))
+          (slice_get-push_cases all v k w at_k);
+      there = λ o d is. ⊎_elim
+          (λ known. still_met o (Some d) (noted.there o d known))
+          (λ own. (length all, v, slice_get-last all v, own.0, class ∙ ap (λ b. Some b) own.1))
+          (before o d is);
+    }
+
+-- ---- all that is kept
+
+length-set : (xs : List ℕ) (k x : ℕ) → length (slice_set xs k x) ≡ length xs
+length-set [] k x = refl
+length-set (y ∷ xs) zero x = refl
+length-set (y ∷ xs) (suc k) x = ap suc (length-set xs k x)
+
+abbrev pub later_in : BTreeSet (ℕ × ℕ) → ℕ → ℕ → Type 0
+later_in set o c = IsTrue (contains pair_cmp set (o, c))
+
+module _ (table : Table) (objects : ℕ) (old new : Visits) (o t p s : ℕ) (linked : AreLinked table objects old) (aligned : AreAligned new)
+    (appended : IsAppended (listed old) (listed new) o t p s) where
+  pub linked_first :
+      slice_get old.first o ≡ Some 0 → new.first ≡ slice_set old.first o (suc t) → new.later ≡ old.later → AreLinked table objects new
+  linked_first at_o first later =
+      let v : Visit = record { object = o; ty = t; parent = p; step = s } in
+      let noted = noted_first table (listed old) old.first (later_in old.later) linked.noted v at_o in
+      record {
+        aligned = aligned;
+        many = ap length first ∙ length-set old.first o (suc t) ∙ linked.many;
+        noted = subst (λ set. AreNoted table (listed new) new.first (later_in set)) (sym later)
+            (subst (λ cells. AreNoted table (listed new) cells (later_in old.later)) (sym first)
+            (subst (λ all. AreNoted table all (slice_set old.first o (suc t)) (later_in old.later)) (sym appended) noted));
+      }
+
+  pub linked_later :
+      (n c : ℕ) → slice_get old.first o ≡ Some (suc n) → slice_get table.classes t ≡ Some c → new.first ≡ old.first
+      → Updates pair_cmp old.later new.later (o, c) true → AreLinked table objects new
+  linked_later n c at_o class first updates =
+      let v : Visit = record { object = o; ty = t; parent = p; step = s } in
+      let noted = noted_later table (listed old) old.first (later_in old.later) linked.noted v n c (later_in new.later) at_o class
+      (λ q d is. ⊎_elim (λ known. inl known) (λ same. inr (ap (λ (x : ℕ × ℕ). x.0) same, ap (λ (x : ℕ × ℕ). x.1) same))
+      (later_before old.later new.later (o, c) (q, d) updates is))
+      (λ q d is. later_kept old.later new.later (o, c) (q, d) updates is)
+      updates.1 in
+      record {
+        aligned = aligned;
+        many = ap length first ∙ linked.many;
+        noted = subst (λ cells. AreNoted table (listed new) cells (later_in new.later)) (sym first)
+            (subst (λ all. AreNoted table all old.first (later_in new.later)) (sym appended) noted);
+      }
+
+-- the type of an object's first visit is one of those of visits
+pub first_classed :
+    (table : Table) (objects : ℕ) (visits : Visits) (o t : ℕ) → AreLinked table objects visits
+    → All (λ (visit : Visit). visit.ty < length table.classes) (listed visits) → slice_get visits.first o ≡ Some (suc t)
+    → t < length table.classes
+first_classed table objects visits o t linked types at_o =
+    let f = linked.noted.met o t at_o in
+    subst (λ i. i < length table.classes) f.type
+    (All-contains (λ (visit : Visit). visit.ty < length table.classes) (listed visits) f.visit types (slice_get-Contains (listed visits) f.place f.visit f.at))
+
+pub linked_none :
+    (table : Table) (objects n : ℕ) (visits : Visits) → visits.objects ≡ [] → visits.types ≡ [] → visits.parents ≡ [] → visits.steps ≡ []
+    → length visits.first ≡ objects → visits.first ≡ replicate n 0 → visits.later.keys ≡ [] → AreLinked table objects visits
+linked_none table objects n visits no_objects no_types no_parents no_steps many zeros none = record {
+  aligned = record {
+    types = ap length no_types ∙ sym (ap length no_objects);
+    parents = ap length no_parents ∙ sym (ap length no_objects);
+    steps = ap length no_steps ∙ sym (ap length no_objects);
+  };
+  many = many;
+  noted = subst (λ all. AreNoted table all visits.first (later_in visits.later)) (sym empty)
+      (subst (λ cells. AreNoted table [] cells (later_in visits.later)) (sym zeros) (noted_none table n (later_in visits.later) unknown));
+} where
+  empty : listed visits ≡ []
+  empty = ap (λ os. zipped os visits.types visits.parents visits.steps) no_objects
+
+  unknown : (o c : ℕ) → ¬ later_in visits.later o c
+  unknown o c is = false≢true (sym (ap (λ keys. list_any (is_at (pair_cmp (o, c))) keys) none) ∙ is)

@@ -1,0 +1,16 @@
+use Rattle.std.proofs.Common.{◌∙◌, sym, ap, subst}
+use Rattle.std.specs.Prelude.{IsSome}
+use Rattle.om_types.specs.Fitting.{fields_of}
+use Rattle.om_types.specs.Table.{node_or_none}
+use Rattle.om_heap.proofs.ReadLemmas.{word_of-inj}
+use Rattle.om_fits.specs.Needs.{needs_in}
+use Rattle.om_check.proofs.RowsLemmas.{some_mapped}
+use Rattle.om_check.proofs.search.fits_type.Goals as goal
+
+pub returns : goal.returns
+returns c = λ v is same.
+    let value = word_of-inj c.args.heap.now c.value_of.result v c.requires.graph c.value_of.ensures.valid is (sym c.value_of.ensures.word ∙ same) in
+    let fields = ap (λ n. fields_of c.args.heap.now v (node_or_none n)) c.shape.ensures
+    ∙ ap (λ u. fields_of c.args.heap.now u c.shape.result.now) (sym value) ∙ sym c.needs_of.ensures in
+    let both = some_mapped needs_in c.needs_of.result c.is_some.result c.is_some.ensures in
+    (λ fits. subst (λ o. IsSome o) (sym fields) (both.0 fits), λ some. both.1 (subst (λ o. IsSome o) fields some))

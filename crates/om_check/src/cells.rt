@@ -1,0 +1,98 @@
+//! A number for each place.
+
+ghost use Rattle.std.specs.Prelude.{◌≡◌, ◌<◌, length, replicate, slice_index, slice_set, IfOk, OnOk};
+ghost use Rattle.om_check.specs.Row.{numbers_in};
+
+use om_model::Memory;
+use std::alloc::Global;
+use std::marker::Model;
+
+/// A number for each place, in so many bytes that the largest to come has room.
+#[derive(Drop)]
+pub enum Row {
+    Bytes(Vec<u8>),
+    Shorts(Vec<u16>),
+    Longs(Vec<u64>),
+}
+
+/// A number for each place. Contracts see the list of the numbers.
+#[derive(Drop)]
+pub struct Cells {
+    row: Row,
+}
+
+impl Model for Cells {
+    ghost use Rattle.std.specs.Prelude.{List, ℕ};
+
+    ghost Value = { List ℕ };
+
+    ghost use Rattle.om_check.specs.Row.{numbers_in};
+
+    ghost view = { λ c. numbers_in c.row };
+}
+
+impl Cells {
+    /// A zero for each place, where numbers up to `most` are to come.
+    pub fn new(alloc: Global, places: usize, most: usize) -> Result<Cells, Memory>
+        ensures { IfOk result (λ cells. cells ≡ replicate places 0) }
+    {
+        let row = zeros(alloc, places, most)?;
+        Ok(Cells { row })
+    }
+
+    /// The number at a place.
+    #[inline(always)]
+    pub fn get(&self, place: usize) -> u64
+        requires { place < length self.now }
+        ensures { result ≡ slice_index self.now place }
+    {
+        match &self.row {
+            Row::Bytes(row) => u64::from(row[place]),
+            Row::Shorts(row) => u64::from(row[place]),
+            Row::Longs(row) => row[place],
+        }
+    }
+
+    /// Puts a number at a place.
+    #[inline(always)]
+    pub fn set(&mut self, place: usize, number: u64) -> Result<(), Memory>
+        requires { place < length self.old }
+        ensures { OnOk result (self.new ≡ slice_set self.old place number) }
+    {
+        put(&mut self.row, place, number)
+    }
+}
+
+/// A zero for each place.
+fn zeros(alloc: Global, places: usize, most: usize) -> Result<Row, Memory>
+    ensures { IfOk result (λ row. numbers_in row ≡ replicate places 0) }
+{
+    if most < 1 << 8 {
+        let mut row = Vec::new(alloc);
+        row.resize(places, 0)?;
+        return Ok(Row::Bytes(row));
+    }
+    if most < 1 << 16 {
+        let mut row = Vec::new(alloc);
+        row.resize(places, 0)?;
+        return Ok(Row::Shorts(row));
+    }
+    let mut row = Vec::new(alloc);
+    row.resize(places, 0)?;
+    Ok(Row::Longs(row))
+}
+
+/// Puts a number at a place. One that is larger than any that was to come finds no room.
+#[inline(always)]
+fn put(row: &mut Row, place: usize, number: u64) -> Result<(), Memory>
+    requires { place < length (numbers_in row.old) }
+    ensures { OnOk result (numbers_in row.new ≡ slice_set (numbers_in row.old) place number) }
+{
+    match row {
+        Row::Bytes(row) if number < 1 << 8 => row[place] = number as u8,
+        Row::Shorts(row) if number < 1 << 16 => row[place] = number as u16,
+        Row::Longs(row) => row[place] = number,
+        _ => return Err(Memory),
+    }
+    Ok(())
+}

@@ -1,0 +1,25 @@
+//! For each type what surely fits it.
+
+ghost use Rattle.std.specs.Prelude.{IfOk};
+ghost use Rattle.om_check.specs.Rows.{AreRows};
+
+use om_fits::{Row, row_of};
+use om_heap::Heap;
+use om_model::Memory;
+use om_type_table::TypeTable;
+use std::alloc::Global;
+
+/// The rows of all types; none where the types are more than the objects, since to make them would cost more than it saves.
+pub fn rows_of(alloc: Global, heap: &Heap, table: &TypeTable) -> Result<Vec<Row>, Memory>
+    ensures { IfOk result (λ rows. AreRows table.now.nodes rows.items) }
+{
+    let mut rows = Vec::new(alloc);
+    let types = table.nodes.len();
+    if heap.count() < types as u64 {
+        return Ok(rows);
+    }
+    for i in 0..types {
+        rows.push(row_of(table.shape(i)))?;
+    }
+    Ok(rows)
+}

@@ -1,0 +1,120 @@
+//! What surely fits a shape, told by words alone.
+
+ghost use Rattle.std.specs.Prelude.{◌≡◌, ◌≤◌, ℕ, ℤ, length, IsTrue, IsSome};
+ghost use Rattle.om_model.specs.Graph.{IsInteger, IsValue, IsGraph};
+ghost use Rattle.om_model.specs.declared.value.Val.{Val};
+ghost use Rattle.om_types.specs.declared.shape.ShapeOf.{ShapeOf};
+ghost use Rattle.om_types.specs.Fitting as fitting;
+ghost use Rattle.om_heap.specs.Heap.{integer_word, word_of, IsFieldWord};
+ghost use Rattle.om_fits.specs.Row.{IsRowOf, IsSized, IsFirstHeader};
+
+use om_heap::Heap;
+use om_types::shape::{Constr, ShapeOf};
+
+/// No header has this tag.
+const NONE: u64 = 1023;
+
+/// Words that fit a shape. Whether others do `needs_of` says.
+#[derive(Clone, Copy)]
+pub struct Row {
+    /// An integer fits where its word is at most that.
+    pub most: u64,
+    /// An object fits where its header is that.
+    pub header: u64,
+    /// An object fits where its header has this tag.
+    pub tag: u64,
+}
+
+/// What surely fits a shape.
+pub fn row_of(shape: &ShapeOf<usize>) -> Row
+    ensures { IsRowOf shape.now result }
+{
+    match shape {
+        ShapeOf::AnyInt => Row {
+            most: u64::MAX,
+            header: NONE,
+            tag: NONE,
+        },
+        ShapeOf::Below(limit) => Row {
+            most: most_below(*limit),
+            header: NONE,
+            tag: NONE,
+        },
+        ShapeOf::Bytes(_) => row_of_tag(252),
+        ShapeOf::Double => row_of_tag(253),
+        ShapeOf::FloatArray => row_of_tag(254),
+        ShapeOf::ArrayOf(_) => row_of_tag(0),
+        ShapeOf::Product(_, types) => Row {
+            most: 0,
+            header: header_of_fields(types.len()),
+            tag: NONE,
+        },
+        ShapeOf::Sum(constants, blocks) => Row {
+            most: most_below(*constants),
+            header: first_header(blocks.as_slice()),
+            tag: NONE,
+        },
+        _ => row_of_tag(NONE),
+    }
+}
+
+/// Objects of a tag.
+fn row_of_tag(tag: u64) -> Row
+    ensures { result ≡ record { most = 0; header = 1023; tag = tag } }
+{
+    Row {
+        most: 0,
+        header: NONE,
+        tag,
+    }
+}
+
+/// The word of the last integer below a limit.
+fn most_below(limit: u64) -> u64
+    ensures { (z : ℤ) → IsInteger z → integer_word z ≤ result → IsTrue (fitting.is_below limit z) }
+{
+    if limit < 1 << 62 {
+        (2 * limit).saturating_sub(1)
+    } else {
+        (1 << 63) - 1
+    }
+}
+
+/// The header of a block of tag 0 with so many fields.
+fn header_of_fields(size: usize) -> u64
+    ensures { IsSized result size }
+{
+    if size < 1 << 53 {
+        size as u64 * 1024
+    } else {
+        NONE
+    }
+}
+
+/// The header of the first constructor with arguments.
+fn first_header(blocks: &[Constr<usize>]) -> u64
+    ensures { IsFirstHeader blocks.now result }
+{
+    if blocks.is_empty() {
+        NONE
+    } else {
+        header_of_fields(blocks[0].fields.len())
+    }
+}
+
+/// Whether a word surely fits a shape of this row.
+#[inline(always)]
+pub fn surely_fits(heap: &Heap, row: Row, word: u64) -> bool
+    requires graph { IsGraph heap.now }
+    requires word { IsFieldWord heap.now word }
+    ensures { (shape : ShapeOf ℕ) (v : Val) → IsTrue result → IsRowOf shape row → IsValue (length heap.now) v → word ≡ word_of heap.now v → IsSome (fitting.fields_of heap.now v shape) }
+{
+    if word % 2 == 1 {
+        return word <= row.most;
+    }
+    if word % 8 != 0 {
+        return false;
+    }
+    let header = heap.header_at(word);
+    header == row.header || header % 1024 == row.tag
+}
