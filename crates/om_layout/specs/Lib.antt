@@ -1,4 +1,5 @@
 pub mod Unfolded
+pub mod Way
 pub mod Plain
 pub mod Tags
 pub mod Kind
