@@ -17,7 +17,8 @@ use Rattle.om_layout.specs.Unfolded.{IsReplaced, IsLeft, HasHeadOf}
 use Rattle.om_layout.specs.Way.{Way, EachPasses, IsNearer}
 use Rattle.om_layout.proofs.ReplacedLemmas.{ComesTo, times_more, expanded_end}
 use Rattle.om_layout.proofs.WayLemmas.{passes_once, comes_more, way_head, way_work}
-use Rattle.om_layout.proofs.WorkLemmas.{work, work_again}
+use Rattle.om_layout.specs.Work.{work}
+use Rattle.om_layout.proofs.WorkLemmas.{work_again}
 
 pub type_kept : (old new : List Ty) (i : ℕ) → Grows old new → i < length old → type_at new i ≡ type_at old i
 type_kept old new i grown within = ap (λ ts. type_at ts i) grown.kept ∙ at_kept old grown.added i within

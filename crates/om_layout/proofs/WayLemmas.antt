@@ -14,7 +14,8 @@ use Rattle.om_equal.proofs.NeedLemmas.{head_again}
 use Rattle.om_equal.proofs.RankedLemmas.{are_ranked}
 use Rattle.om_layout.specs.Way.{IsOf, IsOfAt, IsAt, Way, Leads, Passes, EachLeads, EachPasses, IsArgument, ComesToArgument, IsNearer}
 use Rattle.om_layout.proofs.ReplacedLemmas.{ComesTo, times_more}
-use Rattle.om_layout.proofs.WorkLemmas.{work, work_again}
+use Rattle.om_layout.specs.Work.{work}
+use Rattle.om_layout.proofs.WorkLemmas.{work_again}
 
 -- ---- instances of a name with arguments
 

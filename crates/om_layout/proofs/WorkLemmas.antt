@@ -6,26 +6,9 @@ use Rattle.om_types.specs.Ty.{Ty, variable, named, tuple, bracket, part, tag, ta
 use Rattle.om_types.specs.Declarations.{unfolded}
 use Rattle.om_types.specs.Accepted.{AreSound}
 use Rattle.om_types.specs.Head.{enough}
+use Rattle.om_layout.specs.Work.{written_work, work_by, work_within, work}
 use Rattle.om_equal.proofs.RankedLemmas.{are_ranked}
 use Rattle.om_equal.proofs.WeightLemmas.{AreRanked, heft, falls, bound, by_including, inside, price, priced}
-
--- one for each item, and for what is included one more and all that is to be done there
-abbrev pub written_work : (Ty → ℕ) → Ty → ℕ
-written_work w (tag whole x) = suc (written_work w whole)
-written_work w (tag_of whole x argument) = suc (written_work w whole)
-written_work w (including whole included) = suc (suc (written_work w whole + w included))
-written_work w t = 0
-
-abbrev pub work_by : (Ty → ℕ) → Ty → Option Ty → ℕ
-work_by w t (Some u) = suc (w u)
-work_by w t None = written_work w t
-
-abbrev pub work_within : List Decl → ℕ → Ty → ℕ
-work_within decls zero t = 0
-work_within decls (suc n) t = work_by (work_within decls n) t (unfolded decls t)
-
-unfoldable pub work : List Decl → Ty → ℕ
-work decls t = work_within decls (enough decls t) t
 
 module _ (decls : List Decl) (rank : List ℕ → ℕ) (ranked : AreRanked decls rank) where
   abbrev weight : Ty → ℕ

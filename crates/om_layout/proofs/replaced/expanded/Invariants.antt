@@ -4,7 +4,7 @@ use Rattle.om_types.specs.Head.{head}
 use Rattle.om_store.specs.Held.{Grows}
 use Rattle.om_layout.specs.Way.{AreKnown}
 use Rattle.om_layout.proofs.ReplacedLemmas.{ComesTo}
-use Rattle.om_layout.proofs.WorkLemmas.{work}
+use Rattle.om_layout.specs.Work.{work}
 use Rattle.om_layout.proofs.replaced.expanded.Given as goal
 
 abbrev pub invariant-next : goal.invariant-next
