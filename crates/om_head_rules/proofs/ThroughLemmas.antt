@@ -1,101 +1,113 @@
--- Abbreviations of a group, one replacement after another.
-use Rattle.std.proofs.Common.{ℕ, zero, suc, ◌<◌, ◌≤◌, ◌+◌, ◌≡◌, ◌∙◌, ⊎_elim, List, Option, Some, None, refl, sym, ap, subst, arith}
-use Rattle.std.specs.Prelude.{option_and_then}
-use Rattle.std.proofs.lemmas.Bool.{cases_lt}
+-- Abbreviations of a group, along replacements.
+use Rattle.std.proofs.Common.{ℕ, zero, suc, ◌≡◌, ◌∙◌, List, Option, Some, None, refl, sym, ap, subst}
+use Rattle.std.specs.Prelude.{option_and_then, ◌↔◌, IsSome}
 use Rattle.std.proofs.lemmas.Option.{none-some, same_Some}
 use Rattle.om_types.specs.declared.decl.Decl.{Decl}
 use Rattle.om_types.specs.Ty.{Ty, name_of}
+use Rattle.om_types.specs.Nodes.{type_at}
 use Rattle.om_types.specs.Declarations.{declaration_of, unfolded, unfolded_times}
 use Rattle.om_types.specs.Scope.{IsThrough}
+use Rattle.om_layout.specs.Way.{IsOfAt, Way, IsNearer}
 use Rattle.om_head_rules.specs.Rules.{IsOwnDecl, IsOwn}
 
-module _ (decls : List Decl) where
-  -- one replacement more, at the end
-  pub times_more :
-      (n : ℕ) (t u v : Ty) → unfolded_times decls n t ≡ Some u → unfolded decls u ≡ Some v
-      → unfolded_times decls (n + 1) t ≡ Some v
-  times_more n t u v so_far next = subst (λ m. unfolded_times decls m t ≡ Some v) (suc_is n) (by n t so_far) where
-    suc_is : (m : ℕ) → suc m ≡ m + 1
-    suc_is m = omega arith
+module _ (decls : List Decl) (group : ℕ) where
+  -- an abbreviation of the group is found
+  own_decl :
+      (t : Ty) (o : Option (List ℕ)) → name_of t ≡ o → IsOwnDecl group (option_and_then (declaration_of decls) o)
+      → IsThrough decls group t
+  own_decl t None named own = absurd own
+  own_decl t (Some name) named own = by (declaration_of decls name) refl own where
+    by : (d : Option Decl) → declaration_of decls name ≡ d → IsOwnDecl group d → IsThrough decls group t
+    by None found own' = absurd own'
+    by (Some d) found own' = record {
+      times = 0;
+      type = t;
+      name = name;
+      decl = d;
+      replaced = refl;
+      named = named;
+      found = found;
+      abbreviates = own'.0;
+      own = own'.1;
+    }
 
-    step : (m : ℕ) (o : Option Ty) → ((w : Ty) → unfolded_times decls m w ≡ Some u → unfolded_times decls (suc m) w ≡ Some v)
-        → option_and_then (unfolded_times decls m) o ≡ Some u
-        → option_and_then (unfolded_times decls (suc m)) o ≡ Some v
-    step m None more is = absurd (none-some u is)
-    step m (Some w) more is = more w is
+  pub own_is_through : (t : Ty) → IsOwn decls group t → IsThrough decls group t
+  own_is_through t own = own_decl t (name_of t) refl own
 
-    by : (m : ℕ) (w : Ty) → unfolded_times decls m w ≡ Some u → unfolded_times decls (suc m) w ≡ Some v
-    by zero w is = ap (option_and_then (λ (x : Ty). Some x)) (ap (unfolded decls) (same_Some w u is) ∙ next)
-    by (suc m) w is = step m (unfolded decls w) (by m) is
+  through_is_own : (t : Ty) (is : IsThrough decls group t) → IsOwn decls group is.type
+  through_is_own t is =
+      subst (λ o. IsOwnDecl group (option_and_then (declaration_of decls) o)) (sym is.named)
+      (subst (IsOwnDecl group) (sym is.found) (is.abbreviates, is.own))
 
-  -- where nothing is to be replaced after n times, there are no more times
-  pub times_end :
-      (n m : ℕ) (t u v : Ty) → unfolded_times decls n t ≡ Some u → unfolded decls u ≡ None
-      → unfolded_times decls m t ≡ Some v → m ≤ n
-  times_end n m t u v ends none is = by n m t ends is where
-    step :
-        (n m : ℕ) (o : Option Ty)
-        → ((w : Ty) → unfolded_times decls n w ≡ Some u → unfolded_times decls m w ≡ Some v → m ≤ n)
-        → option_and_then (unfolded_times decls n) o ≡ Some u
-        → option_and_then (unfolded_times decls m) o ≡ Some v → suc m ≤ suc n
-    step n m None less a b = absurd (none-some u a)
-    step n m (Some x) less a b = let le = less x a b in omega arith
+  -- ---- one replacement
 
-    by : (n m : ℕ) (w : Ty) → unfolded_times decls n w ≡ Some u → unfolded_times decls m w ≡ Some v → m ≤ n
-    by n zero w ends' is' = omega arith
-    by zero (suc m) w ends' is' =
-        absurd (none-some v (sym (ap (option_and_then (unfolded_times decls m))
-        (ap (unfolded decls) (same_Some w u ends') ∙ none)) ∙ is'))
-    by (suc n) (suc m) w ends' is' = step n m (unfolded decls w) (by n m) ends' is'
+  pub through_before : (t u : Ty) → unfolded decls t ≡ Some u → IsThrough decls group u → IsThrough decls group t
+  through_before t u is through = record {
+    times = suc through.times;
+    type = through.type;
+    name = through.name;
+    decl = through.decl;
+    replaced = ap (option_and_then (unfolded_times decls through.times)) is ∙ through.replaced;
+    named = through.named;
+    found = through.found;
+    abbreviates = through.abbreviates;
+    own = through.own;
+  }
 
-  module _ (group : ℕ) (t : Ty) where
-    -- an abbreviation of the group is found
-    own_decl :
-        (n : ℕ) (u : Ty) (o : Option (List ℕ)) → unfolded_times decls n t ≡ Some u → name_of u ≡ o
-        → IsOwnDecl group (option_and_then (declaration_of decls) o) → IsThrough decls group t
-    own_decl n u None replaced named own = absurd own
-    own_decl n u (Some name) replaced named own = by (declaration_of decls name) refl own where
-      by : (d : Option Decl) → declaration_of decls name ≡ d → IsOwnDecl group d → IsThrough decls group t
-      by None found own' = absurd own'
-      by (Some d) found own' = record {
-        times = n;
-        type = u;
-        name = name;
-        decl = d;
-        replaced = replaced;
-        named = named;
-        found = found;
-        abbreviates = own'.0;
-        own = own'.1;
-      }
+  module _ (t : Ty) (not_own : ¬ IsOwn decls group t) (through : IsThrough decls group t) where
+    replaced_later :
+        (u : Ty) → unfolded decls t ≡ Some u → (n : ℕ) → unfolded_times decls n t ≡ Some through.type → IsThrough decls group u
+    replaced_later u is zero here =
+        absurd (not_own (subst (IsOwn decls group) (sym (same_Some t through.type here)) (through_is_own t through)))
+    replaced_later u is (suc n) later = record {
+      times = n;
+      type = through.type;
+      name = through.name;
+      decl = through.decl;
+      replaced = sym (ap (option_and_then (unfolded_times decls n)) is) ∙ later;
+      named = through.named;
+      found = through.found;
+      abbreviates = through.abbreviates;
+      own = through.own;
+    }
 
-    pub own_is_through : (n : ℕ) (u : Ty) → unfolded_times decls n t ≡ Some u → IsOwn decls group u → IsThrough decls group t
-    own_is_through n u replaced own = own_decl n u (name_of u) replaced refl own
+    pub through_after : (u : Ty) → unfolded decls t ≡ Some u → IsThrough decls group u
+    through_after u is = replaced_later u is through.times through.replaced
 
-    through_is_own : (is : IsThrough decls group t) → IsOwn decls group is.type
-    through_is_own is =
-        subst (λ o. IsOwnDecl group (option_and_then (declaration_of decls) o)) (sym is.named)
-        (subst (IsOwnDecl group) (sym is.found) (is.abbreviates, is.own))
+    never_replaced : unfolded decls t ≡ None → (n : ℕ) → unfolded_times decls n t ≡ Some through.type → ⊥
+    never_replaced none zero here = not_own (subst (IsOwn decls group) (sym (same_Some t through.type here)) (through_is_own t through))
+    never_replaced none (suc n) later =
+        none-some through.type (sym (ap (option_and_then (unfolded_times decls n)) none) ∙ later)
 
-    -- the next turn of the walk
-    pub not_own_more :
-        (n : ℕ) (u : Ty)
-        → ((m : ℕ) (v : Ty) → m < n → unfolded_times decls m t ≡ Some v → ¬ IsOwn decls group v)
-        → unfolded_times decls n t ≡ Some u → ¬ IsOwn decls group u
-        → (m : ℕ) (v : Ty) → m < n + 1 → unfolded_times decls m t ≡ Some v → ¬ IsOwn decls group v
-    not_own_more n u before here not_own m v below is own = ⊎_elim
-        (λ less. before m v less is own)
-        (λ more. let same : n ≡ m = omega arith in
-        let u_is : u ≡ v = same_Some u v (sym here ∙ ap (λ k. unfolded_times decls k t) same ∙ is) in
-        not_own (subst (IsOwn decls group) (sym u_is) own))
-        (cases_lt m n)
+    pub never_through : unfolded decls t ≡ None → ⊥
+    never_through none = never_replaced none through.times through.replaced
 
-    -- the end of the walk
-    pub not_through :
-        (n : ℕ) (u : Ty)
-        → ((m : ℕ) (v : Ty) → m < n → unfolded_times decls m t ≡ Some v → ¬ IsOwn decls group v)
-        → unfolded_times decls n t ≡ Some u → ¬ IsOwn decls group u → unfolded decls u ≡ None
-        → ¬ IsThrough decls group t
-    not_through n u before here not_own none is =
-        let until : is.times ≤ n = times_end n is.times t u is.type here none is.replaced in
-        not_own_more n u before here not_own is.times is.type (omega arith) is.replaced (through_is_own is)
+  -- ---- a way
+
+  own_at : (o : Option Decl) → IsOwnDecl group o → IsOfAt (Some group) o
+  own_at None own = own
+  own_at (Some d) own = own
+
+  way_before : (n : ℕ) (t v : Ty) → Way decls (Some group) n t v → IsThrough decls group v → IsThrough decls group t
+  way_before zero t v is through = subst (IsThrough decls group) (sym is) through
+  way_before (suc n) t v way through = through_before t way.0 way.2 (way_before n way.0 v way.3 through)
+
+  way_after : (n : ℕ) (t v : Ty) → Way decls (Some group) n t v → IsThrough decls group t → IsThrough decls group v
+  way_after zero t v is through = subst (IsThrough decls group) is through
+  way_after (suc n) t v way through =
+      way_after n way.0 v way.3
+      (through_after t (λ own. way.1 (own_at (option_and_then (declaration_of decls) (name_of t)) own)) through way.0 way.2)
+
+  pub nearer_before :
+      (types : List Ty) (t : Ty) (n : ℕ) → IsNearer decls (Some group) types t n → IsThrough decls group (type_at types n)
+      → IsThrough decls group t
+  nearer_before types t n nearer through =
+      through_before t nearer.first nearer.is
+      (way_before nearer.leads.0 nearer.first (type_at types n) nearer.leads.1 through)
+
+  pub nearer_after :
+      (types : List Ty) (t : Ty) (n : ℕ) → IsNearer decls (Some group) types t n → ¬ IsOwn decls group t
+      → IsThrough decls group t → IsThrough decls group (type_at types n)
+  nearer_after types t n nearer not_own through =
+      way_after nearer.leads.0 nearer.first (type_at types n) nearer.leads.1
+      (through_after t not_own through nearer.first nearer.is)

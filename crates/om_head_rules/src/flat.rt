@@ -12,7 +12,7 @@ ghost use Rattle.om_scope.specs.Names.{number_of, ArePlaces};
 ghost use Rattle.om_store.specs.Held.{Grows};
 ghost use Rattle.om_head_rules.specs.Rules.{IsOwn, SomeFlat};
 
-use om_layout::{is_float, name, unfolded};
+use om_layout::{is_float, name, nearer, none_known};
 use om_model::Memory;
 use om_scope::declared::declared;
 use om_scope::table::Table;
@@ -51,21 +51,19 @@ fn is_through(
 ) -> Result<bool, Memory>
     requires places { ArePlaces (names_of_decls decls.now) (length decls.now) (number_of table.now) }
     requires number { number < length types.old }
+    requires sound { AreSound decls.now }
     ensures ok { IfOk result (λ is. IsTrue is ↔ IsThrough decls.now group (type_at types.old number)) }
     ensures grown { Grows types.old types.new }
 {
+    let mut known = none_known(alloc);
     let mut at = number;
-    // No abbreviation comes back to itself, so this ends long before.
-    for _turn in 0..u64::MAX {
-        if is_own(types, decls, table, group, at) {
-            return Ok(true);
-        }
-        match unfolded(alloc, types, decls, table, at)? {
+    'next: while !is_own(types, decls, table, group, at) {
+        match nearer(alloc, types, decls, table, Some(group), &mut known, at)? {
             Some(next) => at = next,
             None => return Ok(false),
         }
     }
-    Err(Memory)
+    Ok(true)
 }
 
 /// Whether all fields are `float`.
@@ -98,7 +96,8 @@ fn some_through(
     group: usize,
     fields: &[Field],
 ) -> Result<bool, Memory>
-    requires { ArePlaces (names_of_decls decls.now) (length decls.now) (number_of table.now) }
+    requires places { ArePlaces (names_of_decls decls.now) (length decls.now) (number_of table.now) }
+    requires sound { AreSound decls.now }
     ensures { IfOk result (λ some. IsTrue some ↔ ((f : Member) × Contains fields.now f × IsThrough decls.now group f.ty)) }
 {
     for field in fields {

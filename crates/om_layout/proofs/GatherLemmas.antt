@@ -1,16 +1,21 @@
 -- The tags of a bracket by numbers, gathered item by item.
-use Rattle.std.proofs.Common.{ℕ, ◌<◌, ◌≤◌, ◌≡◌, ◌∙◌, Bool, true, false, cond, List, [], ◌∷◌, ◌++◌, length, map, reverse, Option, Some, None, refl, sym, ap, subst, All, length-append, arith}
-use Rattle.std.specs.Prelude.{not, ◌||◌, slice_get, option_map, IfSome}
+use Rattle.std.proofs.Common.{ℕ, zero, suc, ◌+◌, ◌<◌, ◌≤◌, ◌≡◌, ◌∙◌, nat_eq, get_or, Bool, true, false, cond, List, [], ◌∷◌, ◌++◌, length, map, reverse, Option, Some, None, refl, sym, ap, subst, All, length-append, arith}
+use Rattle.std.specs.Prelude.{not, ◌||◌, slice_get, option_map, option_and_then, IfSome}
+use Rattle.std.specs.List.{list_any}
+use Rattle.std.proofs.lemmas.Bool.{eqb-true}
+use Rattle.std.proofs.lemmas.Map.Views.{Contains-from_any}
+use Rattle.indexmap.specs.IndexSet.{insert_key}
 use Rattle.std.specs.Str.{bytes_eq}
 use Rattle.std.proofs.lemmas.List.{append-nil, map-append, reverse-append}
-use Rattle.std.proofs.lemmas.List.Elements.{All-head, All-tail, All-push, All-pop, All-nil}
+use Rattle.std.proofs.lemmas.List.Elements.{All-head, All-tail, All-push, All-nil, All-contains}
 use Rattle.std.proofs.lemmas.List.Sums.{fold-append}
-use Rattle.std.proofs.lemmas.Option.{slice_get-get_or}
+use Rattle.std.proofs.lemmas.Option.{slice_get-get_or, none-some, same_Some}
 use Rattle.om_types.specs.declared.decl.Decl.{Decl}
 use Rattle.om_types.specs.declared.head.TagOf.{TagOf}
 use Rattle.om_types.specs.declared.head.HeadOf.{HeadOf}
 use Rattle.om_types.specs.declared.head.HeadOf.TheVariants as heads
-use Rattle.om_types.specs.Ty.{Ty, tuple, including}
+use Rattle.om_types.specs.Ty.{Ty, variable, named, tuple, bracket, part, tag, tag_of, including}
+use Rattle.om_types.specs.Declarations.{unfolded, unfolded_times, IsExpanded}
 use Rattle.om_types.specs.Nodes.{type_at, type_of_node}
 use Rattle.om_types.specs.Head.{head, plain_head, tags_in, joined, has_tag}
 use Rattle.om_types.specs.Accepted.{AreSound}
@@ -23,9 +28,13 @@ use Rattle.om_store.specs.Lent.{written_of}
 use Rattle.std.specs.Borrow.{Bor}
 use Rattle.om_layout.specs.Plain.{IsBracketed, IsPlainHead}
 use Rattle.om_layout.specs.Unfolded.{HasHeadOf}
-use Rattle.om_layout.specs.Tags.{has_bracket, items, tags_of_item, with_item, with_items, tags_at, IsTagWithin, has_name, with_tag, AreGathered, IsHeadOf}
-use Rattle.om_layout.proofs.SpineLemmas.{All-reverse}
-use Rattle.om_layout.proofs.BracketLemmas.{joined-plain, joined-no_bracket, head_as_written, head_of_bracket, head_of_no_bracket}
+use Rattle.om_layout.specs.declared.bracket.Step.{Step}
+use Rattle.om_layout.specs.declared.bracket.Step.TheVariants as steps
+use Rattle.om_layout.specs.Tags.{has_bracket, before_item, items, tags_of_item, with_item, with_items, tags_at, IsTagWithin, has_name, with_tag, IsHeadOf}
+use Rattle.om_layout.specs.Work.{work, written_work}
+use Rattle.om_layout.specs.Steps.{BringsNone, AreDone, AreLeft, AreGathered, item_work, steps_work}
+use Rattle.om_layout.proofs.WorkLemmas.{work_again}
+use Rattle.om_layout.proofs.BracketLemmas.{none_new_more, all_there, joined_none, joined-plain, joined-no_bracket, head_as_written, head_of_bracket, head_of_no_bracket}
 
 -- ---- a tag more
 
@@ -88,111 +97,244 @@ tags_within_more : (types added : List Ty) (tags : List (TagOf ℕ)) → All (Is
 tags_within_more types added tags within k d below =
     tag_within_more types added _ (within k d below)
 
--- ---- one item
+-- ---- steps, of types that grow
 
-module _ (decls : List Decl) (types : List Ty) (found : List (TagOf ℕ)) (waiting : List ℕ) (item : ℕ) (all : List (TagOf Ty))
-    (was : AreGathered decls types found (waiting ++ item ∷ []) all) where
-  abbrev rest : List Ty
-  rest = map (type_at types) (reverse waiting)
+module _ (decls : List Decl) (types added : List Ty) where
+  left_kept : (rest : List Step) (tags all : List (TagOf Ty)) → AreLeft decls types tags rest all
+      → AreLeft decls (types ++ added) tags rest all
+  left_kept [] tags all left = left
+  left_kept (steps.Item i ∷ rest) tags all left = (
+    omega (arith, left.0, longer types added),
+    subst (λ (t : Ty). AreLeft decls (types ++ added) (with_item (head decls) tags t) rest all) (sym (at_kept types added i left.0))
+        (left_kept rest (with_item (head decls) tags (type_at types i)) all left.1),
+  )
+  left_kept (steps.End n ∷ rest) tags all left = (
+    omega (arith, left.0, longer types added),
+    subst (λ (t : Ty). BringsNone decls tags t) (sym (at_kept types added n left.0)) left.1,
+    left_kept rest tags all left.2,
+  )
 
-  rest_within : All (λ i. i < length types) waiting
-  rest_within = (All-pop (λ i. i < length types) (waiting ++ item ∷ []) waiting (Some item) refl was.waiting_within).0
+  work_kept : (rest : List Step) (tags all : List (TagOf Ty)) → AreLeft decls types tags rest all
+      → steps_work decls (types ++ added) rest ≡ steps_work decls types rest
+  work_kept [] tags all left = refl
+  work_kept (steps.Item i ∷ rest) tags all left =
+      ap (λ (t : Ty). item_work (work decls) t + steps_work decls (types ++ added) rest) (at_kept types added i left.0)
+      ∙ ap (λ n. item_work (work decls) (type_at types i) + n)
+      (work_kept rest (with_item (head decls) tags (type_at types i)) all left.1)
+  work_kept (steps.End n ∷ rest) tags all left = ap (λ k. 1 + k) (work_kept rest tags all left.2)
 
-  popped : with_items (head decls) (with_item (head decls) (tags_at types found) (type_at types item)) rest ≡ all
-  popped =
-      ap (λ ns. with_items (head decls) (tags_at types found) (map (type_at types) ns)) (sym (reverse-append waiting (item ∷ [])))
-      ∙ was.tags
+  done_kept : (tags : List (TagOf Ty)) (done : List ℕ) → AreDone decls types tags done → AreDone decls (types ++ added) tags done
+  done_kept tags done are k d below =
+      let here = are k d below in (
+        omega (arith, here.0, longer types added),
+        subst (λ (t : Ty). BringsNone decls tags t) (sym (at_kept types added (get_or done k d) here.0)) here.1,
+      )
 
-  brings : (more : List (TagOf Ty)) → tags_of_item (head decls) (type_at types item) ≡ more
-      → with_items (head decls) (joined (tags_at types found) more) rest ≡ all
-  brings more is = ap (λ ts. with_items (head decls) (joined (tags_at types found) ts) rest) (sym is) ∙ popped
+done_more : (decls : List Decl) (types : List Ty) (tags more : List (TagOf Ty)) (done : List ℕ) → AreDone decls types tags done
+    → AreDone decls types (joined tags more) done
+done_more decls types tags more done are k d below =
+    let here = are k d below in
+    (here.0, none_new_more tags more (tags_in (head decls (type_at types (get_or done k d)))) here.1)
 
-  tag_within : (there : Bool) (name : List ℕ) (argument : Option ℕ) → IfSome argument (λ i. i < length types)
-      → All (IsTagWithin types) (cond there found (found ++ record { name = name; argument = argument } ∷ []))
-  tag_within true name argument within = was.found_within
-  tag_within false name argument within =
-      All-push (IsTagWithin types) found (record { name = name; argument = argument }) was.found_within within
+item_positive : (w : Ty → ℕ) (t : Ty) → 0 < item_work w t
+item_positive w (variable x) = omega arith
+item_positive w (named n) = omega arith
+item_positive w tuple = omega arith
+item_positive w bracket = omega arith
+item_positive w (part t a) = omega arith
+item_positive w (tag t x) = omega arith
+item_positive w (tag_of t x a) = omega arith
+item_positive w (including t a) = omega arith
 
-  pub gather_tag : (name : List ℕ) (argument : Option ℕ) → IfSome argument (λ i. i < length types)
-      → tags_of_item (head decls) (type_at types item) ≡ record { name = name; argument = option_map (type_at types) argument } ∷ []
-      → AreGathered decls types (with_tag found name argument) waiting all
-  gather_tag name argument within is = record {
-    found_within = tag_within (has_name found name) name argument within;
-    waiting_within = rest_within;
-    tags = ap (λ ts. with_items (head decls) ts rest) (sym (joined-tag (type_at types) found name argument)) ∙ brings _ is;
-  }
+-- ---- what replacements leave to do
 
-  pub gather_none : tags_of_item (head decls) (type_at types item) ≡ [] → AreGathered decls types found waiting all
-  gather_none is = record {
+module _ (decls : List Decl) (sound : AreSound decls) where
+  one_time :
+      (n : ℕ) (t u : Ty) (next : Option Ty) → unfolded decls t ≡ next
+      → ((w : Ty) → unfolded_times decls n w ≡ Some u → work decls u ≤ work decls w)
+      → option_and_then (unfolded_times decls n) next ≡ Some u → work decls u ≤ work decls t
+  one_time n t u None is later none = absurd (none-some u none)
+  one_time n t u (Some w) is later some =
+      let rest = later w some in
+      let one = work_again decls sound t w is in
+      omega (arith, rest, one)
+
+  times_work : (n : ℕ) (t u : Ty) → unfolded_times decls n t ≡ Some u → work decls u ≤ work decls t
+  times_work zero t u is = let same = ap (work decls) (same_Some t u is) in omega (arith, same)
+  times_work (suc n) t u is = one_time n t u (unfolded decls t) refl (λ w some. times_work n w u some) is
+
+  pub expanded_work : (t u : Ty) → IsExpanded decls t u → work decls u ≤ work decls t
+  expanded_work t u is = times_work is.times t u is.replaced
+
+-- ---- one step
+
+module _ (decls : List Decl) (types : List Ty) (found : List (TagOf ℕ)) (done : List ℕ) (rest : List Step) (all : List (TagOf Ty)) where
+  -- the items of a bracket are done
+  pub gather_end : (n : ℕ) → AreGathered decls types found done (steps.End n ∷ rest) all
+      → AreGathered decls types found (insert_key nat_eq done n) rest all
+  gather_end n was = record {
     found_within = was.found_within;
-    waiting_within = rest_within;
-    tags = ap (λ ts. with_items (head decls) ts rest) (sym (append-nil (tags_at types found))) ∙ brings [] is;
-  }
+    brought = by (list_any (nat_eq n) done);
+    left = was.left.2;
+  } where
+    Brought : ℕ → Type 0
+    Brought m = (m < length types) × BringsNone decls (tags_at types found) (type_at types m)
 
-  -- ---- what is included, once it is expanded
-  module _ (sound : AreSound decls) (added : List Ty) (whole included : Ty) (next : ℕ)
-      (is : type_at types item ≡ including whole included) (has : HasHeadOf decls (types ++ added) included next) where
-    abbrev expansion : Ty
-    expansion = type_at (types ++ added) next
+    by : (there : Bool) → All Brought (cond there done (done ++ n ∷ []))
+    by true = was.brought
+    by false = All-push Brought done n was.brought (was.left.0, was.left.1)
 
-    abbrev later : List Ty
-    later = map (type_at (types ++ added)) (reverse waiting)
+  module _ (item : ℕ) (was : AreGathered decls types found done (steps.Item item ∷ rest) all) where
+    tag_within : (there : Bool) (name : List ℕ) (argument : Option ℕ) → IfSome argument (λ i. i < length types)
+        → All (IsTagWithin types) (cond there found (found ++ record { name = name; argument = argument } ∷ []))
+    tag_within true name argument within = was.found_within
+    tag_within false name argument within =
+        All-push (IsTagWithin types) found (record { name = name; argument = argument }) was.found_within within
 
-    same_later : later ≡ rest
-    same_later = numbers_kept types added (reverse waiting) (All-reverse (λ i. i < length types) waiting rest_within)
+    brings : (more : List (TagOf Ty)) → tags_of_item (head decls) (type_at types item) ≡ more
+        → AreLeft decls types (joined (tags_at types found) more) rest all
+    brings more is = subst (λ (ts : List (TagOf Ty)). AreLeft decls types (joined (tags_at types found) ts) rest all) is was.left.1
 
-    brought : tags_of_item (head decls) (type_at types item) ≡ tags_in (plain_head (head decls) expansion)
-    brought =
-        ap (tags_of_item (head decls)) is
-        ∙ ap tags_in (sym has.head ∙ head_as_written decls sound expansion has.ended)
+    pub gather_tag : (name : List ℕ) (argument : Option ℕ) → IfSome argument (λ i. i < length types)
+        → tags_of_item (head decls) (type_at types item) ≡ record { name = name; argument = option_map (type_at types) argument } ∷ []
+        → AreGathered decls types (with_tag found name argument) done rest all
+    gather_tag name argument within is =
+        let same = joined-tag (type_at types) found name argument in record {
+          found_within = tag_within (has_name found name) name argument within;
+          brought = subst (λ (ts : List (TagOf Ty)). AreDone decls types ts done) same
+              (done_more decls types (tags_at types found) (record { name = name; argument = option_map (type_at types) argument } ∷ []) done was.brought);
+          left = subst (λ (ts : List (TagOf Ty)). AreLeft decls types ts rest all) same (brings _ is);
+        }
 
-    pub gather_items : (waiting' : List ℕ) → has_bracket expansion ≡ true
-        → All (λ i. i < length (types ++ added)) waiting'
-        → map (type_at (types ++ added)) (reverse waiting') ≡ items expansion ++ later
-        → AreGathered decls (types ++ added) found waiting' all
-    gather_items waiting' bracketed within are = record {
-      found_within = tags_within_more types added found was.found_within;
-      waiting_within = within;
-      tags =
-          ap (λ ts. with_items (head decls) ts (map (type_at (types ++ added)) (reverse waiting'))) (tags_kept types added found was.found_within)
-          ∙ ap (with_items (head decls) (tags_at types found)) (are ∙ ap (λ ts. items expansion ++ ts) same_later)
-          ∙ fold-append (with_item (head decls)) (tags_at types found) (items expansion) rest
-          ∙ ap (λ ts. with_items (head decls) ts rest) (sym (joined-plain (head decls) (tags_at types found) expansion bracketed))
-          ∙ brings _ brought;
+    pub gather_none : tags_of_item (head decls) (type_at types item) ≡ [] → AreGathered decls types found done rest all
+    gather_none is = record {
+      found_within = was.found_within;
+      brought = was.brought;
+      left = subst (λ (ts : List (TagOf Ty)). AreLeft decls types ts rest all) (append-nil (tags_at types found)) (brings [] is);
     }
 
-    pub gather_no_items : has_bracket expansion ≡ false → AreGathered decls (types ++ added) found waiting all
-    gather_no_items bracketed = record {
-      found_within = tags_within_more types added found was.found_within;
-      waiting_within = within_more types added waiting rest_within;
-      tags =
-          ap (λ ts. with_items (head decls) ts later) (tags_kept types added found was.found_within)
-          ∙ ap (with_items (head decls) (tags_at types found)) same_later
-          ∙ ap (λ ts. with_items (head decls) ts rest) (sym (joined-no_bracket (head decls) (tags_at types found) expansion bracketed))
-          ∙ brings _ brought;
-    }
+    pub gather_less : steps_work decls types rest < steps_work decls types (steps.Item item ∷ rest)
+    gather_less = let more = item_positive (work decls) (type_at types item) in omega (arith, more)
 
-  -- the same, of types that grew
-  pub gather_included :
-      (sound : AreSound decls) (new : List Ty) → Grows types new → (whole included : Ty) (next : ℕ) (waiting' : List ℕ)
-      → type_at types item ≡ including whole included → HasHeadOf decls new included next → has_bracket (type_at new next) ≡ true
-      → All (λ i. i < length new) waiting'
-      → map (type_at new) (reverse waiting') ≡ items (type_at new next) ++ map (type_at new) (reverse waiting)
-      → AreGathered decls new found waiting' all
-  gather_included sound new grown whole included next waiting' is =
-      subst (λ (ts : List Ty). HasHeadOf decls ts included next → has_bracket (type_at ts next) ≡ true → All (λ i. i < length ts) waiting'
-      → map (type_at ts) (reverse waiting') ≡ items (type_at ts next) ++ map (type_at ts) (reverse waiting)
-      → AreGathered decls ts found waiting' all) (sym grown.kept)
-      (λ has bracketed within are. gather_items sound grown.added whole included next is has waiting' bracketed within are)
+    -- ---- what is included, once it is expanded
+    module _ (sound : AreSound decls) (whole included : Ty) (next : ℕ) (is : type_at types item ≡ including whole included)
+        (rest' : List Step) where
+      abbrev Goes : List Ty → Type 0
+      Goes new = (ds : List Decl) (tags every : List (TagOf Ty)) → AreSound ds → unfolded ds (type_at new next) ≡ None
+          → AreDone ds new tags done
+          → AreLeft ds new (joined tags (tags_in (head ds (type_at new next)))) rest every → AreLeft ds new tags rest' every
 
-  pub gather_nothing :
-      (sound : AreSound decls) (new : List Ty) → Grows types new → (whole included : Ty) (next : ℕ)
-      → type_at types item ≡ including whole included → HasHeadOf decls new included next → has_bracket (type_at new next) ≡ false
-      → AreGathered decls new found waiting all
-  gather_nothing sound new grown whole included next is =
-      subst (λ (ts : List Ty). HasHeadOf decls ts included next → has_bracket (type_at ts next) ≡ false
-      → AreGathered decls ts found waiting all) (sym grown.kept)
-      (λ has bracketed. gather_no_items sound grown.added whole included next is has bracketed)
+      grown_items : (added : List Ty) → HasHeadOf decls (types ++ added) included next → Goes (types ++ added)
+          → AreGathered decls (types ++ added) found done rest' all
+      grown_items added has goes =
+          let kept = tags_kept types added found was.found_within in
+          let late = subst (λ (ts : List (TagOf Ty)). AreDone decls (types ++ added) ts done) (sym kept)
+          (done_kept decls types added (tags_at types found) done was.brought) in
+          let brought = ap (tags_of_item (head decls)) is ∙ ap tags_in (sym has.head) in
+          let left = left_kept decls types added rest _ all (brings _ brought) in record {
+            found_within = tags_within_more types added found was.found_within;
+            brought = late;
+            left = goes decls (tags_at (types ++ added) found) all sound has.ended late
+                (subst (λ (ts : List (TagOf Ty)). AreLeft decls (types ++ added)
+                (joined ts (tags_in (head decls (type_at (types ++ added) next)))) rest all) (sym kept) left);
+          }
+
+      pub gather_included : (new : List Ty) → Grows types new → HasHeadOf decls new included next → Goes new
+          → AreGathered decls new found done rest' all
+      gather_included new grown =
+          subst (λ (ts : List Ty). HasHeadOf decls ts included next → Goes ts → AreGathered decls ts found done rest' all)
+          (sym grown.kept) (λ has goes. grown_items grown.added has goes)
+
+      grown_less : (added : List Ty) → IsExpanded decls included (type_at (types ++ added) next)
+          → steps_work decls (types ++ added) rest' ≤ steps_work decls (types ++ added) rest + suc (work decls (type_at (types ++ added) next))
+          → steps_work decls (types ++ added) rest' < steps_work decls types (steps.Item item ∷ rest)
+      grown_less added expanded less =
+          let kept = work_kept decls types added rest _ all was.left.1 in
+          let falls = expanded_work decls sound included (type_at (types ++ added) next) expanded in
+          let mine = ap (item_work (work decls)) is in
+          omega (arith, kept, falls, mine, less)
+
+      pub included_less : (new : List Ty) → Grows types new → IsExpanded decls included (type_at new next)
+          → steps_work decls new rest' ≤ steps_work decls new rest + suc (work decls (type_at new next))
+          → steps_work decls new rest' < steps_work decls types (steps.Item item ∷ rest)
+      included_less new grown =
+          subst (λ (ts : List Ty). IsExpanded decls included (type_at ts next)
+          → steps_work decls ts rest' ≤ steps_work decls ts rest + suc (work decls (type_at ts next))
+          → steps_work decls ts rest' < steps_work decls types (steps.Item item ∷ rest)) (sym grown.kept)
+          (λ expanded less. grown_less grown.added expanded less)
+
+-- ---- an included bracket
+
+module _ (decls : List Decl) (sound : AreSound decls) (types : List Ty) (n : ℕ) (rest : List Step) (tags all : List (TagOf Ty))
+    (ended : unfolded decls (type_at types n) ≡ None)
+    (left : AreLeft decls types (joined tags (tags_in (head decls (type_at types n)))) rest all) where
+  written : tags_in (head decls (type_at types n)) ≡ tags_in (plain_head (head decls) (type_at types n))
+  written = ap tags_in (head_as_written decls sound (type_at types n) ended)
+
+  pub include_done : (done : List ℕ) → AreDone decls types tags done → list_any (nat_eq n) done ≡ true → AreLeft decls types tags rest all
+  include_done done are there =
+      let among = Contains-from_any eqb-true n done there in
+      let here = All-contains (λ m. (m < length types) × BringsNone decls tags (type_at types m)) done n are among in
+      subst (λ (ts : List (TagOf Ty)). AreLeft decls types ts rest all)
+      (joined_none tags (tags_in (head decls (type_at types n))) here.1) left
+
+  pub include_none : has_bracket (type_at types n) ≡ false → AreLeft decls types tags rest all
+  include_none is =
+      subst (λ (ts : List (TagOf Ty)). AreLeft decls types ts rest all)
+      (ap (joined tags) written ∙ joined-no_bracket (head decls) tags (type_at types n) is) left
+
+  pub include_items : n < length types → has_bracket (type_at types n) ≡ true
+      → AreLeft decls types (with_items (head decls) tags (items (type_at types n))) (steps.End n ∷ rest) all
+  include_items within is =
+      subst (λ (ts : List (TagOf Ty)). AreLeft decls types ts (steps.End n ∷ rest) all)
+      (ap (joined tags) written ∙ joined-plain (head decls) tags (type_at types n) is)
+      (within, all_there tags (tags_in (head decls (type_at types n))), left)
+
+-- ---- items that are put on top
+
+pub last_item : (t w : Ty) → before_item t ≡ Some w → items t ≡ items w ++ t ∷ []
+last_item (tag t x) w is = ap (λ u. items u ++ tag t x ∷ []) (same_Some t w is)
+last_item (tag_of t x a) w is = ap (λ u. items u ++ tag_of t x a ∷ []) (same_Some t w is)
+last_item (including t a) w is = ap (λ u. items u ++ including t a ∷ []) (same_Some t w is)
+last_item t w is = absurd (none-some w is)
+
+pub last_work : (f : Ty → ℕ) (t w : Ty) → before_item t ≡ Some w → written_work f t ≡ item_work f t + written_work f w
+last_work f (tag t x) w is = let same = ap (written_work f) (same_Some t w is) in omega (arith, same)
+last_work f (tag_of t x a) w is = let same = ap (written_work f) (same_Some t w is) in omega (arith, same)
+last_work f (including t a) w is =
+    let same = ap (written_work f) (same_Some t w is) in omega (arith, same)
+last_work f t w is = absurd (none-some w is)
+
+pub no_item : (t : Ty) → before_item t ≡ None → items t ≡ []
+no_item (tag t x) is = absurd (none-some t (sym is))
+no_item (tag_of t x a) is = absurd (none-some t (sym is))
+no_item (including t a) is = absurd (none-some t (sym is))
+no_item t is = refl
+
+pub no_work : (f : Ty → ℕ) (t : Ty) → before_item t ≡ None → written_work f t ≡ 0
+no_work f (tag t x) is = absurd (none-some t (sym is))
+no_work f (tag_of t x a) is = absurd (none-some t (sym is))
+no_work f (including t a) is = absurd (none-some t (sym is))
+no_work f t is = refl
+
+pub pushed_first : {X : Type 0} (xs ys : List X) (x : X) → ys ≡ xs ++ x ∷ [] → reverse ys ≡ x ∷ reverse xs
+pushed_first xs ys x is = ap reverse is ∙ reverse-append xs (x ∷ [])
+
+pub nothing_waits : {X : Type 0} (xs : List X) → length xs ≡ 0 → reverse xs ≡ []
+nothing_waits [] none = refl
+nothing_waits (x ∷ xs) none = absurd (omega (arith, none))
+
+pub push_left :
+    (decls : List Decl) (types : List Ty) (tags all : List (TagOf Ty)) (at : ℕ) (w : Ty) (rest : List Step) → at < length types
+    → before_item (type_at types at) ≡ Some w
+    → AreLeft decls types (with_items (head decls) tags (items (type_at types at))) rest all
+    → AreLeft decls types (with_items (head decls) tags (items w)) (steps.Item at ∷ rest) all
+push_left decls types tags all at w rest within before left = (
+  within,
+  subst (λ (ts : List (TagOf Ty)). AreLeft decls types ts rest all)
+      (ap (with_items (head decls) tags) (last_item (type_at types at) w before)
+      ∙ fold-append (with_item (head decls)) tags (items w) (type_at types at ∷ [])) left,
+)
 
 -- what is no item brings nothing
 pub tags_of_item-none :
@@ -213,13 +355,13 @@ tags_of_item-none head types (lent.Including whole included) no_tag no_tag_of no
 -- ---- the first items, and the end
 
 pub none_gathered :
-    (decls : List Decl) (types : List Ty) (t : Ty) (waiting : List ℕ) → All (λ i. i < length types) waiting
-    → map (type_at types) (reverse waiting) ≡ items t ++ []
-    → AreGathered decls types [] waiting (with_items (head decls) [] (items t))
-none_gathered decls types t waiting within are = record {
+    (decls : List Decl) (types : List Ty) (t : Ty) (waiting : List Step)
+    → AreLeft decls types [] waiting (with_items (head decls) [] (items t))
+    → AreGathered decls types [] [] waiting (with_items (head decls) [] (items t))
+none_gathered decls types t waiting left = record {
   found_within = All-nil (IsTagWithin types);
-  waiting_within = within;
-  tags = ap (with_items (head decls) []) (are ∙ append-nil (items t));
+  brought = All-nil (λ n. (n < length types) × BringsNone decls [] (type_at types n));
+  left = left;
 }
 
 argument_numbered : (types : List Ty) (argument : Option ℕ) → IfSome argument (λ i. i < length types)
@@ -237,14 +379,14 @@ tags_numbered types (item ∷ tags) within =
     (tags_numbered types tags (All-tail (IsTagWithin types) item tags within))
 
 module _ (decls : List Decl) (sound : AreSound decls) (types : List Ty) (t : Ty) (bracketed : IsBracketed t) where
-  pub all_gathered : (found : List (TagOf ℕ)) (waiting : List ℕ) → length waiting ≡ 0 → has_bracket t ≡ true
-      → AreGathered decls types found waiting (with_items (head decls) [] (items t))
+  pub all_gathered : (found : List (TagOf ℕ)) (done : List ℕ) (waiting : List Step) → waiting ≡ [] → has_bracket t ≡ true
+      → AreGathered decls types found done waiting (with_items (head decls) [] (items t))
       → IsHeadOf decls types t (heads.Variants found)
-  all_gathered found [] none is gathered =
+  all_gathered found done waiting none is gathered =
+      let same = subst (λ (ss : List Step). AreLeft decls types (tags_at types found) ss (with_items (head decls) [] (items t))) none gathered.left in
       ap (λ (tags : List (TagOf (Option Ty))). heads.Variants tags)
-      (tags_numbered types found gathered.found_within ∙ ap (map (tag_with_part (λ (u : Ty). Some u))) gathered.tags)
+      (tags_numbered types found gathered.found_within ∙ ap (map (tag_with_part (λ (u : Ty). Some u))) same)
       ∙ ap (head_with_parts (λ (u : Ty). Some u)) (sym (head_of_bracket decls sound t bracketed is))
-  all_gathered found (n ∷ waiting) none is gathered = absurd (omega (arith, none))
 
   pub nothing_gathered : has_bracket t ≡ false → IsHeadOf decls types t heads.Absent
   nothing_gathered is =

@@ -10,3 +10,7 @@ pub mod LoopLemmas
 pub mod LayoutLemmas
 pub mod DatatypeLemmas
 pub mod TreesLemmas
+pub mod WorkLemmas
+pub mod WayLemmas
+pub mod KnownLemmas
+pub mod NearerLemmas

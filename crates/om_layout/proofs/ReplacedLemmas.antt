@@ -25,7 +25,7 @@ comes_to_itself decls t = record { times = 0; replaced = refl }
 pub expanded_end : (decls : List Decl) (t u : Ty) → ComesTo decls t u → unfolded decls u ≡ None → IsExpanded decls t u
 expanded_end decls t u comes ended = record { times = comes.times; replaced = comes.replaced; ended = ended }
 
-times_more : (decls : List Decl) (n : ℕ) (t u v : Ty) → unfolded_times decls n t ≡ Some u → unfolded decls u ≡ Some v
+pub times_more : (decls : List Decl) (n : ℕ) (t u v : Ty) → unfolded_times decls n t ≡ Some u → unfolded decls u ≡ Some v
     → unfolded_times decls (suc n) t ≡ Some v
 times_more decls zero t u v is next =
     ap (option_and_then (unfolded_times decls zero)) (ap (unfolded decls) (same_Some t u is) ∙ next)

@@ -1,5 +1,5 @@
 -- The tags of a bracket, item by item, and by numbers.
-use Rattle.std.specs.Prelude.{ℕ, ◌<◌, ◌≡◌, Bool, true, false, List, [], ◌∷◌, ◌++◌, Option, Some, None, length, map, reverse, fold, All, IfSome, if◌then◌else◌, slice_get}
+use Rattle.std.specs.Prelude.{ℕ, ◌<◌, ◌≡◌, Bool, true, false, List, [], ◌∷◌, ◌++◌, Option, Some, None, length, map, fold, IfSome, if◌then◌else◌, slice_get}
 use Rattle.std.specs.List.{list_any}
 use Rattle.std.specs.Str.{bytes_eq}
 use Rattle.std.specs.Global.{Vec}
@@ -71,13 +71,6 @@ tag_of_entry entry = record { name = entry.0.items; argument = entry.1 }
 
 abbrev pub tags_of_entries : List (Vec ℕ × Option ℕ) → List (TagOf ℕ)
 tags_of_entries entries = map tag_of_entry entries
-
--- These tags, and then those of the items that wait, are all. The last that waits comes first.
-pub record AreGathered (decls : List Decl) (types : List Ty) (found : List (TagOf ℕ)) (waiting : List ℕ) (all : List (TagOf Ty)) : Type 0 where
-  pub found_within : All (IsTagWithin types) found
-  pub waiting_within : All (λ i. i < length types) waiting
-  pub tags :
-      with_items (head decls) (tags_at types found) (map (type_at types) (reverse waiting)) ≡ all
 
 -- ---- heads
 

@@ -6,6 +6,7 @@ mod calls;
 mod datatype;
 mod head;
 mod kind;
+mod known;
 mod layout;
 mod names;
 mod plain;
@@ -18,10 +19,11 @@ pub use bracket::bracket_head;
 pub use calls::{expand, flat_float, shape};
 pub use head::head_of;
 pub use kind::{is_float, is_polymorphic_variant};
+pub use known::{Known, none_known};
 pub use layout::{Layout, layout_of};
 pub use names::names_at;
 pub use plain::plain as plain_head;
-pub use replaced::{expanded, unfolded};
+pub use replaced::{expanded, nearer, unfolded};
 pub use spine::{name, parts, root};
 
 #[cfg(test)]

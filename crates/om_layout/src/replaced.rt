@@ -1,6 +1,6 @@
 //! Abbreviations at the head of a type, replaced.
 
-ghost use Rattle.std.specs.Prelude.{◌≡◌, ◌<◌, length, IfOk, OnErr, MatchOption, option_copied};
+ghost use Rattle.std.specs.Prelude.{ℕ, ◌≡◌, ◌<◌, Option, None, length, IfOk, OnErr, OnOk, MatchOption, option_copied};
 ghost use Rattle.om_types.specs.Nodes.{type_at};
 ghost use Rattle.om_types.specs.Declarations.{unfolded, IsExpanded};
 ghost use Rattle.om_types.specs.Accepted.{AreSound};
@@ -8,7 +8,9 @@ ghost use Rattle.om_scope.specs.Breaks.{names_of_decls};
 ghost use Rattle.om_scope.specs.Names.{number_of, ArePlaces};
 ghost use Rattle.om_store.specs.Held.{Grows};
 ghost use Rattle.om_layout.specs.Unfolded.{IsReplaced, IsLeft, HasHeadOf};
+ghost use Rattle.om_layout.specs.Way.{AreKnown, IsNearer};
 
+use crate::known::{Known, abbreviation, known_part, look_at, none_known};
 use crate::spine::{name, parts};
 use om_model::Memory;
 use om_scope::declared::declared;
@@ -51,7 +53,69 @@ pub fn unfolded(
     Ok(Some(next))
 }
 
-/// The type after all replacements at its head, with the steps of each, one after the other. After `Memory` there may be
+/// The type after one replacement, at any group.
+fn once(
+    alloc: Global,
+    types: &mut Types,
+    decls: &[Decl],
+    table: &Table<'_>,
+    number: usize,
+) -> Result<Option<usize>, Memory>
+    requires places { ArePlaces (names_of_decls decls.now) (length decls.now) (number_of table.now) }
+    requires number { number < length types.old }
+    ensures ok { IfOk result (λ next. MatchOption next (unfolded decls.now (type_at types.old number) ≡ None) (λ n. (group : Option ℕ) → IsNearer decls.now group types.new (type_at types.old number) n)) }
+    ensures grown { Grows types.old types.new }
+{
+    unfolded(alloc, types, decls, table, number)
+}
+
+/// The type after the replacements that this abbreviation at its head is known to begin, or after one.
+fn passed(
+    alloc: Global,
+    types: &mut Types,
+    decls: &[Decl],
+    table: &Table<'_>,
+    known: &Known,
+    number: usize,
+) -> Result<Option<usize>, Memory>
+    requires places { ArePlaces (names_of_decls decls.now) (length decls.now) (number_of table.now) }
+    requires number { number < length types.old }
+    ensures ok { IfOk result (λ next. (group : Option ℕ) → AreKnown decls.now group known.now → MatchOption next (unfolded decls.now (type_at types.old number) ≡ None) (IsNearer decls.now group types.new (type_at types.old number))) }
+    ensures grown { Grows types.old types.new }
+{
+    match known_part(alloc, types, decls, table, known, number)? {
+        Some(next) => Ok(Some(next)),
+        None => once(alloc, types, decls, table, number),
+    }
+}
+
+/// The type after one or more replacements at its head, where an abbreviation is there. Those after the first are at no
+/// abbreviation of the group.
+pub fn nearer(
+    alloc: Global,
+    types: &mut Types,
+    decls: &[Decl],
+    table: &Table<'_>,
+    group: Option<usize>,
+    known: &mut Known,
+    number: usize,
+) -> Result<Option<usize>, Memory>
+    requires places { ArePlaces (names_of_decls decls.now) (length decls.now) (number_of table.now) }
+    requires number { number < length types.old }
+    requires known { AreKnown decls.now group known.old }
+    ensures ok { IfOk result (λ next. MatchOption next (unfolded decls.now (type_at types.old number) ≡ None) (IsNearer decls.now group types.new (type_at types.old number))) }
+    ensures known { OnOk result (AreKnown decls.now group known.new) }
+    ensures grown { Grows types.old types.new }
+{
+    let Some(decl) = abbreviation(types, decls, table, number) else {
+        return passed(alloc, types, decls, table, known, number);
+    };
+    look_at(alloc, types, decls, table, group, known, decl)?;
+    passed(alloc, types, decls, table, known, number)
+}
+
+/// The type after all replacements at its head. An abbreviation that comes to one of its arguments is passed at one step,
+/// so that each other one is replaced once at most before the head is that of an argument. After `Memory` there may be
 /// more types, at the end.
 pub fn expanded(
     alloc: Global,
@@ -67,13 +131,10 @@ pub fn expanded(
     ensures expanded { IfOk result (λ i. IsExpanded decls.now (type_at types.old number) (type_at types.new i)) }
     ensures grown { Grows types.old types.new }
 {
+    let mut known = none_known(alloc);
     let mut at = number;
-    // No abbreviation comes back to itself, so this ends long before.
-    for _turn in 0..u64::MAX {
-        match unfolded(alloc, types, decls, table, at)? {
-            Some(next) => at = next,
-            None => return Ok(at),
-        }
+    'next: while let Some(next) = nearer(alloc, types, decls, table, None, &mut known, at)? {
+        at = next;
     }
-    Err(Memory)
+    Ok(at)
 }

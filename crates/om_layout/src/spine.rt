@@ -42,6 +42,7 @@ pub fn parts(alloc: Global, types: &Types, number: usize) -> Result<Vec<usize>, 
     requires { number < length types.now }
     ensures are { IfOk result (λ v. map (type_at types.now) v.items ≡ parts (type_at types.now number)) }
     ensures below { IfOk result (λ v. All (λ i. i < length types.now) v.items) }
+    ensures less { IfOk result (λ v. All (λ i. i < number) v.items) }
 {
     let mut found = Vec::new(alloc);
     let mut at = number;

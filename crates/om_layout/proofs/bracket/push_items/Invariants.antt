@@ -1,13 +1,26 @@
-use Rattle.std.proofs.Common.{◌≡◌, ◌<◌, length, map, reverse, ◌++◌, All}
+use Rattle.std.proofs.Common.{◌≡◌, ◌<◌, ◌+◌, List, length, reverse}
+use Rattle.om_types.specs.declared.decl.Decl.{Decl}
+use Rattle.om_types.specs.declared.head.TagOf.{TagOf}
+use Rattle.om_types.specs.Ty.{Ty}
 use Rattle.om_types.specs.Nodes.{type_at}
-use Rattle.om_layout.specs.Tags.{items}
+use Rattle.om_types.specs.Head.{head}
+use Rattle.om_layout.specs.Tags.{items, with_items}
+use Rattle.om_layout.specs.Work.{work, written_work}
+use Rattle.om_layout.specs.Steps.{AreLeft, steps_work}
 use Rattle.om_layout.proofs.bracket.push_items.Given as goal
 
 abbrev pub invariant-loop-whole : goal.invariant-loop-whole
-invariant-loop-whole l =
-    (l.at < length l.types) × All (λ i. i < length l.types) l.waiting.items
-    × (items (type_at l.types l.at) ++ map (type_at l.types) (reverse l.waiting.items)
-    ≡ items (type_at l.types l.number) ++ map (type_at l.types) (reverse l.initial.waiting.items))
+invariant-loop-whole l = record {
+  within : l.at < length l.types;
+  left :
+      (decls : List Decl) (tags all : List (TagOf Ty))
+      → AreLeft decls l.types (with_items (head decls) tags (items (type_at l.types l.number))) (reverse l.initial.waiting.items) all
+      → AreLeft decls l.types (with_items (head decls) tags (items (type_at l.types l.at))) (reverse l.waiting.items) all;
+  work :
+      (decls : List Decl)
+      → steps_work decls l.types (reverse l.waiting.items) + written_work (work decls) (type_at l.types l.at)
+      ≡ steps_work decls l.types (reverse l.initial.waiting.items) + written_work (work decls) (type_at l.types l.number);
+}
 
 abbrev pub decreases-loop-whole : goal.decreases-loop-whole
 decreases-loop-whole l = l.at

@@ -15,7 +15,10 @@ loop-whole-preserved c =
       omega (arith, c.in-Part.ensures.below, c.loop-whole.invariant.0),
       All-push (λ i. i < length types) c.loop-whole.found.items c.in-Part.added c.loop-whole.invariant.1
           (omega (arith, c.in-Part.ensures.below, c.loop-whole.invariant.0)),
-      parts-step types c.loop-whole.at c.in-Part.whole c.in-Part.added c.loop-whole.found.items _ is c.loop-whole.invariant.2,
+      omega (arith, c.in-Part.ensures.below, c.loop-whole.invariant.2),
+      All-push (λ i. i < c.args.number) c.loop-whole.found.items c.in-Part.added c.loop-whole.invariant.3
+          (omega (arith, c.in-Part.ensures.below, c.loop-whole.invariant.2)),
+      parts-step types c.loop-whole.at c.in-Part.whole c.in-Part.added c.loop-whole.found.items _ is c.loop-whole.invariant.4,
     )
 
 pub returns : goal.returns
@@ -23,6 +26,7 @@ returns c =
     let types = c.args.types.now in
     let none = ap parts (type_at-node types c.loop-whole.at _ c.node.ensures.is) ∙ parts-end types c.node.result c.in_default.not-Part in
     rw c.reverse.ensures.items (record {
-      are = ap (λ ts. ts ++ map (type_at types) (reverse c.loop-whole.found.items)) (sym none) ∙ c.loop-whole.invariant.2;
+      are = ap (λ ts. ts ++ map (type_at types) (reverse c.loop-whole.found.items)) (sym none) ∙ c.loop-whole.invariant.4;
       below = All-reverse (λ i. i < length types) c.loop-whole.found.items c.loop-whole.invariant.1;
+      less = All-reverse (λ i. i < c.args.number) c.loop-whole.found.items c.loop-whole.invariant.3;
     })

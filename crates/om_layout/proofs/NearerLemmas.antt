@@ -1,0 +1,103 @@
+-- The next type of a walk along replacements.
+use Rattle.std.proofs.Common.{ℕ, suc, ◌<◌, ◌≤◌, ◌≡◌, ◌∙◌, List, length, Option, Some, None, sym, ap, refl, subst, arith, ◌++◌, length-append}
+use Rattle.std.specs.Prelude.{MatchOption}
+use Rattle.std.proofs.lemmas.Option.{get_or_from_slice_get, slice_get_within}
+use Rattle.om_types.specs.declared.decl.Decl.{Decl}
+use Rattle.om_types.specs.Ty.{Ty, tuple}
+use Rattle.om_types.specs.Nodes.{type_at}
+use Rattle.om_types.specs.Declarations.{unfolded}
+use Rattle.om_types.specs.Accepted.{AreSound}
+use Rattle.om_types.specs.Head.{head}
+use Rattle.om_types.proofs.NodeLemmas.{at_kept}
+use Rattle.om_equal.proofs.NeedLemmas.{head_again}
+use Rattle.om_equal.proofs.RankedLemmas.{are_ranked}
+use Rattle.om_store.specs.Held.{Grows}
+use Rattle.om_store.proofs.HeldLemmas.{Grows-none, Grows-then, Holds-grows}
+use Rattle.om_layout.specs.Unfolded.{IsReplaced, IsLeft, HasHeadOf}
+use Rattle.om_layout.specs.Way.{Way, EachPasses, IsNearer}
+use Rattle.om_layout.proofs.ReplacedLemmas.{ComesTo, times_more, expanded_end}
+use Rattle.om_layout.proofs.WayLemmas.{passes_once, comes_more, way_head, way_work}
+use Rattle.om_layout.specs.Work.{work}
+use Rattle.om_layout.proofs.WorkLemmas.{work_again}
+
+pub type_kept : (old new : List Ty) (i : ℕ) → Grows old new → i < length old → type_at new i ≡ type_at old i
+type_kept old new i grown within = ap (λ ts. type_at ts i) grown.kept ∙ at_kept old grown.added i within
+
+module _ (decls : List Decl) where
+  abbrev NextOf : Option ℕ → List Ty → Ty → Option ℕ → Type 0
+  NextOf group types t next = MatchOption next (unfolded decls t ≡ None) (IsNearer decls group types t)
+
+  -- one replacement
+  pub once_is :
+      (old new : List Ty) (t : Ty) (next : Option ℕ) → MatchOption next (IsLeft decls old new t) (IsReplaced decls old new t)
+      → MatchOption next (unfolded decls t ≡ None) (λ n. (group : Option ℕ) → IsNearer decls group new t n)
+  once_is old new t None left = left.none
+  once_is old new t (Some n) replaced = λ group. record {
+    first = replaced.next;
+    is = replaced.is;
+    leads = (0, sym (get_or_from_slice_get new n replaced.next tuple replaced.holds.there));
+    within = slice_get_within new n replaced.next replaced.holds.there;
+  }
+
+  pub once_grown :
+      (old new : List Ty) (t : Ty) (next : Option ℕ) → MatchOption next (IsLeft decls old new t) (IsReplaced decls old new t)
+      → Grows old new
+  once_grown old new t None left = subst (Grows old) (sym left.same) (Grows-none old)
+  once_grown old new t (Some n) replaced = Holds-grows old new replaced.next n replaced.holds
+
+  module _ (group : Option ℕ) where
+    pub once_at :
+        (types : List Ty) (t : Ty) (next : Option ℕ)
+        → MatchOption next (unfolded decls t ≡ None) (λ n. (g : Option ℕ) → IsNearer decls g types t n) → NextOf group types t next
+    once_at types t None none = none
+    once_at types t (Some n) nearer = nearer group
+
+    -- replacements that are known
+    pub passed_is :
+        (types : List Ty) (number n : ℕ) → number < length types → n < number
+        → EachPasses decls group (type_at types number) (type_at types n) → IsNearer decls group types (type_at types number) n
+    passed_is types number n within less passes =
+        let once = passes_once decls group (type_at types number) (type_at types n) passes in
+        record { first = once.1.0; is = once.1.2; leads = (once.0, once.1.3); within = omega (arith, within, less) }
+
+    -- the same, of types that grew before
+    pub later_is :
+        (old mid new : List Ty) (number : ℕ) (next : Option ℕ) → Grows old mid → number < length old
+        → NextOf group new (type_at mid number) next → NextOf group new (type_at old number) next
+    later_is old mid new number next grown within is =
+        subst (λ (t : Ty). NextOf group new t next) (type_kept old mid number grown within) is
+
+    module _ (sound : AreSound decls) where
+      -- ---- a turn of the walk
+
+      pub nearer_head : (types : List Ty) (t : Ty) (n : ℕ) → IsNearer decls group types t n → head decls (type_at types n) ≡ head decls t
+      nearer_head types t n nearer =
+          sym (head_again decls sound.rank (are_ranked decls sound) t nearer.first nearer.is
+          ∙ way_head decls group sound nearer.leads.0 nearer.first (type_at types n) nearer.leads.1)
+
+      pub nearer_work : (types : List Ty) (t : Ty) (n : ℕ) → IsNearer decls group types t n → work decls (type_at types n) < work decls t
+      nearer_work types t n nearer =
+          let rest = way_work decls group sound nearer.leads.0 nearer.first (type_at types n) nearer.leads.1 in
+          let one = work_again decls sound t nearer.first nearer.is in
+          omega (arith, rest, one)
+
+    pub nearer_comes :
+        (types : List Ty) (t u : Ty) (n : ℕ) → ComesTo decls t u → IsNearer decls group types u n → ComesTo decls t (type_at types n)
+    nearer_comes types t u n comes nearer =
+        comes_more decls group nearer.leads.0 t nearer.first (type_at types n)
+        (record { times = suc comes.times; replaced = times_more decls comes.times t u nearer.first comes.replaced nearer.is })
+        nearer.leads.1
+
+  -- ---- its end
+
+  pub ends : (old new : List Ty) (t : Ty) (at : ℕ) → Grows old new → at < length old → unfolded decls (type_at old at) ≡ None
+      → head decls (type_at old at) ≡ head decls t → HasHeadOf decls new t at
+  ends old new t at grown within none same =
+      let kept = type_kept old new at grown within in record {
+        within = within_grown old new at grown within;
+        head = ap (head decls) kept ∙ same;
+        ended = ap (unfolded decls) kept ∙ none;
+      } where
+        within_grown : (xs ys : List Ty) (i : ℕ) → Grows xs ys → i < length xs → i < length ys
+        within_grown xs ys i more below =
+            let same_length = ap length more.kept in omega (arith, same_length, below, length-append xs more.added)

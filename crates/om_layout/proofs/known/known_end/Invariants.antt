@@ -1,0 +1,12 @@
+use Rattle.std.proofs.Common.{ℕ, ◌<◌, length, Option}
+use Rattle.om_types.specs.Nodes.{type_at}
+use Rattle.om_layout.specs.Way.{AreKnown, EachLeads}
+use Rattle.om_layout.proofs.known.known_end.Given as goal
+
+abbrev pub invariant-loop-next : goal.invariant-loop-next
+invariant-loop-next l =
+    (l.at < length l.types)
+    × ((group : Option ℕ) → AreKnown l.decls group l.known → EachLeads l.decls group (type_at l.types l.number) (type_at l.types l.at))
+
+abbrev pub decreases-loop-next : goal.decreases-loop-next
+decreases-loop-next l = l.at

@@ -1,0 +1,24 @@
+-- How much is to be done for a head: each replacement and each item lowers it.
+use Rattle.std.specs.Prelude.{ℕ, zero, suc, ◌+◌, List, Option, Some, None}
+use Rattle.om_types.specs.declared.decl.Decl.{Decl}
+use Rattle.om_types.specs.Ty.{Ty, tag, tag_of, including}
+use Rattle.om_types.specs.Declarations.{unfolded}
+use Rattle.om_types.specs.Head.{enough}
+
+-- one for each item, and for what is included one more and all that is to be done there
+abbrev pub written_work : (Ty → ℕ) → Ty → ℕ
+written_work w (tag whole x) = suc (written_work w whole)
+written_work w (tag_of whole x argument) = suc (written_work w whole)
+written_work w (including whole included) = suc (suc (written_work w whole + w included))
+written_work w t = 0
+
+abbrev pub work_by : (Ty → ℕ) → Ty → Option Ty → ℕ
+work_by w t (Some u) = suc (w u)
+work_by w t None = written_work w t
+
+abbrev pub work_within : List Decl → ℕ → Ty → ℕ
+work_within decls zero t = 0
+work_within decls (suc n) t = work_by (work_within decls n) t (unfolded decls t)
+
+unfoldable pub work : List Decl → Ty → ℕ
+work decls t = work_within decls (enough decls t) t

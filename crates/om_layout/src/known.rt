@@ -1,0 +1,230 @@
+//! Abbreviations that come to one of their arguments, each found once.
+
+ghost use Rattle.std.specs.Prelude.{ℕ, ◌≡◌, ◌<◌, List, Option, Some, None, length, nat_eq, position, option_map, slice_get, IfOk, IfSome, OnOk, IsTrue, ◌↔◌};
+ghost use Rattle.std.specs.Str.{bytes_eq};
+ghost use Rattle.indexmap.specs.IndexMap.{get, index_map_len};
+ghost use Rattle.om_types.specs.declared.decl.Decl.{Decl as Declaration};
+ghost use Rattle.om_types.specs.Ty.{variable, parts};
+ghost use Rattle.om_types.specs.Nodes.{type_at};
+ghost use Rattle.om_scope.specs.Breaks.{names_of_decls};
+ghost use Rattle.om_scope.specs.Names.{number_of, ArePlaces};
+ghost use Rattle.om_store.specs.Held.{Grows};
+ghost use Rattle.om_layout.specs.Way.{AreKnown, IsAbbreviation, IsOf, EachLeads, EachPasses, IsArgument, IsMore};
+
+use crate::spine::{name, parts};
+use indexmap::IndexMap;
+use om_model::Memory;
+use om_scope::table::{Table, find};
+use om_store::{TypeNode, Types};
+use om_types::decl::{Body, Decl};
+use std::alloc::Global;
+
+/// What is known of abbreviations, by the numbers of their declarations: the argument that each comes to, where it comes
+/// to one.
+pub type Known = IndexMap<usize, Option<usize>>;
+
+/// Nothing is known.
+pub fn none_known(alloc: Global) -> Known
+    ensures { (decls : List Declaration) (group : Option ℕ) → AreKnown decls group result }
+{
+    IndexMap::new(alloc)
+}
+
+/// The number of the declaration of the abbreviation at the head of a type.
+pub(crate) fn abbreviation(
+    types: &Types,
+    decls: &[Decl],
+    table: &Table<'_>,
+    number: usize,
+) -> Option<usize>
+    requires places { ArePlaces (names_of_decls decls.now) (length decls.now) (number_of table.now) }
+    requires number { number < length types.now }
+    ensures { IfSome result (IsAbbreviation decls.now (type_at types.now number)) }
+{
+    let name = name(types, number)?;
+    let found = find(table, name)?;
+    match &decls[found].body {
+        Body::Abbreviation(_) => Some(found),
+        _ => None,
+    }
+}
+
+/// The argument that an abbreviation is known to come to.
+fn known_argument(known: &Known, decl: usize) -> Option<usize>
+    ensures { IfSome result (λ i. get nat_eq known.now decl ≡ Some (Some i)) }
+{
+    match known.get(&decl) {
+        Some(argument) => *argument,
+        None => None,
+    }
+}
+
+/// The part of this number from the left.
+fn part(alloc: Global, types: &Types, number: usize, i: usize) -> Result<Option<usize>, Memory>
+    requires { number < length types.now }
+    ensures is { IfOk result (λ part. option_map (type_at types.now) part ≡ slice_get (parts (type_at types.now number)) i) }
+    ensures below { IfOk result (λ part. IfSome part (λ n. n < number)) }
+{
+    let parts = parts(alloc, types, number)?;
+    Ok(nth(parts.as_slice(), i))
+}
+
+/// The number at a place.
+fn nth(numbers: &[usize], i: usize) -> Option<usize>
+    ensures { result ≡ slice_get numbers.now i }
+{
+    numbers.get(i).copied()
+}
+
+/// The argument that the abbreviation at the head of a type is known to come to.
+pub(crate) fn known_part(
+    alloc: Global,
+    types: &Types,
+    decls: &[Decl],
+    table: &Table<'_>,
+    known: &Known,
+    number: usize,
+) -> Result<Option<usize>, Memory>
+    requires places { ArePlaces (names_of_decls decls.now) (length decls.now) (number_of table.now) }
+    requires number { number < length types.now }
+    ensures passes { IfOk result (λ part. (group : Option ℕ) → AreKnown decls.now group known.now → IfSome part (λ n. EachPasses decls.now group (type_at types.now number) (type_at types.now n))) }
+    ensures below { IfOk result (λ part. IfSome part (λ n. n < number)) }
+{
+    let Some(decl) = abbreviation(types, decls, table, number) else {
+        return Ok(None);
+    };
+    match known_argument(known, decl) {
+        Some(i) => part(alloc, types, number, i),
+        None => Ok(None),
+    }
+}
+
+/// The argument that a type comes to by what is known.
+fn known_end(
+    alloc: Global,
+    types: &Types,
+    decls: &[Decl],
+    table: &Table<'_>,
+    known: &Known,
+    number: usize,
+) -> Result<usize, Memory>
+    requires places { ArePlaces (names_of_decls decls.now) (length decls.now) (number_of table.now) }
+    requires number { number < length types.now }
+    ensures leads { IfOk result (λ end. (group : Option ℕ) → AreKnown decls.now group known.now → EachLeads decls.now group (type_at types.now number) (type_at types.now end)) }
+    ensures below { IfOk result (λ end. end < length types.now) }
+{
+    let mut at = number;
+    while let Some(next) = known_part(alloc, types, decls, table, known, at)? {
+        at = next;
+    }
+    Ok(at)
+}
+
+/// Whether a declaration is of this group, where one is given.
+fn is_of(group: Option<usize>, decl: &Decl) -> bool
+    ensures { IsTrue result ↔ IsOf group decl.now }
+{
+    match group {
+        Some(group) => decl.group == group,
+        None => false,
+    }
+}
+
+/// The number of the parameter that a type is, unless the declaration is of the group.
+fn argument(types: &Types, decl: &Decl, group: Option<usize>, number: usize) -> Option<usize>
+    requires { number < length types.now }
+    ensures { IfSome result (IsArgument decl.now group (type_at types.now number)) }
+{
+    if is_of(group, decl) {
+        return None;
+    }
+    match types.node(number) {
+        TypeNode::Variable(name) => place(decl, name),
+        _ => None,
+    }
+}
+
+/// The place of a parameter.
+fn place(decl: &Decl, name: &[u8]) -> Option<usize>
+    ensures { result ≡ position (λ (p : List ℕ). bytes_eq p name.now) decl.now.parameters }
+{
+    decl.parameters
+        .as_slice()
+        .iter()
+        .position(|parameter| parameter.as_slice() == name)
+}
+
+/// Finds the argument that an abbreviation comes to, or answers another abbreviation that is to be looked at first.
+fn look(
+    alloc: Global,
+    types: &mut Types,
+    decls: &[Decl],
+    table: &Table<'_>,
+    group: Option<usize>,
+    known: &mut Known,
+    decl: usize,
+) -> Result<Option<usize>, Memory>
+    requires places { ArePlaces (names_of_decls decls.now) (length decls.now) (number_of table.now) }
+    requires decl { decl < length decls.now }
+    requires known { AreKnown decls.now group known.old }
+    ensures known { OnOk result (AreKnown decls.now group known.new) }
+    ensures below { IfOk result (λ first. IfSome first (λ other. other < length decls.now)) }
+    ensures more { IfOk result (IsMore (index_map_len known.old) (index_map_len known.new)) }
+    ensures grown { Grows types.old types.new }
+{
+    let Body::Abbreviation(body) = &decls[decl].body else {
+        return Ok(None);
+    };
+    let start = types.add(alloc, body)?;
+    let end = known_end(alloc, types, decls, table, known, start)?;
+    if let Some(other) = abbreviation(types, decls, table, end) {
+        return first_look(known, other);
+    }
+    if let Some(i) = argument(types, &decls[decl], group, end) {
+        known.insert(decl, Some(i))?;
+    }
+    Ok(None)
+}
+
+/// The abbreviation, if it was not looked at.
+fn first_look(known: &mut Known, decl: usize) -> Result<Option<usize>, Memory>
+    ensures known { OnOk result ((decls : List Declaration) (group : Option ℕ) → decl < length decls → AreKnown decls group known.old → AreKnown decls group known.new) }
+    ensures is { IfOk result (λ first. IfSome first (λ n. n ≡ decl)) }
+    ensures more { IfOk result (IsMore (index_map_len known.old) (index_map_len known.new)) }
+{
+    if known.contains_key(&decl) {
+        return Ok(None);
+    }
+    known.insert(decl, None)?;
+    Ok(Some(decl))
+}
+
+/// Finds the argument that an abbreviation comes to, and before it those that the abbreviations at the head of its type
+/// come to. Each is looked at once, and again after each that it waits for.
+pub(crate) fn look_at(
+    alloc: Global,
+    types: &mut Types,
+    decls: &[Decl],
+    table: &Table<'_>,
+    group: Option<usize>,
+    known: &mut Known,
+    decl: usize,
+) -> Result<(), Memory>
+    requires places { ArePlaces (names_of_decls decls.now) (length decls.now) (number_of table.now) }
+    requires decl { decl < length decls.now }
+    requires known { AreKnown decls.now group known.old }
+    ensures known { OnOk result (AreKnown decls.now group known.new) }
+    ensures grown { Grows types.old types.new }
+{
+    let Some(first) = first_look(known, decl)? else {
+        return Ok(());
+    };
+    let mut waiting = vec![in alloc; first]?;
+    while let Some(next) = waiting.pop() {
+        if let Some(first) = look(alloc, types, decls, table, group, known, next)? {
+            waiting.push(next)?;
+            waiting.push(first)?;
+        }
+    }
+    Ok(())
+}
