@@ -1,0 +1,3 @@
+mod PlainLemmas
+mod ReadLemmas
+pub mod RequestLemmas

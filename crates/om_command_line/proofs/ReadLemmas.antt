@@ -1,0 +1,61 @@
+-- What is read of a command's arguments.
+use Rattle.std.proofs.Common.{◌≡◌, ◌∙◌, ◌<◌, ◌≤◌, ◌^◌, ℕ, List, Option, Some, None, Result, Ok, Err, codes, refl, sym, ap, subst, arith}
+use Rattle.std.specs.Prelude.{option_map}
+use Rattle.std.specs.Borrow.{Bor}
+use Rattle.std.specs.Str.Parse.{ParsesUnsigned, IsNumeral, digits_value, without_leading_plus}
+use Rattle.clap.specs.Words.{ReadsOne, Row, first_value, one_of, one_text, rows_of}
+use Rattle.clap.specs.declared.parser.matches.Found.{Found}
+use Rattle.clap.proofs.WalkLemmas.{first_value-rows, one_text-rows}
+use Rattle.om_outcome.specs.CommandLine.{HasArgument, HasLimit, greatest_limit, Request, check, compare, AsksBy}
+
+-- what a getter of a number says, where `parse` gives what `Gives` says
+module _ {E : Type 0} (Gives : List ℕ → Result ℕ E → Type 0) (parses : (text : List ℕ) (r : Result ℕ E) → Gives text r → ParsesUnsigned 64 10 text r)
+    (found : Found) (r : Option ℕ) (none : one_text found (codes "limit") ≡ None → r ≡ None)
+    (value : (text : List ℕ) → one_text found (codes "limit") ≡ Some text → ReadsOne Gives text r) where
+  number_read : (limit : ℕ) → r ≡ Some limit → (text : List ℕ) × (one_of (codes "limit") (rows_of found) ≡ Some text) × IsNumeral 10 (without_leading_plus text) × (digits_value 10 (without_leading_plus text) ≡ limit)
+  number_read limit is = go (one_text found (codes "limit")) refl
+    where
+      go : (o : Option (List ℕ)) → one_text found (codes "limit") ≡ o → (text : List ℕ) × (one_of (codes "limit") (rows_of found) ≡ Some text) × IsNumeral 10 (without_leading_plus text) × (digits_value 10 (without_leading_plus text) ≡ limit)
+      go None e = let bad : Some limit ≡ None = sym is ∙ none e in absurd (cc bad)
+      go (Some text) e =
+          let read : ReadsOne Gives text (Some limit) = subst (ReadsOne Gives text) is (value text e) in
+          let parsed = parses text (Ok limit) read in
+          (text, sym (one_text-rows found (codes "limit")) ∙ e, parsed.0.0, sym parsed.1)
+
+  pub limit_read : (limit : ℕ) → r ≡ Some limit → limit ≤ greatest_limit → HasLimit (rows_of found) limit
+  limit_read limit is least = let number = number_read limit is in (number.0, number.1, number.2, number.3, least)
+
+  pub limit_large : (limit : ℕ) → r ≡ Some limit → greatest_limit < limit → (other : ℕ) → HasLimit (rows_of found) other → ⊥
+  limit_large limit is large other (text, has, numeral, writes, least) =
+      let number = number_read limit is in
+      let e : Some number.0 ≡ Some text = sym number.1 ∙ has in
+      let same : number.0 ≡ text = cc e in
+      let equal : limit ≡ other = sym number.3 ∙ (ap (λ t. digits_value 10 (without_leading_plus t)) same ∙ writes) in
+      omega (arith, equal, large, least)
+
+  pub limit_missing : r ≡ None → (other : ℕ) → HasLimit (rows_of found) other → ⊥
+  limit_missing is other (text, has, numeral, writes, least) =
+      let read : ReadsOne Gives text None = subst (ReadsOne Gives text) is (value text (one_text-rows found (codes "limit") ∙ has)) in
+      let number : digits_value 10 (without_leading_plus text) < 2 ^ 64 = omega (arith, writes, least) in
+      parses text (Err read.0) read.1 (numeral, number)
+
+-- what a getter of texts says
+module _ (found : Found) (name : List ℕ) (r : Option (Bor (List ℕ))) (is : option_map (λ s. s.now) r ≡ first_value found name) where
+  pub argument_read : (text : Bor (List ℕ)) → r ≡ Some text → HasArgument (rows_of found) name text.now
+  argument_read text some = sym (first_value-rows found name) ∙ (sym is ∙ ap (option_map (λ (s : Bor (List ℕ)). s.now)) some)
+
+  pub argument_missing : r ≡ None → (text : List ℕ) → HasArgument (rows_of found) name text → ⊥
+  argument_missing none text has =
+      let e : None ≡ Some text = sym (ap (option_map (λ (s : Bor (List ℕ)). s.now)) none) ∙ (is ∙ (first_value-rows found name ∙ has)) in
+      cc e
+
+-- where an argument of `check` is missing, it asks for nothing
+pub nothing_checked : (arguments : List Row)
+    → ((file type : List ℕ) (limit : ℕ) → HasArgument arguments (codes "FILE") file → HasArgument arguments (codes "TYPE") type → HasLimit arguments limit → ⊥)
+    → (request : Request) → AsksBy (codes "check") arguments request → ⊥
+nothing_checked arguments none (check file type limit) by = none file type limit by.1 by.2 by.3
+nothing_checked arguments none (compare limit) by = let e : codes "check" ≡ codes "same" = by.0 in cc e
+
+pub nothing_compared : (arguments : List Row) → ((limit : ℕ) → HasLimit arguments limit → ⊥) → (request : Request) → AsksBy (codes "same") arguments request → ⊥
+nothing_compared arguments none (check file type limit) by = let e : codes "same" ≡ codes "check" = by.0 in cc e
+nothing_compared arguments none (compare limit) by = none limit by.1

@@ -1,0 +1,46 @@
+-- The words as texts, and what is asked for.
+use Rattle.std.specs.Prelude.{ℕ, ◌≡◌, List, map, Option, Some, None, Result, Ok, Err, String, string_bytes}
+use Rattle.std.specs.declared.alloc.Global.{Global}
+use Rattle.clap.specs.Words.{Row, found_of, rows_of, subcommand_rows_of}
+use Rattle.clap.specs.declared.parser.matches.ArgMatches.{ArgMatches}
+use Rattle.om_outcome.specs.CommandLine.{HasLimit}
+use Rattle.om_outcome.specs.CommandLine as outcome
+use Rattle.om_command_line.specs.declared.read.Request.{Request}
+use Rattle.om_command_line.specs.declared.read.Request.TheVariants as requests
+use Rattle.om_command_line.specs.declared.read.Unread.{Unread}
+use Rattle.om_command_line.specs.declared.read.Unread.TheVariants.{Usage, Memory}
+
+abbrev pub texts : List (String Global) → List (List ℕ)
+texts words = map (λ word. string_bytes word) words
+
+abbrev pub request_of : Request → outcome.Request
+request_of (requests.Check file type limit) = outcome.check file.now type.now limit
+request_of (requests.Same limit) = outcome.compare limit
+
+-- the arguments of a command
+abbrev pub arguments_of : ArgMatches → List Row
+arguments_of matches = rows_of (found_of matches)
+
+-- the limit is read, if there is one
+abbrev pub ReadsLimit : List Row → Option ℕ → Type 0
+ReadsLimit arguments (Some limit) = HasLimit arguments limit
+ReadsLimit arguments None = (limit : ℕ) → HasLimit arguments limit → ⊥
+
+-- what a command with these arguments asks for is read, if it is anything
+abbrev pub ReadsBy : List ℕ → List Row → Option Request → Type 0
+ReadsBy command arguments (Some request) = outcome.AsksBy command arguments (request_of request)
+ReadsBy command arguments None = (request : outcome.Request) → outcome.AsksBy command arguments request → ⊥
+
+-- the same of the command that was met
+abbrev pub ReadsMet : ArgMatches → Option Request → Type 0
+ReadsMet matches (Some request) =
+    (command : List ℕ) × (arguments : List Row) × (subcommand_rows_of matches ≡ Some (command, arguments)) × outcome.AsksBy command arguments (request_of request)
+ReadsMet matches None =
+    (command : List ℕ) (arguments : List Row) → subcommand_rows_of matches ≡ Some (command, arguments)
+    → (request : outcome.Request) → outcome.AsksBy command arguments request → ⊥
+
+-- what the words ask for is read, or they ask for nothing; or memory ran out
+abbrev pub ReadsWords : List (List ℕ) → Result Request Unread → Type 0
+ReadsWords words (Ok request) = outcome.Asks words (request_of request)
+ReadsWords words (Err Usage) = outcome.IsUsage words
+ReadsWords words (Err Memory) = Unit {0}

@@ -1,0 +1,13 @@
+//! Laws over the definitions. The functions do nothing: what each ensures is the law.
+
+ghost use Rattle.om_command_line.specs.Laws.{HasOneRequest, PlainWordsAsk};
+
+/// Words ask for one thing at most.
+pub fn one_request()
+    ensures { HasOneRequest }
+{}
+
+/// Plain words are accepted, and ask for what they say.
+pub fn plain_words_ask()
+    ensures { PlainWordsAsk }
+{}

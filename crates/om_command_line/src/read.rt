@@ -1,0 +1,131 @@
+//! What the words ask for.
+
+ghost use Rattle.std.specs.Prelude.{◌≡◌, ◌≢◌, codes};
+ghost use Rattle.clap.specs.Words.{kind_of};
+ghost use Rattle.clap.specs.declared.error.kind.ErrorKind.TheVariants as kinds;
+ghost use Rattle.om_command_line.specs.declared.read.Unread.TheVariants as unreads;
+ghost use Rattle.om_command_line.specs.Requests.{arguments_of, texts, ReadsBy, ReadsLimit, ReadsMet, ReadsWords};
+
+use crate::command_set::{GREATEST_LIMIT, command_set};
+use clap::error::ErrorKind;
+use clap::{ArgMatches, Error};
+use std::alloc::{AllocError, Global};
+
+/// What the words ask for, with the limit of words on 64 bits in a value.
+#[derive(Clone, Copy)]
+pub enum Request<'a> {
+    /// Whether the values of the input have the type.
+    Check {
+        file: &'a str,
+        type_text: &'a str,
+        limit: u64,
+    },
+    /// Whether the two values of the input are the same.
+    Same {
+        limit: u64,
+    },
+}
+
+/// Why nothing is read of the words: they ask for nothing, or memory ran out.
+#[derive(Clone, Copy, PartialEq, Eq, Debug)]
+pub enum Unread {
+    Usage,
+    Memory,
+}
+
+impl From<AllocError> for Unread {
+    ghost use Rattle.std.specs.Prelude.{◌≡◌};
+    ghost use Rattle.om_command_line.specs.declared.read.Unread.TheVariants as unreads;
+
+    ghost from_gives = { λ _ u. u ≡ unreads.Memory };
+
+    fn from(_: AllocError) -> Self {
+        Unread::Memory
+    }
+}
+
+// The number after `--limit`, or the usual one.
+fn limit_of(arguments: &ArgMatches) -> Option<u64>
+    ensures { ReadsLimit (arguments_of arguments.now) result }
+{
+    let Some(limit) = arguments.get_one::<u64>("limit") else {
+        return None;
+    };
+    if limit <= GREATEST_LIMIT {
+        Some(limit)
+    } else {
+        None
+    }
+}
+
+// What `check` asks for.
+fn check_of<'a>(arguments: &ArgMatches<'a>) -> Option<Request<'a>>
+    ensures { ReadsBy (codes "check") (arguments_of arguments.now) result }
+{
+    let Some(file) = arguments.get_str("FILE") else {
+        return None;
+    };
+    let Some(type_text) = arguments.get_str("TYPE") else {
+        return None;
+    };
+    let Some(limit) = limit_of(arguments) else {
+        return None;
+    };
+    Some(Request::Check {
+        file,
+        type_text,
+        limit,
+    })
+}
+
+// What `same` asks for.
+fn same_of<'a>(arguments: &ArgMatches<'a>) -> Option<Request<'a>>
+    ensures { ReadsBy (codes "same") (arguments_of arguments.now) result }
+{
+    match limit_of(arguments) {
+        Some(limit) => Some(Request::Same { limit }),
+        None => None,
+    }
+}
+
+// What a command asks for.
+fn request_by<'a>(command: &str, arguments: &ArgMatches<'a>) -> Option<Request<'a>>
+    ensures { ReadsBy command.now (arguments_of arguments.now) result }
+{
+    match command {
+        "check" => check_of(arguments),
+        "same" => same_of(arguments),
+        _ => None,
+    }
+}
+
+// What the command that was met asks for.
+fn request_met<'a>(matches: &ArgMatches<'a>) -> Option<Request<'a>>
+    ensures { ReadsMet matches.now result }
+{
+    let (command, arguments) = matches.subcommand()?;
+    request_by(command, arguments)
+}
+
+// Why clap refuses the words.
+fn refusal_of(error: &Error) -> Unread
+    ensures { (result ≡ unreads.Usage) → kind_of error.now ≢ kinds.OutOfMemory }
+{
+    match error.kind() {
+        ErrorKind::OutOfMemory => Unread::Memory,
+        _ => Unread::Usage,
+    }
+}
+
+/// What the words ask for.
+pub fn read_words<'a>(alloc: Global, words: &'a [String]) -> Result<Request<'a>, Unread>
+    ensures { ReadsWords (texts words.entry.now) result }
+{
+    match command_set(alloc)?.try_get_matches_from(words) {
+        Ok(matches) => match request_met(&matches) {
+            Some(request) => Ok(request),
+            None => Err(Unread::Usage),
+        },
+        Err(error) => Err(refusal_of(&error)),
+    }
+}

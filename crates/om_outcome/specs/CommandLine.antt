@@ -1,0 +1,119 @@
+-- The command line: what `clap` is told of it, which words are accepted, and what plain words ask for.
+use Rattle.std.specs.Prelude.{ℕ, ◌^◌, ◌≤◌, ◌≡◌, ◌≢◌, true, List, [], ◌∷◌, ◌++◌, Option, None, Some, codes}
+use Rattle.std.specs.Str.Parse.{IsNumeral, digits_value, without_leading_plus}
+use Rattle.clap.specs.Words.{App, Row, Rule, Shape, fault_of, first_of, new_app, new_rule, one_of, subcommand_of, with_rule, with_subcommand}
+use Rattle.clap.specs.declared.builder.value_parser.ValueParser.TheVariants.{Unsigned}
+
+-- ---- the command set
+
+-- the greatest limit of words on 64 bits in a value, and the limit where none is asked for
+abbrev pub greatest_limit : ℕ
+greatest_limit = 2 ^ 40
+
+abbrev pub usual_limit : ℕ
+usual_limit = 2 ^ 27
+
+-- `--limit N`: a number up to the greatest limit, which is 2^27 where the option is not used
+abbrev pub limit_option : Rule
+limit_option = record (new_rule (codes "limit")) {
+  long = Some (codes "limit");
+  parser = Some (Unsigned 0 greatest_limit);
+  defaults = codes "134217728" ∷ [];
+}
+
+-- an argument that must be there, known by its place
+abbrev pub wanted : List ℕ → Rule
+wanted name = record (new_rule name) { required = true }
+
+-- `check [--limit N] FILE TYPE`
+abbrev pub check_command : Shape
+check_command = (with_rule (with_rule (with_rule (new_app (codes "check")) limit_option) (wanted (codes "FILE"))) (wanted (codes "TYPE"))).top
+
+-- `same [--limit N]`
+abbrev pub same_command : Shape
+same_command = (with_rule (new_app (codes "same")) limit_option).top
+
+-- a command is wanted; the words do not begin with the program's name, and none asks for help
+abbrev pub program : App
+program = record {
+  top = record ((new_app (codes "omarshal")).top) {
+    no_binary_name = true;
+    subcommand_required = true;
+    disable_help_flag = true;
+    disable_help_subcommand = true;
+  };
+  subs = [];
+}
+
+abbrev pub command_set : App
+command_set = with_subcommand (with_subcommand program check_command) same_command
+
+-- ---- accepted words
+
+-- clap finds no fault in the words, and reads a command with these arguments
+abbrev pub Accepted : List (List ℕ) → List ℕ → List Row → Type 0
+Accepted words command arguments =
+    (fault_of command_set words ≡ []) × (subcommand_of command_set words ≡ Some (command, arguments))
+
+-- the argument of this name
+abbrev pub HasArgument : List Row → List ℕ → List ℕ → Type 0
+HasArgument arguments name text = first_of name arguments ≡ Some text
+
+-- the number after `--limit`, or the usual one: decimal digits, where a plus may stand first
+abbrev pub HasLimit : List Row → ℕ → Type 0
+HasLimit arguments limit =
+    (text : List ℕ) × (one_of (codes "limit") arguments ≡ Some text) × IsNumeral 10 (without_leading_plus text)
+    × (digits_value 10 (without_leading_plus text) ≡ limit) × (limit ≤ greatest_limit)
+
+-- ---- what is asked for
+
+-- what is asked for, with the limit of words on 64 bits in a value
+pub data Request : Type 0 where
+  check : (file type : List ℕ) → (limit : ℕ) → Request
+  compare : (limit : ℕ) → Request
+
+-- what a command with these arguments asks for
+abbrev pub AsksBy : List ℕ → List Row → Request → Type 0
+AsksBy command arguments (check file type limit) =
+    (command ≡ codes "check") × HasArgument arguments (codes "FILE") file × HasArgument arguments (codes "TYPE") type × HasLimit arguments limit
+AsksBy command arguments (compare limit) = (command ≡ codes "same") × HasLimit arguments limit
+
+-- clap accepts the words, and this is what it reads of them
+unfoldable pub Asks : List (List ℕ) → Request → Type 0
+Asks words request = (command : List ℕ) × (arguments : List Row) × Accepted words command arguments × AsksBy command arguments request
+
+-- words that ask for nothing
+abbrev pub IsUsage : List (List ℕ) → Type 0
+IsUsage words = (request : Request) → Asks words request → ⊥
+
+-- FILE and TYPE, where the command has them
+abbrev pub typed_by : Request → Option (List ℕ × List ℕ)
+typed_by (check file type limit) = Some (file, type)
+typed_by (compare limit) = None
+
+-- the limit of words on 64 bits in a value
+abbrev pub limit_of : Request → ℕ
+limit_of (check file type limit) = limit
+limit_of (compare limit) = limit
+
+-- ---- plain words
+
+-- an argument that is not empty, and does not begin with `-`
+abbrev pub IsArgument : List ℕ → Type 0
+IsArgument [] = ⊥
+IsArgument (first ∷ rest) = first ≢ 45
+
+-- the words for a limit: none for the usual one, or `--limit` and decimal digits
+abbrev pub ArePlainLimit : List (List ℕ) → ℕ → Type 0
+ArePlainLimit [] limit = limit ≡ usual_limit
+ArePlainLimit (option ∷ []) limit = ⊥
+ArePlainLimit (option ∷ text ∷ []) limit =
+    (option ≡ codes "--limit") × IsNumeral 10 text × (digits_value 10 text ≡ limit) × (limit ≤ greatest_limit)
+ArePlainLimit (option ∷ text ∷ more ∷ rest) limit = ⊥
+
+-- the words that are written plainly, with what they ask for
+abbrev pub ArePlain : List (List ℕ) → Request → Type 0
+ArePlain words (check file type limit) =
+    (option : List (List ℕ)) × ArePlainLimit option limit × IsArgument file × IsArgument type
+    × (words ≡ codes "check" ∷ option ++ file ∷ type ∷ [])
+ArePlain words (compare limit) = (option : List (List ℕ)) × ArePlainLimit option limit × (words ≡ codes "same" ∷ option)
