@@ -15,6 +15,8 @@ type json =
   | Fields of (string * json) list
 
 type nested = Nothing | Again of nested
+type doubling = End | Both of doubling * doubling
+type block = Block of int
 type node = { number : int; left : node option; right : node option }
 
 (* The state of a small generator, so that each run of this program writes the same bytes. *)
@@ -74,6 +76,16 @@ let graph count =
   done;
   nodes
 
+(* Blocks each of which has the next one twice. *)
+let rec doubling count =
+  if count = 0 then End
+  else
+    let inner = doubling (count - 1) in
+    Both (inner, inner)
+
+(* A thousand times one list of blocks. *)
+let shared count = Array.make 1000 (List.init count (fun k -> Block k))
+
 let write file shape count =
   let out = open_out_bin file in
   let put value = Marshal.to_channel out value [] in
@@ -85,6 +97,8 @@ let write file shape count =
   | "json" -> put (json count)
   | "nested" -> put (nested count)
   | "graph" -> put (graph count)
+  | "doubling" -> put (doubling count)
+  | "shared" -> put (shared count)
   | "values" ->
       for k = 1 to count do
         put (k, string_of_int k)

@@ -1,34 +1,48 @@
-"""Runs omarshal and OCaml's reader in turn on the same files, and prints tables for Markdown.
+"""Runs omarshal and OCaml's reader in turn on the same files, and omarshal on declarations, and prints tables for Markdown.
 
-Time is the median of the processor time (user and system) of some runs of the whole process; memory is the greatest resident
-set. The system counts to a process what this script held when it started it: smaller amounts than that are not told apart.
-Instructions are those of user code for each object of a value, by valgrind's callgrind: the difference of two sizes.
+    python3 benchmark.py FOLDER [PART ..]
+
+PART is `reading`, `checking` or `types`; with none it is each of them. Time is the median of the processor time (user and
+system) of some runs of the whole process; memory is the greatest resident set. The system counts to a process what this
+script held when it started it: smaller amounts than that are not told apart. Instructions are those of user code for each
+object of a value, by valgrind's callgrind: the difference of two sizes.
 """
 
 import os
 import re
+import resource
 import shutil
 import statistics
 import struct
 import subprocess
 import sys
 
-RUNS = 7
+RUNS = int(os.environ.get("RUNS", "7"))
+LIMIT = int(os.environ.get("LIMIT", "20"))
+PARTS = ("reading", "checking", "types")
 folder = sys.argv[1]
-OURS = ["./omarshal", "check", "empty.ml"]
+parts = sys.argv[2:] or PARTS
+if not set(parts) <= set(PARTS):
+    sys.exit(f"the parts are {', '.join(PARTS)}")
 THEIRS = ["./reader", "read"]
+SMALL_STACK = ["sh", "-c", 'ulimit -s 128; exec "$@"', ""]
 
-# Each shape with the count of its large file.
+# Each shape with the count of its large file, and its type over benchmark.types.
 SHAPES = {
-    "list": 5_000_000,
-    "string_map": 1_000_000,
-    "mixed": 1_000_000,
-    "floats": 2_000_000,
-    "json": 300_000,
-    "values": 500_000,
-    "graph": 1_000_000,
-    "nested": 1_000_000,
+    "list": (5_000_000, "int list"),
+    "string_map": (1_000_000, "int string_map"),
+    "mixed": (1_000_000, "mixed"),
+    "floats": (2_000_000, "float list"),
+    "json": (300_000, "json"),
+    "values": (500_000, "int * string"),
+    "graph": (1_000_000, "node array"),
+    "nested": (1_000_000, "nested"),
 }
+
+
+def ours(ty, declarations="benchmark.types"):
+    """The words that check at a type."""
+    return ["./omarshal", "check", declarations, ty]
 
 
 def file_of(shape, count):
@@ -51,11 +65,16 @@ def words_of(path):
     return words, objects
 
 
+def limited():
+    """Ends the process that is started after so many seconds of processor time."""
+    resource.setrlimit(resource.RLIMIT_CPU, (LIMIT, LIMIT))
+
+
 def run(words, name):
     """The processor seconds of one run, its greatest memory in MB, its status and its first line."""
     said = os.path.join(folder, "said")
     with open(name, "rb") as given, open(said, "wb") as out:
-        started = subprocess.Popen(words, stdin=given, stdout=out, cwd=folder)
+        started = subprocess.Popen(words, stdin=given, stdout=out, stderr=out, cwd=folder, preexec_fn=limited)
         _, status, used = os.wait4(started.pid, 0)
         started.returncode = os.waitstatus_to_exitcode(status)
     with open(said, encoding="ascii") as it:
@@ -71,7 +90,7 @@ def instructions(words, name):
     return int(re.search(r"Collected : (\d+)", told.stderr.decode()).group(1))
 
 
-def an_object(ours, theirs, shape):
+def an_object(ty, shape):
     """The instructions for each object, of omarshal and of OCaml, as a text."""
     if not shutil.which("valgrind"):
         return "-", "-"
@@ -79,7 +98,7 @@ def an_object(ours, theirs, shape):
     objects = words_of(many)[1] - words_of(few)[1]
     return tuple(
         f"{(instructions([*words, *last(many)], many) - instructions([*words, *last(few)], few)) / objects:.0f}"
-        for words, last in ((ours, lambda path: []), (theirs, lambda path: [path]))
+        for words, last in ((ours(ty), lambda path: []), (THEIRS, lambda path: [path]))
     )
 
 
@@ -94,16 +113,16 @@ def memory(amount):
 def row(shape, count, ty, traced):
     """One row of a table: the two programs in turn on one file."""
     path = file_of(shape, count)
-    pairs = [(run([*OURS, ty], path), run([*THEIRS, path], path)) for _ in range(RUNS)]
-    ours = [pair[0] for pair in pairs]
-    theirs = [pair[1] for pair in pairs]
-    seconds = statistics.median(it[0] for it in ours), statistics.median(it[0] for it in theirs)
-    peaks = max(it[1] for it in ours), max(it[1] for it in theirs)
-    counted = an_object([*OURS, ty], THEIRS, shape) if traced else ("", "")
+    pairs = [(run(ours(ty), path), run([*THEIRS, path], path)) for _ in range(RUNS)]
+    first = [pair[0] for pair in pairs]
+    second = [pair[1] for pair in pairs]
+    seconds = statistics.median(it[0] for it in first), statistics.median(it[0] for it in second)
+    peaks = max(it[1] for it in first), max(it[1] for it in second)
+    counted = an_object(ty, shape) if traced else ("", "")
     words, _ = words_of(path)
     print(
         f"| {shape}_{count} | {os.path.getsize(path)} | {words} | {seconds[0]:.3f} | {seconds[1]:.3f} | {seconds[0] / seconds[1]:.2f} "
-        f"| {counted[0]} | {counted[1]} | {memory(peaks[0])} | {memory(peaks[1])} | {peaks[0] / peaks[1]:.2f} | {ours[-1][2]}: {ours[-1][3]} |",
+        f"| {counted[0]} | {counted[1]} | {memory(peaks[0])} | {memory(peaks[1])} | {peaks[0] / peaks[1]:.2f} | {first[-1][2]}: {first[-1][3]} |",
         flush=True,
     )
 
@@ -117,16 +136,182 @@ def heading(text):
     print("|---|---|---|---|---|---|---|---|---|---|---|---|")
 
 
-heading("At the type `int`, where the check of a block ends at its root:")
-for shape, count in SHAPES.items():
-    row(shape, count, "int", True)
-heading("Lists of growing length, at the type `int`:")
-for count in (33_000, 330_000, 3_300_000, 33_000_000):
-    row("list", count, "int", False)
-print()
-words = ["sh", "-c", 'ulimit -s 128; exec "$@"', "", *OURS, "int"]
-_, _, status, line = run(words, file_of("nested", 1_000_000))
-print(f"With a stack of 128 kB, nested_1000000 ends with {status}: {line}")
-heading("At the type `int list`, where each cell is checked:")
-for count in (5_000, 10_000, 20_000, 40_000):
-    row("list", count, "int list", False)
+def alone(text, words, path):
+    """A line on one run that is not compared."""
+    seconds, peak, status, line = run(words, path)
+    print(f"| {text} | {seconds:.3f} | {memory(peak)} | {status}: {line} |", flush=True)
+
+
+def alone_heading(text):
+    """The head of a table of such lines."""
+    print()
+    print(text)
+    print()
+    print("| what | omarshal s | omarshal MB | status and line |")
+    print("|---|---|---|---|")
+
+
+def reading():
+    """At the type `int`, where the check of a block ends at its root."""
+    heading("At the type `int`, where the check of a block ends at its root:")
+    for shape, (count, _) in SHAPES.items():
+        row(shape, count, "int", True)
+    heading("Lists of growing length, at the type `int`:")
+    for count in (33_000, 330_000, 3_300_000, 33_000_000):
+        row("list", count, "int", False)
+    alone_heading("With a stack of 128 kB:")
+    alone("nested_1000000 at `int`", [*SMALL_STACK, *ours("int")], file_of("nested", 1_000_000))
+
+
+def at_many_types(types):
+    """Declarations of so many types of one representation, and of a record with a list of each."""
+    names = range(types)
+    path = os.path.join(folder, f"many_{types}.types")
+    with open(path, "w", encoding="ascii") as out:
+        out.write("".join(f"type t{k} = A{k} of int\n" for k in names))
+        out.write("type record = {" + "; ".join(f"f{k} : t{k} list" for k in names) + "}\n")
+    return path
+
+
+def checking():
+    """At the types of the values, where each object is checked."""
+    heading("At the types of the values:")
+    for shape, (count, ty) in SHAPES.items():
+        row(shape, count, ty, True)
+    heading("Lists of growing length, at the type `int list`:")
+    for count in (33_000, 330_000, 3_300_000, 33_000_000):
+        row("list", count, "int list", False)
+    alone_heading("Sharing, and objects at many types:")
+    alone("60 blocks, each twice in the one before, at `doubling`", ours("doubling"), file_of("doubling", 60))
+    for elements in (1, 10, 100, 1_000):
+        words = ours("record", at_many_types(1_000))
+        alone(f"one list of {elements} blocks, at 1,000 types each", words, file_of("shared", elements))
+    alone_heading("With a stack of 128 kB:")
+    for shape, count in (("nested", 1_000_000), ("list", 1_000_000), ("mixed", 1_000_000)):
+        words = [*SMALL_STACK, *ours(SHAPES[shape][1])]
+        alone(f"{shape}_{count} at `{SHAPES[shape][1]}`", words, file_of(shape, count))
+
+
+# Declarations of each size, and a type over them.
+
+
+def chain(size):
+    """Records that name each the one before."""
+    return ["type t0 = { f : int }", *(f"type t{k} = {{ f : t{k - 1} }}" for k in range(1, size))], f"t{size - 1}"
+
+
+def constructors(size):
+    """250 variants that have so many constructors together, each of the next variant or of an integer."""
+    types = 250
+    each = size // types
+
+    def variant(k):
+        inside = f"t{k + 1}" if k + 1 < types else "int"
+        return f"t{k} = " + " | ".join(f"C{k}_{c} of {inside if c == 0 else 'int'}" for c in range(each))
+
+    return [("and " if k else "type ") + variant(k) for k in range(types)], "t0"
+
+
+def bracket(size):
+    """One polymorphic variant, half of whose tags have an argument."""
+    return ["type t = [ " + " | ".join(f"`T{k}" + (" of int" if k % 2 else "") for k in range(size)) + " ]"], "t"
+
+
+def twice_over(size, body):
+    """Two families of so many types, in each of which one leads to the next."""
+    declared = []
+    for family in "tu":
+        names = [f"{family}{k}" for k in range(size)]
+        for k, name in enumerate(names):
+            declared.append(("and " if k else "type ") + f"{name} = " + body(family, k, names[(k + 1) % size]))
+    return declared, "t0 * u0"
+
+
+def variants(size):
+    """Two families of variants."""
+    return twice_over(size, lambda family, k, after: f"{family.upper()}{k} of {after} | {family.upper()}Stop{k}")
+
+
+def brackets(size):
+    """Two families of polymorphic variants, which are equal one by one."""
+    return twice_over(size, lambda family, k, after: f"[ `Next of {after} | `T{k} ]")
+
+
+def families(size):
+    """Two families of polymorphic variants with the same tags, all of which are equal."""
+    return twice_over(size, lambda family, k, after: f"[ `Next of {after} | `Stop ]")
+
+
+def pairs(size):
+    """Abbreviations of pairs of the one before."""
+    return ["type t0 = int", *(f"type t{k} = t{k - 1} * t{k - 1}" for k in range(1, size + 1))], f"t{size}"
+
+
+def applied(size):
+    """Abbreviations of the one before, applied twice; each is its argument."""
+    return ["type 'a t0 = 'a", *(f"type 'a t{k} = 'a t{k - 1} t{k - 1}" for k in range(1, size + 1))], f"int t{size}"
+
+
+def included(size):
+    """Polymorphic variants that include the one before twice."""
+    return ["type t0 = [ `A ]", *(f"type t{k} = [ t{k - 1} | t{k - 1} ]" for k in range(1, size + 1))], f"t{size}"
+
+
+def kilobytes(size):
+    """So many kilobytes of records of some thirty fields."""
+    fields = "; ".join(f"field_number_{k} : {'(int * string) list' if k % 2 else 'float option'}" for k in range(27))
+    return [f"type record_{k:04} = {{ {fields} }}" for k in range(size)], f"record_{size - 1:04}"
+
+
+def declarations(size):
+    """So many declarations of one line, of which the type names one."""
+    return [f"type t{k} = A{k} of int * string | B{k}" for k in range(size)], f"t{size - 1}"
+
+
+TYPES = [
+    ("a chain of N records", chain, (7_500, 15_000, 30_000, 60_000)),
+    ("N constructors of 250 variants", constructors, (7_500, 15_000, 30_000, 60_000)),
+    ("one polymorphic variant of N tags", bracket, (1_250, 2_500, 5_000, 10_000)),
+    ("two groups of N variants", variants, (125, 250, 500, 1_000)),
+    ("two groups of N polymorphic variants, each with one tag of its own", brackets, (125, 250, 500, 1_000)),
+    ("two groups of N polymorphic variants, all equal", families, (125, 250, 500, 1_000)),
+    ("N pairs of the one before", pairs, (10, 20, 30, 40)),
+    ("N abbreviations of the one before, applied twice", applied, (10, 20, 30, 40)),
+    ("N polymorphic variants that include the one before twice", included, (10, 20, 30, 40)),
+    ("N kilobytes of records", kilobytes, (125, 250, 500, 1_000)),
+    ("N declarations", declarations, (1_250, 2_500, 5_000, 10_000)),
+]
+
+
+def types():
+    """Declarations and types alone: no value is read."""
+    print()
+    print(f"Declarations and types without a value; a run ends after {LIMIT} s. Each cell is N: seconds, MB:")
+    print()
+    print("| declarations | | | | | growth of the last | status and line |")
+    print("|---|---|---|---|---|---|---|")
+    for name, make, sizes in TYPES:
+        cells, before, growth = [], None, ""
+        for size in sizes:
+            declared, ty = make(size)
+            path = os.path.join(folder, "declared.types")
+            with open(path, "w", encoding="ascii") as out:
+                out.write("\n".join(declared) + "\n")
+            done = [run(ours(ty, path), os.devnull)]
+            while len(done) < min(RUNS, 5) and done[0][0] < 2:
+                done.append(run(ours(ty, path), os.devnull))
+            _, peak, status, line = done[-1]
+            if status < 0:
+                cells.append(f"{size}: over {LIMIT} s, {memory(peak)}")
+                growth = ""
+                break
+            seconds = statistics.median(it[0] for it in done)
+            cells.append(f"{size}: {seconds:.3f}, {memory(peak)}")
+            growth = f"{seconds / before:.1f}" if before else ""
+            before = seconds
+        cells += [""] * (len(sizes) - len(cells))
+        print(f"| {name} | {' | '.join(cells)} | {growth} | {status}: {line} |", flush=True)
+
+
+for part in parts:
+    {"reading": reading, "checking": checking, "types": types}[part]()

@@ -1,6 +1,11 @@
 #!/bin/sh
-# Measures how long omarshal takes to read values that OCaml wrote, and how much memory, beside OCaml's `input_value` on
-# the same files. The argument is the program; with none it is the one that `./omarshal` or `rt run` built.
+# Measures how long omarshal takes to read and check values that OCaml wrote, and how much memory, beside OCaml's
+# `input_value` on the same files; and how long it takes for declarations and types alone.
+#
+#     tools/benchmark.sh [PROGRAM [PART ..]]
+#
+# PROGRAM is by default the one that `./omarshal` or `rt run` built. PART is `reading`, `checking` or `types`; by default it
+# is each of them. RUNS=3 before the command makes three runs of each, not seven; LIMIT=60 lets one take 60 s, not 20.
 set -eu
 if ! command -v ocaml >/dev/null 2>&1; then
     echo "skipped: no ocaml"
@@ -12,6 +17,7 @@ if ! command -v python3 >/dev/null 2>&1; then
 fi
 here=$(cd "$(dirname "$0")" && pwd)
 program=${1:-$here/../crates/omarshal/out/omarshal}
+[ $# -eq 0 ] || shift
 if [ ! -x "$program" ]; then
     echo "there is no program $program: build it with rt run"
     exit 2
@@ -19,8 +25,7 @@ fi
 work=$(mktemp -d)
 trap 'rm -rf "$work"' EXIT
 cp "$program" "$work/omarshal"
-cp "$here/benchmark.ml" "$work/benchmark.ml"
-: > "$work/empty.ml"
+cp "$here/benchmark.ml" "$here/benchmark.types" "$work"
 cd "$work"
 if command -v ocamlopt >/dev/null 2>&1; then
     ocamlopt -o reader benchmark.ml
@@ -30,4 +35,4 @@ else
     kind="bytecode (ocamlc)"
 fi
 echo "OCaml $(ocaml -version | sed 's/.* //'), $kind;$(uptime | sed 's/.*load/ load/')"
-python3 "$here/benchmark.py" "$work"
+python3 "$here/benchmark.py" "$work" "$@"

@@ -1,8 +1,9 @@
 #!/bin/sh
 # Checks files that OCaml itself wrote with omarshal, at the type files of examples/: each compiled interface of the
-# standard library, each .cmo, .cma, .cmx and .cmxa there, and a map, a set, a hash table and a queue. Each value has
-# its type; with a byte of it damaged it is refused, or does not have the type, or is another value of it, and omarshal
-# ends with 0, 1 or 4 all the same. The argument is the program; with none it is the one that `./omarshal` built.
+# standard library and of the compiler, each .cmo, .cma, .cmx and .cmxa there, and a map, a set, a hash table and a queue.
+# Each value has its type; with a byte of it damaged it is refused, or does not have the type, or is another value of it,
+# and omarshal ends with 0, 1 or 4 all the same. The argument is the program; with none it is the one that `./omarshal`
+# built.
 set -eu
 export LC_ALL=C
 for needed in ocaml ocamlc; do
@@ -48,29 +49,29 @@ value() {
     fi
 }
 
-for file in "$library"/*.cmi; do
+for file in "$library"/*.cmi "$library"/compiler-libs/*.cmi; do
     [ -f "$file" ] || continue
     after_magic "$file" > "$work/values"
     value "$file" cmi.types 'string * types_signature' 1
     value "$file" cmi.types misc_crcs 2
     value "$file" cmi.types 'cmi_format_pers_flags list' 3
 done
-for file in "$library"/*.cmo; do
+for file in "$library"/*.cmo "$library"/compiler-libs/*.cmo; do
     [ -f "$file" ] || continue
     descriptor "$file" > "$work/values"
     value "$file" cmo.types cmo_format_compilation_unit 1
 done
-for file in "$library"/*.cma; do
+for file in "$library"/*.cma "$library"/compiler-libs/*.cma; do
     [ -f "$file" ] || continue
     descriptor "$file" > "$work/values"
     value "$file" cmo.types cmo_format_library 1
 done
-for file in "$library"/*.cmx; do
+for file in "$library"/*.cmx "$library"/compiler-libs/*.cmx; do
     [ -f "$file" ] || continue
     before_checksum "$file" > "$work/values"
     value "$file" cmx.types cmx_format_unit_infos 1
 done
-for file in "$library"/*.cmxa; do
+for file in "$library"/*.cmxa "$library"/compiler-libs/*.cmxa; do
     [ -f "$file" ] || continue
     after_magic "$file" > "$work/values"
     value "$file" cmx.types cmx_format_library_infos 1
@@ -82,22 +83,40 @@ cp "$work/set.bin" "$work/values" && value 'a set' set.types set_make_string_t 1
 cp "$work/hashtbl.bin" "$work/values" && value 'a hash table' hashtbl.types '(string, int) hashtbl_t' 1
 cp "$work/queue.bin" "$work/values" && value 'a queue' queue.types 'int queue_t' 1
 
-# A map is no set, and a damaged interface ends a run in order: byte after byte of the first value of a small one.
+# A map is no set.
 "$program" check "$examples/set.types" set_make_string_t < "$work/map.bin" > "$work/lines" || true
 checked=$((checked + 1))
 grep -q '^no ' "$work/lines" || { echo "FAILED: a map is taken for a set"; failures=$((failures + 1)); }
-after_magic "$library/stdlib.cmi" | head -c 20000 > "$work/whole"
-for place in 0 3 5 11 19 20 25 100 1000 10000; do
+
+# The first value of an interface with one byte changed, each byte in turn. In the header's 20 bytes it is refused, and
+# in the code of the root it is refused or `no`. A later byte may be one of a name or a number, which is another value of
+# the type: of these many are still refused or `no`, and the run ends in order.
+after_magic "$library/stdlib__Unit.cmi" > "$work/whole"
+set -- $(head -c 8 "$work/whole" | tail -c 4 | od -An -tu1)
+length=$((20 + (($1 * 256 + $2) * 256 + $3) * 256 + $4))
+head -c "$length" "$work/whole" > "$work/first"
+place=0
+seen=0
+for byte in $(od -An -v -tu1 "$work/first"); do
     checked=$((checked + 1))
-    { head -c "$place" "$work/whole"; printf '\377'; tail -c "+$((place + 2))" "$work/whole"; } > "$work/values"
+    # shellcheck disable=SC2059
+    { head -c "$place" "$work/first"; printf "\\$(printf %03o $((255 - byte)))"; tail -c "+$((place + 2))" "$work/first"; } \
+        > "$work/values"
     status=0
     "$program" check "$examples/cmi.types" 'string * types_signature' < "$work/values" > "$work/lines" 2> "$work/told" ||
         status=$?
     case $status in
-        0 | 1 | 4) ;;
+        1 | 4) seen=$((seen + 1)) ;;
+    esac
+    case $place:$status in
+        ?:4 | 1?:4 | 20:[14]) ;;
+        ?:* | 1?:* | 20:*) echo "FAILED: byte $place damaged: status $status"; failures=$((failures + 1)) ;;
+        *:[014]) ;;
         *) echo "FAILED: byte $place damaged: status $status"; failures=$((failures + 1)) ;;
     esac
+    place=$((place + 1))
 done
+echo "$seen of $length damaged bytes are refused or no"
 
 echo "$((checked - failures)) passed, $failures failed"
 [ "$failures" -eq 0 ]

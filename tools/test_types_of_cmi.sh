@@ -109,7 +109,7 @@ END
 same "the judging reader" "$expected/vectors.tsv" found.txt
 
 # What is printed
-made kinds.types -I . Kinds.all
+made kinds.types ./ Kinds.all
 declarations kinds.types > found.types
 same "declarations of kinds.ml" "$expected/kinds.types" found.types
 echo kinds_all > wanted.txt

@@ -726,7 +726,7 @@ let print_group reader names group =
 (* {1 Words} *)
 
 let usage =
-  "types_of_cmi [-I FOLDER].. [FILE.cmi].. [--cmt] [--declare DECLARATION].. TYPE\n\n\
+  "types_of_cmi [-I FOLDER].. [FOLDER/].. [FILE.cmi].. [--cmt] [--declare DECLARATION].. TYPE\n\n\
    Prints the declarations that omarshal needs to check values of TYPE, and on standard error\n\
    the type to give to omarshal. TYPE is an OCaml type without variables, as `int list Foo.t` or\n\
    `string Map.Make(String).t`. Its modules are looked for as .cmi files in the folders, in those\n\
@@ -745,7 +745,13 @@ let read_words arguments =
   let add_file file =
     if Sys.file_exists file then add folders (Filename.dirname file) else wrong_words "no file %s" file
   in
-  let other word = if Filename.check_suffix word ".cmi" then add_file word else add types word in
+  (* A type has no `/` in it, and a folder is given with one. *)
+  let add_folder word = if Sys.file_exists word then add folders word else wrong_words "no folder %s" word in
+  let other word =
+    if Filename.check_suffix word ".cmi" then add_file word
+    else if String.contains word '/' || word = "." || word = ".." then add_folder word
+    else add types word
+  in
   let specification =
     [
       ("-I", Arg.String (add folders), "FOLDER  look for modules there; +x is folder x of the standard library");
