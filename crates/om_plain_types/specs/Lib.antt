@@ -1,0 +1,4 @@
+pub mod Lexemes
+pub mod Meaning
+pub mod Progress
+pub mod Trees
