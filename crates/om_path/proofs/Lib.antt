@@ -1,0 +1,3 @@
+pub mod PathTable
+pub mod AnswerLemmas
+pub mod ReadLemmas

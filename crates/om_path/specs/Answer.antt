@@ -1,0 +1,46 @@
+-- What a text is: a path, or a fault. The lexer is asked first, and then the grammar.
+use Rattle.std.specs.Prelude.{ℕ, ◌≡◌, List, length, Result, Ok, Err, ⊤}
+use Rattle.om_lex.specs.declared.lexeme.Lexeme.{Lexeme}
+use Rattle.om_lex.specs.declared.lexeme.LexFault.{LexFault}
+use Rattle.om_lex.specs.declared.lexeme.LexFault.TheVariants as lexer
+use Rattle.om_lex.specs.LexText.{Outcome}
+use Rattle.om_grammar.specs.Refusals.{IsSyntax}
+use Rattle.om_parse.specs.Parsed.{kinds_of, byte_of}
+use Rattle.om_path.specs.PathGrammar.{path_kinds}
+use Rattle.om_path.specs.declared.fault.PathFault.{PathFault}
+use Rattle.om_path.specs.declared.fault.PathFault.TheVariants as faults
+
+-- the path that the lexemes of a text of so many bytes spell, or the first place at which no path goes on
+abbrev pub IsSpelled : List Lexeme → ℕ → Result (List ℕ) PathFault → Type 0
+IsSpelled lexemes end (Ok path) = path_kinds path ≡ kinds_of lexemes
+IsSpelled lexemes end (Err (faults.Syntax place)) = (k : ℕ) × IsSyntax path_kinds (kinds_of lexemes) k × (byte_of lexemes end k ≡ place)
+IsSpelled lexemes end (Err faults.Lex) = ⊥
+IsSpelled lexemes end (Err faults.Memory) = ⊥
+
+-- what follows of the lexer's outcome
+abbrev pub IsLexed : ℕ → Result (List Lexeme) LexFault → Result (List ℕ) PathFault → Type 0
+IsLexed end (Ok lexemes) answer = IsSpelled lexemes end answer
+IsLexed end (Err fault) answer = Err faults.Lex ≡ answer
+
+-- the answer to a text
+abbrev pub IsAnswer : List ℕ → Result (List ℕ) PathFault → Type 0
+IsAnswer text answer = (outcome : Result (List Lexeme) LexFault) × Outcome text outcome × IsLexed (length text) outcome answer
+
+-- a text has an answer, and no other
+abbrev pub HasOneAnswer : List ℕ → Type 0
+HasOneAnswer text = (answer : Result (List ℕ) PathFault) × IsAnswer text answer × ((other : Result (List ℕ) PathFault) → IsAnswer text other → other ≡ answer)
+
+-- ---- what a call gives
+
+abbrev pub fault_of_lexer : LexFault → PathFault
+fault_of_lexer lexer.Memory = faults.Memory
+fault_of_lexer fault = faults.Lex
+
+abbrev pub UnlessMemory : (PathFault → Type 0) → PathFault → Type 0
+UnlessMemory P faults.Memory = ⊤
+UnlessMemory P fault = P fault
+
+-- the result is this answer, unless memory runs out
+abbrev pub Tells : Result (List ℕ) PathFault → Result (List ℕ) PathFault → Type 0
+Tells (Ok path) answer = answer ≡ Ok path
+Tells (Err fault) answer = UnlessMemory (λ f. answer ≡ Err f) fault

@@ -1,0 +1,50 @@
+-- The table that reads a path's lexemes one by one.
+use Rattle.std.specs.Prelude.{ℕ, ℤ, pos, Bool, true, false, not, if◌then◌else◌, Option, Some, None, option_map, List, [], ◌∷◌, ◌++◌, map}
+use Rattle.om_lex.specs.declared.lexeme.LexemeKind.{LexemeKind}
+use Rattle.om_lex.specs.declared.lexeme.LexemeKind.TheVariants as kinds
+use Rattle.om_lex.specs.declared.lexeme.Suffix.{Suffix}
+use Rattle.om_lex.specs.declared.lexeme.Suffix.TheVariants as suffixes
+use Rattle.om_lex.specs.declared.lexeme.Symbol.TheVariants as symbols
+use Rattle.om_grammar.specs.Grammar.{Kinds}
+use Rattle.om_path.specs.PathGrammar.{dot, steps_kinds, path_kinds}
+
+abbrev pub plain_number : Bool → ℤ → Suffix → Option ℕ
+plain_number false (pos n) suffixes.Absent = Some n
+plain_number minus value suffix = None
+
+abbrev pub number_of : LexemeKind → Option ℕ
+number_of (kinds.Integer i) = plain_number i.minus i.value i.suffix
+number_of kind = None
+
+abbrev pub is_dot : LexemeKind → Bool
+is_dot (kinds.Symbol symbols.Dot) = true
+is_dot kind = false
+
+-- the steps that were read, and whether a dot stands after them
+pub data State : Type 0 where
+  at : (path : List ℕ) (after_dot : Bool) → State
+
+abbrev pub start : State
+start = at [] false
+
+abbrev pub step : State → LexemeKind → Option State
+step (at path true) kind = option_map (λ n. at (path ++ n ∷ []) false) (number_of kind)
+step (at path false) kind = if is_dot kind then Some (at path true) else None
+
+-- the state after a lexeme, where a path goes on with it
+abbrev pub stepped : Bool → List ℕ → Bool → Option State
+stepped goes path after_dot = if goes then Some (at path (not after_dot)) else None
+
+abbrev pub front : State → Kinds
+front (at path true) = steps_kinds path ++ dot ∷ []
+front (at path false) = steps_kinds path
+
+abbrev pub accepted : State → Option (List ℕ)
+accepted (at [] true) = Some []
+accepted (at (n ∷ ns) false) = Some (n ∷ ns)
+accepted (at [] false) = None
+accepted (at (n ∷ ns) true) = None
+
+-- no lexeme of a path ends a type
+abbrev pub ends : List ℕ → List ℕ
+ends path = map (λ (kind : LexemeKind). 0) (path_kinds path)

@@ -1,0 +1,118 @@
+//! A path from its text.
+
+ghost use Rattle.std.specs.Prelude.{◌≡◌, if◌then◌else◌, IfOk, IfErr, List, ℕ, Option, Some, None, Result, Ok, Err};
+ghost use Rattle.om_path.specs.Answer.{IsAnswer, IsSpelled, UnlessMemory, Tells};
+ghost use Rattle.om_path.specs.Machine.{number_of, is_dot, at, step, stepped, accepted};
+ghost use Rattle.om_path.specs.declared.fault.PathFault.{PathFault};
+
+use crate::fault::{PathFault, lexer_fault};
+use om_lex::lexeme::{Integer, Lexeme, LexemeKind, Suffix, Symbol};
+use om_lex::tokens;
+use om_model::Memory;
+use om_model::path::Path;
+use om_parse::byte_of;
+use std::alloc::Global;
+
+/// The number that a lexeme is, where it has no sign and no suffix.
+fn number_of(kind: &LexemeKind) -> Option<u64>
+    ensures { result ≡ number_of kind.now }
+{
+    let LexemeKind::Integer(integer) = kind else {
+        return None;
+    };
+    let Integer {
+        minus,
+        value,
+        suffix,
+    } = *integer;
+    match suffix {
+        Suffix::Absent => {
+            if minus || value < 0 {
+                None
+            } else {
+                Some(value as u64)
+            }
+        }
+        _ => None,
+    }
+}
+
+/// Whether a lexeme is a dot.
+fn is_dot(kind: &LexemeKind) -> bool
+    ensures { result ≡ is_dot kind.now }
+{
+    match kind {
+        LexemeKind::Symbol(Symbol::Dot) => true,
+        _ => false,
+    }
+}
+
+/// Goes on by a lexeme, where a path does.
+fn step(path: &mut Path, after_dot: bool, kind: &LexemeKind) -> Result<bool, Memory>
+    ensures { IfOk result (λ goes. step (at path.old after_dot) kind.now ≡ stepped goes path.new after_dot) }
+{
+    if !after_dot {
+        return Ok(is_dot(kind));
+    }
+    match number_of(kind) {
+        None => Ok(false),
+        Some(step) => {
+            path.push(step)?;
+            Ok(true)
+        }
+    }
+}
+
+/// Whether a path may end here.
+fn is_whole(path: &Path, after_dot: bool) -> bool
+    ensures { accepted (at path.now after_dot) ≡ (if result then Some path.now else None) }
+{
+    if path.len() == 0 {
+        after_dot
+    } else {
+        !after_dot
+    }
+}
+
+/// The path that the lexemes of a text of `end` bytes spell.
+fn path_of(alloc: Global, lexemes: &[Lexeme], end: usize) -> Result<Path, PathFault>
+    ensures path { IfOk result (λ path. IsSpelled lexemes.now end (Ok path)) }
+    ensures fault { IfErr result (UnlessMemory (λ fault. IsSpelled lexemes.now end (Err fault))) }
+{
+    let mut path = Path::new(alloc);
+    let mut after_dot = false;
+    for (place, lexeme) in lexemes.iter().enumerate() {
+        if !step(&mut path, after_dot, &lexeme.kind)? {
+            return Err(PathFault::Syntax(byte_of(lexemes, end, place)));
+        }
+        after_dot = !after_dot;
+    }
+    if is_whole(&path, after_dot) {
+        Ok(path)
+    } else {
+        Err(PathFault::Syntax(byte_of(lexemes, end, lexemes.len())))
+    }
+}
+
+/// The path that a text spells, or its fault.
+fn read(alloc: Global, text: &[u8]) -> Result<Path, PathFault>
+    ensures path { IfOk result (λ path. IsAnswer text.now (Ok path)) }
+    ensures fault { IfErr result (UnlessMemory (λ fault. IsAnswer text.now (Err fault))) }
+{
+    match tokens(alloc, text) {
+        Ok(lexemes) => path_of(alloc, lexemes.as_slice(), text.len()),
+        Err(fault) => Err(lexer_fault(fault)),
+    }
+}
+
+/// The path that a text spells.
+pub fn read_path(alloc: Global, text: &[u8]) -> Result<Path, PathFault>
+    // The path, or the fault, is the text's answer.
+    ensures path { IfOk result (λ path. IsAnswer text.now (Ok path)) }
+    ensures fault { IfErr result (UnlessMemory (λ fault. IsAnswer text.now (Err fault))) }
+
+    // The text's answer is given, unless memory runs out.
+    ensures only { (answer : Result (List ℕ) PathFault) → IsAnswer text.now answer → Tells result answer }
+{
+    read(alloc, text)
+}
