@@ -1,5 +1,6 @@
 #!/bin/sh
-# Has OCaml write the streams anew and compares them with those that stand in data/.
+# Has OCaml write the streams anew, those of streams.ml and of the programs in values/, and compares them with those that
+# stand in data/.
 # With the word --keep it puts the new ones in their place.
 # Each stream is read and written again, and comes back byte for byte, up to where no whole value begins: all of bigarray,
 # cut, exception and forward, and the end of half_header. no_sharing and no_sharing_float alone come back otherwise:
@@ -8,7 +9,7 @@ set -eu
 cd "$(dirname "$0")"
 for file in data/*.stream; do
     name=$(basename "$file" .stream)
-    if ! grep -q "^stream $name at " stdin || ! grep -qx "again $name" stdin; then
+    if ! grep -Eq "^(stream|value) $name at " stdin || ! grep -qx "again $name" stdin; then
         echo "a question on $name is missing"
         exit 1
     fi
@@ -20,9 +21,12 @@ fi
 new=$(mktemp -d)
 trap 'rm -rf "$new"' EXIT
 ocaml streams.ml "$new"
+for file in values/*.ml; do
+    ocaml "$file" "$new"
+done
 if [ "${1:-}" = --keep ]; then
     rm -f data/*.stream
     cp "$new"/*.stream data/
 fi
-diff -rq --exclude=empty.ml "$new" data
+diff -rq --exclude=empty.ml --exclude='*.types' "$new" data
 echo "$(find data -name '*.stream' | wc -l) streams are what OCaml $(ocaml -version | sed 's/.* //') writes"

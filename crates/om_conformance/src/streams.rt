@@ -7,13 +7,19 @@ use std::fs::File;
 use std::io;
 use std::io::ErrorKind;
 
-/// Checks the values of a stream at a type, by the adapters of the program itself. What belongs on out goes there, and what
-/// belongs on err into `told`.
-fn check(rt: &HostRuntime, stream: &str, ty: &str, told: &mut Vec<u8>) -> io::Result<Status> {
+/// Checks the values of a stream at a type over the declarations of a file, by the adapters of the program itself. What
+/// belongs on out goes there, and what belongs on err into `told`.
+fn check(
+    rt: &HostRuntime,
+    file: &str,
+    stream: &str,
+    ty: &str,
+    told: &mut Vec<u8>,
+) -> io::Result<Status> {
     let alloc = rt.alloc();
     let words = [
         String::from_str(alloc, "check")?,
-        String::from_str(alloc, "empty.ml")?,
+        String::from_str(alloc, file)?,
         String::from_str(alloc, ty)?,
     ];
     let name = format!(in alloc; "{stream}.stream")?;
@@ -31,16 +37,21 @@ fn check(rt: &HostRuntime, stream: &str, ty: &str, told: &mut Vec<u8>) -> io::Re
     ))
 }
 
-/// Prints what `run` puts on out for `NAME at TYPE`, what on err, and its status.
-pub fn answer(rt: &HostRuntime, question: &str) -> io::Result<()> {
-    let Some((stream, ty)) = question.split_once(" at ") else {
-        return Err(ErrorKind::InvalidInput.into());
-    };
+/// Prints what `run` puts on out for a stream at a type over the declarations of a file, what on err, and its status.
+pub fn put_answer(rt: &HostRuntime, file: &str, stream: &str, ty: &str) -> io::Result<()> {
     let mut told = Vec::new(rt.alloc());
-    let status = check(rt, stream, ty, &mut told)?;
+    let status = check(rt, file, stream, ty, &mut told)?;
     if !told.is_empty() {
         print!(rt; "err: ")?;
         rt.stdout().write_all(told.as_slice())?;
     }
     println!(rt; "status {}", status.code())
+}
+
+/// Prints what `run` says of `NAME at TYPE`, over no declarations.
+pub fn answer(rt: &HostRuntime, question: &str) -> io::Result<()> {
+    let Some((stream, ty)) = question.split_once(" at ") else {
+        return Err(ErrorKind::InvalidInput.into());
+    };
+    put_answer(rt, "empty.ml", stream, ty)
 }
