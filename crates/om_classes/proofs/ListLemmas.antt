@@ -89,9 +89,6 @@ module _ (lists : List (Vec ℕ)) (at : ℕ) (v w : Vec ℕ) (below : at < lengt
         (λ other. (has.0, set_other lists at (slice_index class y) w other ∙ has.1, has.2))
         (same_or_not (slice_index class y) at)
 
-pub members_same : (class : List ℕ) (lists : List (Vec ℕ)) → KeepsMembers class lists lists
-members_same class lists = record { many = refl; kept = λ y under has. has }
-
 pub members_shorter : (class : List ℕ) (wanted : ℕ) (old new : List (Vec ℕ)) → IsShorter class wanted old new
     → KeepsMembers class old new
 members_shorter class wanted old new is = record { many = is.many; kept = is.kept }

@@ -1,14 +1,19 @@
 //! The table of the types that a type reaches: a line for each, with its text, its shape over numbers, the first type that is
 //! equal to it, and its names.
 
-use om_decl::{DeclFault, read_decls, read_type};
+ghost use Rattle.std.specs.Prelude.{IfSome};
+ghost use Rattle.om_types.specs.Accepted.{AreWellFormed, AreSound, IsSoundType};
+
+use om_decl::{read_decls, read_type};
+use om_layout::{expand, flat_float, shape};
 use om_model::Memory;
 use om_model::list::List;
-use om_plain_table::{Row, line, lines};
+use om_plain_table::{Row, line, lines, text};
 use om_type_table::TypeTable;
 use om_type_table::laws::tables_are_lawful;
 use om_typeintern::{TypeFault, build};
 use om_types::decl::Decl;
+use om_types::shape::ShapeOf;
 use om_types::ty::Ty;
 use std::alloc::Global;
 use std::io;
@@ -42,11 +47,49 @@ fn lines_of(alloc: Global, table: &TypeTable) -> Result<Vec<List<u8>>, Memory> {
 }
 
 // The declarations and the type of a question that are accepted.
-fn accepted(alloc: Global, question: &str) -> Option<(List<Decl>, Ty)> {
-    let (ty, text) = question.split_once(" over ")?;
-    let decls = read_decls(alloc, text.as_bytes()).ok()?;
-    let ty = read_type(alloc, decls.as_slice(), ty.as_bytes()).ok()?;
+fn accepted(alloc: Global, question: &str) -> Option<(List<Decl>, Ty)>
+    ensures well { IfSome result (λ both. AreWellFormed both.0) }
+    ensures sound { IfSome result (λ both. IsSoundType both.0 both.1) }
+{
+    let Some((ty, text)) = question.split_once(" over ") else {
+        return None;
+    };
+    let Ok(decls) = read_decls(alloc, text.as_bytes()) else {
+        return None;
+    };
+    let Ok(ty) = read_type(alloc, decls.as_slice(), ty.as_bytes()) else {
+        return None;
+    };
     Some((decls, ty))
+}
+
+// Puts a text behind a word, as a line.
+fn put_line(out: &mut Vec<u8>, word: &[u8], text: &[u8]) -> Result<(), Memory> {
+    out.extend_from_slice(word)?;
+    out.extend_from_slice(text)?;
+    out.push(b'\n')?;
+    Ok(())
+}
+
+// What the calls over types as they are written say: what the type expands to, whether its values lie flat, and which
+// declarations are records that do.
+fn written_lines(alloc: Global, decls: &[Decl], t: &Ty) -> Result<Vec<u8>, Memory>
+    requires { AreSound decls.now }
+{
+    let mut out = Vec::new(alloc);
+    let whole = expand(alloc, decls, t)?;
+    let nodes = whole.nodes();
+    let text = text(alloc, nodes, nodes.len().saturating_sub(1), 10_000)?;
+    put_line(&mut out, b"expands to ", text.as_slice())?;
+    if let ShapeOf::FlatFloats(_, _) = shape(alloc, decls, t)? {
+        put_line(&mut out, b"lies flat", b"")?;
+    }
+    for decl in decls {
+        if flat_float(alloc, decls, decl)? {
+            put_line(&mut out, b"a flat record: ", decl.name.as_slice())?;
+        }
+    }
+    Ok(out)
 }
 
 // Prints lines, and those of the plain program where they differ.
@@ -75,6 +118,10 @@ pub fn answer(rt: &HostRuntime, question: &str) -> io::Result<()> {
     let Some((decls, ty)) = accepted(alloc, question) else {
         return Err(ErrorKind::InvalidInput.into());
     };
+    let Ok(written) = written_lines(alloc, decls.as_slice(), &ty) else {
+        return Err(ErrorKind::OutOfMemory.into());
+    };
+    rt.stdout().write_all(written.as_slice())?;
     match build(alloc, decls.as_slice(), &ty) {
         Ok(table) => {
             let Ok(found) = lines_of(alloc, &table) else {

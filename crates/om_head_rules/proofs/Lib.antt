@@ -7,4 +7,3 @@ pub mod JoinedLemmas
 pub mod ThroughLemmas
 pub mod FlatLemmas
 pub mod TextLemmas
-pub mod WrittenLemmas

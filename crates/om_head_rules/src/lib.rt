@@ -13,6 +13,3 @@ mod variant;
 
 pub use broken::HeadBreak;
 pub use first::{first_head_break, first_head_break_in_type};
-
-#[cfg(test)]
-mod tests;

@@ -5,7 +5,6 @@ pub mod BracketLemmas
 pub mod GatherLemmas
 pub mod EntryLemmas
 pub mod KindLemmas
-pub mod ExampleLemmas
 pub mod LoopLemmas
 pub mod LayoutLemmas
 pub mod DatatypeLemmas

@@ -25,6 +25,3 @@ pub use names::names_at;
 pub use plain::plain as plain_head;
 pub use replaced::{expanded, nearer, unfolded};
 pub use spine::{name, parts, root};
-
-#[cfg(test)]
-mod tests;

@@ -1,9 +1,10 @@
 -- What a run says: the stages in their order, then a text of each value, and a last reply. A command adds its plain words,
 -- the files that it opens, what it says of a value, what stops it there, and its last reply; the stages, the stops, their
 -- lines and their statuses stand here once.
-use Rattle.std.specs.Prelude.{ℕ, suc, ◌^◌, ◌<◌, ◌≡◌, ◌≢◌, ◌↔◌, ◌⊎◌, Bool, true, false, IsTrue, ◌&&◌, if◌then◌else◌, List, [], ◌∷◌, ◌++◌, length, Option, Some, None, Result, Ok, Err, MatchResult, codes, decimal}
+use Rattle.std.specs.Prelude.{ℕ, suc, ◌<◌, ◌≡◌, ◌≢◌, ◌↔◌, ◌⊎◌, Bool, true, false, IsTrue, ◌&&◌, if◌then◌else◌, List, [], ◌∷◌, ◌++◌, length, Option, Some, None, Result, Ok, Err, MatchResult, codes, decimal}
 use Rattle.om_model.specs.declared.status.Status.{Status}
 use Rattle.om_model.specs.declared.status.Status.TheVariants as statuses
+pub use Rattle.om_outcome.specs.CommandLine.{Request, check, compare, Asks, IsUsage, typed_by, limit_of}
 use Rattle.om_outcome.specs.RefusalText.{refusal_text, truncated_text}
 use Rattle.om_format.specs.Iso.{Iso}
 use Rattle.om_format.specs.Tree.{Tree, root, objects_of}
@@ -158,34 +159,10 @@ OrRefusal Reads stop (Err s) = (refusal : List ℕ) × Reads (Err refusal) × (s
 
 -- ---- the words
 
-pub data Request : Type 0 where
-  check : (file type : List ℕ) → Request
-  compare : Request
-
--- FILE or another word after the command: it is not empty, and does not begin with `-`
-abbrev pub IsArgument : List ℕ → Type 0
-IsArgument [] = ⊥
-IsArgument (first ∷ rest) = first ≢ 45
-
--- plain words
-abbrev pub Asks : List (List ℕ) → Request → Type 0
-Asks words (check file type) = (words ≡ codes "check" ∷ file ∷ type ∷ []) × IsArgument file × IsArgument type
-Asks words compare = words ≡ codes "same" ∷ []
-
--- FILE and TYPE, where the command has them
-abbrev pub typed_by : Request → Option (List ℕ × List ℕ)
-typed_by (check file type) = Some (file, type)
-typed_by compare = None
-
--- the limit of words on 64 bits in a value
-abbrev pub limit_of : Request → ℕ
-limit_of (check file type) = 2 ^ 27
-limit_of compare = 2 ^ 27
-
 -- the first stage
 abbrev pub ReadsWords : List (List ℕ) → Result Request Stop → Type 0
 ReadsWords words (Ok request) = Asks words request
-ReadsWords words (Err stop) = ((request : Request) → Asks words request → ⊥) × (stop ≡ usage)
+ReadsWords words (Err stop) = IsUsage words × (stop ≡ usage)
 
 -- ---- the files
 
@@ -227,9 +204,9 @@ pub data Work (T : Type 0) : Type 0 where
 
 -- FILE and TYPE of `check`; `same` has none
 abbrev pub FindsWork : {D T : Type 0} → Language D T → (List ℕ → Found) → Request → Result (Work T) Stop → Type 0
-FindsWork language file (check name type_text) result =
+FindsWork language file (check name type_text limit) result =
     Then (ReadsTypeOf language file (name, type_text)) (λ type found. found ≡ Ok (checks type)) result
-FindsWork language file compare result = result ≡ Ok compares
+FindsWork language file (compare limit) result = result ≡ Ok compares
 
 -- ---- all stages before the values
 

@@ -11,4 +11,4 @@ mod trees;
 mod writing;
 
 pub use table::lines;
-pub use writing::{Row, line};
+pub use writing::{Row, line, text};

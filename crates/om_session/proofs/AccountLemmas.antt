@@ -1,8 +1,8 @@
 -- The account of a call, from what each stage gave.
-use Rattle.std.proofs.Common.{◌≡◌, ◌⊎◌, ℕ, List, [], None, IfSome, Ok, Err, inl, inr, refl, sym, ◌∙◌, subst}
+use Rattle.std.proofs.Common.{◌≡◌, ◌⊎◌, ℕ, List, [], Option, None, Some, IfSome, Ok, Err, inl, inr, refl, ◌∙◌, subst, arith}
 use Rattle.om_model.specs.declared.status.Status.{Status}
 use Rattle.std.specs.Borrow.{Bor}
-use Rattle.om_outcome.specs.Outcome.{Found, unfetched, nothing, Given, Stop, usage, out_of_memory, stops as stops_reply, stopped, ending_of, Request, check, compare, Asks, typed_by, ReadsTypeOf, Prepares, RunReplies, checks as works, compares}
+use Rattle.om_outcome.specs.Outcome.{IsUsage, Found, unfetched, nothing, Given, Stop, usage, out_of_memory, stops as stops_reply, stopped, ending_of, Request, check, compare, Asks, typed_by, ReadsTypeOf, Prepares, RunReplies, checks as works, compares}
 use Rattle.om_edge.specs.State.{ByteState, FilesState, Change, change}
 use Rattle.om_session.specs.declared.stop.Stop as codes
 use Rattle.om_session.specs.Call.{call}
@@ -10,14 +10,16 @@ use Rattle.om_session.specs.declared.types.Requested.{Requested}
 use Rattle.om_session.specs.declared.values.Work.{Work}
 use Rattle.om_session.specs.declared.values.Work.TheVariants as code_works
 use Rattle.om_session.specs.Ends.{ClosesValues, TakesValues}
-use Rattle.om_session.specs.Given.{Fetched}
+use Rattle.om_edge.specs.Files.{File, contents_of}
+use Rattle.om_session.specs.Given.{Fetched, IsFoundOf}
 use Rattle.om_session.specs.Language.{declared_types}
-use Rattle.om_session.specs.Run.{FetchesFor, PutsLine, Completes, Breaks, Account, IsUsage}
+use Rattle.om_session.specs.Run.{FetchesFor, PutsLine, Completes, Breaks, Account}
 use Rattle.om_session.specs.Stops.{stop_of, Reports}
 use Rattle.om_session.specs.Types.{type_over, GivesType}
 use Rattle.om_session.specs.Values.{task_of}
 use Rattle.om_session.proofs.PutLemmas.{puts_nothing}
 use Rattle.om_session.proofs.TakeLemmas.{took_nothing}
+use Rattle.om_session.proofs.WordLemmas.{check_or_compare, same_check}
 
 -- ---- a stop before the values
 
@@ -81,29 +83,51 @@ values_account w words file files fetches prepared input out err status (taken, 
 
 -- ---- the words
 
+-- nothing was fetched
+nothing_fetched : (files : FilesState) (name : List ℕ) → Fetched (change files files) name unfetched
+nothing_fetched files name = record {
+  map = IfSome_all files.map;
+  told = λ e. absurd (cc e);
+  stays = refl;
+  measured = tt;
+  opening = record { never_falls = omega arith; rose = tt; kept = refl; at_last = λ e. e };
+  named = λ e. absurd (cc e);
+  reading = record { never_falls = omega arith; rose = tt; kept = refl; at_last = λ e. e };
+} where
+  IfSome_all : (map : Option (List File)) → IfSome map (λ all. IsFoundOf (contents_of all name) unfetched)
+  IfSome_all None = tt
+  IfSome_all (Some all) = tt
+
+-- memory ran out before the words were read
+pub unread_account : (words : List (List ℕ)) (input out : ByteState) (files : FilesState) (err : Change ByteState) (status : Status)
+    → Reports out_of_memory err status → Account declared_types words (call (change input input) (change files files) (change out out) err status)
+unread_account words input out files err status r =
+    stop_account words (λ name. unfetched) input out (change files files)
+    (record { asked = λ request asks. asked (typed_by request); unasked = λ unasked. refl }) err status out_of_memory (inr refl) r where
+      asked : (typed : Option (List ℕ × List ℕ)) → IfSome typed (λ typed. Fetched (change files files) typed.0 unfetched)
+      asked None = tt
+      asked (Some typed) = nothing_fetched files typed.0
+
 pub usage_account : (words : List (List ℕ)) → IsUsage words → (input out : ByteState) (files : FilesState) (err : Change ByteState) (status : Status)
     → Reports usage err status → Account declared_types words (call (change input input) (record { before = files; after = files }) (change out out) err status)
 usage_account words none input out files err status r =
     stop_account words (λ name. unfetched) input out (record { before = files; after = files })
     (record { asked = λ request asks. absurd (none request asks); unasked = λ unasked. refl }) err status usage (inl (Err usage, (none, refl), refl)) r
 
-module _ (words : List (List ℕ)) (file type_text : List ℕ) (asks : Asks words (check file type_text)) (files : Change FilesState) (found : Found) (fetched : Fetched files file found) where
+module _ (words : List (List ℕ)) (file type_text : List ℕ) (limit : ℕ) (asks : Asks words (check file type_text limit)) (files : Change FilesState) (found : Found) (fetched : Fetched files file found) where
   asked : (request : Request) → Asks words request → IfSome (typed_by request) (λ typed. Fetched files typed.0 found)
-  asked (check f t) other =
-      let first = asks.0 in let second = other.0 in
-      let same : file ≡ f = cc in
-      subst (λ name. Fetched files name found) same fetched
-  asked compare other = tt
+  asked (check f t most) other = subst (λ name. Fetched files name found) (same_check words file type_text limit f t most asks other).0 fetched
+  asked (compare most) other = tt
 
   fetches : FetchesFor words files (λ name. found)
-  fetches = record { asked = asked; unasked = λ none. let no : typed_by (check file type_text) ≡ None = none (check file type_text) asks in absurd (cc no) }
+  fetches = record { asked = asked; unasked = λ none. let no : typed_by (check file type_text limit) ≡ None = none (check file type_text limit) asks in absurd (cc no) }
 
   prepared_ok : (t : Bor Requested) → ReadsTypeOf declared_types (λ name. found) (file, type_text) (Ok (type_over t.now))
-      → Prepares declared_types words (λ name. found) (Ok (task_of (code_works.Check t)))
-  prepared_ok t reads = (Ok (check file type_text), asks, (Ok (works (type_over t.now)), (Ok (type_over t.now), reads, refl), refl))
+      → Prepares declared_types words (λ name. found) (Ok (task_of (code_works.Check t limit)))
+  prepared_ok t reads = (Ok (check file type_text limit), asks, (Ok (works (type_over t.now)), (Ok (type_over t.now), reads, refl), refl))
 
   prepared_err : (s : Stop) → ReadsTypeOf declared_types (λ name. found) (file, type_text) (Err s) → Prepares declared_types words (λ name. found) (Err s)
-  prepared_err s reads = (Ok (check file type_text), asks, (Err s, (Err s, reads, refl), refl))
+  prepared_err s reads = (Ok (check file type_text limit), asks, (Err s, (Err s, reads, refl), refl))
 
   gives_err : (stop : codes.Stop) → GivesType file type_text found (Err stop) → Prepares declared_types words (λ name. found) (Err (stop_of stop)) ⊎ (stop_of stop ≡ out_of_memory)
   gives_err stop (inl reads) = inl (prepared_err _ reads)
@@ -117,16 +141,16 @@ module _ (words : List (List ℕ)) (file type_text : List ℕ) (asks : Asks word
 
   -- the values are checked at the type
   pub check_account : (t : Bor Requested) → GivesType file type_text found (Ok t.now) → (input out err : Change ByteState) (status : Status)
-      → TakesValues (code_works.Check t) input out err status → Account declared_types words (call input files out err status)
+      → TakesValues (code_works.Check t limit) input out err status → Account declared_types words (call input files out err status)
   check_account t gives input out err status takes =
-      values_account (code_works.Check t) words (λ name. found) files fetches (prepared_ok t gives.0) input out err status takes
+      values_account (code_works.Check t limit) words (λ name. found) files fetches (prepared_ok t gives.0) input out err status takes
 
 -- two values are compared
-pub compare_account : (words : List (List ℕ)) → Asks words compare → (files : FilesState) (input out err : Change ByteState) (status : Status)
-    → TakesValues code_works.Compare input out err status → Account declared_types words (call input (change files files) out err status)
-compare_account words asks files input out err status takes =
-    values_account code_works.Compare words (λ name. unfetched) (change files files) (record { asked = λ request other. asked request other; unasked = λ none. refl })
-    (Ok compare, asks, (Ok compares, refl, refl)) input out err status takes where
+pub compare_account : (words : List (List ℕ)) (limit : ℕ) → Asks words (compare limit) → (files : FilesState) (input out err : Change ByteState) (status : Status)
+    → TakesValues (code_works.Compare limit) input out err status → Account declared_types words (call input (change files files) out err status)
+compare_account words limit asks files input out err status takes =
+    values_account (code_works.Compare limit) words (λ name. unfetched) (change files files) (record { asked = λ request other. asked request other; unasked = λ none. refl })
+    (Ok (compare limit), asks, (Ok compares, refl, refl)) input out err status takes where
       asked : (request : Request) → Asks words request → IfSome (typed_by request) (λ typed. Fetched (change files files) typed.0 unfetched)
-      asked compare other = tt
-      asked (check f t) other = let two = other.0 in absurd (cc (sym asks ∙ two))
+      asked (compare most) other = tt
+      asked (check f t most) other = absurd (check_or_compare words f t most limit other asks)

@@ -6,18 +6,18 @@ use Rattle.om_model.specs.declared.status.Status.TheVariants as statuses
 use Rattle.om_model.specs.declared.refusal.ReadRefusal.{ReadRefusal}
 use Rattle.om_format.specs.Stream.{SpellAll, End, clean, refused, cut, IsTail, Stream}
 use Rattle.om_format.specs.Tree.{Tree}
-use Rattle.om_outcome.specs.Outcome.{Taken, InputEnd, at_end, at_fault, at_length, unasked, whole, Found, opened, missing, failed, unfetched, Given, Stop, usage, declarations, read_fault, too_long, status_of, Said, nothing_said, stops, Reply, Replies, replies, texts_of, all_well as well_said, ending_of, stopped, Request, check, compare, Work, checks, compares, AllSay, SayFirst, Finishes, comparison, Task, Language, ReadsFile, ReadsTypeOf, Prepares, RunReplies, ValuesReply, StopsAt, out_of_memory, stop_text, err_line, Closes, fault_of, limit_of, Asks}
+use Rattle.om_outcome.specs.Outcome.{IsUsage, Taken, InputEnd, at_end, at_fault, at_length, unasked, whole, Found, opened, missing, failed, unfetched, Given, Stop, usage, declarations, read_fault, too_long, status_of, Said, nothing_said, stops, Reply, Replies, replies, texts_of, all_well as well_said, ending_of, stopped, Request, check, compare, Work, checks, compares, AllSay, SayFirst, Finishes, comparison, Task, Language, ReadsFile, ReadsTypeOf, Prepares, RunReplies, ValuesReply, StopsAt, out_of_memory, stop_text, err_line, Closes, fault_of, limit_of, Asks}
 use Rattle.om_edge.specs.Faults.{HasCause, RoseOrLast}
 use Rattle.om_edge.specs.Files.{File, contents_of}
 use Rattle.om_edge.specs.Sink.{Puts, PutsPart}
 use Rattle.om_session.specs.Call.{Call}
 use Rattle.om_session.specs.Given.{IsFoundOf, TakesFrom, Fetched, IsMeasured, is_fault, has_read_fault}
-use Rattle.om_session.specs.Run.{IsSaidFirst, PutsLine, Completes, Breaks, Account, IsUsage, AsksForFile, CannotOpen, OnlyUsage, OnlyReadFault, OnlyWriteFault, OnlyOpenFault, OnlyTooLong, IfUsage, IsUnsaid, TellsWriteFault, TellsOpenFault, TellsReadFault, AsksFor, IsRefusedType, OnlyTypes, FetchesFor, AreNotTwo, OnlyValue, HoldBadValue, IfMissing}
+use Rattle.om_session.specs.Run.{IsSaidFirst, PutsLine, Completes, Breaks, Account, AsksForFile, CannotOpen, OnlyUsage, OnlyReadFault, OnlyWriteFault, OnlyOpenFault, OnlyTooLong, IfUsage, IsUnsaid, TellsWriteFault, TellsOpenFault, TellsReadFault, AsksFor, IsRefusedType, OnlyTypes, FetchesFor, AreNotTwo, OnlyValue, HoldBadValue, IfMissing}
 use Rattle.std.proofs.lemmas.Option.{IfSome_then}
 use Rattle.om_session.proofs.HeadlineLemmas.{tail_after, tail_some, front_none, goes_on_more}
 use Rattle.om_session.proofs.PutLemmas.{rose_after}
 use Rattle.om_session.proofs.ValueLemmas.{spell_after, first_after, few_said}
-use Rattle.om_session.proofs.WordLemmas.{check_or_compare, no_file}
+use Rattle.om_session.proofs.WordLemmas.{check_or_compare, no_file, same_check}
 use Rattle.om_session.proofs.CompleteLemmas.{IsLawful, prepares_once}
 
 some_and : {X : Type 0} (o : Option X) (P : X → Type 0) → IsSome o → IfSome o P → IsSomeAnd o P
@@ -58,10 +58,10 @@ bad_after language task bytes more bad refusal is =
 
 -- the work of a request
 abbrev pub Suits : {T : Type 0} → Request → Work T → Type 0
-Suits (check f t) (checks type) = Unit {0}
-Suits (check f t) compares = ⊥
-Suits compare (checks type) = ⊥
-Suits compare compares = Unit {0}
+Suits (check f t most) (checks type) = Unit {0}
+Suits (check f t most) compares = ⊥
+Suits (compare most) (checks type) = ⊥
+Suits (compare most) compares = Unit {0}
 
 -- the stages before the values are passed
 abbrev pub IsReady : {D T : Type 0} → Language D T → List (List ℕ) → Given → Type 0
@@ -147,13 +147,13 @@ module _ {D T : Type 0} (language : Language D T) (words : List (List ℕ)) (cal
   prepares_why : (s : Stop) → Prepares language words given.file (Err s) → Why language words call given (status_of s)
   prepares_why s (Err stop, (none, e), same) =
       let told : usage ≡ s = cc in subst (λ s. Why language words call given (status_of s)) told (not_plain none)
-  prepares_why s (Ok (check f t), asks, (Ok work, found, same)) = absurd (cc same)
-  prepares_why s (Ok (check f t), asks, (Err stop, (Ok type, reads, found), same)) = absurd (cc found)
-  prepares_why s (Ok (check f t), asks, (Err stop, (Err first, reads, e), same)) =
+  prepares_why s (Ok (check f t most), asks, (Ok work, found, same)) = absurd (cc same)
+  prepares_why s (Ok (check f t most), asks, (Err stop, (Ok type, reads, found), same)) = absurd (cc found)
+  prepares_why s (Ok (check f t most), asks, (Err stop, (Err first, reads, e), same)) =
       let told : first ≡ s = cc in
-      subst (λ s. Why language words call given (status_of s)) told (type_why f t (check f t, asks, refl) first reads)
-  prepares_why s (Ok compare, asks, (Ok work, found, same)) = absurd (cc same)
-  prepares_why s (Ok compare, asks, (Err stop, found, same)) = absurd (cc found)
+      subst (λ s. Why language words call given (status_of s)) told (type_why f t (check f t most, asks, refl) first reads)
+  prepares_why s (Ok (compare most), asks, (Ok work, found, same)) = absurd (cc same)
+  prepares_why s (Ok (compare most), asks, (Err stop, found, same)) = absurd (cc found)
 
   module _ (task : Task T) (p : Prepares language words given.file (Ok task)) where
     abbrev Because : List Said → Reply → Type 0
@@ -234,24 +234,24 @@ module _ {D T : Type 0} (language : Language D T) (words : List (List ℕ)) (cal
 
   pub task_asks : (task : Task T) → Prepares language words given.file (Ok task) → (request : Request) × Asks words request × (task.limit ≡ limit_of request) × Suits request task.work
   task_asks task (Err stop, h, same) = absurd (cc same)
-  task_asks task (Ok (check f t), asks, (Err stop, h, same)) = absurd (cc same)
-  task_asks task (Ok (check f t), asks, (Ok work, (Err stop, reads, h), same)) = absurd (cc h)
-  task_asks task (Ok (check f t), asks, (Ok work, (Ok type, reads, h), same)) =
-      let told : task ≡ record { work = work; limit = limit_of (check f t) } = cc in
+  task_asks task (Ok (check f t most), asks, (Err stop, h, same)) = absurd (cc same)
+  task_asks task (Ok (check f t most), asks, (Ok work, (Err stop, reads, h), same)) = absurd (cc h)
+  task_asks task (Ok (check f t most), asks, (Ok work, (Ok type, reads, h), same)) =
+      let told : task ≡ record { work = work; limit = limit_of (check f t most) } = cc in
       let is : work ≡ checks type = cc in
-      (check f t, asks, ap (λ t. t.limit) told, subst (λ w. Suits (check f t) w) (sym (ap (λ t. t.work) told ∙ is)) tt)
-  task_asks task (Ok compare, asks, (Err stop, h, same)) = absurd (cc same)
-  task_asks task (Ok compare, asks, (Ok work, h, same)) =
-      let told : task ≡ record { work = work; limit = limit_of compare } = cc in
+      (check f t most, asks, ap (λ t. t.limit) told, subst (λ w. Suits (check f t most) w) (sym (ap (λ t. t.work) told ∙ is)) tt)
+  task_asks task (Ok (compare most), asks, (Err stop, h, same)) = absurd (cc same)
+  task_asks task (Ok (compare most), asks, (Ok work, h, same)) =
+      let told : task ≡ record { work = work; limit = limit_of (compare most) } = cc in
       let is : work ≡ compares = cc in
-      (compare, asks, ap (λ t. t.limit) told, subst (λ w. Suits compare w) (sym (ap (λ t. t.work) told ∙ is)) tt)
+      (compare most, asks, ap (λ t. t.limit) told, subst (λ w. Suits (compare most) w) (sym (ap (λ t. t.work) told ∙ is)) tt)
 
   -- where values are compared, the words are those of `same`
-  pub compare_asked : (task : Task T) → Prepares language words given.file (Ok task) → task.work ≡ compares → Asks words compare × (task.limit ≡ limit_of compare)
+  pub compare_asked : (task : Task T) → Prepares language words given.file (Ok task) → task.work ≡ compares → Asks words (compare task.limit)
   compare_asked task p is = let asked = task_asks task p in at asked.0 asked.1 asked.2 (subst (λ w. Suits asked.0 w) is asked.3) where
-    at : (request : Request) → Asks words request → task.limit ≡ limit_of request → Suits {T = T} request compares → Asks words compare × (task.limit ≡ limit_of compare)
-    at (check f t) asks limit h = absurd h
-    at compare asks limit h = (asks, limit)
+    at : (request : Request) → Asks words request → task.limit ≡ limit_of request → Suits {T = T} request compares → Asks words (compare task.limit)
+    at (check f t most) asks limit h = absurd h
+    at (compare most) asks limit h = subst (λ n. Asks words (compare n)) (sym limit) asks
 
   says_why : (all : Replies) → RunReplies language words given all → Why language words call given (ending_of all).status
   says_why all (Err stop, p, same) = subst (λ e. Why language words call given (ending_of e).status) (sym same) (prepares_why stop p)
@@ -424,17 +424,17 @@ module _ {D T : Type 0} (language : Language D T) (words : List (List ℕ)) (cal
 
   opening_says : call.files.before.open_faults < call.files.after.open_faults → (all : Replies) → RunReplies language words a.given all → (ending_of all).status ≡ statuses.OpenFault
   opening_says less all (prepared, (Err stop, none, rest), said) = absurd (risen _ _ (ap (λ f. f.open_faults) (a.files.unasked (λ request asks. absurd (none.0 request asks)))) less)
-  opening_says less all (prepared, (Ok compare, asks, more), said) = absurd (risen _ _ (ap (λ f. f.open_faults) (a.files.unasked (no_file words asks))) less)
-  opening_says less all (prepared, (Ok (check f t), asks, (type, (found, (text, r, more), e), rest)), said) =
-      opening_at f (a.files.asked (check f t) asks) all less (a.given.file f) refl text r
-      (λ s same. stop_status all found type prepared (check f t) s (rw same at more) e rest said)
+  opening_says less all (prepared, (Ok (compare most), asks, more), said) = absurd (risen _ _ (ap (λ f. f.open_faults) (a.files.unasked (no_file words most asks))) less)
+  opening_says less all (prepared, (Ok (check f t most), asks, (type, (found, (text, r, more), e), rest)), said) =
+      opening_at f (a.files.asked (check f t most) asks) all less (a.given.file f) refl text r
+      (λ s same. stop_status all found type prepared (check f t most) s (rw same at more) e rest said)
 
   reading_says : call.files.before.read_faults < call.files.after.read_faults → (all : Replies) → RunReplies language words a.given all → (ending_of all).status ≡ statuses.ReadFault
   reading_says less all (prepared, (Err stop, none, rest), said) = absurd (risen _ _ (ap (λ f. f.read_faults) (a.files.unasked (λ request asks. absurd (none.0 request asks)))) less)
-  reading_says less all (prepared, (Ok compare, asks, more), said) = absurd (risen _ _ (ap (λ f. f.read_faults) (a.files.unasked (no_file words asks))) less)
-  reading_says less all (prepared, (Ok (check f t), asks, (type, (found, (text, r, more), e), rest)), said) =
-      reading_at f (a.files.asked (check f t) asks) all less (a.given.file f) refl text r
-      (λ s same. stop_status all found type prepared (check f t) s (rw same at more) e rest said)
+  reading_says less all (prepared, (Ok (compare most), asks, more), said) = absurd (risen _ _ (ap (λ f. f.read_faults) (a.files.unasked (no_file words most asks))) less)
+  reading_says less all (prepared, (Ok (check f t most), asks, (type, (found, (text, r, more), e), rest)), said) =
+      reading_at f (a.files.asked (check f t most) asks) all less (a.given.file f) refl text r
+      (λ s same. stop_status all found type prepared (check f t most) s (rw same at more) e rest said)
 
   pub tells_open_fault : TellsOpenFault call
   tells_open_fault less = said_status (λ s. s ≡ statuses.OpenFault) (opening_says less)
@@ -533,12 +533,11 @@ module _ {D T : Type 0} (language : Language D T) (words : List (List ℕ)) (cal
     go (inr (fewer, none, e)) = record { trees = n.trees; rest = n.rest; spelled = n.spelled; why = inr (fewer, none) }
 
   usage_of : Why language words call a.given statuses.Usage
-      → IsUsage words ⊎ (Asks words compare × (input : List ℕ) × IfSome call.input.before.bytes (λ bytes. bytes ≡ input) × AreNotTwo (limit_of compare) input)
+      → IsUsage words ⊎ ((limit : ℕ) × Asks words (compare limit) × (input : List ℕ) × IfSome call.input.before.bytes (λ bytes. bytes ≡ input) × AreNotTwo limit input)
   usage_of (not_plain none) = inl none
   usage_of (not_two task p n) =
       let i = whole_input (AreNotTwo task.limit) (taken_not_two task n) (λ bytes rest t. not_two_of bytes rest t task n) in
-      let asked = compare_asked language words call a.given task p n.is in
-      inr (asked.0, i.0, i.1, subst (λ limit. AreNotTwo limit i.0) asked.1 i.2)
+      inr (task.limit, compare_asked language words call a.given task p n.is, i.0, i.1, i.2)
 
   pub only_usage : OnlyUsage words call
   only_usage e = usage_of (subst (λ s. Why language words call a.given s) e account_why)
@@ -562,15 +561,14 @@ module _ {D T : Type 0} (language : Language D T) (words : List (List ℕ)) (cal
   missing_says : (name : List ℕ) → AsksForFile words name → IsSomeAnd call.files.before.map (λ all. contents_of all name ≡ None)
       → (all : Replies) → RunReplies language words a.given all → (ending_of all).status ≡ statuses.OpenFault
   missing_says name (type, (request, other, typed)) none all (prepared, (Err stop, h, rest), said) = absurd (h.0 request other)
-  missing_says name (type, (compare, other, typed)) none all (prepared, (Ok request, asks, more), said) = absurd (cc typed)
-  missing_says name (type, (check g u, other, typed)) none all (prepared, (Ok compare, asks, more), said) = absurd (check_or_compare words g u other asks)
-  missing_says name (type, (check g u, other, typed)) none all (prepared, (Ok (check f t), asks, (found_type, (found, (text, r, more), e), rest)), said) =
-      let one = asks.0 in let two = other.0 in
-      let same : g ≡ f = cc in
+  missing_says name (type, (compare most', other, typed)) none all (prepared, (Ok request, asks, more), said) = absurd (cc typed)
+  missing_says name (type, (check g u most', other, typed)) none all (prepared, (Ok (compare most), asks, more), said) = absurd (check_or_compare words g u most' most other asks)
+  missing_says name (type, (check g u most', other, typed)) none all (prepared, (Ok (check f t most), asks, (found_type, (found, (text, r, more), e), rest)), said) =
+      let same = (same_check words g u most' f t most other asks).0 in
       let pair : ◌≡◌ {A = List ℕ × List ℕ} (g, u) (name, type) = cc in
       let file : name ≡ f = sym (ap (λ p. p.0) pair) ∙ same in
-      missing_at f (a.files.asked (check f t) asks) (subst (λ n. IsSomeAnd call.files.before.map (λ all. contents_of all n ≡ None)) file none) all
-      (a.given.file f) refl text r (λ s same. stop_status all found found_type prepared (check f t) s (rw same at more) e rest said)
+      missing_at f (a.files.asked (check f t most) asks) (subst (λ n. IsSomeAnd call.files.before.map (λ all. contents_of all n ≡ None)) file none) all
+      (a.given.file f) refl text r (λ s same. stop_status all found found_type prepared (check f t most) s (rw same at more) e rest said)
 
   pub if_missing : IfMissing words call
   if_missing name is none = said_status (λ s. s ≡ statuses.OpenFault) (missing_says name is none)

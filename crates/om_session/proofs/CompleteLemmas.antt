@@ -15,7 +15,7 @@ use Rattle.om_session.specs.Given.{TellsBytes}
 use Rattle.om_session.specs.Run.{Account, AreAllWell, IsAllWell, IsComplete, HasOutcome}
 use Rattle.om_session.proofs.HeadlineLemmas.{headline}
 use Rattle.om_session.proofs.StreamLemmas.{stream_once, spell_once}
-use Rattle.om_session.proofs.WordLemmas.{check_or_compare}
+use Rattle.om_session.proofs.WordLemmas.{check_or_compare, same_check, same_compare}
 
 -- some text is read as this type, over declarations that some text is read as
 abbrev pub IsGiven : {D T : Type 0} → Language D T → T → Type 0
@@ -58,55 +58,61 @@ module _ {D T : Type 0} (language : Language D T) (lawful : IsLawful language) (
 
   pub prepares_once : (words : List (List ℕ)) (task : Task T) (r : Result (Task T) Stop) → Prepares language words file (Ok task) → Prepares language words file r → Ok task ≡ r
   prepares_once words task r (Err s, h, same) other = absurd (cc same)
-  prepares_once words task r (Ok (check f u), asks, (Err s, h, same)) other = absurd (cc same)
-  prepares_once words task r (Ok (check f u), asks, (Ok work, h, same)) (Err s, (none, e), told) = absurd (none (check f u) asks)
-  prepares_once words task r (Ok (check f u), asks, (Ok work, h, told)) (Ok compare, other, more) = absurd (check_or_compare words f u asks other)
-  prepares_once words task r (Ok compare, asks, (Err s, h, same)) other = absurd (cc same)
-  prepares_once words task r (Ok compare, asks, (Ok work, h, same)) (Err s, (none, e), told) = absurd (none compare asks)
-  prepares_once words task r (Ok compare, asks, (Ok work, h, same)) (Ok (check g v), other, more) = absurd (check_or_compare words g v other asks)
-  prepares_once words task r (Ok compare, asks, (Ok work, h, same)) (Ok compare, other, (found, h', told)) = compare_task found h' told where
-    compare_task : (found : Result (Work T) Stop) → found ≡ Ok compares → MatchResult found (λ x. r ≡ Ok (record { work = x; limit = limit_of compare })) (λ stop. r ≡ Err stop) → Ok task ≡ r
+  prepares_once words task r (Ok (check f u most), asks, (Err s, h, same)) other = absurd (cc same)
+  prepares_once words task r (Ok (check f u most), asks, (Ok work, h, same)) (Err s, (none, e), told) = absurd (none (check f u most) asks)
+  prepares_once words task r (Ok (check f u most), asks, (Ok work, h, told)) (Ok (compare most'), other, more) = absurd (check_or_compare words f u most most' asks other)
+  prepares_once words task r (Ok (compare most), asks, (Err s, h, same)) other = absurd (cc same)
+  prepares_once words task r (Ok (compare most), asks, (Ok work, h, same)) (Err s, (none, e), told) = absurd (none (compare most) asks)
+  prepares_once words task r (Ok (compare most), asks, (Ok work, h, same)) (Ok (check g v most'), other, more) = absurd (check_or_compare words g v most' most other asks)
+  prepares_once words task r (Ok (compare most), asks, (Ok work, h, same)) (Ok (compare most'), other, (found, h', told)) = compare_task found h' told where
+    limits : most ≡ most'
+    limits = same_compare words most most' asks other
+
+    compare_task : (found : Result (Work T) Stop) → found ≡ Ok compares → MatchResult found (λ x. r ≡ Ok (record { work = x; limit = most' })) (λ stop. r ≡ Err stop) → Ok task ≡ r
     compare_task (Err s) h' k = absurd (cc h')
     compare_task (Ok x) h' k =
-        let is : task ≡ record { work = work; limit = limit_of compare } = cc in
+        let is : task ≡ record { work = work; limit = most } = cc in
         let ours : work ≡ compares = cc in
         let theirs : x ≡ compares = cc in
-        ap (λ t. Ok t) is ∙ (ap (λ w. Ok (record { work = w; limit = limit_of compare })) (ours ∙ sym theirs) ∙ sym k)
-  prepares_once words task r (Ok (check f u), asks, (Ok work, (Err s, reads, same), told)) (Ok (check g v), other, (found, (r3, reads', same'), told')) = absurd (cc same)
-  prepares_once words task r (Ok (check f u), asks, (Ok work, (Ok t, reads, same), told)) (Ok (check g v), other, (found, (r3, reads', same'), told')) =
-      let one = asks.0 in let two = other.0 in
-      let names : g ≡ f = cc in
-      let types : v ≡ u = cc in
+        ap (λ t. Ok t) is ∙ (ap (λ w. Ok (record { work = w; limit = most })) (ours ∙ sym theirs) ∙ (ap (λ n. Ok (record { work = x; limit = n })) limits ∙ sym k))
+  prepares_once words task r (Ok (check f u most), asks, (Ok work, (Err s, reads, same), told)) (Ok (check g v most'), other, (found, (r3, reads', same'), told')) = absurd (cc same)
+  prepares_once words task r (Ok (check f u most), asks, (Ok work, (Ok t, reads, same), told)) (Ok (check g v most'), other, (found, (r3, reads', same'), told')) =
+      let alike = same_check words f u most g v most' asks other in
+      let names : g ≡ f = sym alike.0 in
+      let types : v ≡ u = sym alike.1 in
       let moved : ReadsTypeOf language file (f, u) r3 = subst (λ u. ReadsTypeOf language file (f, u) r3) types (subst (λ f. ReadsTypeOf language file (f, v) r3) names reads') in
       let once : Ok t ≡ r3 = types_once f u t r3 reads moved in
       same_task found r3 once same' told' where
+        limits : most ≡ most'
+        limits = (same_check words f u most g v most' asks other).2
+
         same_task : (found : Result (Work T) Stop) (r3 : Result T Stop) → Ok t ≡ r3
             → MatchResult r3 (λ x. found ≡ Ok (checks x)) (λ stop. found ≡ Err stop)
-            → MatchResult found (λ x. r ≡ Ok (record { work = x; limit = limit_of (check g v) })) (λ stop. r ≡ Err stop) → Ok task ≡ r
+            → MatchResult found (λ x. r ≡ Ok (record { work = x; limit = most' })) (λ stop. r ≡ Err stop) → Ok task ≡ r
         same_task found (Err s) e h k = absurd (cc e)
         same_task (Err s) (Ok x) e h k = absurd (cc h)
         same_task (Ok y) (Ok x) e h k =
-            let is : task ≡ record { work = work; limit = limit_of (check f u) } = cc in
+            let is : task ≡ record { work = work; limit = most } = cc in
             let ours : work ≡ checks t = cc in
             let theirs : y ≡ checks x = cc in
             let both : t ≡ x = cc in
-            ap (λ t. Ok t) is ∙ (ap (λ w. Ok (record { work = w; limit = limit_of (check f u) })) (ours ∙ (ap (λ t. checks t) both ∙ sym theirs)) ∙ sym k)
+            ap (λ t. Ok t) is ∙ (ap (λ w. Ok (record { work = w; limit = most })) (ours ∙ (ap (λ t. checks t) both ∙ sym theirs)) ∙ (ap (λ n. Ok (record { work = y; limit = n })) limits ∙ sym k))
 
   -- the type of the work was read
   pub prepares_given : (words : List (List ℕ)) (task : Task T) → Prepares language words file (Ok task) → IsGivenWork language task.work
   prepares_given words task (Err s, h, same) = absurd (cc same)
-  prepares_given words task (Ok compare, asks, (Err s, h, same)) = absurd (cc same)
-  prepares_given words task (Ok compare, asks, (Ok work, h, told)) =
-      let one : task ≡ record { work = work; limit = limit_of compare } = cc in
+  prepares_given words task (Ok (compare most), asks, (Err s, h, same)) = absurd (cc same)
+  prepares_given words task (Ok (compare most), asks, (Ok work, h, told)) =
+      let one : task ≡ record { work = work; limit = limit_of (compare most) } = cc in
       let two : work ≡ compares = cc in
       let is : task.work ≡ compares = ap (λ t. t.work) one ∙ two in
       subst (IsGivenWork language) (sym is) tt
-  prepares_given words task (Ok (check f u), asks, (Err s, h, same)) = absurd (cc same)
-  prepares_given words task (Ok (check f u), asks, (Ok work, (Err s, reads, same), told)) = absurd (cc same)
-  prepares_given words task (Ok (check f u), asks, (Ok work, (Ok t, reads, same), told)) = type_given reads where
+  prepares_given words task (Ok (check f u most), asks, (Err s, h, same)) = absurd (cc same)
+  prepares_given words task (Ok (check f u most), asks, (Ok work, (Err s, reads, same), told)) = absurd (cc same)
+  prepares_given words task (Ok (check f u most), asks, (Ok work, (Ok t, reads, same), told)) = type_given reads where
     is : task.work ≡ checks t
     is =
-        let one : task ≡ record { work = work; limit = limit_of (check f u) } = cc in
+        let one : task ≡ record { work = work; limit = limit_of (check f u most) } = cc in
         let two : work ≡ checks t = cc in
         ap (λ t. t.work) one ∙ two
 

@@ -6,12 +6,13 @@ use Rattle.om_model.specs.Bytes.{AreBytes}
 use Rattle.om_format.specs.Laws.{HasOneJudgement}
 use Rattle.om_format.specs.Tree.{Tree}
 use Rattle.om_format.specs.Stream.{SpellAll, End, clean, refused, cut, IsTail, Stream}
-use Rattle.om_outcome.specs.Outcome.{whole, at_end, Found, opened, missing, failed, unfetched, Stop, fault_of, usage, declarations, requested_type, stopped, Request, check, compare, Asks, Then, OrRefusal, Work, checks, compares, Task, Language, ReadsFile, ReadsTypeOf, Prepares, Said, nothing_said, says, not_two_values, comparison, AreSame, stops, Reply, Replies, replies, line, ending_of, Says, AllSay, StopsAt, ValuesReply, Finishes, Closes, limit_of, found_of, Outcome}
+use Rattle.om_outcome.specs.Outcome.{IsUsage, whole, at_end, Found, opened, missing, failed, unfetched, Stop, fault_of, usage, declarations, requested_type, stopped, Request, check, compare, Asks, Then, OrRefusal, Work, checks, compares, Task, Language, ReadsFile, ReadsTypeOf, Prepares, Said, nothing_said, says, not_two_values, comparison, AreSame, stops, Reply, Replies, replies, line, ending_of, Says, AllSay, StopsAt, ValuesReply, Finishes, Closes, limit_of, found_of, Outcome}
 use Rattle.om_edge.specs.Files.{File, contents_of}
 use Rattle.om_session.specs.Call.{Call}
 use Rattle.om_session.specs.Given.{TellsBytes}
 use Rattle.om_session.specs.Run.{Account, IsDecided}
 use Rattle.om_session.proofs.HeadlineLemmas.{headline}
+use Rattle.om_session.proofs.WordLemmas.{same_check}
 use Rattle.om_session.proofs.CompleteLemmas.{IsGivenWork, IsLawful, prepares_once, prepares_given}
 use Rattle.om_session.proofs.StreamLemmas.{streams_once, spell_once, spell_append, spell_bytes, stream_of}
 
@@ -54,29 +55,29 @@ module _ {D T : Type 0} (language : Language D T) (lawful : IsLawful language) (
 
   -- why there is no task
   abbrev Unprepared : List (List ℕ) → Stop → Type 0
-  Unprepared words s = (((request : Request) → Asks words request → ⊥) × (s ≡ usage))
-      ⊎ ((f : List ℕ) × (u : List ℕ) × Asks words (check f u) × ReadsTypeOf language file (f, u) (Err s))
+  Unprepared words s = (IsUsage words × (s ≡ usage))
+      ⊎ ((f : List ℕ) × (u : List ℕ) × (most : ℕ) × Asks words (check f u most) × ReadsTypeOf language file (f, u) (Err s))
 
   unprepared : (words : List (List ℕ)) (s : Stop) → Prepares language words file (Err s) → Unprepared words s
   unprepared words s (Err a, (none, e), same) = inl (none, (let one : s ≡ a = cc in one ∙ e))
-  unprepared words s (Ok compare, asks, (Ok x, told, same)) = absurd (cc same)
-  unprepared words s (Ok compare, asks, (Err b, told, same)) = absurd (cc told)
-  unprepared words s (Ok (check f u), asks, (found, (r, reads, told), same)) = inr (f, u, asks, type_stop found r reads told same) where
+  unprepared words s (Ok (compare most), asks, (Ok x, told, same)) = absurd (cc same)
+  unprepared words s (Ok (compare most), asks, (Err b, told, same)) = absurd (cc told)
+  unprepared words s (Ok (check f u most), asks, (found, (r, reads, told), same)) = inr (f, u, most, asks, type_stop found r reads told same) where
     type_stop : (found : Result (Work T) Stop) (r : Result T Stop) → ReadsTypeOf language file (f, u) r
         → MatchResult r (λ x. found ≡ Ok (checks x)) (λ stop. found ≡ Err stop)
-        → MatchResult found (λ x. ◌≡◌ {A = Result (Task T) Stop} (Err s) (Ok (record { work = x; limit = limit_of (check f u) }))) (λ stop. ◌≡◌ {A = Result (Task T) Stop} (Err s) (Err stop)) → ReadsTypeOf language file (f, u) (Err s)
+        → MatchResult found (λ x. ◌≡◌ {A = Result (Task T) Stop} (Err s) (Ok (record { work = x; limit = limit_of (check f u most) }))) (λ stop. ◌≡◌ {A = Result (Task T) Stop} (Err s) (Err stop)) → ReadsTypeOf language file (f, u) (Err s)
     type_stop (Ok x) r reads told same = absurd (cc same)
     type_stop (Err b) (Ok t) reads told same = absurd (cc told)
     type_stop (Err b) (Err c) reads told same = let is : c ≡ s = cc in subst (λ c. ReadsTypeOf language file (f, u) (Err c)) is reads
 
   stop_once : (words : List (List ℕ)) (s s' : Stop) → Unprepared words s → Unprepared words s' → s ≡ s'
   stop_once words s s' (inl (none, e)) (inl (none', e')) = e ∙ sym e'
-  stop_once words s s' (inl (none, e)) (inr (f, u, asks, reads)) = absurd (none (check f u) asks)
-  stop_once words s s' (inr (f, u, asks, reads)) (inl (none, e)) = absurd (none (check f u) asks)
-  stop_once words s s' (inr (f, u, asks, reads)) (inr (g, v, asks', reads')) =
-      let one = asks.0 in let two = asks'.0 in
-      let names : g ≡ f = cc in
-      let types : v ≡ u = cc in
+  stop_once words s s' (inl (none, e)) (inr (f, u, most, asks, reads)) = absurd (none (check f u most) asks)
+  stop_once words s s' (inr (f, u, most, asks, reads)) (inl (none, e)) = absurd (none (check f u most) asks)
+  stop_once words s s' (inr (f, u, most, asks, reads)) (inr (g, v, most', asks', reads')) =
+      let alike = same_check words f u most g v most' asks asks' in
+      let names : g ≡ f = sym alike.0 in
+      let types : v ≡ u = sym alike.1 in
       type_stop_once f u s s' reads (subst (λ u. ReadsTypeOf language file (f, u) (Err s')) types (subst (λ f. ReadsTypeOf language file (f, v) (Err s')) names reads'))
 
 -- ---- the values

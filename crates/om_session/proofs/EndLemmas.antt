@@ -54,7 +54,7 @@ module _ (w : Work) (bytes : List ℕ) (said : List Said) (holds : HoldNoStop de
 -- the input's end, after all values
 ends_after : (w : Work) (bytes : List ℕ) (said : List Said) (trees : List Tree) → SayFirst declared_types (task_of w) bytes trees said [] → (last : outcome.Reply) → outcome.Finishes declared_types (work_of w) trees last
     → ValuesReply declared_types (task_of w) (taken bytes at_end) (replies said last)
-ends_after w bytes said trees first last finishes = record { trees = trees; rest = []; first = first; last = inr (clean, refl, λ stop at. none_goes_on w word_limit trees stop at, finishes) }
+ends_after w bytes said trees first last finishes = record { trees = trees; rest = []; first = first; last = inr (clean, refl, λ stop at. none_goes_on w (word_limit w) trees stop at, finishes) }
 
 pub ends_input : (w : Work) (bytes : List ℕ) (said : List Said) (a b c : ByteState) (result : Result Bool Halt) → EndsAt w bytes said (change b c) result
     → Puts (change a b) (texts_of said) → EndsValues w (taken bytes at_end) said (change a c) result
@@ -119,14 +119,14 @@ module _ (w : Work) (bytes : List ℕ) (said : List Said) (a b c : ByteState) (p
           (first_after declared_types (task_of w) (bytes ++ done) holds.trees (said ++ more) holds.front in_hand holds.first);
       last = last why;
     }) where
-      last : ((refusal : ReadRefusal) × IsTail word_limit (holds.front ++ in_hand) (refused refusal) × MayTake w (length holds.trees) × (stop_of stop ≡ outcome.value (length holds.trees) (refusal_text refusal)))
-          ⊎ outcome.StopsAt declared_types (work_of w) word_limit holds.trees (holds.front ++ in_hand) (stop_of stop)
-          → ((s : outcome.Stop) × outcome.StopsAt declared_types (work_of w) word_limit holds.trees (holds.front ++ in_hand) s × (outcome.fault_of unasked ≡ None) × (outcome.stops (stop_of stop) ≡ outcome.stops s))
-          ⊎ ((end : End) × IsTail word_limit (holds.front ++ in_hand) end
-          × ((s : outcome.Stop) → outcome.StopsAt declared_types (work_of w) word_limit holds.trees (holds.front ++ in_hand) s → ⊥)
+      last : ((refusal : ReadRefusal) × IsTail (word_limit w) (holds.front ++ in_hand) (refused refusal) × MayTake w (length holds.trees) × (stop_of stop ≡ outcome.value (length holds.trees) (refusal_text refusal)))
+          ⊎ outcome.StopsAt declared_types (work_of w) (word_limit w) holds.trees (holds.front ++ in_hand) (stop_of stop)
+          → ((s : outcome.Stop) × outcome.StopsAt declared_types (work_of w) (word_limit w) holds.trees (holds.front ++ in_hand) s × (outcome.fault_of unasked ≡ None) × (outcome.stops (stop_of stop) ≡ outcome.stops s))
+          ⊎ ((end : End) × IsTail (word_limit w) (holds.front ++ in_hand) end
+          × ((s : outcome.Stop) → outcome.StopsAt declared_types (work_of w) (word_limit w) holds.trees (holds.front ++ in_hand) s → ⊥)
           × Closes declared_types (work_of w) holds.trees unasked end (outcome.stops (stop_of stop)))
       last (inl (refusal, tail, may, is)) =
-          inr (refused refusal, tail, λ s at. may_go_on w word_limit holds.trees (holds.front ++ in_hand) s may at, ap (λ s. outcome.stops s) is)
+          inr (refused refusal, tail, λ s at. may_go_on w (word_limit w) holds.trees (holds.front ++ in_hand) s may at, ap (λ s. outcome.stops s) is)
       last (inr at) = inl (stop_of stop, at, refl, refl)
   in_piece done in_hand more between halts.WriteFault short before (holds, next, are_said, part) = record {
     all = said ++ more;

@@ -11,16 +11,16 @@ use Rattle.om_model.specs.declared.refusal.ReadRefusal.{ReadRefusal}
 use Rattle.om_format.specs.Laws.{HasOneJudgement}
 use Rattle.om_format.specs.Stream.{SpellAll, IsTail, End, clean, refused as refused_end, cut, Stream}
 use Rattle.om_format.specs.Tree.{Tree}
-use Rattle.om_outcome.specs.Outcome.{Taken, InputEnd, at_end, at_fault, at_length, unasked, whole, Found, opened, missing, failed, unfetched, Stop, not_two_values, Request, check, compare, Asks, limit_of, Said, Work, checks, compares, StopsAt, Task, Language, ReadsTypeOf, Prepares, found_of}
+use Rattle.om_outcome.specs.Outcome.{IsUsage, Taken, InputEnd, at_end, at_fault, at_length, unasked, whole, Found, opened, missing, failed, unfetched, Stop, not_two_values, Request, check, compare, Asks, limit_of, Said, Work, checks, compares, StopsAt, Task, Language, ReadsTypeOf, Prepares, found_of}
 use Rattle.om_edge.specs.Files.{File, contents_of}
 use Rattle.om_edge.specs.State.{FilesState, Change}
 use Rattle.om_session.specs.Call.{Call}
 use Rattle.om_session.specs.Given.{TellsBytes, IsFoundOf, TakesFrom, Fetched, IsMeasured}
-use Rattle.om_session.specs.Run.{HoldNoStop, Account, IsUsage, AsksForFile, AsksFor, IsRefusedType, IsOutside, TellsFile, AreShort, AreNotTwo, HoldBadValue, IfTypes, IfNotTwo, IfTooLong, IfValue}
+use Rattle.om_session.specs.Run.{HoldNoStop, Account, AsksForFile, AsksFor, IsRefusedType, IsOutside, TellsFile, AreShort, AreNotTwo, HoldBadValue, IfTypes, IfNotTwo, IfTooLong, IfValue}
 use Rattle.om_session.proofs.DecidedLemmas.{few_of, stop_or_end}
 use Rattle.om_session.proofs.HeadlineLemmas.{all_taken, front_none}
 use Rattle.om_session.proofs.ValueLemmas.{spell_after}
-use Rattle.om_session.proofs.WordLemmas.{check_or_compare, no_file}
+use Rattle.om_session.proofs.WordLemmas.{check_or_compare, no_file, same_check, same_compare}
 use Rattle.om_session.proofs.CompleteLemmas.{IsLawful}
 use Rattle.om_session.proofs.StreamLemmas.{streams_once, spell_once}
 use Rattle.om_session.proofs.CauseLemmas.{Suits, NoValue, NoRefusal, NotTwo, refused_after, bad_after, task_asks, IsReady, Why, all_well, some_no, not_plain, not_two, not_there, not_opened, no_types, file_fault, file_long, no_value, input_fault, input_long, memory, out_fault, err_fault, account_why, file_fetched, contents_are, longer, all_of, bad_of, not_two_of}
@@ -28,31 +28,29 @@ use Rattle.om_session.proofs.CauseLemmas.{Suits, NoValue, NoRefusal, NotTwo, ref
 -- ---- plain words have one FILE and one TYPE
 
 pub one_typed : (words : List (List ℕ)) (name type other type' : List ℕ) → AsksFor words name type → AsksFor words other type' → (name ≡ other) × (type ≡ type')
-one_typed words name type other type' (compare, asks, is) h = absurd (cc is)
-one_typed words name type other type' (check f t, asks, is) (compare, asks', is') = absurd (cc is')
-one_typed words name type other type' (check f t, asks, is) (check g u, asks', is') =
-    let one = asks.0 in let two = asks'.0 in
+one_typed words name type other type' (compare most, asks, is) h = absurd (cc is)
+one_typed words name type other type' (check f t most, asks, is) (compare most', asks', is') = absurd (cc is')
+one_typed words name type other type' (check f t most, asks, is) (check g u most', asks', is') =
+    let same = same_check words f t most g u most' asks asks' in
     let pair : ◌≡◌ {A = List ℕ × List ℕ} (f, t) (name, type) = cc in
     let pair' : ◌≡◌ {A = List ℕ × List ℕ} (g, u) (other, type') = cc in
-    let names : f ≡ g = cc in
-    let types : t ≡ u = cc in
-    (sym (ap (λ p. p.0) pair) ∙ (names ∙ ap (λ p. p.0) pair'), sym (ap (λ p. p.1) pair) ∙ (types ∙ ap (λ p. p.1) pair'))
+    (sym (ap (λ p. p.0) pair) ∙ (same.0 ∙ ap (λ p. p.0) pair'), sym (ap (λ p. p.1) pair) ∙ (same.1 ∙ ap (λ p. p.1) pair'))
 
 -- those of `same` have none
-pub unnamed : (words : List (List ℕ)) → Asks words compare → (name type : List ℕ) → AsksFor words name type → ⊥
-unnamed words asks name type (request, other, is) = let none = no_file words asks request other in cc (sym none ∙ is)
+pub unnamed : (words : List (List ℕ)) (most : ℕ) → Asks words (compare most) → (name type : List ℕ) → AsksFor words name type → ⊥
+unnamed words most asks name type (request, other, is) = let none = no_file words most asks request other in cc (sym none ∙ is)
 
 -- words have one kind of work, and one limit
 kinds : {T : Type 0} (words : List (List ℕ)) (request other : Request) → Asks words request → Asks words other → (work its : Work T) → Suits request work → Suits other its
     → (work ≡ compares ↔ its ≡ compares) × (limit_of request ≡ limit_of other)
-kinds words (check f t) (check g u) asks asks' (checks a) (checks b) h h' = (((λ e. absurd (cc e)), (λ e. absurd (cc e))), refl)
-kinds words (check f t) (check g u) asks asks' compares its h h' = absurd h
-kinds words (check f t) (check g u) asks asks' (checks a) compares h h' = absurd h'
-kinds words (check f t) compare asks asks' work its h h' = absurd (check_or_compare words f t asks asks')
-kinds words compare (check g u) asks asks' work its h h' = absurd (check_or_compare words g u asks' asks)
-kinds words compare compare asks asks' compares compares h h' = (((λ e. refl), (λ e. refl)), refl)
-kinds words compare compare asks asks' (checks a) its h h' = absurd h
-kinds words compare compare asks asks' compares (checks b) h h' = absurd h'
+kinds words (check f t most) (check g u most') asks asks' (checks a) (checks b) h h' = (((λ e. absurd (cc e)), (λ e. absurd (cc e))), (same_check words f t most g u most' asks asks').2)
+kinds words (check f t most) (check g u most') asks asks' compares its h h' = absurd h
+kinds words (check f t most) (check g u most') asks asks' (checks a) compares h h' = absurd h'
+kinds words (check f t most) (compare most') asks asks' work its h h' = absurd (check_or_compare words f t most most' asks asks')
+kinds words (compare most) (check g u most') asks asks' work its h h' = absurd (check_or_compare words g u most' most asks' asks)
+kinds words (compare most) (compare most') asks asks' compares compares h h' = (((λ e. refl), (λ e. refl)), same_compare words most most' asks asks')
+kinds words (compare most) (compare most') asks asks' (checks a) its h h' = absurd h
+kinds words (compare most) (compare most') asks asks' compares (checks b) h h' = absurd h'
 
 -- ---- what is accepted
 
@@ -89,10 +87,10 @@ module _ {D T : Type 0} (language : Language D T) where
   pub prepared_accepts : (words : List (List ℕ)) (file : List ℕ → Found) (task : Task T) → Prepares language words file (Ok task)
       → (name type : List ℕ) → AsksFor words name type → AcceptsFile file name type
   prepared_accepts words file task (Err s, h, same) name type is = absurd (cc same)
-  prepared_accepts words file task (Ok compare, asks, more) name type is = absurd (unnamed words asks name type is)
-  prepared_accepts words file task (Ok (check f u), asks, (result, (r, reads, found), same)) name type is =
-      let once = one_typed words f u name type (check f u, asks, refl) is in
-      let here : AcceptsFile file f u = type_found file f u task (check f u) result r reads found same in
+  prepared_accepts words file task (Ok (compare most), asks, more) name type is = absurd (unnamed words most asks name type is)
+  prepared_accepts words file task (Ok (check f u most), asks, (result, (r, reads, found), same)) name type is =
+      let once = one_typed words f u name type (check f u most, asks, refl) is in
+      let here : AcceptsFile file f u = type_found file f u task (check f u most) result r reads found same in
       subst (λ n. AcceptsFile file n type) once.0 (subst (λ t. AcceptsFile file f t) once.1 here)
 
 -- ---- what was taken of bytes that are told
@@ -266,29 +264,29 @@ module _ {D T : Type 0} (language : Language D T) (lawful : IsLawful language) (
 
     -- ---- other than two values
 
-    module _ (asks : Asks words compare) (two : AreNotTwo (limit_of compare) (take (2 ^ 48) bytes)) (in_all : two.rest ≡ [] → length bytes < 2 ^ 48) where
+    module _ (most : ℕ) (asks : Asks words (compare most)) (two : AreNotTwo most (take (2 ^ 48) bytes)) (in_all : two.rest ≡ [] → length bytes < 2 ^ 48) where
       -- of all bytes
-      not_two_in_all : AreNotTwo (limit_of compare) bytes
+      not_two_in_all : AreNotTwo most bytes
       not_two_in_all = go two.why where
-        go : ((length two.trees ≡ 2) × (two.rest ≢ [])) ⊎ ((length two.trees < 2) × (two.rest ≡ [])) → AreNotTwo (limit_of compare) bytes
+        go : ((length two.trees ≡ 2) × (two.rest ≢ [])) ⊎ ((length two.trees < 2) × (two.rest ≡ [])) → AreNotTwo most bytes
         go (inl (both, some)) =
-            subst (AreNotTwo (limit_of compare)) (take-append-drop (2 ^ 48) bytes) (record {
+            subst (AreNotTwo most) (take-append-drop (2 ^ 48) bytes) (record {
               trees = two.trees;
               rest = two.rest ++ drop (2 ^ 48) bytes;
-              spelled = spell_after (limit_of compare) (take (2 ^ 48) bytes) two.rest (drop (2 ^ 48) bytes) two.trees two.spelled;
+              spelled = spell_after most (take (2 ^ 48) bytes) two.rest (drop (2 ^ 48) bytes) two.trees two.spelled;
               why = inl (both, λ e. some (front_none two.rest (drop (2 ^ 48) bytes) e));
             })
         go (inr (fewer, none)) =
             let short = in_all none in
-            subst (AreNotTwo (limit_of compare)) (take_all (2 ^ 48) bytes (omega (arith, short))) two
+            subst (AreNotTwo most) (take_all (2 ^ 48) bytes (omega (arith, short))) two
 
       -- the task is to compare
-      compares_task : (task : Task T) → IsTask task → (task.work ≡ compares) × (task.limit ≡ limit_of compare)
+      compares_task : (task : Task T) → IsTask task → (task.work ≡ compares) × (task.limit ≡ most)
       compares_task task p = let asked = task_asks language words call a.given task p in at asked.0 asked.1 asked.2 task.work refl asked.3 where
-        at : (request : Request) → Asks words request → task.limit ≡ limit_of request → (work : Work T) → task.work ≡ work → Suits request work → (task.work ≡ compares) × (task.limit ≡ limit_of compare)
-        at (check f t) other limit work same h = absurd (check_or_compare words f t other asks)
-        at compare other limit (checks t) same h = absurd h
-        at compare other limit compares same h = (same, limit)
+        at : (request : Request) → Asks words request → task.limit ≡ limit_of request → (work : Work T) → task.work ≡ work → Suits request work → (task.work ≡ compares) × (task.limit ≡ most)
+        at (check f t most') other limit work same h = absurd (check_or_compare words f t most' most other asks)
+        at (compare most') other limit (checks t) same h = absurd h
+        at (compare most') other limit compares same h = (same, limit ∙ same_compare words most' most other asks)
 
       not_two_task : (task : Task T) → IsTask task → AreNotTwo task.limit bytes
       not_two_task task p = subst (λ limit. AreNotTwo limit bytes) (sym (compares_task task p).1) not_two_in_all
@@ -332,10 +330,10 @@ module _ {D T : Type 0} (language : Language D T) (lawful : IsLawful language) (
 
       two_cause : (s : Status) → Cause s → (s ≡ statuses.Usage) ⊎ IsOutside s
       two_cause =
-          cause_or_outside statuses.Usage (λ none. none compare asks) (λ task p e held. not_compared task p e held) (λ task p n. refl)
-          (λ n t x typed e why. absurd (unnamed words asks n t typed))
+          cause_or_outside statuses.Usage (λ none. none (compare most) asks) (λ task p e held. not_compared task p e held) (λ task p n. refl)
+          (λ n t x typed e why. absurd (unnamed words most asks n t typed))
           (λ task p v. absurd (bad_or_not_two task (compares_task task p).0 (bad_of language words call a bytes taken_front.0 taken_front.1 task v) (not_two_task task p)))
-          (λ n taken f e u. absurd (unnamed words asks n f.0 f.1)) (λ task p e held. absurd (not_too_many task p e held))
+          (λ n taken f e u. absurd (unnamed words most asks n f.0 f.1)) (λ task p e held. absurd (not_too_many task p e held))
 
     module _ (files : List File) (task : Task T) (map : call.files.before.map ≡ Some files) (prepared : Prepares language words (λ name. found_of (contents_of files name)) (Ok task)) where
       abbrev asked : (request : Request) × Asks words request × (task.limit ≡ limit_of request) × Suits request task.work
@@ -479,7 +477,7 @@ module _ {D T : Type 0} (language : Language D T) (lawful : IsLawful language) (
             (λ other p v. refl) (λ n taken f e u. absurd (file_short n taken f e u)) (λ other p e held. absurd (too_many other p e held))
 
   pub if_not_two : HasOneJudgement → TellsBytes call.input → IfNotTwo words call
-  if_not_two law tells bytes asks told two in_all = two_cause bytes told law (rw told at tells) asks two in_all call.status (account_why language words call a)
+  if_not_two law tells bytes most asks told two in_all = two_cause bytes told law (rw told at tells) most asks two in_all call.status (account_why language words call a)
 
   pub if_too_long : HasOneJudgement → TellsBytes call.input → IfTooLong language words call
   if_too_long law tells = record {

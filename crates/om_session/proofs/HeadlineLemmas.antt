@@ -78,9 +78,9 @@ module _ {D T : Type 0} (language : Language D T) (words : List (List ℕ)) (fil
 
   pub prepares_same : (prepared : Result (Task T) Stop) → Prepares language words file prepared → Prepares language words in_map prepared
   prepares_same prepared (Err stop, none, rest) = (Err stop, none, rest)
-  prepares_same prepared (Ok (check f t), asks, (found, (type, r, same), rest)) =
-      (Ok (check f t), asks, (found, (type, reads_same f t (fetches.asked (check f t) asks) type r, same), rest))
-  prepares_same prepared (Ok compare, asks, more) = (Ok compare, asks, more)
+  prepares_same prepared (Ok (check f t most), asks, (found, (type, r, same), rest)) =
+      (Ok (check f t most), asks, (found, (type, reads_same f t (fetches.asked (check f t most) asks) type r, same), rest))
+  prepares_same prepared (Ok (compare most), asks, more) = (Ok (compare most), asks, more)
 
 -- what is refused in the first bytes is refused in all
 pub tail_after : (limit : ℕ) (tail more : List ℕ) (refusal : ReadRefusal) → IsTail limit tail (refused refusal) → IsTail limit (tail ++ more) (refused refusal)

@@ -44,13 +44,13 @@ use Rattle.om_session.proofs.ValueLemmas.{not_whole, nothing_front, first_more, 
 
 -- where one more value may come, any bytes may
 pub may_go_on : (w : Work) (limit : ℕ) (trees : List Tree) (rest : List ℕ) (stop : outcome.Stop) → MayTake w (length trees) → StopsAt declared_types (work_of w) limit trees rest stop → ⊥
-may_go_on (works.Check t) limit trees rest stop may at = at
-may_go_on works.Compare limit trees rest stop may at = let two = at.0 in omega (arith, may, two)
+may_go_on (works.Check t most) limit trees rest stop may at = at
+may_go_on (works.Compare most) limit trees rest stop may at = let two = at.0 in omega (arith, may, two)
 
 -- and where none come, nothing stops the run
 pub none_goes_on : (w : Work) (limit : ℕ) (trees : List Tree) (stop : outcome.Stop) → StopsAt declared_types (work_of w) limit trees [] stop → ⊥
-none_goes_on (works.Check t) limit trees stop at = at
-none_goes_on works.Compare limit trees stop at = at.1 refl
+none_goes_on (works.Check t most) limit trees stop at = at
+none_goes_on (works.Compare most) limit trees stop at = at.1 refl
 
 -- what was taken holds no stop
 abbrev pub holds : (w : Work) (taken : List ℕ) (said : List Said) (values : Values) → HasRead w taken said values → HoldNoStop declared_types (task_of w) taken said
@@ -99,12 +99,12 @@ kept_values kept trees are = All-from_recursion (λ v. IsValue (length v.heap) v
 
 module _ (w : Work) (taken : List ℕ) (said : List Said) (values : Values) (h : HasRead w taken said values) where
   -- the reader is at the end of a value
-  ended : EndsInput {U = Unit {0}} word_limit h.front (Ok tt) → SayFirst declared_types (task_of w) taken h.trees said []
+  ended : EndsInput {U = Unit {0}} (word_limit w) h.front (Ok tt) → SayFirst declared_types (task_of w) taken h.trees said []
   ended (inl none) = subst (λ f. SayFirst declared_types (task_of w) taken h.trees said f) none h.first
-  ended (inr (tree, spelled)) = absurd (not_whole word_limit h.front tree h.leads.bytes h.is_front spelled)
+  ended (inr (tree, spelled)) = absurd (not_whole (word_limit w) h.front tree h.leads.bytes h.is_front spelled)
 
   -- or within one
-  pub ends_cut : (truncated : Truncated) → EndsInput {U = Unit {0}} word_limit h.front (Err truncated) → (out : Change ByteState) → Puts out []
+  pub ends_cut : (truncated : Truncated) → EndsInput {U = Unit {0}} (word_limit w) h.front (Err truncated) → (out : Change ByteState) → Puts out []
       → EndsAt w taken said out (Err (halts.Stop (stops.Cut values.count truncated.taken)))
   ends_cut truncated cut out none = (
     inl (
@@ -116,33 +116,33 @@ module _ (w : Work) (taken : List ℕ) (said : List Said) (values : Values) (h :
   )
 
 -- checked values are done with
-pub ends_checked : (t : Bor Requested) (taken : List ℕ) (said : List Said) (values : Values) (h : HasRead (works.Check t) taken said values) → EndsInput {U = Unit {0}} word_limit h.front (Ok tt) → (o : ByteState)
-    → EndsAt (works.Check t) taken said (change o o) (Ok values.has_type)
-ends_checked t taken said values h e o = (h.trees, ended (works.Check t) taken said values h e, nothing_said, refl, h.has_type ∙ sym (and_true (all_well said)), puts_nothing o)
+pub ends_checked : (t : Bor Requested) (most : ℕ) (taken : List ℕ) (said : List Said) (values : Values) (h : HasRead (works.Check t most) taken said values) → EndsInput {U = Unit {0}} most h.front (Ok tt) → (o : ByteState)
+    → EndsAt (works.Check t most) taken said (change o o) (Ok values.has_type)
+ends_checked t most taken said values h e o = (h.trees, ended (works.Check t most) taken said values h e, nothing_said, refl, h.has_type ∙ sym (and_true (all_well said)), puts_nothing o)
 
 -- values that are kept are compared
-pub ends_compared : (taken : List ℕ) (said : List Said) (values : Values) (h : HasRead works.Compare taken said values) → EndsInput {U = Unit {0}} word_limit h.front (Ok tt) → (out : Change ByteState)
-    (result : Result Bool Halt) → PutsLast compares h.trees out result → EndsAt works.Compare taken said out result
-ends_compared taken said values h e out (Ok well) (final, finishes, is, put) =
-    (h.trees, ended works.Compare taken said values h e, final, finishes, is ∙ sym (ap (λ b. b && final.well) (silent declared_types 0 h.trees said h.first.all_say)), put)
-ends_compared taken said values h e out (Err (halts.Stop stop)) (why, put) = (inr (h.trees, ended works.Compare taken said values h e, why), put)
-ends_compared taken said values h e out (Err halts.WriteFault) (final, finishes, part) = (h.trees, ended works.Compare taken said values h e, final, finishes, part)
+pub ends_compared : (most : ℕ) (taken : List ℕ) (said : List Said) (values : Values) (h : HasRead (works.Compare most) taken said values) → EndsInput {U = Unit {0}} most h.front (Ok tt) → (out : Change ByteState)
+    (result : Result Bool Halt) → PutsLast compares h.trees out result → EndsAt (works.Compare most) taken said out result
+ends_compared most taken said values h e out (Ok well) (final, finishes, is, put) =
+    (h.trees, ended (works.Compare most) taken said values h e, final, finishes, is ∙ sym (ap (λ b. b && final.well) (silent declared_types 0 h.trees said h.first.all_say)), put)
+ends_compared most taken said values h e out (Err (halts.Stop stop)) (why, put) = (inr (h.trees, ended (works.Compare most) taken said values h e, why), put)
+ends_compared most taken said values h e out (Err halts.WriteFault) (final, finishes, part) = (h.trees, ended (works.Compare most) taken said values h e, final, finishes, part)
 
 -- the same, where the work is known by an equation
 module _ (w : Work) (taken : List ℕ) (said : List Said) (values : Values) (h : HasRead w taken said values) where
-  pub ends_as_checked : (t : Bor Requested) → w ≡ works.Check t → EndsInput {U = Unit {0}} word_limit h.front (Ok tt) → (o : ByteState) → EndsAt w taken said (change o o) (Ok values.has_type)
-  ends_as_checked t is e o =
-      let P : Work → Type 0 = λ w. (h : HasRead w taken said values) → EndsInput {U = Unit {0}} word_limit h.front (Ok tt) → EndsAt w taken said (change o o) (Ok values.has_type) in
-      subst P (sym is) (λ h e. ends_checked t taken said values h e o) h e
+  pub ends_as_checked : (t : Bor Requested) (most : ℕ) → w ≡ works.Check t most → EndsInput {U = Unit {0}} (word_limit w) h.front (Ok tt) → (o : ByteState) → EndsAt w taken said (change o o) (Ok values.has_type)
+  ends_as_checked t most is e o =
+      let P : Work → Type 0 = λ w. (h : HasRead w taken said values) → EndsInput {U = Unit {0}} (word_limit w) h.front (Ok tt) → EndsAt w taken said (change o o) (Ok values.has_type) in
+      subst P (sym is) (λ h e. ends_checked t most taken said values h e o) h e
 
-  pub ends_as_compared : w ≡ works.Compare → EndsInput {U = Unit {0}} word_limit h.front (Ok tt) → (out : Change ByteState) (result : Result Bool Halt) → Compares values.kept.items out result
+  pub ends_as_compared : (most : ℕ) → w ≡ works.Compare most → EndsInput {U = Unit {0}} (word_limit w) h.front (Ok tt) → (out : Change ByteState) (result : Result Bool Halt) → Compares values.kept.items out result
       → EndsAt w taken said out result
-  ends_as_compared is e out result compared =
-      let P : Work → Type 0 = λ w. (h : HasRead w taken said values) → EndsInput {U = Unit {0}} word_limit h.front (Ok tt) → EndsAt w taken said out result in
-      subst P (sym is) (λ h e. ends_compared taken said values h e out result (compared h.trees h.kept.0)) h e
+  ends_as_compared most is e out result compared =
+      let P : Work → Type 0 = λ w. (h : HasRead w taken said values) → EndsInput {U = Unit {0}} (word_limit w) h.front (Ok tt) → EndsAt w taken said out result in
+      subst P (sym is) (λ h e. ends_compared most taken said values h e out result (compared h.trees h.kept.0)) h e
 
-  pub kept_as_values : w ≡ works.Compare → AreValues values.kept.items
-  kept_as_values is =
+  pub kept_as_values : (most : ℕ) → w ≡ works.Compare most → AreValues values.kept.items
+  kept_as_values most is =
       let P : Work → Type 0 = λ w. HasRead w taken said values → AreValues values.kept.items in
       subst P (sym is) (λ h. kept_values values.kept.items h.trees h.kept.0) h
 
@@ -154,7 +154,7 @@ says_read t k value tree text well is_value it_says =
 
 -- ---- bytes in hand
 
-module _ (w : Work) (taken : List ℕ) (said : List Said) (values : Values) (h : HasRead w taken said values) (rest : List ℕ) (reader : Reader) (fed : Fed) (f : Feeds word_limit h.front rest reader fed) where
+module _ (w : Work) (taken : List ℕ) (said : List Said) (values : Values) (h : HasRead w taken said values) (rest : List ℕ) (reader : Reader) (fed : Fed) (f : Feeds (word_limit w) h.front rest reader fed) where
   abbrev after : Values
   after = record values { reader = reader }
 
@@ -165,7 +165,7 @@ module _ (w : Work) (taken : List ℕ) (said : List Said) (values : Values) (h :
     trees = h.trees;
     whole = h.front ++ take fed.taken rest;
     first = first_after declared_types (task_of w) taken h.trees said h.front (take fed.taken rest) h.first;
-    some = spelled_some word_limit (h.front ++ take fed.taken rest) (f.done done).1.0 (f.done done).1.1;
+    some = spelled_some (word_limit w) (h.front ++ take fed.taken rest) (f.done done).1.0 (f.done done).1.1;
     may = may;
     leads = f.leads;
     done = (f.done done).0;
@@ -187,7 +187,7 @@ module _ (w : Work) (taken : List ℕ) (said : List Said) (values : Values) (h :
     some zero e =
         let none : h.front ++ take fed.taken rest ≡ h.front = ap (λ n. h.front ++ take n rest) e ∙ append-nil h.front in
         let whole = (f.done done).1 in
-        absurd (not_whole word_limit h.front whole.0 h.leads.bytes h.is_front (subst (λ b. SpelledUnder word_limit b whole.0) none whole.1))
+        absurd (not_whole (word_limit w) h.front whole.0 h.leads.bytes h.is_front (subst (λ b. SpelledUnder (word_limit w) b whole.0) none whole.1))
     some (suc n) e = omega arith
 
   -- they are all taken, and do not complete it
@@ -200,8 +200,8 @@ module _ (w : Work) (taken : List ℕ) (said : List Said) (values : Values) (h :
         trees = h.trees;
         front = h.front ++ take fed.taken rest;
         first = first_after declared_types (task_of w) taken h.trees said h.front (take fed.taken rest) h.first;
-        is_front = subst (λ b. IsFront word_limit (h.front ++ b)) (sym all) more.1;
-        goes_on = λ stop at. may_go_on w word_limit h.trees (h.front ++ take fed.taken rest) stop may at;
+        is_front = subst (λ b. IsFront (word_limit w) (h.front ++ b)) (sym all) more.1;
+        goes_on = λ stop at. may_go_on w (word_limit w) h.trees (h.front ++ take fed.taken rest) stop may at;
         leads = f.leads;
         counted = h.counted;
         has_type = h.has_type;
@@ -209,14 +209,14 @@ module _ (w : Work) (taken : List ℕ) (said : List Said) (values : Values) (h :
       })
 
 -- a value that was read whole, and what is said of it
-pub value_said : (w : Work) (taken : List ℕ) (said : List Said) (values : Values) (v : IsValueRead w taken said values) (tree : Tree) → SpelledUnder word_limit v.whole tree
+pub value_said : (w : Work) (taken : List ℕ) (said : List Said) (values : Values) (v : IsValueRead w taken said values) (tree : Tree) → SpelledUnder (word_limit w) v.whole tree
     → (next : Said) → Says declared_types (work_of w) (length v.trees) tree next → SayFirst declared_types (task_of w) taken (v.trees ++ tree ∷ []) (said ++ next ∷ []) []
 value_said w taken said values v tree spelled next it_says =
     first_more declared_types (task_of w) taken v.trees said v.whole [] tree next (subst (λ b. SayFirst declared_types (task_of w) taken v.trees said b) (sym (append-nil v.whole)) v.first) spelled it_says
 
 -- the reader waits for the next one
-pub value_put : (w : Work) (taken : List ℕ) (said : List Said) (values : Values) (v : IsValueRead w taken said values) (tree : Tree) → SpelledUnder word_limit v.whole tree
-    → (next : Said) → Says declared_types (work_of w) (length v.trees) tree next → (reader : Reader) → Leads word_limit [] reader → (has_type : Bool) → has_type ≡ (values.has_type && next.well)
+pub value_put : (w : Work) (taken : List ℕ) (said : List Said) (values : Values) (v : IsValueRead w taken said values) (tree : Tree) → SpelledUnder (word_limit w) v.whole tree
+    → (next : Said) → Says declared_types (work_of w) (length v.trees) tree next → (reader : Reader) → Leads (word_limit w) [] reader → (has_type : Bool) → has_type ≡ (values.has_type && next.well)
     → (kept : Vec Value Global) → IsKept w (v.trees ++ tree ∷ []) kept.items
     → HasRead w taken (said ++ next ∷ []) (record { reader = reader; has_type = has_type; count = values.count + 1; kept = kept })
 value_put w taken said values v tree spelled next it_says reader leads has_type well kept are = record {
@@ -224,8 +224,8 @@ value_put w taken said values v tree spelled next it_says reader leads has_type 
   trees = v.trees ++ tree ∷ [];
   front = [];
   first = value_said w taken said values v tree spelled next it_says;
-  is_front = nothing_front word_limit leads.bytes;
-  goes_on = λ stop at. none_goes_on w word_limit (v.trees ++ tree ∷ []) stop at;
+  is_front = nothing_front (word_limit w) leads.bytes;
+  goes_on = λ stop at. none_goes_on w (word_limit w) (v.trees ++ tree ∷ []) stop at;
   leads = leads;
   counted = ap (λ n. n + 1) v.counted ∙ sym (length-append v.trees (tree ∷ []));
   has_type = well ∙ (ap (λ w. w && next.well) v.has_type ∙ sym (all_well-snoc said next));
@@ -239,19 +239,19 @@ zip_push (v ∷ kept) [] value tree are is = absurd are
 zip_push (v ∷ kept) (t ∷ trees) value tree are is = (are.0, zip_push kept trees value tree are.1 is)
 
 -- it is kept
-pub value_kept : (taken : List ℕ) (said : List Said) (values : Values) (v : IsValueRead works.Compare taken said values) (value : Value) (f : Finishes word_limit v.whole value)
-    → (kept : Vec Value Global) → kept.items ≡ values.kept.items ++ value ∷ [] → (reader : Reader) → Leads word_limit [] reader
-    → HasRead works.Compare taken (said ++ nothing_said ∷ []) (record { reader = reader; has_type = values.has_type; count = values.count + 1; kept = kept })
-value_kept taken said values v value f kept same reader leads =
-    value_put works.Compare taken said values v f.tree f.spelled nothing_said (v.may, refl) reader leads values.has_type (sym (and_true values.has_type)) kept
+pub value_kept : (most : ℕ) (taken : List ℕ) (said : List Said) (values : Values) (v : IsValueRead (works.Compare most) taken said values) (value : Value) (f : Finishes most v.whole value)
+    → (kept : Vec Value Global) → kept.items ≡ values.kept.items ++ value ∷ [] → (reader : Reader) → Leads most [] reader
+    → HasRead (works.Compare most) taken (said ++ nothing_said ∷ []) (record { reader = reader; has_type = values.has_type; count = values.count + 1; kept = kept })
+value_kept most taken said values v value f kept same reader leads =
+    value_put (works.Compare most) taken said values v f.tree f.spelled nothing_said (v.may, refl) reader leads values.has_type (sym (and_true values.has_type)) kept
     (let few = v.may in
     let size = length-append v.trees (f.tree ∷ []) in
     (subst (λ k. AllZip IsValueOf k (v.trees ++ f.tree ∷ [])) (sym same) (zip_push values.kept.items v.trees value f.tree v.kept.0 f.is_value), omega (arith, few, size)))
 
 -- where the work is known by an equation
-pub kept_next : (w : Work) (taken : List ℕ) (said : List Said) (values : Values) → IsValueRead w taken said values → w ≡ works.Compare → (new : Values) (o : ByteState)
-    → (IsValueRead works.Compare taken said values → HasRead works.Compare taken (said ++ nothing_said ∷ []) new) → (next : Said) × HasRead w taken (said ++ next ∷ []) new × Puts (change o o) next.text
-kept_next w taken said values v is new o kept =
+pub kept_next : (w : Work) (most : ℕ) (taken : List ℕ) (said : List Said) (values : Values) → IsValueRead w taken said values → w ≡ works.Compare most → (new : Values) (o : ByteState)
+    → (IsValueRead (works.Compare most) taken said values → HasRead (works.Compare most) taken (said ++ nothing_said ∷ []) new) → (next : Said) × HasRead w taken (said ++ next ∷ []) new × Puts (change o o) next.text
+kept_next w most taken said values v is new o kept =
     let P : Work → Type 0 = λ w. IsValueRead w taken said values → HasRead w taken (said ++ nothing_said ∷ []) new in
     (nothing_said, subst P (sym is) kept v, puts_nothing o)
 
@@ -265,7 +265,7 @@ spell_count limit bytes rest (tree ∷ trees) (first, more, same, spelled, all) 
 
 pub room_for_one : (w : Work) (taken : List ℕ) (said : List Said) (values : Values) → IsValueRead w taken said values → length taken < 2 ^ 64 → values.count + 1 < 2 ^ 64
 room_for_one w taken said values v short =
-    let fewer = spell_count word_limit taken v.whole v.trees v.first.spelled in
+    let fewer = spell_count (word_limit w) taken v.whole v.trees v.first.spelled in
     let counted = v.counted in
     let some = v.some in omega (arith, fewer, short, counted, some)
 
@@ -282,16 +282,16 @@ next_fault w taken said out new (Ok unit) is next are part = absurd is
 next_fault w taken said out new (Err halt) is next are part = subst (λ h. PutsNext {U = Unit {0}} w taken said out new (Err h)) (sym is) (next, are, part)
 
 -- what is refused in hand stops the run, or memory ran out
-pub stops_in : (w : Work) (trees : List Tree) (rest : List ℕ) (refusal : ReadRefusal) (stop : Stop) → MayTake w (length trees) → RefusedIn word_limit rest refusal → IsStopOf (length trees) refusal stop
+pub stops_in : (w : Work) (trees : List Tree) (rest : List ℕ) (refusal : ReadRefusal) (stop : Stop) → MayTake w (length trees) → RefusedIn (word_limit w) rest refusal → IsStopOf (length trees) refusal stop
     → StopsIn w trees rest stop
 stops_in w trees rest refusal stop may r (inl (memory, is)) = inl is
 stops_in w trees rest refusal stop may r (inr (some, is)) =
-    elim ((unless_memory refusal ((n : ℕ) × (n ≤ length rest) × IsRefused word_limit (take n rest) refusal)).1 r) [ inl e ↦ absurd (some e) | inr p ↦ inr (inl (refusal, p, may, is)) ]
+    elim ((unless_memory refusal ((n : ℕ) × (n ≤ length rest) × IsRefused (word_limit w) (take n rest) refusal)).1 r) [ inl e ↦ absurd (some e) | inr p ↦ inr (inl (refusal, p, may, is)) ]
 
 -- any byte after two values does
 pub full_stops : (w : Work) (trees : List Tree) (front rest : List ℕ) → IsFull w (length trees) → 0 < length rest → StopsIn w trees (front ++ rest) stops.NotTwoValues
-full_stops (works.Check t) trees front rest full some = absurd full
-full_stops works.Compare trees front rest full some =
+full_stops (works.Check t most) trees front rest full some = absurd full
+full_stops (works.Compare most) trees front rest full some =
     inr (inr (full, λ none. let e : length (front ++ rest) ≡ 0 = ap length none in let size = length-append front rest in absurd (omega (arith, e, size, some)), refl))
 
 -- a halt at the value's line, in what is in hand

@@ -9,5 +9,4 @@ pub mod Run
 pub mod Stops
 pub mod Types
 pub mod Values
-pub mod Words
 pub mod StreamLaws

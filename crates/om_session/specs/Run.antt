@@ -7,7 +7,7 @@ use Rattle.std.specs.List.{AllByRecursion}
 use Rattle.om_format.specs.Tree.{Tree}
 use Rattle.om_format.specs.Stream.{SpellAll, End, clean, cut, IsTail}
 use Rattle.om_format.specs.Front.{IsFront}
-use Rattle.om_outcome.specs.Outcome.{InputEnd, Taken, unasked, nothing, Found, opened, fault_of, status_of, Given, Stop, Request, Language, Ending, ending_of, Said, says, stops, Reply, Replies, replies, all_said, texts_of, Work, checks, compares, Task, compare, Asks, typed_by, limit_of, Prepares, StopsAt, AreSame, SayFirst, found_of, RunReplies, SaysOfFirst, Outcome, out_of_memory, stop_text, err_line}
+use Rattle.om_outcome.specs.Outcome.{InputEnd, Taken, unasked, nothing, Found, opened, fault_of, status_of, Given, Stop, Request, Language, Ending, ending_of, Said, says, stops, Reply, Replies, replies, all_said, texts_of, Work, checks, compares, Task, compare, Asks, IsUsage, typed_by, Prepares, StopsAt, AreSame, SayFirst, found_of, RunReplies, SaysOfFirst, Outcome, out_of_memory, stop_text, err_line}
 use Rattle.om_edge.specs.Faults.{RoseOrLast}
 use Rattle.om_edge.specs.Files.{File, contents_of}
 use Rattle.om_edge.specs.Sink.{Puts, PutsPart}
@@ -120,10 +120,6 @@ Headline language words call =
 
 -- ---- the causes of the statuses
 
--- no plain words
-abbrev pub IsUsage : List (List ℕ) → Type 0
-IsUsage words = (request : Request) → Asks words request → ⊥
-
 -- it could not be said, for out of memory or since err failed
 abbrev pub IsUnsaid : Status → Type 0
 IsUnsaid status = (status ≡ Memory) ⊎ (status ≡ WriteFault)
@@ -135,12 +131,12 @@ pub record AreNotTwo (limit : ℕ) (bytes : List ℕ) : Type 0 where
   pub spelled : SpellAll limit bytes trees rest
   pub why : ((length trees ≡ 2) × (rest ≢ [])) ⊎ ((length trees < 2) × (rest ≡ []))
 
--- 2: only where the words are not plain, or `same` finds other than two values in the whole input
+-- 2: only where the words ask for nothing, or `same` finds other than two values in the whole input
 abbrev pub OnlyUsage : List (List ℕ) → Call → Type 0
 OnlyUsage words call = call.status ≡ Usage
-    → IsUsage words ⊎ (Asks words compare × (input : List ℕ) × IfSome call.input.before.bytes (λ bytes. bytes ≡ input) × AreNotTwo (limit_of compare) input)
+    → IsUsage words ⊎ ((limit : ℕ) × Asks words (compare limit) × (input : List ℕ) × IfSome call.input.before.bytes (λ bytes. bytes ≡ input) × AreNotTwo limit input)
 
--- and where the words are not plain, unless it could not be said
+-- and where they ask for nothing, unless it could not be said
 abbrev pub IfUsage : List (List ℕ) → Call → Type 0
 IfUsage words call = IsUsage words → (call.status ≡ Usage) ⊎ IsUnsaid call.status
 
@@ -151,14 +147,14 @@ IsOutside status = (status ≡ ReadFault) ⊎ ((status ≡ OpenFault) ⊎ IsUnsa
 -- 2: and where `same` is told other than two values, in the first 2^48 bytes, or in all where they end after fewer
 abbrev pub IfNotTwo : List (List ℕ) → Call → Type 0
 IfNotTwo words call =
-    (bytes : List ℕ) → Asks words compare → call.input.before.bytes ≡ Some bytes → (two : AreNotTwo (limit_of compare) (take (2 ^ 48) bytes)) → (two.rest ≡ [] → length bytes < 2 ^ 48)
+    (bytes : List ℕ) (limit : ℕ) → Asks words (compare limit) → call.input.before.bytes ≡ Some bytes → (two : AreNotTwo limit (take (2 ^ 48) bytes)) → (two.rest ≡ [] → length bytes < 2 ^ 48)
     → (call.status ≡ Usage) ⊎ IsOutside call.status
 
 -- the files are told, and have these bytes of the name
 abbrev pub TellsFile : Change FilesState → List ℕ → List ℕ → Type 0
 TellsFile files name bytes = IsSomeAnd files.before.map (λ all. contents_of all name ≡ Some bytes)
 
--- FILE and TYPE of plain words
+-- FILE and TYPE of the words
 abbrev pub AsksFor : List (List ℕ) → List ℕ → List ℕ → Type 0
 AsksFor words name type = (request : Request) × Asks words request × (typed_by request ≡ Some (name, type))
 

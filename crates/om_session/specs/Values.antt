@@ -28,42 +28,43 @@ use Rattle.om_session.specs.Run.{HoldNoStop, IsPaced, PutsPartAfter}
 use Rattle.om_session.specs.Stops.{stop_of}
 use Rattle.om_session.specs.Types.{type_over, IsReady}
 
--- the limit of words
-abbrev pub word_limit : ℕ
-word_limit = 2 ^ 27
+-- the limit of words on 64 bits in a value
+abbrev pub word_limit : Work → ℕ
+word_limit (works.Check r limit) = limit
+word_limit (works.Compare limit) = limit
 
 abbrev pub work_of : Work → outcome.Work TypeOver
-work_of (works.Check r) = checks (type_over r.now)
-work_of works.Compare = compares
+work_of (works.Check r limit) = checks (type_over r.now)
+work_of (works.Compare limit) = compares
 
 -- the table that values are checked by is the type's
 abbrev pub IsReadyWork : Work → Type 0
-IsReadyWork (works.Check r) = IsReady r.now
-IsReadyWork works.Compare = Unit {0}
+IsReadyWork (works.Check r limit) = IsReady r.now
+IsReadyWork (works.Compare limit) = Unit {0}
 
 -- the work with the values
 abbrev pub task_of : Work → Task TypeOver
-task_of w = task (work_of w) word_limit
+task_of w = task (work_of w) (word_limit w)
 
 -- ---- between two calls on the input
 
 -- after n values any more byte stops the run
 abbrev pub IsFull : Work → ℕ → Type 0
-IsFull (works.Check t) n = ⊥
-IsFull works.Compare n = n ≡ 2
+IsFull (works.Check t limit) n = ⊥
+IsFull (works.Compare limit) n = n ≡ 2
 
 -- after n values one more may come
 abbrev pub MayTake : Work → ℕ → Type 0
-MayTake (works.Check t) n = Unit {0}
-MayTake works.Compare n = n < 2
+MayTake (works.Check t limit) n = Unit {0}
+MayTake (works.Compare limit) n = n < 2
 
 abbrev pub AreValues : List Value → Type 0
 AreValues kept = All (λ v. IsValue (length v.heap) v.root) kept
 
 -- the values of the trees are kept; those that are checked are not
 abbrev pub IsKept : Work → List Tree → List Value → Type 0
-IsKept (works.Check t) trees kept = Unit {0}
-IsKept works.Compare trees kept = AllZip IsValueOf kept trees × (length trees ≤ 2)
+IsKept (works.Check t limit) trees kept = Unit {0}
+IsKept (works.Compare limit) trees kept = AllZip IsValueOf kept trees × (length trees ≤ 2)
 
 -- Of these bytes the reader has taken what comes after the values, a front of the next one, and nothing stops the run; this
 -- is said of the values.
@@ -72,9 +73,9 @@ pub record HasRead (w : Work) (taken : List ℕ) (said : List Said) (values : Va
   pub trees : List Tree
   pub front : List ℕ
   pub first : SayFirst declared_types (task_of w) taken trees said front
-  pub is_front : IsFront word_limit front
-  pub goes_on : (stop : outcome.Stop) → StopsAt declared_types (work_of w) word_limit trees front stop → ⊥
-  pub leads : Leads word_limit front values.reader
+  pub is_front : IsFront (word_limit w) front
+  pub goes_on : (stop : outcome.Stop) → StopsAt declared_types (work_of w) (word_limit w) trees front stop → ⊥
+  pub leads : Leads (word_limit w) front values.reader
   pub counted : values.count ≡ length trees
   pub has_type : values.has_type ≡ all_well said
   pub kept : IsKept w trees values.kept.items
@@ -87,7 +88,7 @@ pub record IsValueRead (w : Work) (taken : List ℕ) (said : List Said) (values 
   pub first : SayFirst declared_types (task_of w) taken trees said whole
   pub some : 0 < length whole
   pub may : MayTake w (length trees)
-  pub leads : Leads word_limit whole values.reader
+  pub leads : Leads (word_limit w) whole values.reader
   pub done : IsDone values.reader
   pub counted : values.count ≡ length trees
   pub has_type : values.has_type ≡ all_well said
@@ -98,9 +99,9 @@ abbrev pub AreSaid : Work → List ℕ → List Said → Type 0
 AreSaid w bytes said = (trees : List Tree) × (rest : List ℕ) × SayFirst declared_types (task_of w) bytes trees said rest
 
 -- the value that is there is kept
-abbrev pub KeepsNext : {U : Type 0} → List ℕ → List Said → Values → Result U Memory → Type 0
-KeepsNext taken said new (Ok unit) = HasRead works.Compare taken (said ++ nothing_said ∷ []) new
-KeepsNext taken said new (Err memory) = Unit {0}
+abbrev pub KeepsNext : {U : Type 0} → ℕ → List ℕ → List Said → Values → Result U Memory → Type 0
+KeepsNext limit taken said new (Ok unit) = HasRead (works.Compare limit) taken (said ++ nothing_said ∷ []) new
+KeepsNext limit taken said new (Err memory) = Unit {0}
 
 -- what is said of the value that is there is put, and the reader waits for the next one; or memory ran out, or out failed
 abbrev pub PutsNext : {U : Type 0} → Work → List ℕ → List Said → Change ByteState → Values → Result U Halt → Type 0
@@ -121,8 +122,8 @@ IsStopOf k refusal stop =
 abbrev pub StopsIn : Work → List Tree → List ℕ → Stop → Type 0
 StopsIn w trees rest stop =
     (stop_of stop ≡ out_of_memory)
-    ⊎ (((refusal : ReadRefusal) × IsTail word_limit rest (refused refusal) × MayTake w (length trees) × (stop_of stop ≡ value (length trees) (refusal_text refusal)))
-    ⊎ StopsAt declared_types (work_of w) word_limit trees rest (stop_of stop))
+    ⊎ (((refusal : ReadRefusal) × IsTail (word_limit w) rest (refused refusal) × MayTake w (length trees) × (stop_of stop ≡ value (length trees) (refusal_text refusal)))
+    ⊎ StopsAt declared_types (work_of w) (word_limit w) trees rest (stop_of stop))
 
 -- The bytes before those in hand hold no stop. With those in hand the run stops, or the next value ends, and its line could
 -- not be put whole.

@@ -8,12 +8,9 @@ mod put;
 mod refusal_text;
 mod report;
 mod stop;
-#[cfg(test)]
-mod tests;
 mod top;
 mod types;
 mod values;
 mod verdict;
-mod words;
 
 pub use top::run;

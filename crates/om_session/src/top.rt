@@ -1,19 +1,19 @@
 //! The top call.
 
 ghost use Rattle.std.specs.Prelude.{List, ℕ};
-ghost use Rattle.om_outcome.specs.Outcome.{Asks, check as check_of, compare};
+ghost use Rattle.om_outcome.specs.Outcome.{Asks, check as check_of};
 ghost use Rattle.om_edge.specs.State.{change};
 ghost use Rattle.om_session.specs.Call.{call};
 ghost use Rattle.om_session.specs.Ends.{TakesValues};
 ghost use Rattle.om_session.specs.Language.{declared_types};
 ghost use Rattle.om_session.specs.Run.{Account, Promises};
 ghost use Rattle.om_session.specs.Values.{IsReadyWork};
-ghost use Rattle.om_session.specs.Words.{texts};
+ghost use Rattle.om_command_line.specs.Requests.{texts};
 
 use crate::stop::{Stop, report_stop};
 use crate::types::find_type;
 use crate::values::{Halt, Work, put_values};
-use crate::words::{Command, read_words};
+use om_command_line::{Request, Unread, read_words};
 use om_decl::laws::one_answer;
 use om_decl::told::{files_are_well_formed, types_are_sound};
 use om_edge::{Opener, Sink, Source};
@@ -46,17 +46,18 @@ fn check<S: Source, O: Opener, K: Sink, E: Sink>(
     alloc: Global,
     file: &str,
     type_text: &str,
+    limit: u64,
     input: &mut S,
     files: &mut O,
     out: &mut K,
     err: &mut E,
 ) -> Status
-    ensures { (words : List (List ℕ)) → Asks words (check_of file.now type_text.now) → Account declared_types words
+    ensures { (words : List (List ℕ)) → Asks words (check_of file.now type_text.now limit) → Account declared_types words
         (call (change (S.state input.old) (S.state input.new)) (change (O.state files.old) (O.state files.new))
         (change (K.state out.old) (K.state out.new)) (change (E.state err.old) (E.state err.new)) result) }
 {
     match find_type(alloc, files, file, type_text) {
-        Ok(requested) => take_values(alloc, Work::Check(&requested), input, out, err),
+        Ok(requested) => take_values(alloc, Work::Check(&requested, limit), input, out, err),
         Err(stop) => report_stop(alloc, err, &stop),
     }
 }
@@ -74,12 +75,17 @@ fn run_command<S: Source, O: Opener, K: Sink, E: Sink>(
         (call (change (S.state input.old) (S.state input.new)) (change (O.state files.old) (O.state files.new))
         (change (K.state out.old) (K.state out.new)) (change (E.state err.old) (E.state err.new)) result) }
 {
-    match read_words(words) {
-        Some(Command::Check { file, type_text }) => {
-            check(alloc, file, type_text, input, files, out, err)
-        }
-        Some(Command::Same) => take_values(alloc, Work::Compare, input, out, err),
-        None => report_stop(alloc, err, &Stop::Usage),
+    match read_words(alloc, words) {
+        Ok(
+            Request::Check {
+                file,
+                type_text,
+                limit,
+            },
+        ) => check(alloc, file, type_text, limit, input, files, out, err),
+        Ok(Request::Same { limit }) => take_values(alloc, Work::Compare(limit), input, out, err),
+        Err(Unread::Usage) => report_stop(alloc, err, &Stop::Usage),
+        Err(Unread::Memory) => report_stop(alloc, err, &Stop::Memory),
     }
 }
 

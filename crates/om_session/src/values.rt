@@ -6,7 +6,7 @@ ghost use Rattle.om_outcome.specs.Outcome.{Said, comparison};
 ghost use Rattle.om_edge.specs.State.{change};
 ghost use Rattle.om_session.specs.declared.values.Work.{Work as AnyWork};
 ghost use Rattle.om_session.specs.declared.values.Work.TheVariants as works;
-ghost use Rattle.om_session.specs.Values.{IsReadyWork, IsStopOf, AreValues, IsFull, MayTake, HasRead, IsValueRead, KeepsNext, PutsNext, ReadsSome, ReadsPiece, Compares, EndsAt, PutsValues};
+ghost use Rattle.om_session.specs.Values.{IsReadyWork, IsStopOf, AreValues, IsFull, MayTake, HasRead, IsValueRead, KeepsNext, PutsNext, ReadsSome, ReadsPiece, Compares, EndsAt, PutsValues, word_limit};
 
 use crate::gather::LENGTH_LIMIT;
 use crate::stop::Stop;
@@ -21,17 +21,26 @@ use om_read::{Reader, Truncated, Value};
 use std::alloc::Global;
 use std::mem;
 
-/// So many words on 64 bits a value may have.
-const WORD_LIMIT: u64 = 1 << 27;
-
 /// So many bytes a call on the input is asked for.
 const PIECE: usize = 4096;
 
-/// What is done with the values: each is checked at a type, or the two are compared.
+/// What is done with the values: each is checked at a type, or the two are compared. The number is the limit of words on
+/// 64 bits in a value.
 #[derive(Clone, Copy)]
 pub enum Work<'a> {
-    Check(&'a Requested),
-    Compare,
+    Check(&'a Requested, u64),
+    Compare(u64),
+}
+
+impl Work<'_> {
+    fn limit(self) -> u64
+        ensures { result ≡ word_limit self.entry }
+    {
+        match self {
+            Work::Check(_, limit) => limit,
+            Work::Compare(limit) => limit,
+        }
+    }
 }
 
 /// Why the values are read no further: the run stops, or out failed.
@@ -113,11 +122,11 @@ struct Values {
 
 impl Values {
     /// No byte was taken.
-    fn new(alloc: Global) -> Values
-        ensures { (work : AnyWork) → IsReadyWork work → HasRead work [] [] result }
+    fn new(alloc: Global, limit: u64) -> Values
+        ensures { (work : AnyWork) → IsReadyWork work → word_limit work ≡ limit → HasRead work [] [] result }
     {
         Values {
-            reader: Reader::new(alloc, WORD_LIMIT),
+            reader: Reader::new(alloc, limit),
             has_type: true,
             count: 0,
             kept: Vec::new(alloc),
@@ -130,8 +139,8 @@ impl Values {
         ensures { MatchBool result (IsFull work.entry self.now.count) (MayTake work.entry self.now.count) }
     {
         match work {
-            Work::Check(_) => false,
-            Work::Compare => self.count == 2,
+            Work::Check(..) => false,
+            Work::Compare(_) => self.count == 2,
         }
     }
 
@@ -140,28 +149,29 @@ impl Values {
         &mut self,
         alloc: Global,
         requested: &Requested,
+        limit: u64,
         out: &mut K,
     ) -> Result<(), Halt>
-        requires { (taken : List ℕ) × (said : List Said) × IsValueRead (works.Check requested) taken said self.old × (length taken < 2 ^ 64) }
-        ensures { (taken : List ℕ) (said : List Said) → IsValueRead (works.Check requested.entry) taken said self.old →
-            PutsNext (works.Check requested.entry) taken said (change (K.state out.old) (K.state out.new)) self.new result }
+        requires { (taken : List ℕ) × (said : List Said) × IsValueRead (works.Check requested limit) taken said self.old × (length taken < 2 ^ 64) }
+        ensures { (taken : List ℕ) (said : List Said) → IsValueRead (works.Check requested.entry limit) taken said self.old →
+            PutsNext (works.Check requested.entry limit) taken said (change (K.state out.old) (K.state out.new)) self.new result }
     {
-        let reader = mem::replace(&mut self.reader, Reader::new(alloc, WORD_LIMIT));
+        let reader = mem::replace(&mut self.reader, Reader::new(alloc, limit));
         let value = reader.finish();
         let line = verdict_line(alloc, &value.heap, value.root, requested)?;
         put_all(out, line.text.as_slice())?;
-        self.reader = Reader::over(alloc, WORD_LIMIT, value.heap);
+        self.reader = Reader::over(alloc, limit, value.heap);
         self.has_type &= line.has_type;
         self.count += 1;
         Ok(())
     }
 
     /// Keeps the value that the reader has whole. A new reader waits for the next one.
-    fn keep_value(&mut self, alloc: Global) -> Result<(), Memory>
-        requires { (taken : List ℕ) × (said : List Said) × IsValueRead works.Compare taken said self.old × (length taken < 2 ^ 64) }
-        ensures { (taken : List ℕ) (said : List Said) → IsValueRead works.Compare taken said self.old → KeepsNext taken said self.new result }
+    fn keep_value(&mut self, alloc: Global, limit: u64) -> Result<(), Memory>
+        requires { (taken : List ℕ) × (said : List Said) × IsValueRead (works.Compare limit) taken said self.old × (length taken < 2 ^ 64) }
+        ensures { (taken : List ℕ) (said : List Said) → IsValueRead (works.Compare limit) taken said self.old → KeepsNext limit taken said self.new result }
     {
-        let reader = mem::replace(&mut self.reader, Reader::new(alloc, WORD_LIMIT));
+        let reader = mem::replace(&mut self.reader, Reader::new(alloc, limit));
         keep(&mut self.kept, reader.finish())?;
         self.count += 1;
         Ok(())
@@ -174,8 +184,8 @@ impl Values {
             PutsNext work.entry taken said (change (K.state out.old) (K.state out.new)) self.new result }
     {
         match work {
-            Work::Check(requested) => self.put_line(alloc, requested, out),
-            Work::Compare => Ok(self.keep_value(alloc)?),
+            Work::Check(requested, limit) => self.put_line(alloc, requested, limit, out),
+            Work::Compare(limit) => Ok(self.keep_value(alloc, limit)?),
         }
     }
 
@@ -236,8 +246,8 @@ impl Values {
     {
         match self.reader.at_end() {
             Ok(()) => match work {
-                Work::Check(_) => Ok(self.has_type),
-                Work::Compare => compare(alloc, self.kept.as_slice(), out),
+                Work::Check(..) => Ok(self.has_type),
+                Work::Compare(_) => compare(alloc, self.kept.as_slice(), out),
             },
             Err(Truncated { taken }) => Err(Halt::Stop(Stop::Cut(self.count, taken))),
         }
@@ -255,7 +265,7 @@ pub fn put_values<S: Source, K: Sink>(
     requires { IsReadyWork work }
     ensures { PutsValues work.entry (change (S.state input.old) (S.state input.new)) (change (K.state out.old) (K.state out.new)) result }
 {
-    let mut values = Values::new(alloc);
+    let mut values = Values::new(alloc, work.limit());
     let mut buffer = [0; PIECE];
     let mut taken = 0;
     while taken < LENGTH_LIMIT {

@@ -1,6 +1,6 @@
 use Rattle.std.proofs.Common.{subst}
 use Rattle.om_classes.specs.Lists.{IsShorter}
-use Rattle.om_classes.proofs.ListLemmas.{members_shorter, members_same}
+use Rattle.om_classes.proofs.ListLemmas.{members_shorter}
 use Rattle.om_classes.proofs.parting.shorten_members.Goals as goal
 
 pub returns-clause-members : goal.returns-clause-members

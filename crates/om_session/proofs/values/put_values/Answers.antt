@@ -1,10 +1,10 @@
-use Rattle.std.proofs.Common.{arith}
+use Rattle.std.proofs.Common.{arith, sym}
 use Rattle.std.proofs.lemmas.List.{length-take}
 use Rattle.om_session.proofs.LoopLemmas.{values_begin, values_too_long, values_fault, values_end, values_more, values_halt}
 use Rattle.om_session.proofs.values.put_values.Goals as goal
 
 pub loop-taken-init : goal.loop-taken-init
-loop-taken-init g c = values_begin c.args.work (g.S.Source.state c.args.input.now) (g.K.Sink.state c.args.out.now) c.new-values.result (c.new-values.ensures c.args.work c.requires)
+loop-taken-init g c = values_begin c.args.work (g.S.Source.state c.args.input.now) (g.K.Sink.state c.args.out.now) c.new-values.result (c.new-values.ensures c.args.work c.requires (sym c.limit.ensures))
 
 pub returns-in_default : goal.returns-in_default
 returns-in_default g c = values_fault _ _ _ _ _ _ _ c.loop-taken.invariant (g.S.Source.state c.take.new.self) c.take.new.buf c.in_default.field-0 (omega (arith, c.loop-taken-test.true)) c.in_default.ensures

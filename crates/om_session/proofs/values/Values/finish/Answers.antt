@@ -6,18 +6,18 @@ use Rattle.om_session.proofs.ReadLemmas.{ends_cut, ends_as_checked, ends_as_comp
 use Rattle.om_session.proofs.values.Values.finish.Goals as goal
 
 pub compare-requires : goal.compare-requires
-compare-requires g c = subst AreValues (sym c.as_slice.ensures.value) (kept_as_values c.args.work c.requires.0 c.requires.1 c.args.self.now c.requires.2 c.in-Compare.is)
+compare-requires g c = subst AreValues (sym c.as_slice.ensures.value) (kept_as_values c.args.work c.requires.0 c.requires.1 c.args.self.now c.requires.2 _ c.in-Compare.is)
 
 pub returns-in-Check : goal.returns-in-Check
 returns-in-Check g c = λ taken said h.
-    ends_as_checked c.args.work taken said c.args.self.now h _ c.in-Check.is (c.in-Ok.ensures word_limit h.front h.leads) (g.K.Sink.state c.args.out.now)
+    ends_as_checked c.args.work taken said c.args.self.now h _ _ c.in-Check.is (c.in-Ok.ensures (word_limit c.args.work) h.front h.leads) (g.K.Sink.state c.args.out.now)
 
 pub returns-in-Compare : goal.returns-in-Compare
 returns-in-Compare g c = λ taken said h.
     let out = change (g.K.Sink.state c.args.out.now) (g.K.Sink.state c.compare.new.out) in
-    ends_as_compared c.args.work taken said c.args.self.now h c.in-Compare.is (c.in-Ok.ensures word_limit h.front h.leads) out c.compare.result
+    ends_as_compared c.args.work taken said c.args.self.now h _ c.in-Compare.is (c.in-Ok.ensures (word_limit c.args.work) h.front h.leads) out c.compare.result
     (subst (λ kept. Compares kept out c.compare.result) c.as_slice.ensures.value c.compare.ensures)
 
 pub returns-in-Err : goal.returns-in-Err
 returns-in-Err g c = λ taken said h.
-    ends_cut c.args.work taken said c.args.self.now h c.in-Err.field-0 (c.in-Err.ensures word_limit h.front h.leads) _ (puts_nothing (g.K.Sink.state c.args.out.now))
+    ends_cut c.args.work taken said c.args.self.now h c.in-Err.field-0 (c.in-Err.ensures (word_limit c.args.work) h.front h.leads) _ (puts_nothing (g.K.Sink.state c.args.out.now))

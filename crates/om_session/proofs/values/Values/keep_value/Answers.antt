@@ -1,11 +1,10 @@
 use Rattle.std.proofs.Common.{[], sym, subst}
 use Rattle.om_read.specs.Reader.{Leads}
-use Rattle.om_session.specs.Values.{word_limit}
 use Rattle.om_session.proofs.ReadLemmas.{value_kept}
 use Rattle.om_session.proofs.values.Values.keep_value.Goals as goal
 
 pub returns : goal.returns
 returns c = λ taken said v.
-    let leads : Leads word_limit v.whole c.replace-reader.result = subst (λ r. Leads word_limit v.whole r) (sym c.replace-reader.ensures.value) v.leads in
-    value_kept taken said c.args.self.now v c.finish.result (c.finish.ensures word_limit v.whole leads) c.keep.new.kept c.in_ok-keep.ensures
-    c.replace-reader.new.dest (subst (λ r. Leads word_limit [] r) (sym c.replace-reader.ensures.after) c.new.ensures.leads)
+    let leads : Leads c.args.limit v.whole c.replace-reader.result = subst (λ r. Leads c.args.limit v.whole r) (sym c.replace-reader.ensures.value) v.leads in
+    value_kept c.args.limit taken said c.args.self.now v c.finish.result (c.finish.ensures c.args.limit v.whole leads) c.keep.new.kept c.in_ok-keep.ensures
+    c.replace-reader.new.dest (subst (λ r. Leads c.args.limit [] r) (sym c.replace-reader.ensures.after) c.new.ensures.leads)

@@ -19,20 +19,20 @@ put_value-requires g c =
     let may = subst (λ n. MayTake c.args.work n) r.2.counted c.if-is_full.ensures in (
       r.0 ++ take c.in-Ok.fed.taken c.args.rest.now,
       r.1,
-      whole_read c.args.work r.0 r.1 c.args.self.now r.2 c.args.rest.now c.feed.new.self c.in-Ok.fed (c.in-Ok.ensures.feeds word_limit r.2.front r.2.leads) may c.if-fed.true,
-      few_read c.args.work r.0 r.1 c.args.self.now r.2 c.args.rest.now c.feed.new.self c.in-Ok.fed (c.in-Ok.ensures.feeds word_limit r.2.front r.2.leads) r.3,
+      whole_read c.args.work r.0 r.1 c.args.self.now r.2 c.args.rest.now c.feed.new.self c.in-Ok.fed (c.in-Ok.ensures.feeds (word_limit c.args.work) r.2.front r.2.leads) may c.if-fed.true,
+      few_read c.args.work r.0 r.1 c.args.self.now r.2 c.args.rest.now c.feed.new.self c.in-Ok.fed (c.in-Ok.ensures.feeds (word_limit c.args.work) r.2.front r.2.leads) r.3,
     )
 
 pub returns-in_err-put_value-in-Ok : goal.returns-in_err-put_value-in-Ok
 returns-in_err-put_value-in-Ok g c = λ taken said h.
     let may = subst (λ n. MayTake c.args.work n) h.counted c.if-is_full.ensures in
-    let whole = whole_read c.args.work taken said c.args.self.now h c.args.rest.now c.feed.new.self c.in-Ok.fed (c.in-Ok.ensures.feeds word_limit h.front h.leads) may c.if-fed.true in
+    let whole = whole_read c.args.work taken said c.args.self.now h c.args.rest.now c.feed.new.self c.in-Ok.fed (c.in-Ok.ensures.feeds (word_limit c.args.work) h.front h.leads) may c.if-fed.true in
     some_halt c.args.work taken said c.args.self.now h c.args.rest.now c.in-Ok.fed.taken _ c.put_value.new.self c.in_err-put_value-in-Ok.field-0.0 c.from_residual.result c.from_residual.ensures.1
     (c.in_err-put_value-in-Ok.ensures (taken ++ take c.in-Ok.fed.taken c.args.rest.now) said whole)
 
 pub returns-after-fed : goal.returns-after-fed
 returns-after-fed g c = λ taken said h.
-    let f = c.in-Ok.ensures.feeds word_limit h.front h.leads in
+    let f = c.in-Ok.ensures.feeds (word_limit c.args.work) h.front h.leads in
     let may = subst (λ n. MayTake c.args.work n) h.counted c.if-is_full.ensures in
     elim c.if-fed.branch [
       | then-fed+in_ok-put_value-in-Ok w ↦
@@ -60,7 +60,7 @@ returns-after-fed g c = λ taken said h.
 pub returns-in-Err : goal.returns-in-Err
 returns-in-Err g c = λ taken said h. (
   holds c.args.work taken said c.args.self.now h,
-  stops_in c.args.work h.trees _ c.in-Err.refusal c.refused.result (subst (λ n. MayTake c.args.work n) h.counted c.if-is_full.ensures) (c.in-Err.ensures.refuses word_limit h.front h.leads)
+  stops_in c.args.work h.trees _ c.in-Err.refusal c.refused.result (subst (λ n. MayTake c.args.work n) h.counted c.if-is_full.ensures) (c.in-Err.ensures.refuses (word_limit c.args.work) h.front h.leads)
       (rw (← h.counted) c.refused.ensures),
   puts_nothing (g.K.Sink.state c.args.out.now),
 )

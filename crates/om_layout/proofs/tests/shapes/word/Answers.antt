@@ -1,8 +1,0 @@
-use Rattle.om_layout.proofs.ExampleLemmas.{word_is_type, word_is_shallow}
-use Rattle.om_layout.proofs.tests.shapes.word.Goals as goal
-
-pub returns-clause-is : goal.returns-clause-is
-returns-clause-is c = rw (c.of.ensures, c.in_ok-vec.ensures.items) (word_is_type _)
-
-pub returns-clause-shallow : goal.returns-clause-shallow
-returns-clause-shallow c = rw (c.of.ensures, c.in_ok-vec.ensures.items) (word_is_shallow _)
