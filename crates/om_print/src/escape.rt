@@ -21,7 +21,7 @@ fn letter_of(byte: u8) -> Option<u8>
 }
 
 /// Puts one byte between quotes of this kind.
-fn put_byte(text: &mut Vec<u8>, quote: u8, byte: u8) -> Result<(), Memory>
+pub fn put_byte(text: &mut Vec<u8>, quote: u8, byte: u8) -> Result<(), Memory>
     ensures { OnOk result (text.new.items ≡ text.old.items ++ escaped quote byte) }
 {
     if byte == b'\\' || byte == quote {
