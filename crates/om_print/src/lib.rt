@@ -4,6 +4,7 @@
 mod bytes;
 mod dump;
 mod escape;
+pub mod laws;
 mod leaves;
 
 pub use bytes::put;
