@@ -1,0 +1,3 @@
+pub mod Dumped
+pub mod Leaves
+pub mod ReadBack
