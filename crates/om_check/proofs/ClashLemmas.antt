@@ -1,6 +1,10 @@
 -- The first visit that clashes with one before it, found by the first visit of each object.
-use Rattle.std.proofs.Common.{ℕ, zero, suc, ◌+◌, ◌-◌, ◌<◌, ◌≤◌, ◌≡◌, ◌∙◌, ◌⊎◌, inl, inr, ⊎_elim, List, length, Some, refl, sym, ap, subst, arith}
+use Rattle.std.proofs.Common.{ℕ, zero, suc, ◌+◌, ◌-◌, ◌<◌, ◌≤◌, ◌≡◌, ◌∙◌, ◌⊎◌, inl, inr, ⊎_elim, List, [], ◌∷◌, length, Some, refl, sym, ap, subst, arith}
 use Rattle.std.specs.Prelude.{slice_get, slice_index, All, IsTrue}
+use Rattle.std.specs.List.{list_any}
+use Rattle.std.specs.BTreeMap.{is_at}
+use Rattle.std.specs.BTreeSet.{contains}
+use Rattle.std.proofs.lemmas.Bool.{false≢true}
 use Rattle.std.proofs.lemmas.List.Elements.{All-contains}
 use Rattle.std.proofs.lemmas.Option.{same_Some}
 use Rattle.om_model.proofs.Options.{slice_get_there, slice_get-Contains}
@@ -8,7 +12,7 @@ use Rattle.om_model.specs.declared.value.Obj.{Obj}
 use Rattle.om_types.specs.Table.{Table}
 use Rattle.om_check.specs.declared.visits.Visit.{Visit}
 use Rattle.om_check.specs.declared.visits.Visits.{Visits}
-use Rattle.om_check.specs.Visits.{listed, AreLinked, IsFirstAt}
+use Rattle.om_check.specs.Visits.{listed, AreLinked, IsFirstAt, pair_cmp}
 use Rattle.om_check.proofs.ColumnLemmas.{read_at}
 use Rattle.om_check.specs.Clash.{IsWithin, mutable_at, AreApart, ClashAt, NoneClash, ClashesBack, IsFirstOf, IsFirstClash}
 
@@ -59,6 +63,33 @@ first_read table graph visits k n v linked within at_k is =
     let same : n ≡ suc cell.0 = same_Some n (suc cell.0) (sym read ∙ cell.1) in
     let back : cell.0 ≡ n - 1 = omega (arith, same) in
     (omega (arith, same), subst (IsFirstAt (listed visits) v.object) back (linked.noted.met v.object cell.0 cell.1))
+
+nothing : (xs : List (ℕ × ℕ)) → length xs ≡ 0 → xs ≡ []
+nothing [] none = refl
+nothing (x ∷ xs) none = absurd (omega arith)
+
+-- where nothing was met at a second class, all visits of an object are one
+pub none_later :
+    (table : Table) (graph : List Obj) (visits : Visits) → AreLinked table (length graph) visits → All (IsWithin table graph) (listed visits)
+    → length table.classes ≡ length table.nodes → AreApart table (listed visits) → length visits.later.keys ≡ 0
+    → NoneClash table graph (listed visits) (length (listed visits))
+none_later table graph visits linked within classed apart none i k less c =
+    let object = (own_within table graph (listed visits) k c.other within c.at_second).0 in
+    let cell = first_noted table (length graph) visits linked k c.other.object c.other c.at_second refl object in
+    let one = class_of i c.one c.at_first c.same cell.0 cell.1 in
+    let other = class_of k c.other c.at_second refl cell.0 cell.1 in
+    let place = apart i k c.one c.other c.at_first c.at_second c.same (one ∙ sym other) in
+    let before = c.before in omega (arith, before, place) where
+      unknown : (d : ℕ) → ¬ IsTrue (contains pair_cmp visits.later (c.other.object, d))
+      unknown d is = false≢true (sym (ap (λ keys. list_any (is_at (pair_cmp (c.other.object, d))) keys) (nothing visits.later.keys none)) ∙ is)
+
+      class_of :
+          (j : ℕ) (v : Visit) → slice_get (listed visits) j ≡ Some v → v.object ≡ c.other.object → (t : ℕ)
+          → slice_get visits.first c.other.object ≡ Some (suc t) → slice_get table.classes v.ty ≡ slice_get table.classes t
+      class_of j v at_j same t at_o =
+          let inside = (own_within table graph (listed visits) j v within at_j).1 in
+          let class = slice_get_there table.classes v.ty (omega (arith, inside, classed)) in
+          class.1 ∙ sym (⊎_elim (λ is. is) (λ later. absurd (unknown class.0 later)) (linked.noted.known c.other.object t j class.0 v at_o at_j same class.1))
 
 module _ (table : Table) (graph : List Obj) (all : List Visit) where
   -- ---- one visit against the first of its object

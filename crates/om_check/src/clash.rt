@@ -10,7 +10,8 @@ use om_fits::is_mutable;
 use om_heap::Heap;
 use om_type_table::TypeTable;
 
-/// The first visit that clashes with one before it, and the first one that it clashes with, which comes first here.
+/// The first visit that clashes with one before it, and the first one that it clashes with, which comes first here. Where
+/// nothing was met at a second class, no two visits are of one object.
 pub fn first_clash(heap: &Heap, table: &TypeTable, visits: &Visits) -> Option<(usize, usize)>
     requires within { All (IsWithin (table_of table.now) heap.now) (listed visits.now) }
     requires classed { length table.now.classes ≡ length table.now.nodes }
@@ -18,6 +19,9 @@ pub fn first_clash(heap: &Heap, table: &TypeTable, visits: &Visits) -> Option<(u
     requires linked { AreLinked (table_of table.now) (length heap.now) visits.now }
     ensures { MatchOption result (NoneClash (table_of table.now) heap.now (listed visits.now) (length (listed visits.now))) (λ two. IsFirstClash (table_of table.now) heap.now (listed visits.now) two.0 two.1) }
 {
+    if visits.later.is_empty() {
+        return None;
+    }
     for k in 0..visits.len() {
         if clashes_back(heap, table, visits, k) {
             return Some((first_of(visits, k), k));

@@ -2,7 +2,7 @@ use Rattle.om_type_table.specs.Made.{table_of}
 use Rattle.std.proofs.Common.{sym, ◌∙◌, arith}
 use Rattle.std.proofs.lemmas.Bool.{false≢true}
 use Rattle.om_check.specs.Visits.{listed}
-use Rattle.om_check.proofs.ClashLemmas.{first_clash_is, none_more, all_have_first}
+use Rattle.om_check.proofs.ClashLemmas.{first_clash_is, none_later, none_more, all_have_first}
 use Rattle.om_check.proofs.clash.first_clash.Goals as goal
 
 pub returns-then-clashes_back : goal.returns-then-clashes_back
@@ -18,3 +18,8 @@ loop-k-preserved c =
 
 pub returns : goal.returns
 returns c = λ i k less. c.loop-k.invariant i k (omega (arith, less, c.loop-k-test.false))
+
+pub returns-then-is_empty : goal.returns-then-is_empty
+returns-then-is_empty c =
+    none_later (table_of c.args.table.now) c.args.heap.now c.args.visits.now c.requires.linked c.requires.within c.requires.classed c.requires.apart
+    (c.is_empty.ensures.0 c.if-is_empty.true)
