@@ -1,6 +1,6 @@
 //! The objects that a check has met, each at a type, in the order in which it meets them.
 
-ghost use Rattle.std.specs.Prelude.{ℕ, ◌≡◌, ◌<◌, ◌↔◌, ◌∷◌, ◌++◌, [], length, All, Some, slice_get, IfOk, OnOk, IsTrue};
+ghost use Rattle.std.specs.Prelude.{ℕ, ◌≡◌, ◌<◌, ◌↔◌, ◌∷◌, ◌++◌, [], length, All, Some, slice_get, slice_index, IfOk, OnOk, IsTrue};
 ghost use Rattle.om_type_table.specs.Made.{table_of};
 ghost use Rattle.om_check.specs.Visits.{listed, AreLinked, IsMet, IsAppended, Enters};
 
@@ -76,6 +76,7 @@ impl Visits {
     }
 
     /// Enters an object at a type, unless it was met at an equal one.
+    #[inline(always)]
     pub fn enter(
         &mut self,
         table: &TypeTable,
@@ -100,6 +101,29 @@ impl Visits {
             self.append(object, ty, parent, step)?;
             return Ok(());
         }
+        self.enter_again(table, object, ty, parent, step, first)
+    }
+
+    /// Enters an object that was met before, first at the type one below the number, unless it was met at an equal one.
+    #[inline(never)]
+    fn enter_again(
+        &mut self,
+        table: &TypeTable,
+        object: u64,
+        ty: usize,
+        parent: usize,
+        step: u64,
+        first: u64,
+    ) -> Result<(), Memory>
+        requires object { object < length self.old.first }
+        requires ty { ty < length table.now.classes }
+        requires types { All (λ visit. visit.ty < length table.now.classes) (listed self.old) }
+        requires linked { AreLinked (table_of table.now) (length self.old.first) self.old }
+        requires noted { first ≡ slice_index self.old.first object }
+        requires met { 0 < first }
+        ensures linked { OnOk result (AreLinked (table_of table.now) (length self.old.first) self.new) }
+        ensures enters { OnOk result (Enters (table_of table.now) (listed self.old) (listed self.new) object ty parent step) }
+    {
         let class = table.class(ty);
         if table.class(first as usize - 1) == class {
             return Ok(());
