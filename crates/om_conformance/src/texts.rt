@@ -102,10 +102,10 @@ pub fn answer(rt: &HostRuntime, text: &str) -> io::Result<u64> {
 }
 
 // Prints what becomes of a type over declarations that neither program refuses.
-fn answer_over(
+fn answer_over<'a>(
     rt: &HostRuntime,
-    ty: &str,
-    declared: &Declared<'_>,
+    ty: &'a str,
+    declared: &Declared<'a>,
     decls: &[Decl],
 ) -> io::Result<u64>
     requires { AreWellFormed decls.now }
