@@ -1,7 +1,6 @@
 pub mod OrderLemmas
 pub mod PlaceLemmas
 pub mod ToldLemmas
-pub mod ColumnLemmas
 pub mod NotedLemmas
 pub mod ClashLemmas
 pub mod VisitLemmas

@@ -15,7 +15,7 @@ use Rattle.om_model.proofs.Options.{same_or_not, slice_get-Contains}
 use Rattle.om_types.specs.Table.{Table}
 use Rattle.om_check.specs.declared.visits.Visit.{Visit}
 use Rattle.om_check.specs.declared.visits.Visits.{Visits}
-use Rattle.om_check.specs.Visits.{zipped, listed, IsMet, IsFirstAt, IsAppended, AreAligned, AreNoted, AreLinked, pair_cmp}
+use Rattle.om_check.specs.Visits.{listed, IsMet, IsFirstAt, IsAppended, AreNoted, AreLinked, pair_cmp}
 use Rattle.om_check.proofs.PlaceLemmas.{slice_get-append_left, slice_get-append_below, slice_get-push_cases, slice_get-last}
 
 -- ---- lists
@@ -195,7 +195,7 @@ length-set (y ∷ xs) (suc k) x = ap suc (length-set xs k x)
 abbrev pub later_in : BTreeSet (ℕ × ℕ) → ℕ → ℕ → Type 0
 later_in set o c = IsTrue (contains pair_cmp set (o, c))
 
-module _ (table : Table) (objects : ℕ) (old new : Visits) (o t p s : ℕ) (linked : AreLinked table objects old) (aligned : AreAligned new)
+module _ (table : Table) (objects : ℕ) (old new : Visits) (o t p s : ℕ) (linked : AreLinked table objects old)
     (appended : IsAppended (listed old) (listed new) o t p s) where
   pub linked_first :
       slice_get old.first o ≡ Some 0 → new.first ≡ slice_set old.first o (suc t) → new.later ≡ old.later → AreLinked table objects new
@@ -203,7 +203,6 @@ module _ (table : Table) (objects : ℕ) (old new : Visits) (o t p s : ℕ) (lin
       let v : Visit = record { object = o; ty = t; parent = p; step = s } in
       let noted = noted_first table (listed old) old.first (later_in old.later) linked.noted v at_o in
       record {
-        aligned = aligned;
         many = ap length first ∙ length-set old.first o (suc t) ∙ linked.many;
         noted = subst (λ set. AreNoted table (listed new) new.first (later_in set)) (sym later)
             (subst (λ cells. AreNoted table (listed new) cells (later_in old.later)) (sym first)
@@ -221,7 +220,6 @@ module _ (table : Table) (objects : ℕ) (old new : Visits) (o t p s : ℕ) (lin
       (λ q d is. later_kept old.later new.later (o, c) (q, d) updates is)
       updates.1 in
       record {
-        aligned = aligned;
         many = ap length first ∙ linked.many;
         noted = subst (λ cells. AreNoted table (listed new) cells (later_in new.later)) (sym first)
             (subst (λ all. AreNoted table all old.first (later_in new.later)) (sym appended) noted);
@@ -238,20 +236,12 @@ first_classed table objects visits o t linked types at_o =
     (All-contains (λ (visit : Visit). visit.ty < length table.classes) (listed visits) f.visit types (slice_get-Contains (listed visits) f.place f.visit f.at))
 
 pub linked_none :
-    (table : Table) (objects n : ℕ) (visits : Visits) → visits.objects ≡ [] → visits.types ≡ [] → visits.parents ≡ [] → visits.steps ≡ []
+    (table : Table) (objects n : ℕ) (visits : Visits) → visits.all ≡ []
     → length visits.first ≡ objects → visits.first ≡ replicate n 0 → visits.later.keys ≡ [] → AreLinked table objects visits
-linked_none table objects n visits no_objects no_types no_parents no_steps many zeros none = record {
-  aligned = record {
-    types = ap length no_types ∙ sym (ap length no_objects);
-    parents = ap length no_parents ∙ sym (ap length no_objects);
-    steps = ap length no_steps ∙ sym (ap length no_objects);
-  };
+linked_none table objects n visits empty many zeros none = record {
   many = many;
   noted = subst (λ all. AreNoted table all visits.first (later_in visits.later)) (sym empty)
       (subst (λ cells. AreNoted table [] cells (later_in visits.later)) (sym zeros) (noted_none table n (later_in visits.later) unknown));
 } where
-  empty : listed visits ≡ []
-  empty = ap (λ os. zipped os visits.types visits.parents visits.steps) no_objects
-
   unknown : (o c : ℕ) → ¬ later_in visits.later o c
   unknown o c is = false≢true (sym (ap (λ keys. list_any (is_at (pair_cmp (o, c))) keys) none) ∙ is)

@@ -1,6 +1,6 @@
 -- Places in lists that grow at the end.
-use Rattle.std.proofs.Common.{ℕ, zero, suc, ◌<◌, ◌≡◌, ◌⊎◌, inl, inr, ⊎_elim, ◌++◌, List, [], ◌∷◌, length, Some, refl, ap, arith}
-use Rattle.std.specs.Prelude.{slice_get, Contains}
+use Rattle.std.proofs.Common.{ℕ, zero, suc, ◌<◌, ◌≡◌, ◌⊎◌, inl, inr, ⊎_elim, ◌++◌, List, [], ◌∷◌, length, Some, refl, sym, ap, arith}
+use Rattle.std.specs.Prelude.{slice_get, slice_index, Contains}
 use Rattle.std.proofs.lemmas.Option.{same_Some, none-some}
 use Rattle.om_model.proofs.Options.{Contains-none, Contains-cases}
 
@@ -32,3 +32,8 @@ place_of (z ∷ xs) x among = ⊎_elim
     (λ here. (0, ap Some here))
     (λ later. let p = place_of xs x later in (suc p.0, p.1))
     (Contains-cases z xs x among)
+
+pub read_at : (xs : List ℕ) (k x : ℕ) → k < length xs → x ≡ slice_index xs k → slice_get xs k ≡ Some x
+read_at [] k x less is = absurd (omega arith)
+read_at (y ∷ xs) zero x less is = ap Some (sym is)
+read_at (y ∷ xs) (suc k) x less is = read_at xs k x (omega arith) is

@@ -1,4 +1,5 @@
 pub mod Row
+pub mod Trail
 pub mod Visits
 pub mod Told
 pub mod Explored

@@ -7,20 +7,8 @@ use Rattle.om_types.specs.Table.{Table}
 use Rattle.om_check.specs.declared.visits.Visit.{Visit}
 use Rattle.om_check.specs.declared.visits.Visits.{Visits}
 
--- visits from their parts
-abbrev pub zipped : (objects types parents steps : List ℕ) → List Visit
-zipped (o ∷ os) (t ∷ ts) (p ∷ ps) (s ∷ ss) =
-    record { object = o; ty = t; parent = p; step = s } ∷ zipped os ts ps ss
-zipped objects types parents steps = []
-
 abbrev pub listed : Visits → List Visit
-listed v = zipped v.objects v.types v.parents v.steps
-
--- the columns have one length
-pub record AreAligned (v : Visits) : Type 0 where
-  pub types : length v.types ≡ length v.objects
-  pub parents : length v.parents ≡ length v.objects
-  pub steps : length v.steps ≡ length v.objects
+listed v = v.all
 
 -- some visit is of the object at a type of the class
 abbrev pub IsMet : Table → List Visit → ℕ → Option ℕ → Type 0
@@ -51,7 +39,6 @@ pub record AreNoted (table : Table) (all : List Visit) (first : List ℕ) (later
   pub there : (o c : ℕ) → later o c → IsMet table all o (Some c)
 
 pub record AreLinked (table : Table) (objects : ℕ) (visits : Visits) : Type 0 where
-  pub aligned : AreAligned visits
   pub many : length visits.first ≡ objects
   pub noted : AreNoted table (listed visits) visits.first (λ o c. IsTrue (contains pair_cmp visits.later (o, c)))
 

@@ -2,7 +2,7 @@
 
 ghost use Rattle.std.specs.Prelude.{◌≡◌, ◌<◌, ◌↔◌, length, slice_get, Some, All, IsTrue, MatchOption};
 ghost use Rattle.om_type_table.specs.Made.{table_of};
-ghost use Rattle.om_check.specs.Visits.{listed, AreAligned, AreLinked};
+ghost use Rattle.om_check.specs.Visits.{listed, AreLinked};
 ghost use Rattle.om_check.specs.Clash.{mutable_at, IsWithin, AreApart, ClashesBack, IsFirstOf, NoneClash, IsFirstClash};
 
 use crate::visits::{Visit, Visits};
@@ -62,7 +62,6 @@ fn is_mutable_at(heap: &Heap, table: &TypeTable, visit: Visit) -> bool
 /// The first visit of the object of visit k.
 fn first_of(visits: &Visits, k: usize) -> usize
     requires in_range { k < length (listed visits.now) }
-    requires aligned { AreAligned visits.now }
     ensures { IsFirstOf (listed visits.now) k result }
 {
     let object = visits.get(k).object;

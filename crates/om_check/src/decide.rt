@@ -7,7 +7,7 @@ ghost use Rattle.om_types.specs.Table.{table_shapes};
 ghost use Rattle.om_types.specs.Steps.{most_steps};
 ghost use Rattle.om_type_table.specs.Made.{table_of, IsLawful};
 ghost use Rattle.om_check.specs.Told.{AreOrdered, IsClashOf};
-ghost use Rattle.om_check.specs.Visits.{listed, AreAligned};
+ghost use Rattle.om_check.specs.Visits.{listed};
 ghost use Rattle.om_check.specs.Verdict.{IsVerdict};
 
 use crate::clash::first_clash;
@@ -80,7 +80,6 @@ fn check_object(
 
 /// The clash of two visits.
 fn clash(alloc: Global, visits: &Visits, first: usize, second: usize) -> Result<Fault, Memory>
-    requires aligned { AreAligned visits.now }
     requires first { first < length (listed visits.now) }
     requires second { second < length (listed visits.now) }
     requires ordered { AreOrdered (listed visits.now) }

@@ -3,7 +3,6 @@
 
 mod cells;
 mod clash;
-mod column;
 mod decide;
 mod path;
 mod rows;
@@ -11,6 +10,7 @@ mod search;
 mod steps;
 #[cfg(test)]
 mod tests;
+mod trail;
 mod typing;
 mod verdict;
 mod visits;

@@ -2,7 +2,7 @@
 
 ghost use Rattle.std.specs.Prelude.{◌≡◌, ◌<◌, ◌∷◌, ◌++◌, [], length, reverse, IfOk, OnOk};
 ghost use Rattle.om_check.specs.Told.{AreOrdered, IsPathOf};
-ghost use Rattle.om_check.specs.Visits.{listed, AreAligned};
+ghost use Rattle.om_check.specs.Visits.{listed};
 
 use crate::visits::Visits;
 use om_model::Memory;
@@ -11,7 +11,6 @@ use std::alloc::Global;
 
 /// The path to visit k: its steps are found from the last one back.
 pub fn path_of(alloc: Global, visits: &Visits, k: usize) -> Result<Path, Memory>
-    requires aligned { AreAligned visits.now }
     requires in_range { k < length (listed visits.now) }
     requires ordered { AreOrdered (listed visits.now) }
     ensures { IfOk result (λ path. IsPathOf (listed visits.now) k path) }

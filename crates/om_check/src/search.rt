@@ -15,10 +15,9 @@ ghost use Rattle.om_check.specs.Search.{TestsNeed, TestsVisit, Searches, cost_at
 use crate::rows::rows_of;
 use crate::steps::Steps;
 use crate::visits::Visits;
-use om_fits::{Row, needs_of, surely_fits};
+use om_fits::{Row, known_needs, needs_of, surely_fits};
 use om_heap::Heap;
 use om_model::Memory;
-use om_model::value::Val;
 use om_type_table::TypeTable;
 use std::alloc::Global;
 
@@ -100,7 +99,7 @@ fn test_visit(
 {
     steps.raise();
     let visit = visits.get(n);
-    let Some(needs) = needs_of(heap, Val::Ref(visit.object), table.shape(visit.ty)) else {
+    let Some(needs) = known_needs(heap, visit.object, table.shape(visit.ty)) else {
         return Ok(None);
     };
     if needs.len() == 0 {

@@ -2,7 +2,7 @@
 
 ghost use Rattle.std.specs.Prelude.{◌≡◌, ◌<◌, length, slice_get, Some};
 ghost use Rattle.om_check.specs.Search.{pairs_of};
-ghost use Rattle.om_check.specs.Visits.{listed, AreAligned};
+ghost use Rattle.om_check.specs.Visits.{listed};
 
 use crate::visits::Visits;
 use std::marker::Model;
@@ -19,17 +19,14 @@ impl Model for Typing {
     ghost Value = { List (ℕ × ℕ) };
 
     ghost use Rattle.om_check.specs.Search.{pairs_of};
-    ghost use Rattle.om_check.specs.Visits.{listed, AreAligned};
+    ghost use Rattle.om_check.specs.Visits.{listed};
 
     ghost view = { λ t. pairs_of (listed t.visits) };
-
-    ghost invariant = { λ t. AreAligned t.visits };
 }
 
 impl Typing {
     /// The typing that the visits are.
     pub fn of(visits: Visits) -> Typing
-        requires { AreAligned visits }
         ensures { result ≡ pairs_of (listed visits) }
     {
         Typing { visits }

@@ -1,11 +1,11 @@
 //! The objects that a check has met, each at a type, in the order in which it meets them.
 
-ghost use Rattle.std.specs.Prelude.{ℕ, ◌≡◌, ◌<◌, ◌↔◌, ◌∷◌, ◌++◌, [], length, All, Some, slice_get, IfOk, OnOk, IsTrue};
+ghost use Rattle.std.specs.Prelude.{ℕ, ◌≡◌, ◌<◌, ◌↔◌, ◌∷◌, ◌++◌, [], length, All, Some, slice_get, slice_index, IfOk, OnOk, IsTrue};
 ghost use Rattle.om_type_table.specs.Made.{table_of};
-ghost use Rattle.om_check.specs.Visits.{listed, AreAligned, AreLinked, IsMet, IsAppended, Enters};
+ghost use Rattle.om_check.specs.Visits.{listed, AreLinked, IsMet, IsAppended, Enters};
 
 use crate::cells::Cells;
-use crate::column::Column;
+use crate::trail::Trail;
 use om_model::Memory;
 use om_type_table::TypeTable;
 use std::alloc::Global;
@@ -20,13 +20,10 @@ pub struct Visit {
     pub step: u64,
 }
 
-/// All visits, by columns.
+/// All visits.
 #[derive(Drop)]
 pub struct Visits {
-    pub objects: Column,
-    pub types: Column,
-    pub parents: Column,
-    pub steps: Column,
+    pub all: Trail,
     /// For each object one more than the type of its first visit, or 0.
     pub first: Cells,
     /// What was met at a second class or a later one, with that class.
@@ -42,10 +39,7 @@ impl Visits {
         ensures root { IfOk result (λ visits. listed visits ≡ record { object = root; ty = 0; parent = 0; step = 0 } ∷ []) }
     {
         let mut visits = Visits {
-            objects: Column::new(alloc),
-            types: Column::new(alloc),
-            parents: Column::new(alloc),
-            steps: Column::new(alloc),
+            all: Trail::new(alloc),
             first: Cells::new(alloc, objects as usize, table.classes.len())?,
             later: BTreeSet::new(alloc),
         };
@@ -55,42 +49,34 @@ impl Visits {
 
     /// No visit.
     pub fn none(alloc: Global) -> Result<Visits, Memory>
-        ensures aligned { IfOk result AreAligned }
         ensures none { IfOk result (λ visits. listed visits ≡ []) }
     {
         Ok(Visits {
-            objects: Column::new(alloc),
-            types: Column::new(alloc),
-            parents: Column::new(alloc),
-            steps: Column::new(alloc),
+            all: Trail::new(alloc),
             first: Cells::new(alloc, 0, 0)?,
             later: BTreeSet::new(alloc),
         })
     }
 
     /// How many there are.
+    #[inline(always)]
     pub fn len(&self) -> usize
-        requires { AreAligned self.now }
         ensures { result ≡ length (listed self.now) }
     {
-        self.objects.len()
+        self.all.len()
     }
 
     /// Visit k.
+    #[inline(always)]
     pub fn get(&self, k: usize) -> Visit
-        requires aligned { AreAligned self.now }
-        requires in_range { k < length (listed self.now) }
+        requires { k < length (listed self.now) }
         ensures { slice_get (listed self.now) k ≡ Some result }
     {
-        Visit {
-            object: self.objects.get(k),
-            ty: self.types.get(k) as usize,
-            parent: self.parents.get(k) as usize,
-            step: self.steps.get(k),
-        }
+        self.all.get(k)
     }
 
     /// Enters an object at a type, unless it was met at an equal one.
+    #[inline(always)]
     pub fn enter(
         &mut self,
         table: &TypeTable,
@@ -115,6 +101,29 @@ impl Visits {
             self.append(object, ty, parent, step)?;
             return Ok(());
         }
+        self.enter_again(table, object, ty, parent, step, first)
+    }
+
+    /// Enters an object that was met before, first at the type one below the number, unless it was met at an equal one.
+    #[inline(never)]
+    fn enter_again(
+        &mut self,
+        table: &TypeTable,
+        object: u64,
+        ty: usize,
+        parent: usize,
+        step: u64,
+        first: u64,
+    ) -> Result<(), Memory>
+        requires object { object < length self.old.first }
+        requires ty { ty < length table.now.classes }
+        requires types { All (λ visit. visit.ty < length table.now.classes) (listed self.old) }
+        requires linked { AreLinked (table_of table.now) (length self.old.first) self.old }
+        requires noted { first ≡ slice_index self.old.first object }
+        requires met { 0 < first }
+        ensures linked { OnOk result (AreLinked (table_of table.now) (length self.old.first) self.new) }
+        ensures enters { OnOk result (Enters (table_of table.now) (listed self.old) (listed self.new) object ty parent step) }
+    {
         let class = table.class(ty);
         if table.class(first as usize - 1) == class {
             return Ok(());
@@ -128,17 +137,17 @@ impl Visits {
     }
 
     /// Puts a visit of an object at the end.
+    #[inline(always)]
     fn append(&mut self, object: u64, ty: usize, parent: usize, step: u64) -> Result<(), Memory>
-        requires { AreAligned self.old }
-        ensures aligned { OnOk result (AreAligned self.new) }
         ensures all { OnOk result (IsAppended (listed self.old) (listed self.new) object ty parent step) }
         ensures first { self.new.first ≡ self.old.first }
         ensures later { self.new.later ≡ self.old.later }
     {
-        self.objects.push(object)?;
-        self.types.push(ty as u64)?;
-        self.parents.push(parent as u64)?;
-        self.steps.push(step)?;
-        Ok(())
+        self.all.push(Visit {
+            object,
+            ty,
+            parent,
+            step,
+        })
     }
 }

@@ -1,6 +1,7 @@
 -- The fields that are needed, as the list that the table of representations has of them.
 use Rattle.std.specs.Prelude.{ℕ, List, [], ◌∷◌, replicate}
 use Rattle.om_types.specs.Fitting.{numbered_from}
+use Rattle.om_types.specs.declared.shape.Constr.{Constr}
 use Rattle.om_fits.specs.declared.needs.Needs.{Needs}
 use Rattle.om_fits.specs.declared.needs.Needs.TheVariants as needs
 
@@ -9,3 +10,8 @@ needs_in needs.Nothing = []
 needs_in (needs.Listed types) = numbered_from 0 types.now
 needs_in (needs.Each size t) = numbered_from 0 (replicate size t)
 needs_in (needs.Argument t) = (1, t) ∷ []
+
+-- the fields of the first constructor
+abbrev pub first_fields : List (Constr ℕ) → List ℕ
+first_fields [] = []
+first_fields (constr ∷ blocks) = constr.fields

@@ -5,6 +5,6 @@ mod needs;
 mod parts;
 mod row;
 
-pub use needs::{Needs, needs_of};
+pub use needs::{Needs, known_needs, needs_of};
 pub use parts::is_mutable;
 pub use row::{Row, row_of, surely_fits};

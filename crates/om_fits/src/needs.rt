@@ -1,15 +1,16 @@
 //! What a shape says of a value: whether the value fits, and which fields it then needs.
 
-ghost use Rattle.std.specs.Prelude.{◌≡◌, ◌<◌, length, slice_get, Some, option_map, option_and_then};
+ghost use Rattle.std.specs.Prelude.{◌≡◌, ◌<◌, length, slice_get, Some, IsSome, option_map, option_and_then};
 ghost use Rattle.om_model.specs.Graph.{IsValue};
+ghost use Rattle.om_model.specs.declared.value.Val.TheVariants as vals;
 ghost use Rattle.om_types.specs.Fault.{type_of_field};
-ghost use Rattle.om_types.specs.Fitting.{fields_of, object_fields, none_if};
-ghost use Rattle.om_fits.specs.Needs.{needs_in};
+ghost use Rattle.om_types.specs.Fitting.{fields_of, object_fields, none_if, numbered_from};
+ghost use Rattle.om_fits.specs.Needs.{needs_in, first_fields};
 
 use crate::parts::{block_needs, fits_atom, fits_custom, fits_doubles, fits_int};
 use om_heap::{Heap, Kind};
 use om_model::value::Val;
-use om_types::shape::ShapeOf;
+use om_types::shape::{Constr, ShapeOf};
 
 /// The fields that a shape needs in a value that fits it, and their types.
 #[derive(Clone, Copy)]
@@ -94,7 +95,31 @@ pub fn needs_of<'a>(heap: &Heap, v: Val, shape: &'a ShapeOf<usize>) -> Option<Ne
     }
 }
 
-/// The same of an object.
+/// The same of an object that is known to fit: often the shape alone says it.
+#[inline(always)]
+pub fn known_needs<'a>(heap: &Heap, o: u64, shape: &'a ShapeOf<usize>) -> Option<Needs<'a>>
+    requires object { o < length heap.now }
+    requires fits { IsSome (fields_of heap.now (vals.Ref o) shape.now) }
+    ensures { option_map needs_in result ≡ fields_of heap.now (vals.Ref o) shape.now }
+{
+    match shape {
+        ShapeOf::Product(_, types) => Some(Needs::Listed(types.as_slice())),
+        ShapeOf::Sum(_, blocks) if blocks.len() == 1 => Some(first_needs(blocks.as_slice())),
+        ShapeOf::Bytes(_) => Some(Needs::Nothing),
+        _ => object_needs(heap, o, shape),
+    }
+}
+
+/// What the first constructor needs.
+#[inline(always)]
+fn first_needs(blocks: &[Constr<usize>]) -> Needs<'_>
+    requires { 0 < length blocks.now }
+    ensures { needs_in result ≡ numbered_from 0 (first_fields blocks.now) }
+{
+    Needs::Listed(blocks[0].fields.as_slice())
+}
+
+/// What an object needs at a shape, if it fits.
 fn object_needs<'a>(heap: &Heap, o: u64, shape: &'a ShapeOf<usize>) -> Option<Needs<'a>>
     requires { o < length heap.now }
     ensures { option_map needs_in result ≡ option_and_then (object_fields shape.now) (slice_get heap.now o) }

@@ -1,0 +1,47 @@
+use Rattle.std.proofs.Common.{true, suc, ◌-◌, ◌≡◌, ◌∙◌, inl, inr, Some, refl, sym, ap, subst, arith}
+use Rattle.std.specs.BTreeSet.{Updates}
+use Rattle.std.proofs.lemmas.Bool.{false≢true}
+use Rattle.std.proofs.lemmas.Option.{same_Some}
+use Rattle.om_type_table.specs.Made.{table_of}
+use Rattle.om_check.specs.Visits.{listed, IsMet, pair_cmp}
+use Rattle.om_check.proofs.PlaceLemmas.{read_at}
+use Rattle.om_check.proofs.NotedLemmas.{later_in, met_first, met_nowhere, linked_later, first_classed}
+use Rattle.om_check.proofs.visits.Visits.enter_again.Goals as goal
+
+pub class-requires : goal.class-requires
+class-requires c =
+    let n = c.args.first in
+    let at_n = read_at c.args.self.now.first c.args.object c.args.first c.requires.object c.requires.noted in
+    let more : c.args.first ≡ suc (c.args.first - 1) = omega (arith, c.requires.met) in
+    first_classed (table_of c.args.table.now) _ c.args.self.now c.args.object (c.args.first - 1) c.requires.linked c.requires.types
+    (at_n ∙ ap (λ m. Some m) more)
+
+pub returns-then-class-clause-enters : goal.returns-then-class-clause-enters
+returns-then-class-clause-enters c =
+    let at_n = read_at c.args.self.now.first c.args.object c.args.first c.requires.object c.requires.noted in
+    let more : c.args.first ≡ suc (c.args.first - 1) = omega (arith, c.requires.met) in
+    let met = met_first (table_of c.args.table.now) (listed c.args.self.now) c.args.self.now.first (later_in c.args.self.now.later) c.requires.linked.noted c.args.object (c.args.first - 1) (at_n ∙ ap (λ m. Some m) more) in
+    inl (subst (IsMet (table_of c.args.table.now) (listed c.args.self.now) c.args.object) (c.class.ensures ∙ ap (λ m. Some m) c.if-class.true ∙ sym c.class-class.ensures) met, refl)
+
+pub returns-then-contains-clause-enters : goal.returns-then-contains-clause-enters
+returns-then-contains-clause-enters c =
+    let met = c.requires.linked.noted.there c.args.object c.class-class.result (sym c.contains.ensures ∙ c.if-contains.true) in
+    inl (subst (IsMet (table_of c.args.table.now) (listed c.args.self.now) c.args.object) (sym c.class-class.ensures) met, refl)
+
+pub returns-clause-linked : goal.returns-clause-linked
+returns-clause-linked c =
+    let at_n = read_at c.args.self.now.first c.args.object c.args.first c.requires.object c.requires.noted in
+    let more : c.args.first ≡ suc (c.args.first - 1) = omega (arith, c.requires.met) in
+    linked_later (table_of c.args.table.now) _ c.args.self.now c.append.new.self c.args.object c.args.ty c.args.parent c.args.step c.requires.linked
+    c.in_ok-append.ensures.all (c.args.first - 1) c.class-class.result (at_n ∙ ap (λ m. Some m) more) c.class-class.ensures
+    c.in_ok-append.ensures.first (subst (λ set. Updates pair_cmp c.args.self.now.later set (c.args.object, c.class-class.result) true) (sym c.in_ok-append.ensures.later) c.in_ok-insert.ensures.updates)
+
+pub returns-clause-enters : goal.returns-clause-enters
+returns-clause-enters c =
+    let at_n = read_at c.args.self.now.first c.args.object c.args.first c.requires.object c.requires.noted in
+    let more : c.args.first ≡ suc (c.args.first - 1) = omega (arith, c.requires.met) in
+    let never = met_nowhere (table_of c.args.table.now) (listed c.args.self.now) c.args.self.now.first (later_in c.args.self.now.later) c.requires.linked.noted c.args.object (c.args.first - 1) c.class-class.result
+    (at_n ∙ ap (λ m. Some m) more)
+    (λ same. c.if-class.false (same_Some c.class.result c.class-class.result (sym c.class.ensures ∙ same)))
+    (λ known. false≢true (sym c.if-contains.false ∙ c.contains.ensures ∙ known)) in
+    inr (subst (λ class. ¬ IsMet (table_of c.args.table.now) (listed c.args.self.now) c.args.object class) (sym c.class-class.ensures) never, c.in_ok-append.ensures.all)
