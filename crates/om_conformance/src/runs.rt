@@ -5,6 +5,7 @@
 //! `err=N` where so many bytes fit there; and `piece=N` where a take gives at most so many bytes.
 
 use om_edge::{MemFiles, MemSink, MemSource};
+use om_model::status::Status;
 use om_session::run;
 use std::alloc::Global;
 use std::io;
@@ -85,43 +86,83 @@ fn put_faults(text: &mut Vec<u8>, kind: &str, faults: u64) -> io::Result<()> {
     Ok(())
 }
 
-/// What a run puts on out, what on err, its status, and how many calls failed, with the input in pieces of at most so many
-/// bytes.
-fn ending(alloc: Global, given: &Given, piece: usize) -> io::Result<Vec<u8>> {
+/// What is around a run.
+#[derive(Drop)]
+struct Outside {
+    input: MemSource,
+    files: MemFiles,
+    out: MemSink,
+    err: MemSink,
+}
+
+// The input, of which a take gives at most so many bytes.
+fn input_of(alloc: Global, given: &Given, piece: usize) -> io::Result<MemSource> {
     let bytes = Vec::from_slice(alloc, given.input.as_slice())?;
+    let takes = failing(alloc, given, "take")?;
+    if piece == 0 {
+        return Err(ErrorKind::InvalidInput.into());
+    }
+    Ok(MemSource::new(bytes, piece, takes))
+}
+
+// The files, and the calls on them that fail.
+fn opener_of(alloc: Global, given: &Given) -> io::Result<MemFiles> {
     let pairs = files_of(alloc, given)?;
     let fetches = failing(alloc, given, "fetch")?;
     let reads = failing(alloc, given, "read")?;
-    let takes = failing(alloc, given, "take")?;
-    let puts = failing(alloc, given, "put")?;
-    let no_puts = failing(alloc, given, "put")?;
-    let (Ok(mut out), Ok(mut err)) = (
-        MemSink::new(alloc, room(given, "out"), puts),
-        MemSink::new(alloc, room(given, "err"), no_puts),
-    ) else {
-        return Err(ErrorKind::OutOfMemory.into());
-    };
-    if piece == 0 || !MemFiles::have_no_name_twice(pairs.as_slice()) {
+    if !MemFiles::have_no_name_twice(pairs.as_slice()) {
         return Err(ErrorKind::InvalidInput.into());
     }
-    let mut files = MemFiles::new(alloc, pairs, fetches, reads);
-    let mut input = MemSource::new(bytes, piece, takes);
-    let status = run(
+    Ok(MemFiles::new(alloc, pairs, fetches, reads))
+}
+
+// A sink with this much room.
+fn sink_of(alloc: Global, given: &Given, name: &str) -> io::Result<MemSink> {
+    let puts = failing(alloc, given, "put")?;
+    match MemSink::new(alloc, room(given, name), puts) {
+        Ok(sink) => Ok(sink),
+        Err(_) => Err(ErrorKind::OutOfMemory.into()),
+    }
+}
+
+fn outside_of(alloc: Global, given: &Given, piece: usize) -> io::Result<Outside> {
+    Ok(Outside {
+        input: input_of(alloc, given, piece)?,
+        files: opener_of(alloc, given)?,
+        out: sink_of(alloc, given, "out")?,
+        err: sink_of(alloc, given, "err")?,
+    })
+}
+
+fn run_outside(alloc: Global, words: &[String], outside: &mut Outside) -> Status {
+    run(
         alloc,
-        given.words.as_slice(),
-        &mut input,
-        &mut files,
-        &mut out,
-        &mut err,
-    );
+        words,
+        &mut outside.input,
+        &mut outside.files,
+        &mut outside.out,
+        &mut outside.err,
+    )
+}
+
+// What a run has put, its status, and how many calls failed.
+fn text_of(alloc: Global, outside: &Outside, status: Status) -> io::Result<Vec<u8>> {
     let mut text = Vec::new(alloc);
-    put_written(&mut text, b"", out.written())?;
-    put_written(&mut text, b"err: ", err.written())?;
+    put_written(&mut text, b"", outside.out.written())?;
+    put_written(&mut text, b"err: ", outside.err.written())?;
     writeln!(text, "status {}", status.code())?;
-    put_faults(&mut text, "fetch", files.open_faults())?;
-    put_faults(&mut text, "read", files.read_faults())?;
-    put_faults(&mut text, "take", input.faults())?;
+    put_faults(&mut text, "fetch", outside.files.open_faults())?;
+    put_faults(&mut text, "read", outside.files.read_faults())?;
+    put_faults(&mut text, "take", outside.input.faults())?;
     Ok(text)
+}
+
+/// What a run puts on out, what on err, its status, and how many calls failed, with the input in pieces of at most so many
+/// bytes.
+fn ending(alloc: Global, given: &Given, piece: usize) -> io::Result<Vec<u8>> {
+    let mut outside = outside_of(alloc, given, piece)?;
+    let status = run_outside(alloc, given.words.as_slice(), &mut outside);
+    text_of(alloc, &outside, status)
 }
 
 // The file's text: none, or what stands behind `=`.

@@ -1,0 +1,13 @@
+-- The text of a graph as it is, whatever its types: a line for the root, and one for each object in the order of numbers.
+use Rattle.std.specs.Prelude.{ℕ, suc, List, [], ◌∷◌, ◌++◌}
+use Rattle.om_model.specs.declared.value.Val.{Val}
+use Rattle.om_model.specs.declared.value.Obj.{Obj}
+use Rattle.om_print.specs.Dumped.{root_line, object_line}
+
+-- the lines of the objects from number k on
+abbrev pub lines_from : ℕ → List Obj → List ℕ
+lines_from k [] = []
+lines_from k (object ∷ more) = object_line k object ++ lines_from (suc k) more
+
+unfoldable pub dump_text : List Obj → Val → List ℕ
+dump_text graph root = root_line root ++ lines_from 0 graph

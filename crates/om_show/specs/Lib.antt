@@ -1,0 +1,4 @@
+pub mod Pieces
+pub mod Shown
+pub mod Dumped
+pub mod Rows

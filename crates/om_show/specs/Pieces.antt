@@ -1,0 +1,47 @@
+-- A text in which objects are shown where they are first met, and later by a label. Labels are numbered by first
+-- meetings, among the objects that are met again.
+use Rattle.std.specs.Prelude.{ℕ, suc, ◌==◌, if◌then◌else◌, Bool, false, ◌||◌, List, [], ◌∷◌, ◌++◌, codes, decimal, flat_map, filter}
+use Rattle.std.specs.List.{list_any}
+
+-- bytes as they are, the place before the text of an object that is met for the first time, or an object that is met again
+pub data Piece : Type 0 where
+  Text : (bytes : List ℕ) → Piece
+  First : (o : ℕ) → Piece
+  Again : (o : ℕ) → Piece
+
+abbrev pub has : List ℕ → ℕ → Bool
+has all o = list_any (λ other. other == o) all
+
+-- the objects that are met for the first time, in this order
+abbrev pub firsts : List Piece → List ℕ
+firsts [] = []
+firsts (Text bytes ∷ pieces) = firsts pieces
+firsts (First o ∷ pieces) = o ∷ firsts pieces
+firsts (Again o ∷ pieces) = firsts pieces
+
+-- the objects that are met again
+abbrev pub agains : List Piece → List ℕ
+agains [] = []
+agains (Text bytes ∷ pieces) = agains pieces
+agains (First o ∷ pieces) = agains pieces
+agains (Again o ∷ pieces) = o ∷ agains pieces
+
+-- the objects that have labels, by the labels' numbers
+abbrev pub labelled : List Piece → List ℕ
+labelled pieces = filter (has (agains pieces)) (firsts pieces)
+
+-- the number of an object among others
+abbrev pub number_in : List ℕ → ℕ → ℕ
+number_in [] o = 0
+number_in (other ∷ others) o = if other == o then 0 else suc (number_in others o)
+
+abbrev pub label_text : List ℕ → ℕ → List ℕ
+label_text objects o = codes "#" ++ decimal (number_in objects o)
+
+abbrev pub piece_text : List ℕ → Piece → List ℕ
+piece_text objects (Text bytes) = bytes
+piece_text objects (First o) = if has objects o then label_text objects o ++ codes "=" else []
+piece_text objects (Again o) = label_text objects o
+
+abbrev pub text_of : List Piece → List ℕ
+text_of pieces = flat_map (piece_text (labelled pieces)) pieces

@@ -1,0 +1,10 @@
+//! What the text of a value at a type is, with labels for shared parts, what the text of the part at a path is, and what that of
+//! a graph as it is. These are definitions alone, computed on values that were worked out by hand.
+#![tactic(auto)]
+
+ghost use Rattle.om_show.specs.Rows.{Rows};
+
+/// The texts of worked values are as they should be.
+pub fn texts_of_worked_values()
+    ensures { Rows }
+{}
