@@ -29,11 +29,16 @@ field name t = record { name = name; mutable = false; ty = t }
 abbrev pub decls : List Decl
 decls =
     record { name = codes "r"; parameters = []; body = bodies.Record (field (codes "x") (named (codes "float")) ∷ field (codes "y") (named (codes "float")) ∷ []); group = 0 }
-    ∷ record { name = codes "p"; parameters = codes "a" ∷ []; body = bodies.Variant (
-        record { name = codes "A"; arguments = arguments.Constant }
-        ∷ record { name = codes "B"; arguments = arguments.Inline (field (codes "x") int ∷ field (codes "y") (named (codes "string")) ∷ []) }
-        ∷ record { name = codes "C"; arguments = arguments.Listed (int ∷ named (codes "bool") ∷ []) }
-        ∷ []); group = 1 }
+    ∷ record {
+      name = codes "p";
+      parameters = codes "a" ∷ [];
+      body = bodies.Variant (
+          record { name = codes "A"; arguments = arguments.Constant }
+          ∷ record { name = codes "B"; arguments = arguments.Inline (field (codes "x") int ∷ field (codes "y") (named (codes "string")) ∷ []) }
+          ∷ record { name = codes "C"; arguments = arguments.Listed (int ∷ named (codes "bool") ∷ []) }
+          ∷ []);
+      group = 1;
+    }
     ∷ record { name = codes "q"; parameters = []; body = bodies.Record (field (codes "u") (named (codes "unit")) ∷ field (codes "v") int ∷ []); group = 2 }
     ∷ []
 
