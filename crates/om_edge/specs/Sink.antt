@@ -1,7 +1,9 @@
 -- What `put` and `put_all` do to the bytes written, where they are told.
-use Rattle.std.specs.Prelude.{◌≡◌, ℕ, ◌<◌, ◌≤◌, List, ◌++◌, length, take, Option, Some, is_some, is_err, Result, IfOk, OnErr, IfSome, true, false}
+use Rattle.std.specs.Prelude.{◌≡◌, ℕ, ◌<◌, ◌≤◌, List, ◌++◌, length, take, Option, Some, is_some, is_err, Result, Ok, Err, IfOk, OnErr, IfSome, true, false}
 use Rattle.om_edge.specs.Faults.{HasCause}
 use Rattle.om_edge.specs.State.{ByteState, Change}
+use Rattle.om_edge.specs.declared.sink.WriteError.{WriteError}
+use Rattle.om_edge.specs.declared.sink.WriteError.TheVariants.{Fault, Memory}
 
 -- The answer n is within the piece, and at least 1 where the piece has a byte. Where the bytes are told,
 -- the first n of the piece were appended. A failed call appends none. The count of faults tells which call failed.
@@ -28,3 +30,9 @@ pub record PutsPart (sink : Change ByteState) (text : List ℕ) : Type 0 where
   pub appended : IfSome sink.before.bytes (λ bytes. AppendsPart bytes text sink.after.bytes)
   pub told : is_some sink.after.bytes ≡ is_some sink.before.bytes
   pub cause : HasCause sink.before.faults sink.after.faults true
+
+-- all of the text was put; or a call failed, and a proper prefix was; out of memory nothing is said here
+abbrev pub Writes : {A : Type 0} → Change ByteState → List ℕ → Result A WriteError → Type 0
+Writes sink text (Ok done) = Puts sink text
+Writes sink text (Err Fault) = PutsPart sink text
+Writes sink text (Err Memory) = Unit {0}

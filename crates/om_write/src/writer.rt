@@ -6,10 +6,9 @@ ghost use Rattle.om_format.specs.Canonical.{canon, canonical_head, data_spelling
 ghost use Rattle.om_format.specs.Iso.{IsTreeOf};
 ghost use Rattle.om_format.specs.Tree.{Tree, tokens};
 ghost use Rattle.om_edge.specs.State.{change};
-ghost use Rattle.om_edge.specs.Sink.{Puts, PutsPart};
+ghost use Rattle.om_edge.specs.Sink.{Puts, PutsPart, Writes};
 ghost use Rattle.om_write.specs.Text.{Adds};
 ghost use Rattle.om_write.specs.Walking.{IsWalk};
-ghost use Rattle.om_write.specs.Written.{Writes};
 
 use crate::measure::measure;
 use crate::spell::add_step;
