@@ -24,7 +24,7 @@ use Rattle.om_layout.specs.Tags.{has_bracket, items, tags_of_item, with_item, wi
 
 -- ---- joining
 
-abbrev is_new : List (TagOf Ty) → TagOf Ty → Bool
+abbrev pub is_new : List (TagOf Ty) → TagOf Ty → Bool
 is_new tags item = not (has_tag tags item.name)
 
 -- what passes two tests, one after the other
@@ -83,7 +83,7 @@ and_turned true false = refl
 and_turned false true = refl
 and_turned false false = refl
 
-none_kept : {X : Type 0} (p q : X → Bool) (xs : List X) → filter q xs ≡ [] → filter q (filter p xs) ≡ []
+pub none_kept : {X : Type 0} (p q : X → Bool) (xs : List X) → filter q xs ≡ [] → filter q (filter p xs) ≡ []
 none_kept p q xs none =
     filter-filter p q (λ x. cond (p x) (q x) false) (λ x. refl) xs
     ∙ sym (filter-filter q p (λ x. cond (p x) (q x) false) (λ x. and_turned (p x) (q x)) xs)
@@ -93,30 +93,6 @@ pub none_new_more : (tags more last : List (TagOf Ty)) → filter (is_new tags) 
 none_new_more tags more last none =
     sym (filter-filter (is_new more) (is_new tags) (is_new (joined tags more)) (is_new-joined tags more) last)
     ∙ none_kept (is_new more) (is_new tags) last none
-
-or_true : (a : Bool) → (a || true) ≡ true
-or_true true = refl
-or_true false = refl
-
-own_not_new : (front : List (TagOf Ty)) (item : TagOf Ty) (back : List (TagOf Ty)) → is_new (front ++ item ∷ back) item ≡ false
-own_not_new front item back =
-    ap not
-    (list_any-append (λ (other : TagOf Ty). bytes_eq other.name item.name) front (item ∷ back)
-    ∙ ap (λ b. has_tag front item.name || (b || has_tag back item.name)) ((bytes_decides item.name item.name).1 refl)
-    ∙ or_true (has_tag front item.name))
-
-none_new : (front back : List (TagOf Ty)) → filter (is_new (front ++ back)) back ≡ []
-none_new front [] = refl
-none_new front (item ∷ back) =
-    ap (λ b. cond b (item ∷ filter (is_new (front ++ item ∷ back)) back) (filter (is_new (front ++ item ∷ back)) back))
-    (own_not_new front item back)
-    ∙ ap (λ ts. filter (is_new ts) back) (sym (append_assoc front (item ∷ []) back))
-    ∙ none_new (front ++ item ∷ []) back
-
-pub all_there : (tags more : List (TagOf Ty)) → filter (is_new (joined tags more)) more ≡ []
-all_there tags more =
-    sym (filter-filter (is_new more) (is_new tags) (is_new (joined tags more)) (is_new-joined tags more) more)
-    ∙ ap (filter (is_new tags)) (none_new [] more)
 
 pub joined_none : (tags more : List (TagOf Ty)) → filter (is_new tags) more ≡ [] → joined tags more ≡ tags
 joined_none tags more none = ap (λ ts. tags ++ ts) none ∙ append-nil tags

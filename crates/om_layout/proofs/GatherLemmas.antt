@@ -1,13 +1,9 @@
 -- The tags of a bracket by numbers, gathered item by item.
-use Rattle.std.proofs.Common.{ℕ, zero, suc, ◌+◌, ◌<◌, ◌≤◌, ◌≡◌, ◌∙◌, nat_eq, get_or, Bool, true, false, cond, List, [], ◌∷◌, ◌++◌, length, map, reverse, Option, Some, None, refl, sym, ap, subst, All, length-append, arith}
-use Rattle.std.specs.Prelude.{not, ◌||◌, slice_get, option_map, option_and_then, IfSome}
-use Rattle.std.specs.List.{list_any}
-use Rattle.std.proofs.lemmas.Bool.{eqb-true}
-use Rattle.std.proofs.lemmas.Map.Views.{Contains-from_any}
-use Rattle.indexmap.specs.IndexSet.{insert_key}
+use Rattle.std.proofs.Common.{ℕ, suc, ◌+◌, ◌<◌, ◌≤◌, ◌≡◌, ◌∙◌, Bool, true, false, cond, List, [], ◌∷◌, ◌++◌, length, map, reverse, Option, Some, None, refl, sym, ap, subst, All, length-append, arith}
+use Rattle.std.specs.Prelude.{not, ◌||◌, slice_get, option_map, IfSome}
 use Rattle.std.specs.Str.{bytes_eq}
 use Rattle.std.proofs.lemmas.List.{append-nil, map-append, reverse-append}
-use Rattle.std.proofs.lemmas.List.Elements.{All-head, All-tail, All-push, All-nil, All-contains}
+use Rattle.std.proofs.lemmas.List.Elements.{All-head, All-tail, All-push, All-nil}
 use Rattle.std.proofs.lemmas.List.Sums.{fold-append}
 use Rattle.std.proofs.lemmas.Option.{slice_get-get_or, none-some, same_Some}
 use Rattle.om_types.specs.declared.decl.Decl.{Decl}
@@ -15,7 +11,7 @@ use Rattle.om_types.specs.declared.head.TagOf.{TagOf}
 use Rattle.om_types.specs.declared.head.HeadOf.{HeadOf}
 use Rattle.om_types.specs.declared.head.HeadOf.TheVariants as heads
 use Rattle.om_types.specs.Ty.{Ty, variable, named, tuple, bracket, part, tag, tag_of, including}
-use Rattle.om_types.specs.Declarations.{unfolded, unfolded_times, IsExpanded}
+use Rattle.om_types.specs.Declarations.{unfolded}
 use Rattle.om_types.specs.Nodes.{type_at, type_of_node}
 use Rattle.om_types.specs.Head.{head, plain_head, tags_in, joined, has_tag}
 use Rattle.om_types.specs.Accepted.{AreSound}
@@ -32,14 +28,13 @@ use Rattle.om_layout.specs.declared.bracket.Step.{Step}
 use Rattle.om_layout.specs.declared.bracket.Step.TheVariants as steps
 use Rattle.om_layout.specs.Tags.{has_bracket, before_item, items, tags_of_item, with_item, with_items, tags_at, IsTagWithin, has_name, with_tag, IsHeadOf}
 use Rattle.om_layout.specs.Work.{work, written_work}
-use Rattle.om_layout.specs.Steps.{BringsNone, AreDone, AreLeft, AreGathered, item_work, steps_work}
-use Rattle.om_layout.proofs.WorkLemmas.{work_again}
-use Rattle.om_layout.proofs.BracketLemmas.{none_new_more, all_there, joined_none, joined-plain, joined-no_bracket, head_as_written, head_of_bracket, head_of_no_bracket}
+use Rattle.om_layout.specs.Steps.{BringsNone, IsSettled, AreSettled, AreLeft, AreGathered, item_work, steps_work}
+use Rattle.om_layout.proofs.BracketLemmas.{none_new_more, joined_none, joined-plain, joined-no_bracket, head_as_written, head_of_bracket, head_of_no_bracket}
 
 -- ---- a tag more
 
 module _ (f : ℕ → Ty) where
-  has_tag-named : (tags : List (TagOf ℕ)) (name : List ℕ) → has_tag (map (tag_with_part f) tags) name ≡ has_name tags name
+  pub has_tag-named : (tags : List (TagOf ℕ)) (name : List ℕ) → has_tag (map (tag_with_part f) tags) name ≡ has_name tags name
   has_tag-named [] name = refl
   has_tag-named (item ∷ tags) name = ap (λ b. bytes_eq item.name name || b) (has_tag-named tags name)
 
@@ -108,11 +103,12 @@ module _ (decls : List Decl) (types added : List Ty) where
     subst (λ (t : Ty). AreLeft decls (types ++ added) (with_item (head decls) tags t) rest all) (sym (at_kept types added i left.0))
         (left_kept rest (with_item (head decls) tags (type_at types i)) all left.1),
   )
-  left_kept (steps.End n ∷ rest) tags all left = (
+  left_kept (steps.Included n ∷ rest) tags all left = (
     omega (arith, left.0, longer types added),
-    subst (λ (t : Ty). BringsNone decls tags t) (sym (at_kept types added n left.0)) left.1,
-    left_kept rest tags all left.2,
+    subst (λ (t : Ty). AreLeft decls (types ++ added) (joined tags (tags_in (head decls t))) rest all) (sym (at_kept types added n left.0))
+        (left_kept rest (joined tags (tags_in (head decls (type_at types n)))) all left.1),
   )
+  left_kept (steps.Settle d ∷ rest) tags all left = (left.0, left_kept rest tags all left.1)
 
   work_kept : (rest : List Step) (tags all : List (TagOf Ty)) → AreLeft decls types tags rest all
       → steps_work decls (types ++ added) rest ≡ steps_work decls types rest
@@ -121,20 +117,16 @@ module _ (decls : List Decl) (types added : List Ty) where
       ap (λ (t : Ty). item_work (work decls) t + steps_work decls (types ++ added) rest) (at_kept types added i left.0)
       ∙ ap (λ n. item_work (work decls) (type_at types i) + n)
       (work_kept rest (with_item (head decls) tags (type_at types i)) all left.1)
-  work_kept (steps.End n ∷ rest) tags all left = ap (λ k. 1 + k) (work_kept rest tags all left.2)
+  work_kept (steps.Included n ∷ rest) tags all left =
+      ap (λ (t : Ty). suc (work decls t) + steps_work decls (types ++ added) rest) (at_kept types added n left.0)
+      ∙ ap (λ m. suc (work decls (type_at types n)) + m)
+      (work_kept rest (joined tags (tags_in (head decls (type_at types n)))) all left.1)
+  work_kept (steps.Settle d ∷ rest) tags all left = ap (λ k. 1 + k) (work_kept rest tags all left.1)
 
-  done_kept : (tags : List (TagOf Ty)) (done : List ℕ) → AreDone decls types tags done → AreDone decls (types ++ added) tags done
-  done_kept tags done are k d below =
-      let here = are k d below in (
-        omega (arith, here.0, longer types added),
-        subst (λ (t : Ty). BringsNone decls tags t) (sym (at_kept types added (get_or done k d) here.0)) here.1,
-      )
-
-done_more : (decls : List Decl) (types : List Ty) (tags more : List (TagOf Ty)) (done : List ℕ) → AreDone decls types tags done
-    → AreDone decls types (joined tags more) done
-done_more decls types tags more done are k d below =
-    let here = are k d below in
-    (here.0, none_new_more tags more (tags_in (head decls (type_at types (get_or done k d)))) here.1)
+settled_more : (decls : List Decl) (tags more : List (TagOf Ty)) (settled : List ℕ) → AreSettled decls tags settled
+    → AreSettled decls (joined tags more) settled
+settled_more decls tags more settled are k d below = λ t is.
+    none_new_more tags more (tags_in (head decls t)) (are k d below t is)
 
 item_positive : (w : Ty → ℕ) (t : Ty) → 0 < item_work w t
 item_positive w (variable x) = omega arith
@@ -146,45 +138,40 @@ item_positive w (tag t x) = omega arith
 item_positive w (tag_of t x a) = omega arith
 item_positive w (including t a) = omega arith
 
--- ---- what replacements leave to do
+-- ---- what is gathered, of types that grow
 
-module _ (decls : List Decl) (sound : AreSound decls) where
-  one_time :
-      (n : ℕ) (t u : Ty) (next : Option Ty) → unfolded decls t ≡ next
-      → ((w : Ty) → unfolded_times decls n w ≡ Some u → work decls u ≤ work decls w)
-      → option_and_then (unfolded_times decls n) next ≡ Some u → work decls u ≤ work decls t
-  one_time n t u None is later none = absurd (none-some u none)
-  one_time n t u (Some w) is later some =
-      let rest = later w some in
-      let one = work_again decls sound t w is in
-      omega (arith, rest, one)
+module _ (decls : List Decl) (old new : List Ty) (grown : Grows old new) (found : List (TagOf ℕ)) (settled : List ℕ)
+    (waiting : List Step) (all : List (TagOf Ty)) where
+  gathered_more : (added : List Ty) → AreGathered decls old found settled waiting all
+      → AreGathered decls (old ++ added) found settled waiting all
+  gathered_more added was =
+      let kept = sym (tags_kept old added found was.found_within) in record {
+        found_within = tags_within_more old added found was.found_within;
+        brought = subst (λ (ts : List (TagOf Ty)). AreSettled decls ts settled) kept was.brought;
+        left = subst (λ (ts : List (TagOf Ty)). AreLeft decls (old ++ added) ts waiting all) kept
+            (left_kept decls old added waiting _ all was.left);
+      }
 
-  times_work : (n : ℕ) (t u : Ty) → unfolded_times decls n t ≡ Some u → work decls u ≤ work decls t
-  times_work zero t u is = let same = ap (work decls) (same_Some t u is) in omega (arith, same)
-  times_work (suc n) t u is = one_time n t u (unfolded decls t) refl (λ w some. times_work n w u some) is
+  pub gathered_kept : AreGathered decls old found settled waiting all → AreGathered decls new found settled waiting all
+  gathered_kept was =
+      subst (λ (ts : List Ty). AreGathered decls ts found settled waiting all) (sym grown.kept) (gathered_more grown.added was)
 
-  pub expanded_work : (t u : Ty) → IsExpanded decls t u → work decls u ≤ work decls t
-  expanded_work t u is = times_work is.times t u is.replaced
+  pub rest_kept : (tags : List (TagOf Ty)) → AreLeft decls old tags waiting all
+      → steps_work decls new waiting ≡ steps_work decls old waiting
+  rest_kept tags left =
+      ap (λ (ts : List Ty). steps_work decls ts waiting) grown.kept ∙ work_kept decls old grown.added waiting tags all left
 
 -- ---- one step
 
-module _ (decls : List Decl) (types : List Ty) (found : List (TagOf ℕ)) (done : List ℕ) (rest : List Step) (all : List (TagOf Ty)) where
-  -- the items of a bracket are done
-  pub gather_end : (n : ℕ) → AreGathered decls types found done (steps.End n ∷ rest) all
-      → AreGathered decls types found (insert_key nat_eq done n) rest all
-  gather_end n was = record {
-    found_within = was.found_within;
-    brought = by (list_any (nat_eq n) done);
-    left = was.left.2;
-  } where
-    Brought : ℕ → Type 0
-    Brought m = (m < length types) × BringsNone decls (tags_at types found) (type_at types m)
+module _ (decls : List Decl) (types : List Ty) (found : List (TagOf ℕ)) (settled : List ℕ) (rest : List Step) (all : List (TagOf Ty)) where
+  -- the same is left
+  pub left_by : (waiting : List Step) → AreGathered decls types found settled waiting all
+      → (AreLeft decls types (tags_at types found) waiting all → AreLeft decls types (tags_at types found) rest all)
+      → AreGathered decls types found settled rest all
+  left_by waiting was goes =
+      record { found_within = was.found_within; brought = was.brought; left = goes was.left }
 
-    by : (there : Bool) → All Brought (cond there done (done ++ n ∷ []))
-    by true = was.brought
-    by false = All-push Brought done n was.brought (was.left.0, was.left.1)
-
-  module _ (item : ℕ) (was : AreGathered decls types found done (steps.Item item ∷ rest) all) where
+  module _ (item : ℕ) (was : AreGathered decls types found settled (steps.Item item ∷ rest) all) where
     tag_within : (there : Bool) (name : List ℕ) (argument : Option ℕ) → IfSome argument (λ i. i < length types)
         → All (IsTagWithin types) (cond there found (found ++ record { name = name; argument = argument } ∷ []))
     tag_within true name argument within = was.found_within
@@ -197,98 +184,113 @@ module _ (decls : List Decl) (types : List Ty) (found : List (TagOf ℕ)) (done 
 
     pub gather_tag : (name : List ℕ) (argument : Option ℕ) → IfSome argument (λ i. i < length types)
         → tags_of_item (head decls) (type_at types item) ≡ record { name = name; argument = option_map (type_at types) argument } ∷ []
-        → AreGathered decls types (with_tag found name argument) done rest all
+        → AreGathered decls types (with_tag found name argument) settled rest all
     gather_tag name argument within is =
         let same = joined-tag (type_at types) found name argument in record {
           found_within = tag_within (has_name found name) name argument within;
-          brought = subst (λ (ts : List (TagOf Ty)). AreDone decls types ts done) same
-              (done_more decls types (tags_at types found) (record { name = name; argument = option_map (type_at types) argument } ∷ []) done was.brought);
+          brought = subst (λ (ts : List (TagOf Ty)). AreSettled decls ts settled) same
+              (settled_more decls (tags_at types found) (record { name = name; argument = option_map (type_at types) argument } ∷ []) settled
+              was.brought);
           left = subst (λ (ts : List (TagOf Ty)). AreLeft decls types ts rest all) same (brings _ is);
         }
 
-    pub gather_none : tags_of_item (head decls) (type_at types item) ≡ [] → AreGathered decls types found done rest all
+    pub gather_none : tags_of_item (head decls) (type_at types item) ≡ [] → AreGathered decls types found settled rest all
     gather_none is = record {
       found_within = was.found_within;
       brought = was.brought;
       left = subst (λ (ts : List (TagOf Ty)). AreLeft decls types ts rest all) (append-nil (tags_at types found)) (brings [] is);
     }
 
-    pub gather_less : steps_work decls types rest < steps_work decls types (steps.Item item ∷ rest)
-    gather_less = let more = item_positive (work decls) (type_at types item) in omega (arith, more)
+    pub gather_including : (whole : Ty) (included : ℕ) → included < length types
+        → type_at types item ≡ including whole (type_at types included)
+        → AreGathered decls types found settled (steps.Included included ∷ rest) all
+    gather_including whole included within is = record {
+      found_within = was.found_within;
+      brought = was.brought;
+      left = (within, brings (tags_in (head decls (type_at types included))) (ap (tags_of_item (head decls)) is));
+    }
 
-    -- ---- what is included, once it is expanded
-    module _ (sound : AreSound decls) (whole included : Ty) (next : ℕ) (is : type_at types item ≡ including whole included)
-        (rest' : List Step) where
-      abbrev Goes : List Ty → Type 0
-      Goes new = (ds : List Decl) (tags every : List (TagOf Ty)) → AreSound ds → unfolded ds (type_at new next) ≡ None
-          → AreDone ds new tags done
-          → AreLeft ds new (joined tags (tags_in (head ds (type_at new next)))) rest every → AreLeft ds new tags rest' every
+pub item_less : (decls : List Decl) (types : List Ty) (item : ℕ) (rest : List Step)
+    → steps_work decls types rest < steps_work decls types (steps.Item item ∷ rest)
+item_less decls types item rest = let more = item_positive (work decls) (type_at types item) in omega (arith, more)
 
-      grown_items : (added : List Ty) → HasHeadOf decls (types ++ added) included next → Goes (types ++ added)
-          → AreGathered decls (types ++ added) found done rest' all
-      grown_items added has goes =
-          let kept = tags_kept types added found was.found_within in
-          let late = subst (λ (ts : List (TagOf Ty)). AreDone decls (types ++ added) ts done) (sym kept)
-          (done_kept decls types added (tags_at types found) done was.brought) in
-          let brought = ap (tags_of_item (head decls)) is ∙ ap tags_in (sym has.head) in
-          let left = left_kept decls types added rest _ all (brings _ brought) in record {
-            found_within = tags_within_more types added found was.found_within;
-            brought = late;
-            left = goes decls (tags_at (types ++ added) found) all sound has.ended late
-                (subst (λ (ts : List (TagOf Ty)). AreLeft decls (types ++ added)
-                (joined ts (tags_in (head decls (type_at (types ++ added) next)))) rest all) (sym kept) left);
-          }
+pub including_less : (decls : List Decl) (types : List Ty) (item : ℕ) (rest : List Step) (whole : Ty) (included : ℕ)
+    → type_at types item ≡ including whole (type_at types included)
+    → steps_work decls types (steps.Included included ∷ rest) < steps_work decls types (steps.Item item ∷ rest)
+including_less decls types item rest whole included is =
+    let same = ap (item_work (work decls)) is in omega (arith, same)
 
-      pub gather_included : (new : List Ty) → Grows types new → HasHeadOf decls new included next → Goes new
-          → AreGathered decls new found done rest' all
-      gather_included new grown =
-          subst (λ (ts : List Ty). HasHeadOf decls ts included next → Goes ts → AreGathered decls ts found done rest' all)
-          (sym grown.kept) (λ has goes. grown_items grown.added has goes)
+-- ---- an abbreviation is settled
 
-      grown_less : (added : List Ty) → IsExpanded decls included (type_at (types ++ added) next)
-          → steps_work decls (types ++ added) rest' ≤ steps_work decls (types ++ added) rest + suc (work decls (type_at (types ++ added) next))
-          → steps_work decls (types ++ added) rest' < steps_work decls types (steps.Item item ∷ rest)
-      grown_less added expanded less =
-          let kept = work_kept decls types added rest _ all was.left.1 in
-          let falls = expanded_work decls sound included (type_at (types ++ added) next) expanded in
-          let mine = ap (item_work (work decls)) is in
-          omega (arith, kept, falls, mine, less)
+module _ (decls : List Decl) (old new : List Ty) (grown : Grows old new) (found : List (TagOf ℕ)) (settled : List ℕ)
+    (d : ℕ) (rest : List Step) (all : List (TagOf Ty)) (was : AreGathered decls old found settled (steps.Settle d ∷ rest) all) where
+  pub settle_gathered : (settled' : List ℕ)
+      → (AreSettled decls (tags_at new found) settled → AreSettled decls (tags_at new found) settled')
+      → AreGathered decls new found settled' rest all
+  settle_gathered settled' more =
+      let now = gathered_kept decls old new grown found settled (steps.Settle d ∷ rest) all was in
+      record { found_within = now.found_within; brought = more now.brought; left = now.left.1 }
 
-      pub included_less : (new : List Ty) → Grows types new → IsExpanded decls included (type_at new next)
-          → steps_work decls new rest' ≤ steps_work decls new rest + suc (work decls (type_at new next))
-          → steps_work decls new rest' < steps_work decls types (steps.Item item ∷ rest)
-      included_less new grown =
-          subst (λ (ts : List Ty). IsExpanded decls included (type_at ts next)
-          → steps_work decls ts rest' ≤ steps_work decls ts rest + suc (work decls (type_at ts next))
-          → steps_work decls ts rest' < steps_work decls types (steps.Item item ∷ rest)) (sym grown.kept)
-          (λ expanded less. grown_less grown.added expanded less)
+  pub settle_less : steps_work decls new rest < steps_work decls old (steps.Settle d ∷ rest)
+  settle_less =
+      let kept = rest_kept decls old new grown found settled rest all (tags_at old found) was.left.1 in omega (arith, kept)
 
--- ---- an included bracket
+-- ---- an included type
+
+module _ (decls : List Decl) (old new : List Ty) (grown : Grows old new) (found : List (TagOf ℕ)) (settled : List ℕ)
+    (n : ℕ) (rest waiting : List Step) (all : List (TagOf Ty)) (within : n < length old)
+    (was : AreGathered decls old found settled (steps.Included n ∷ rest) all) where
+  kept_rest : steps_work decls new rest ≡ steps_work decls old rest
+  kept_rest =
+      rest_kept decls old new grown found settled rest all
+      (joined (tags_at old found) (tags_in (head decls (type_at old n)))) was.left.1
+
+  pub next_less : (next : ℕ) → suc (work decls (type_at new next)) < work decls (type_at old n)
+      → steps_work decls new waiting ≤ steps_work decls new rest + suc (suc (work decls (type_at new next)))
+      → steps_work decls new waiting < steps_work decls old (steps.Included n ∷ rest)
+  next_less next falls put = let kept = kept_rest in omega (arith, kept, falls, put)
+
+  pub last_less : type_at new n ≡ type_at old n
+      → steps_work decls new waiting ≤ steps_work decls new rest + work decls (type_at new n)
+      → steps_work decls new waiting < steps_work decls old (steps.Included n ∷ rest)
+  last_less is put =
+      let kept = kept_rest in
+      let same = ap (work decls) is in
+      omega (arith, kept, same, put)
+
+pub included_less : (decls : List Decl) (types : List Ty) (n : ℕ) (rest : List Step)
+    → steps_work decls types rest < steps_work decls types (steps.Included n ∷ rest)
+included_less decls types n rest = omega arith
 
 module _ (decls : List Decl) (sound : AreSound decls) (types : List Ty) (n : ℕ) (rest : List Step) (tags all : List (TagOf Ty))
-    (ended : unfolded decls (type_at types n) ≡ None)
-    (left : AreLeft decls types (joined tags (tags_in (head decls (type_at types n)))) rest all) where
-  written : tags_in (head decls (type_at types n)) ≡ tags_in (plain_head (head decls) (type_at types n))
-  written = ap tags_in (head_as_written decls sound (type_at types n) ended)
-
-  pub include_done : (done : List ℕ) → AreDone decls types tags done → list_any (nat_eq n) done ≡ true → AreLeft decls types tags rest all
-  include_done done are there =
-      let among = Contains-from_any eqb-true n done there in
-      let here = All-contains (λ m. (m < length types) × BringsNone decls tags (type_at types m)) done n are among in
+    (left : AreLeft decls types tags (steps.Included n ∷ rest) all) where
+  pub include_there : BringsNone decls tags (type_at types n) → AreLeft decls types tags rest all
+  include_there none =
       subst (λ (ts : List (TagOf Ty)). AreLeft decls types ts rest all)
-      (joined_none tags (tags_in (head decls (type_at types n))) here.1) left
+      (joined_none tags (tags_in (head decls (type_at types n))) none) left.1
 
-  pub include_none : has_bracket (type_at types n) ≡ false → AreLeft decls types tags rest all
-  include_none is =
-      subst (λ (ts : List (TagOf Ty)). AreLeft decls types ts rest all)
-      (ap (joined tags) written ∙ joined-no_bracket (head decls) tags (type_at types n) is) left
+  -- another type of the same head
+  pub include_next : (next : ℕ) → next < length types → head decls (type_at types next) ≡ head decls (type_at types n)
+      → AreLeft decls types tags (steps.Included next ∷ rest) all
+  include_next next within same = (
+    within,
+    subst (λ (h : HeadOf Ty). AreLeft decls types (joined tags (tags_in h)) rest all) (sym same) left.1,
+  )
 
-  pub include_items : n < length types → has_bracket (type_at types n) ≡ true
-      → AreLeft decls types (with_items (head decls) tags (items (type_at types n))) (steps.End n ∷ rest) all
-  include_items within is =
-      subst (λ (ts : List (TagOf Ty)). AreLeft decls types ts (steps.End n ∷ rest) all)
-      (ap (joined tags) written ∙ joined-plain (head decls) tags (type_at types n) is)
-      (within, all_there tags (tags_in (head decls (type_at types n))), left)
+  module _ (ended : unfolded decls (type_at types n) ≡ None) where
+    written : tags_in (head decls (type_at types n)) ≡ tags_in (plain_head (head decls) (type_at types n))
+    written = ap tags_in (head_as_written decls sound (type_at types n) ended)
+
+    pub include_none : has_bracket (type_at types n) ≡ false → AreLeft decls types tags rest all
+    include_none is =
+        subst (λ (ts : List (TagOf Ty)). AreLeft decls types ts rest all)
+        (ap (joined tags) written ∙ joined-no_bracket (head decls) tags (type_at types n) is) left.1
+
+    pub include_items : has_bracket (type_at types n) ≡ true
+        → AreLeft decls types (with_items (head decls) tags (items (type_at types n))) rest all
+    include_items is =
+        subst (λ (ts : List (TagOf Ty)). AreLeft decls types ts rest all)
+        (ap (joined tags) written ∙ joined-plain (head decls) tags (type_at types n) is) left.1
 
 -- ---- items that are put on top
 
@@ -358,11 +360,8 @@ pub none_gathered :
     (decls : List Decl) (types : List Ty) (t : Ty) (waiting : List Step)
     → AreLeft decls types [] waiting (with_items (head decls) [] (items t))
     → AreGathered decls types [] [] waiting (with_items (head decls) [] (items t))
-none_gathered decls types t waiting left = record {
-  found_within = All-nil (IsTagWithin types);
-  brought = All-nil (λ n. (n < length types) × BringsNone decls [] (type_at types n));
-  left = left;
-}
+none_gathered decls types t waiting left =
+    record { found_within = All-nil (IsTagWithin types); brought = All-nil (IsSettled decls []); left = left }
 
 argument_numbered : (types : List Ty) (argument : Option ℕ) → IfSome argument (λ i. i < length types)
     → option_map (slice_get types) argument ≡ option_map (λ (t : Ty). Some t) (option_map (type_at types) argument)
@@ -379,10 +378,10 @@ tags_numbered types (item ∷ tags) within =
     (tags_numbered types tags (All-tail (IsTagWithin types) item tags within))
 
 module _ (decls : List Decl) (sound : AreSound decls) (types : List Ty) (t : Ty) (bracketed : IsBracketed t) where
-  pub all_gathered : (found : List (TagOf ℕ)) (done : List ℕ) (waiting : List Step) → waiting ≡ [] → has_bracket t ≡ true
-      → AreGathered decls types found done waiting (with_items (head decls) [] (items t))
+  pub all_gathered : (found : List (TagOf ℕ)) (settled : List ℕ) (waiting : List Step) → waiting ≡ [] → has_bracket t ≡ true
+      → AreGathered decls types found settled waiting (with_items (head decls) [] (items t))
       → IsHeadOf decls types t (heads.Variants found)
-  all_gathered found done waiting none is gathered =
+  all_gathered found settled waiting none is gathered =
       let same = subst (λ (ss : List Step). AreLeft decls types (tags_at types found) ss (with_items (head decls) [] (items t))) none gathered.left in
       ap (λ (tags : List (TagOf (Option Ty))). heads.Variants tags)
       (tags_numbered types found gathered.found_within ∙ ap (map (tag_with_part (λ (u : Ty). Some u))) same)

@@ -1,11 +1,10 @@
 -- What is known of abbreviations, with one more.
 use Rattle.std.proofs.Common.{ℕ, suc, ◌<◌, ◌≤◌, ◌≡◌, ◌∙◌, arith, Bool, true, false, cond, List, [], ◌∷◌, length, Option, Some, None, refl, sym, ap, subst, All, nat_eq}
-use Rattle.std.specs.Prelude.{slice_get, get_or, eqb, option_map, IfSome, IsSome, is_some}
-use Rattle.std.specs.List.{list_any}
+use Rattle.std.specs.Prelude.{slice_get, get_or, option_map, IfSome, is_some}
 use Rattle.std.specs.Map.{keys_of}
 use Rattle.std.proofs.lemmas.Bool.{eqb-true}
 use Rattle.std.proofs.lemmas.Option.{none-some, same_Some, slice_get_within, get_or_from_slice_get, slice_get_read}
-use Rattle.std.proofs.lemmas.List.Elements.{All-head, All-tail, All-nil, All-cons, All-contains}
+use Rattle.std.proofs.lemmas.List.Elements.{All-head, All-tail, All-cons, All-contains}
 use Rattle.std.proofs.lemmas.Map.Steps.{length-le_from_distinct_below}
 use Rattle.std.proofs.lemmas.Map.Views.{Contains-from_any}
 use Rattle.indexmap.specs.IndexMap.{IndexMap, Updates, IsUnique, get, keys, insert_entry, index_map_len}

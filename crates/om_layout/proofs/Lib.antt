@@ -3,6 +3,7 @@ pub mod ReplacedLemmas
 pub mod PlainLemmas
 pub mod BracketLemmas
 pub mod GatherLemmas
+pub mod SettledLemmas
 pub mod EntryLemmas
 pub mod KindLemmas
 pub mod LoopLemmas

@@ -1,5 +1,5 @@
 -- The next type of a walk along replacements.
-use Rattle.std.proofs.Common.{ℕ, suc, ◌<◌, ◌≤◌, ◌≡◌, ◌∙◌, List, length, Option, Some, None, sym, ap, refl, subst, arith, ◌++◌, length-append}
+use Rattle.std.proofs.Common.{ℕ, suc, ◌<◌, ◌≡◌, ◌∙◌, List, length, Option, Some, None, sym, ap, subst, arith, length-append}
 use Rattle.std.specs.Prelude.{MatchOption}
 use Rattle.std.proofs.lemmas.Option.{get_or_from_slice_get, slice_get_within}
 use Rattle.om_types.specs.declared.decl.Decl.{Decl}
@@ -12,10 +12,10 @@ use Rattle.om_types.proofs.NodeLemmas.{at_kept}
 use Rattle.om_equal.proofs.NeedLemmas.{head_again}
 use Rattle.om_equal.proofs.RankedLemmas.{are_ranked}
 use Rattle.om_store.specs.Held.{Grows}
-use Rattle.om_store.proofs.HeldLemmas.{Grows-none, Grows-then, Holds-grows}
+use Rattle.om_store.proofs.HeldLemmas.{Grows-none, Holds-grows}
 use Rattle.om_layout.specs.Unfolded.{IsReplaced, IsLeft, HasHeadOf}
-use Rattle.om_layout.specs.Way.{Way, EachPasses, IsNearer}
-use Rattle.om_layout.proofs.ReplacedLemmas.{ComesTo, times_more, expanded_end}
+use Rattle.om_layout.specs.Way.{EachPasses, IsNearer}
+use Rattle.om_layout.proofs.ReplacedLemmas.{ComesTo, times_more}
 use Rattle.om_layout.proofs.WayLemmas.{passes_once, comes_more, way_head, way_work}
 use Rattle.om_layout.specs.Work.{work}
 use Rattle.om_layout.proofs.WorkLemmas.{work_again}
@@ -77,6 +77,13 @@ module _ (decls : List Decl) where
 
       pub nearer_work : (types : List Ty) (t : Ty) (n : ℕ) → IsNearer decls group types t n → work decls (type_at types n) < work decls t
       nearer_work types t n nearer =
+          let rest = way_work decls group sound nearer.leads.0 nearer.first (type_at types n) nearer.leads.1 in
+          let one = work_again decls sound t nearer.first nearer.is in
+          omega (arith, rest, one)
+
+      pub nearer_work_more : (types : List Ty) (t : Ty) (n : ℕ) → IsNearer decls group types t n
+          → suc (work decls (type_at types n)) < work decls t
+      nearer_work_more types t n nearer =
           let rest = way_work decls group sound nearer.leads.0 nearer.first (type_at types n) nearer.leads.1 in
           let one = work_again decls sound t nearer.first nearer.is in
           omega (arith, rest, one)

@@ -1,7 +1,7 @@
 -- Ways of replacements at the head, of types and of their instances.
-use Rattle.std.proofs.Common.{ℕ, zero, suc, ◌<◌, ◌≤◌, ◌≡◌, ◌∙◌, Bool, true, false, cond, List, [], ◌∷◌, ◌++◌, length, map, Option, Some, None, refl, sym, ap, subst, arith}
+use Rattle.std.proofs.Common.{ℕ, zero, suc, ◌<◌, ◌≤◌, ◌≡◌, ◌∙◌, true, false, cond, List, [], ◌∷◌, ◌++◌, length, map, Option, Some, refl, sym, ap, subst, arith}
 use Rattle.std.proofs.lemmas.List.Quantifiers.{position-Some}
-use Rattle.std.specs.Prelude.{option_and_then, get_or, option_map, position, slice_get, is_some, IsSome}
+use Rattle.std.specs.Prelude.{option_and_then, get_or, option_map, position, slice_get}
 use Rattle.std.specs.Str.{bytes_eq}
 use Rattle.std.proofs.lemmas.Option.{none-some, same_Some, slice_get-map}
 use Rattle.om_types.specs.declared.decl.Decl.{Decl}
@@ -12,7 +12,7 @@ use Rattle.om_types.specs.Head.{head}
 use Rattle.om_equal.proofs.HeadMapLemmas.{append-map}
 use Rattle.om_equal.proofs.NeedLemmas.{head_again}
 use Rattle.om_equal.proofs.RankedLemmas.{are_ranked}
-use Rattle.om_layout.specs.Way.{IsOf, IsOfAt, IsAt, Way, Leads, Passes, EachLeads, EachPasses, IsArgument, ComesToArgument, IsNearer}
+use Rattle.om_layout.specs.Way.{IsOf, IsOfAt, IsAt, Way, Leads, Passes, EachLeads, EachPasses, IsArgument, ComesToArgument}
 use Rattle.om_layout.proofs.ReplacedLemmas.{ComesTo, times_more}
 use Rattle.om_layout.specs.Work.{work}
 use Rattle.om_layout.proofs.WorkLemmas.{work_again}
@@ -20,7 +20,7 @@ use Rattle.om_layout.proofs.WorkLemmas.{work_again}
 -- ---- instances of a name with arguments
 
 module _ (value : List ℕ → Ty) where
-  name_instance : (t : Ty) (name : List ℕ) → name_of t ≡ Some name → name_of (instance value t) ≡ Some name
+  pub name_instance : (t : Ty) (name : List ℕ) → name_of t ≡ Some name → name_of (instance value t) ≡ Some name
   name_instance (named n) name is = is
   name_instance (part t a) name is = name_instance t name is
   name_instance t name is = absurd (none-some name is)
@@ -32,7 +32,7 @@ module _ (value : List ℕ → Ty) where
       ∙ sym (append-map (instance value) (parts t) (a ∷ []))
   parts_instance t name is = absurd (none-some name is)
 
-instance_itself : (t : Ty) → instance (λ x. variable x) t ≡ t
+pub instance_itself : (t : Ty) → instance (λ x. variable x) t ≡ t
 instance_itself (variable x) = refl
 instance_itself (named n) = refl
 instance_itself tuple = refl
@@ -92,7 +92,7 @@ module _ (decls : List Decl) (group : Option ℕ) where
       (ap (λ ts. slice_get ts i) (parts_instance value t name named')
       ∙ slice_get-map (instance value) (parts t) i ∙ ap (option_map (instance value)) there)
 
-  unfolded_is :
+  pub unfolded_is :
       (t body : Ty) (decl : Decl) (name : List ℕ) → name_of t ≡ Some name → declaration_of decls name ≡ Some decl
       → abbreviated decl.body ≡ Some body
       → unfolded decls t ≡ Some (instance (argument_for decl.parameters (parts t)) body)

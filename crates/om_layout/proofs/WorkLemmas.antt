@@ -1,6 +1,6 @@
 -- How much is to be done for a head: each replacement and each item lowers it.
 use Rattle.std.proofs.Common.{ℕ, zero, suc, ◌+◌, ◌<◌, ◌≤◌, ◌≡◌, ◌∙◌, List, Option, Some, None}
-use Rattle.std.proofs.Common.{refl, ap, sym, subst, arith}
+use Rattle.std.proofs.Common.{refl, ap, arith}
 use Rattle.om_types.specs.declared.decl.Decl.{Decl}
 use Rattle.om_types.specs.Ty.{Ty, variable, named, tuple, bracket, part, tag, tag_of, including}
 use Rattle.om_types.specs.Declarations.{unfolded}
@@ -36,7 +36,7 @@ module _ (decls : List Decl) (rank : List ℕ → ℕ) (ranked : AreRanked decls
       → work_by one t next ≡ work_by other t next
   by_same k one other same t below None is = written_same k one other same t below
   by_same k one other same t below (Some u) is =
-      ap suc (same u (omega (arith, falls decls rank ranked t u is)))
+      ap (λ n. suc (suc n)) (same u (omega (arith, falls decls rank ranked t u is)))
 
   settled :
       (n m : ℕ) (t : Ty) → weight t < n → weight t < m → work_within decls n t ≡ work_within decls m t
@@ -46,12 +46,12 @@ module _ (decls : List Decl) (rank : List ℕ → ℕ) (ranked : AreRanked decls
       by_same (weight t) (work_within decls n) (work_within decls m)
       (λ a less. settled n m a (omega arith) (omega arith)) t (omega arith) (unfolded decls t) refl
 
-  again : (t u : Ty) → unfolded decls t ≡ Some u → work decls t ≡ suc (work decls u)
+  again : (t u : Ty) → unfolded decls t ≡ Some u → work decls t ≡ suc (suc (work decls u))
   unfolding work
   again t u is =
       settled (enough decls t) (suc (weight t)) t (bound decls rank ranked t) (omega arith)
       ∙ ap (work_by (work_within decls (weight t)) t) is
-      ∙ ap suc (settled (weight t) (enough decls u) u (falls decls rank ranked t u is) (bound decls rank ranked u))
+      ∙ ap (λ n. suc (suc n)) (settled (weight t) (enough decls u) u (falls decls rank ranked t u is) (bound decls rank ranked u))
 
   plain : (t : Ty) → unfolded decls t ≡ None → work decls t ≡ written_work (work decls) t
   unfolding work
@@ -62,9 +62,20 @@ module _ (decls : List Decl) (rank : List ℕ → ℕ) (ranked : AreRanked decls
       (λ a less. settled (weight t) (enough decls a) a less (bound decls rank ranked a)) t (omega arith)
 
 module _ (decls : List Decl) (sound : AreSound decls) where
-  -- a replacement is one step
-  pub work_again : (t u : Ty) → unfolded decls t ≡ Some u → work decls t ≡ suc (work decls u)
+  -- a replacement is two steps
+  pub work_again : (t u : Ty) → unfolded decls t ≡ Some u → work decls t ≡ suc (suc (work decls u))
   work_again t u is = again decls sound.rank (are_ranked decls sound) t u is
 
   pub work_plain : (t : Ty) → unfolded decls t ≡ None → work decls t ≡ written_work (work decls) t
   work_plain t is = plain decls sound.rank (are_ranked decls sound) t is
+
+  -- what is written is a part of it
+  pub written_least : (t : Ty) → written_work (work decls) t ≤ work decls t
+  written_least (variable x) = omega arith
+  written_least (named n) = omega arith
+  written_least tuple = omega arith
+  written_least bracket = omega arith
+  written_least (part t a) = omega arith
+  written_least (tag t x) = let same = work_plain (tag t x) refl in omega (arith, same)
+  written_least (tag_of t x a) = let same = work_plain (tag_of t x a) refl in omega (arith, same)
+  written_least (including t a) = let same = work_plain (including t a) refl in omega (arith, same)

@@ -1,42 +1,74 @@
 -- What waits while the tags of a bracket are gathered, the next step first.
-use Rattle.std.specs.Prelude.{ℕ, suc, ◌+◌, ◌<◌, ◌≡◌, not, List, [], ◌∷◌, filter, length, All}
+use Rattle.std.specs.Prelude.{ℕ, suc, ◌+◌, ◌<◌, ◌≡◌, not, List, [], ◌∷◌, Option, Some, None, filter, length, All, sum_by}
 use Rattle.om_types.specs.declared.decl.Decl.{Decl}
 use Rattle.om_types.specs.declared.head.TagOf.{TagOf}
-use Rattle.om_types.specs.Ty.{Ty, including}
+use Rattle.om_types.specs.Ty.{Ty, including, instance}
 use Rattle.om_types.specs.Nodes.{type_at}
-use Rattle.om_types.specs.Head.{head, has_tag, tags_in}
+use Rattle.om_types.specs.Head.{head, has_tag, joined, tags_in}
 use Rattle.om_layout.specs.declared.bracket.Step.{Step}
 use Rattle.om_layout.specs.declared.bracket.Step.TheVariants as steps
-use Rattle.om_layout.specs.Tags.{with_item, tags_at, IsTagWithin}
+use Rattle.om_layout.specs.Tags.{tags_of_item, with_item, tags_at, IsTagWithin}
+use Rattle.om_layout.specs.Way.{IsAbbreviation}
 use Rattle.om_layout.specs.Work.{work}
 
--- its number is that of a type
-abbrev pub IsStepWithin : List Ty → Step → Type 0
-IsStepWithin types (steps.Item i) = i < length types
-IsStepWithin types (steps.End n) = n < length types
+-- its number is that of a type, or of a declaration
+abbrev pub IsStepWithin : List Decl → List Ty → Step → Type 0
+IsStepWithin decls types (steps.Item i) = i < length types
+IsStepWithin decls types (steps.Included n) = n < length types
+IsStepWithin decls types (steps.Settle d) = d < length decls
+
+-- ---- tags that are there
+
+-- these add nothing
+abbrev pub AreThere : List (TagOf Ty) → List (TagOf Ty) → Type 0
+AreThere tags more = filter (λ (tag : TagOf Ty). not (has_tag tags tag.name)) more ≡ []
 
 -- all tags of t are there
 abbrev pub BringsNone : List Decl → List (TagOf Ty) → Ty → Type 0
-BringsNone decls tags t =
-    filter (λ (tag : TagOf Ty). not (has_tag tags tag.name)) (tags_in (head decls t)) ≡ []
+BringsNone decls tags t = AreThere tags (tags_in (head decls t))
+
+-- so it is whatever stands for its variables
+abbrev pub EachBringsNone : List Decl → List (TagOf Ty) → Ty → Type 0
+EachBringsNone decls tags t = (value : List ℕ → Ty) → BringsNone decls tags (instance value t)
+
+-- so it is of what the last item of t brings
+abbrev pub EachItemBringsNone : List Decl → List (TagOf Ty) → Ty → Type 0
+EachItemBringsNone decls tags t =
+    (value : List ℕ → Ty) → AreThere tags (tags_of_item (head decls) (instance value t))
 
 -- so it is of the types with these numbers
-abbrev pub AreDone : List Decl → List Ty → List (TagOf Ty) → List ℕ → Type 0
-AreDone decls types tags done = All (λ n. (n < length types) × BringsNone decls tags (type_at types n)) done
+abbrev pub AreEachThere : List Decl → List Ty → List (TagOf Ty) → List ℕ → Type 0
+AreEachThere decls types tags numbers = All (λ n. EachBringsNone decls tags (type_at types n)) numbers
 
--- these tags, and then those of the items that wait, are all; at its end a bracket's tags are there
+-- all tags of each type with this abbreviation at its head are there
+abbrev pub IsSettled : List Decl → List (TagOf Ty) → ℕ → Type 0
+IsSettled decls tags d = (t : Ty) → IsAbbreviation decls t d → BringsNone decls tags t
+
+-- there is an abbreviation, and so it is
+abbrev pub IsSettledAt : List Decl → List (TagOf Ty) → Option ℕ → Type 0
+IsSettledAt decls tags None = ⊥
+IsSettledAt decls tags (Some d) = IsSettled decls tags d
+
+abbrev pub AreSettled : List Decl → List (TagOf Ty) → List ℕ → Type 0
+AreSettled decls tags settled = All (IsSettled decls tags) settled
+
+-- ---- what waits
+
+-- these tags, and then those of what waits, are all
 abbrev pub AreLeft : List Decl → List Ty → List (TagOf Ty) → List Step → List (TagOf Ty) → Type 0
 AreLeft decls types tags [] all = tags ≡ all
 AreLeft decls types tags (steps.Item i ∷ rest) all =
     (i < length types) × AreLeft decls types (with_item (head decls) tags (type_at types i)) rest all
-AreLeft decls types tags (steps.End n ∷ rest) all =
-    (n < length types) × BringsNone decls tags (type_at types n) × AreLeft decls types tags rest all
+AreLeft decls types tags (steps.Included n ∷ rest) all =
+    (n < length types) × AreLeft decls types (joined tags (tags_in (head decls (type_at types n)))) rest all
+AreLeft decls types tags (steps.Settle d ∷ rest) all =
+    (d < length decls) × AreLeft decls types tags rest all
 
--- The tags found and those that are left are all, and the tags of what is done were found.
-pub record AreGathered (decls : List Decl) (types : List Ty) (found : List (TagOf ℕ)) (done : List ℕ) (waiting : List Step)
+-- The tags found and those that are left are all, and the tags of what is settled were found.
+pub record AreGathered (decls : List Decl) (types : List Ty) (found : List (TagOf ℕ)) (settled : List ℕ) (waiting : List Step)
     (all : List (TagOf Ty)) : Type 0 where
   pub found_within : All (IsTagWithin types) found
-  pub brought : AreDone decls types (tags_at types found) done
+  pub brought : AreSettled decls (tags_at types found) settled
   pub left : AreLeft decls types (tags_at types found) waiting all
 
 -- ---- how much is to be done
@@ -47,8 +79,12 @@ item_work w t = 1
 
 abbrev pub step_work : List Decl → List Ty → Step → ℕ
 step_work decls types (steps.Item i) = item_work (work decls) (type_at types i)
-step_work decls types (steps.End n) = 1
+step_work decls types (steps.Included n) = suc (work decls (type_at types n))
+step_work decls types (steps.Settle d) = 1
 
 abbrev pub steps_work : List Decl → List Ty → List Step → ℕ
 steps_work decls types [] = 0
 steps_work decls types (step ∷ rest) = step_work decls types step + steps_work decls types rest
+
+abbrev pub numbers_work : List Decl → List Ty → List ℕ → ℕ
+numbers_work decls types numbers = sum_by (λ n. suc (work decls (type_at types n))) numbers

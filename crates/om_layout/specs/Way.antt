@@ -1,6 +1,6 @@
 -- Ways of replacements at the head, and what is known of abbreviations.
-use Rattle.std.specs.Prelude.{ℕ, zero, suc, ◌<◌, ◌≤◌, ◌≡◌, Bool, List, Option, Some, None, IsSome, length, nat_eq, position, slice_get}
-use Rattle.std.specs.Prelude.{option_and_then, is_some, All}
+use Rattle.std.specs.Prelude.{ℕ, zero, suc, ◌<◌, ◌≤◌, ◌≡◌, List, Option, Some, None, IsSome, length, nat_eq, position, slice_get}
+use Rattle.std.specs.Prelude.{option_and_then, All}
 use Rattle.std.specs.Str.{bytes_eq}
 use Rattle.indexmap.specs.IndexMap.{IndexMap, IsUnique, get, keys}
 use Rattle.om_types.specs.declared.decl.Decl.{Decl}

@@ -12,8 +12,9 @@ written_work w (tag_of whole x argument) = suc (written_work w whole)
 written_work w (including whole included) = suc (suc (written_work w whole + w included))
 written_work w t = 0
 
+-- two for a replacement
 abbrev pub work_by : (Ty → ℕ) → Ty → Option Ty → ℕ
-work_by w t (Some u) = suc (w u)
+work_by w t (Some u) = suc (suc (w u))
 work_by w t None = written_work w t
 
 abbrev pub work_within : List Decl → ℕ → Ty → ℕ

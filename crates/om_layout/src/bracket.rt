@@ -1,12 +1,12 @@
 //! The head of a bracket: its tags, with those of what it includes.
 
-ghost use Rattle.std.specs.Prelude.{◌≡◌, ◌<◌, ◌≤◌, ◌+◌, suc, ◌∷◌, None, List, length, reverse, IfOk, IfSome, OnOk, option_map};
+ghost use Rattle.std.specs.Prelude.{ℕ, ◌≡◌, ◌<◌, ◌≤◌, ◌+◌, suc, ◌∷◌, None, List, length, reverse, IfOk, IfSome, OnOk, option_map};
 ghost use Rattle.om_types.specs.declared.decl.Decl.{Decl as Declaration};
 ghost use Rattle.om_types.specs.declared.head.TagOf.{TagOf as Tag};
 ghost use Rattle.om_types.specs.Ty.{Ty};
 ghost use Rattle.om_types.specs.Nodes.{type_at};
 ghost use Rattle.om_types.specs.Declarations.{unfolded};
-ghost use Rattle.om_types.specs.Head.{head, joined, tags_in};
+ghost use Rattle.om_types.specs.Head.{head};
 ghost use Rattle.om_types.specs.Accepted.{AreSound};
 ghost use Rattle.om_scope.specs.Breaks.{names_of_decls};
 ghost use Rattle.om_scope.specs.Names.{number_of, ArePlaces};
@@ -14,10 +14,13 @@ ghost use Rattle.om_store.specs.Held.{Grows};
 ghost use Rattle.om_layout.specs.Plain.{IsBracketed};
 ghost use Rattle.om_layout.specs.declared.bracket.Step.TheVariants as steps;
 ghost use Rattle.om_layout.specs.Tags.{has_bracket, before_item, items, with_items, with_tag, tags_of_entries, IsHeadOf};
+ghost use Rattle.om_layout.specs.Way.{AreKnown};
 ghost use Rattle.om_layout.specs.Work.{work, written_work};
-ghost use Rattle.om_layout.specs.Steps.{AreDone, AreLeft, AreGathered, IsStepWithin, steps_work};
+ghost use Rattle.om_layout.specs.Steps.{AreLeft, AreGathered, IsStepWithin, steps_work};
 
-use crate::replaced::expanded;
+use crate::known::{Known, abbreviation, none_known};
+use crate::replaced::nearer;
+use crate::settled::{Settled, is_settled, settle};
 use indexmap::{IndexMap, IndexSet};
 use om_model::Memory;
 use om_model::list::List;
@@ -28,20 +31,20 @@ use om_types::head::{HeadOf, TagOf};
 use std::alloc::Global;
 
 /// Tags by their names, in the order in which they came, with the numbers of their arguments.
-type Tags = IndexMap<Vec<u8>, Option<usize>>;
+pub(crate) type Tags = IndexMap<Vec<u8>, Option<usize>>;
 
-/// Brackets whose tags were all gathered, by their numbers.
-type Done = IndexSet<usize>;
-
-/// What waits: an item of a bracket, by the type that ends with it, or the end of a bracket's items.
+/// What waits: an item of a bracket, by the type that ends with it; an included type; or an abbreviation whose tags were
+/// gathered, by the number of its declaration.
 #[derive(Clone, Copy)]
 pub(crate) enum Step {
     Item(usize),
-    End(usize),
+    Included(usize),
+    Settle(usize),
 }
 
 /// The head of a type that is a bracket with or without items. It takes a step for each item, and for each item of what
-/// is included, once for each type that is included. After `Memory` there may be more types, at the end.
+/// is included, once for each abbreviation that is included, whatever its arguments. After `Memory` there may be more
+/// types, at the end.
 pub fn bracket_head(
     alloc: Global,
     types: &mut Types,
@@ -60,7 +63,8 @@ pub fn bracket_head(
         return Ok(HeadOf::Absent);
     }
     let mut tags: Tags = IndexMap::new(alloc);
-    let mut done: Done = IndexSet::new(alloc);
+    let mut settled: Settled = IndexSet::new(alloc);
+    let mut known = none_known(alloc);
     let mut waiting = Vec::new(alloc);
     push_items(types, number, &mut waiting)?;
     'step: while let Some(step) = waiting.pop() {
@@ -70,88 +74,126 @@ pub fn bracket_head(
             decls,
             table,
             step,
+            &mut known,
             &mut tags,
-            &mut done,
+            &mut settled,
             &mut waiting,
         )?;
     }
     Ok(HeadOf::Variants(List::of(listed(alloc, tags)?)))
 }
 
-/// Takes a step: the bracket is done, or the item is gathered.
+/// Takes a step.
 fn gather(
     alloc: Global,
     types: &mut Types,
     decls: &[Decl],
     table: &Table<'_>,
     step: Step,
+    known: &mut Known,
     tags: &mut Tags,
-    done: &mut Done,
+    settled: &mut Settled,
     waiting: &mut Vec<Step>,
 ) -> Result<(), Memory>
     requires places { ArePlaces (names_of_decls decls.now) (length decls.now) (number_of table.now) }
-    requires step { IsStepWithin types.old step }
+    requires step { IsStepWithin decls.now types.old step }
     requires sound { AreSound decls.now }
-    ensures gathered { OnOk result ((all : List (Tag Ty)) → AreGathered decls.now types.old (tags_of_entries tags.old.entries) done.old.keys (step ∷ reverse waiting.old.items) all → AreGathered decls.now types.new (tags_of_entries tags.new.entries) done.new.keys (reverse waiting.new.items) all) }
-    ensures less { OnOk result ((all : List (Tag Ty)) → AreGathered decls.now types.old (tags_of_entries tags.old.entries) done.old.keys (step ∷ reverse waiting.old.items) all → steps_work decls.now types.new (reverse waiting.new.items) < steps_work decls.now types.old (step ∷ reverse waiting.old.items)) }
+    requires known { AreKnown decls.now None known.old }
+    ensures gathered { OnOk result ((all : List (Tag Ty)) → AreGathered decls.now types.old (tags_of_entries tags.old.entries) settled.old.keys (step ∷ reverse waiting.old.items) all → AreGathered decls.now types.new (tags_of_entries tags.new.entries) settled.new.keys (reverse waiting.new.items) all) }
+    ensures less { OnOk result ((all : List (Tag Ty)) → AreGathered decls.now types.old (tags_of_entries tags.old.entries) settled.old.keys (step ∷ reverse waiting.old.items) all → steps_work decls.now types.new (reverse waiting.new.items) < steps_work decls.now types.old (step ∷ reverse waiting.old.items)) }
+    ensures known { OnOk result (AreKnown decls.now None known.new) }
     ensures grown { Grows types.old types.new }
 {
     match step {
-        Step::Item(item) => gather_item(alloc, types, decls, table, item, tags, done, waiting),
-        Step::End(bracket) => {
-            let _ = done.insert(bracket)?;
-            Ok(())
-        }
+        Step::Item(item) => gather_item(alloc, types, item, tags, waiting),
+        Step::Included(included) => include(
+            alloc, types, decls, table, known, settled, included, waiting,
+        ),
+        Step::Settle(decl) => settle(alloc, types, decls, table, known, tags, settled, decl),
     }
 }
 
-/// Adds the tags of an item, or has the items of what it includes wait.
+/// Adds the tag of an item, or has what it includes wait.
 fn gather_item(
     alloc: Global,
-    types: &mut Types,
-    decls: &[Decl],
-    table: &Table<'_>,
+    types: &Types,
     item: usize,
     tags: &mut Tags,
-    done: &Done,
     waiting: &mut Vec<Step>,
 ) -> Result<(), Memory>
-    requires places { ArePlaces (names_of_decls decls.now) (length decls.now) (number_of table.now) }
-    requires item { item < length types.old }
-    requires sound { AreSound decls.now }
-    ensures gathered { OnOk result ((all : List (Tag Ty)) → AreGathered decls.now types.old (tags_of_entries tags.old.entries) done.now.keys (steps.Item item ∷ reverse waiting.old.items) all → AreGathered decls.now types.new (tags_of_entries tags.new.entries) done.now.keys (reverse waiting.new.items) all) }
-    ensures less { OnOk result ((all : List (Tag Ty)) → AreGathered decls.now types.old (tags_of_entries tags.old.entries) done.now.keys (steps.Item item ∷ reverse waiting.old.items) all → steps_work decls.now types.new (reverse waiting.new.items) < steps_work decls.now types.old (steps.Item item ∷ reverse waiting.old.items)) }
-    ensures grown { Grows types.old types.new }
+    requires { item < length types.now }
+    ensures gathered { OnOk result ((decls : List Declaration) (settled : List ℕ) (all : List (Tag Ty)) → AreGathered decls types.now (tags_of_entries tags.old.entries) settled (steps.Item item ∷ reverse waiting.old.items) all → AreGathered decls types.now (tags_of_entries tags.new.entries) settled (reverse waiting.new.items) all) }
+    ensures less { OnOk result ((decls : List Declaration) → steps_work decls types.now (reverse waiting.new.items) < steps_work decls types.now (steps.Item item ∷ reverse waiting.old.items)) }
 {
     match types.node(item) {
         TypeNode::Tag(_, name) => add_tag(alloc, tags, name, None),
         TypeNode::TagOf(_, name, argument) => add_tag(alloc, tags, name, Some(argument)),
         TypeNode::Including(_, included) => {
-            let next = expanded(alloc, types, decls, table, included)?;
-            include(types, next, done, waiting)
+            waiting.push(Step::Included(included))?;
+            Ok(())
         }
         _ => Ok(()),
     }
 }
 
-/// Has the items of an included bracket wait, and below them its end, unless it is done.
+/// Has the items of an included type wait, or what it is after replacements at its head, unless its abbreviation is
+/// settled.
 fn include(
-    types: &Types,
-    bracket: usize,
-    done: &Done,
+    alloc: Global,
+    types: &mut Types,
+    decls: &[Decl],
+    table: &Table<'_>,
+    known: &mut Known,
+    settled: &Settled,
+    included: usize,
     waiting: &mut Vec<Step>,
 ) -> Result<(), Memory>
-    requires { bracket < length types.now }
-    ensures left { OnOk result ((decls : List Declaration) (tags all : List (Tag Ty)) → AreSound decls → unfolded decls (type_at types.now bracket) ≡ None → AreDone decls types.now tags done.now.keys → AreLeft decls types.now (joined tags (tags_in (head decls (type_at types.now bracket)))) (reverse waiting.old.items) all → AreLeft decls types.now tags (reverse waiting.new.items) all) }
-    ensures work { OnOk result ((decls : List Declaration) → AreSound decls → unfolded decls (type_at types.now bracket) ≡ None → steps_work decls types.now (reverse waiting.new.items) ≤ steps_work decls types.now (reverse waiting.old.items) + suc (work decls (type_at types.now bracket))) }
+    requires places { ArePlaces (names_of_decls decls.now) (length decls.now) (number_of table.now) }
+    requires included { included < length types.old }
+    requires sound { AreSound decls.now }
+    requires known { AreKnown decls.now None known.old }
+    ensures gathered { OnOk result ((found : List (Tag ℕ)) (all : List (Tag Ty)) → AreGathered decls.now types.old found settled.now.keys (steps.Included included ∷ reverse waiting.old.items) all → AreGathered decls.now types.new found settled.now.keys (reverse waiting.new.items) all) }
+    ensures less { OnOk result ((found : List (Tag ℕ)) (all : List (Tag Ty)) → AreGathered decls.now types.old found settled.now.keys (steps.Included included ∷ reverse waiting.old.items) all → steps_work decls.now types.new (reverse waiting.new.items) < steps_work decls.now types.old (steps.Included included ∷ reverse waiting.old.items)) }
+    ensures known { OnOk result (AreKnown decls.now None known.new) }
+    ensures grown { Grows types.old types.new }
 {
-    if done.contains(&bracket) {
+    let decl = abbreviation(types, decls, table, included);
+    if is_settled(settled, decl) {
         return Ok(());
     }
+    match nearer(alloc, types, decls, table, None, known, included)? {
+        Some(next) => push_next(decl, next, waiting),
+        None => put_items(types, included, waiting),
+    }
+}
+
+/// Has a type wait after a replacement, and below it the abbreviation that was replaced.
+fn push_next(decl: Option<usize>, next: usize, waiting: &mut Vec<Step>) -> Result<(), Memory>
+    ensures left { OnOk result ((decls : List Declaration) (types : List Ty) (tags all : List (Tag Ty)) → IfSome decl (λ d. d < length decls) → AreLeft decls types tags (steps.Included next ∷ reverse waiting.old.items) all → AreLeft decls types tags (reverse waiting.new.items) all) }
+    ensures work { OnOk result ((decls : List Declaration) (types : List Ty) → steps_work decls types (reverse waiting.new.items) ≤ steps_work decls types (reverse waiting.old.items) + suc (suc (work decls (type_at types next)))) }
+{
+    match decl {
+        Some(decl) => {
+            waiting.push(Step::Settle(decl))?;
+            waiting.push(Step::Included(next))?;
+            Ok(())
+        }
+        None => {
+            waiting.push(Step::Included(next))?;
+            Ok(())
+        }
+    }
+}
+
+/// Has the items of an included bracket wait.
+fn put_items(types: &Types, bracket: usize, waiting: &mut Vec<Step>) -> Result<(), Memory>
+    requires { bracket < length types.now }
+    ensures left { OnOk result ((decls : List Declaration) (tags all : List (Tag Ty)) → AreSound decls → unfolded decls (type_at types.now bracket) ≡ None → AreLeft decls types.now tags (steps.Included bracket ∷ reverse waiting.old.items) all → AreLeft decls types.now tags (reverse waiting.new.items) all) }
+    ensures work { OnOk result ((decls : List Declaration) → AreSound decls → unfolded decls (type_at types.now bracket) ≡ None → steps_work decls types.now (reverse waiting.new.items) ≤ steps_work decls types.now (reverse waiting.old.items) + work decls (type_at types.now bracket)) }
+{
     if !has_bracket(types, bracket) {
         return Ok(());
     }
-    waiting.push(Step::End(bracket))?;
     push_items(types, bracket, waiting)
 }
 
@@ -217,7 +259,7 @@ fn push_items(types: &Types, number: usize, waiting: &mut Vec<Step>) -> Result<(
 }
 
 /// The bracket before its last item.
-fn before_item(types: &Types, number: usize) -> Option<usize>
+pub(crate) fn before_item(types: &Types, number: usize) -> Option<usize>
     requires { number < length types.now }
     ensures is { option_map (type_at types.now) result ≡ before_item (type_at types.now number) }
     ensures below { IfSome result (λ i. i < number) }

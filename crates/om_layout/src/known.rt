@@ -100,7 +100,7 @@ pub(crate) fn known_part(
 }
 
 /// The argument that a type comes to by what is known.
-fn known_end(
+pub(crate) fn known_end(
     alloc: Global,
     types: &Types,
     decls: &[Decl],

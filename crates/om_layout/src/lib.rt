@@ -12,6 +12,7 @@ mod names;
 mod plain;
 mod predeclared;
 mod replaced;
+mod settled;
 mod spine;
 mod trees;
 

@@ -1,17 +1,17 @@
-use Rattle.std.proofs.Common.{◌<◌, List, ℕ, ◌∷◌, reverse, sym, subst}
+use Rattle.std.proofs.Common.{◌<◌, ◌∷◌, reverse, sym, subst}
 use Rattle.std.proofs.lemmas.Result.{on_ok_weaker}
 use Rattle.om_layout.specs.declared.bracket.Step.{Step}
 use Rattle.om_layout.specs.Tags.{tags_of_entries}
 use Rattle.om_layout.specs.Steps.{AreGathered, steps_work}
-use Rattle.om_layout.proofs.GatherLemmas.{gather_end}
+use Rattle.om_layout.proofs.GatherLemmas.{settle_gathered, settle_less}
 use Rattle.om_layout.proofs.bracket.gather.Goals as goal
 
 pub returns-in-Item-clause-gathered : goal.returns-in-Item-clause-gathered
 returns-in-Item-clause-gathered c =
     on_ok_weaker c.gather_item.result
     (λ gathers all was.
-    gathers all
-    (subst (λ (s : Step). AreGathered c.args.decls.now c.args.types.now (tags_of_entries c.args.tags.now.entries) c.args.done.now.keys
+    gathers c.args.decls.now c.args.settled.now.keys all
+    (subst (λ (s : Step). AreGathered c.args.decls.now c.args.types.now (tags_of_entries c.args.tags.now.entries) c.args.settled.now.keys
     (s ∷ reverse c.args.waiting.now.items) all) c.in-Item.is was))
     c.gather_item.ensures.gathered
 
@@ -19,18 +19,54 @@ pub returns-in-Item-clause-less : goal.returns-in-Item-clause-less
 returns-in-Item-clause-less c =
     on_ok_weaker c.gather_item.result
     (λ less all was.
-    subst (λ (s : Step). steps_work c.args.decls.now c.gather_item.new.types (reverse c.gather_item.new.waiting.items)
+    subst (λ (s : Step). steps_work c.args.decls.now c.args.types.now (reverse c.gather_item.new.waiting.items)
     < steps_work c.args.decls.now c.args.types.now (s ∷ reverse c.args.waiting.now.items)) (sym c.in-Item.is)
-    (less all
-    (subst (λ (s : Step). AreGathered c.args.decls.now c.args.types.now (tags_of_entries c.args.tags.now.entries) c.args.done.now.keys
-    (s ∷ reverse c.args.waiting.now.items) all) c.in-Item.is was)))
+    (less c.args.decls.now))
     c.gather_item.ensures.less
 
-pub returns-in_ok-insert-in-End-clause-gathered : goal.returns-in_ok-insert-in-End-clause-gathered
-returns-in_ok-insert-in-End-clause-gathered c = λ all was.
-    subst (λ (ks : List ℕ). AreGathered c.args.decls.now c.args.types.now (tags_of_entries c.args.tags.now.entries) ks
-    (reverse c.args.waiting.now.items) all) (sym c.in_ok-insert-in-End.ensures.keys)
-    (gather_end c.args.decls.now c.args.types.now (tags_of_entries c.args.tags.now.entries) c.args.done.now.keys
-    (reverse c.args.waiting.now.items) all c.in-End.bracket
-    (subst (λ (s : Step). AreGathered c.args.decls.now c.args.types.now (tags_of_entries c.args.tags.now.entries) c.args.done.now.keys
-    (s ∷ reverse c.args.waiting.now.items) all) c.in-End.is was))
+pub returns-in-Included-clause-gathered : goal.returns-in-Included-clause-gathered
+returns-in-Included-clause-gathered c =
+    let found = tags_of_entries c.args.tags.now.entries in
+    on_ok_weaker c.include.result
+    (λ gathers all was.
+    gathers found all
+    (subst (λ (s : Step). AreGathered c.args.decls.now c.args.types.now found c.args.settled.now.keys
+    (s ∷ reverse c.args.waiting.now.items) all) c.in-Included.is was))
+    c.include.ensures.gathered
+
+pub returns-in-Included-clause-less : goal.returns-in-Included-clause-less
+returns-in-Included-clause-less c =
+    let found = tags_of_entries c.args.tags.now.entries in
+    on_ok_weaker c.include.result
+    (λ less all was.
+    subst (λ (s : Step). steps_work c.args.decls.now c.include.new.types (reverse c.include.new.waiting.items)
+    < steps_work c.args.decls.now c.args.types.now (s ∷ reverse c.args.waiting.now.items)) (sym c.in-Included.is)
+    (less found all
+    (subst (λ (s : Step). AreGathered c.args.decls.now c.args.types.now found c.args.settled.now.keys
+    (s ∷ reverse c.args.waiting.now.items) all) c.in-Included.is was)))
+    c.include.ensures.less
+
+pub returns-in-Settle-clause-gathered : goal.returns-in-Settle-clause-gathered
+returns-in-Settle-clause-gathered c =
+    let found = tags_of_entries c.args.tags.now.entries in
+    let rest = reverse c.args.waiting.now.items in
+    on_ok_weaker c.settle.result
+    (λ brings all was.
+    settle_gathered c.args.decls.now c.args.types.now c.settle.new.types c.settle.ensures.grown found c.args.settled.now.keys
+    c.in-Settle.decl rest all
+    (subst (λ (s : Step). AreGathered c.args.decls.now c.args.types.now found c.args.settled.now.keys (s ∷ rest) all) c.in-Settle.is was)
+    c.settle.new.settled.keys brings)
+    c.settle.ensures.settled
+
+pub returns-in-Settle-clause-less : goal.returns-in-Settle-clause-less
+returns-in-Settle-clause-less c =
+    let found = tags_of_entries c.args.tags.now.entries in
+    let rest = reverse c.args.waiting.now.items in
+    on_ok_weaker c.settle.result
+    (λ brings all was.
+    subst (λ (s : Step). steps_work c.args.decls.now c.settle.new.types rest
+    < steps_work c.args.decls.now c.args.types.now (s ∷ rest)) (sym c.in-Settle.is)
+    (settle_less c.args.decls.now c.args.types.now c.settle.new.types c.settle.ensures.grown found c.args.settled.now.keys
+    c.in-Settle.decl rest all
+    (subst (λ (s : Step). AreGathered c.args.decls.now c.args.types.now found c.args.settled.now.keys (s ∷ rest) all) c.in-Settle.is was)))
+    c.settle.ensures.settled

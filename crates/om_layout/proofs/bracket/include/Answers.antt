@@ -1,45 +1,95 @@
-use Rattle.std.proofs.Common.{◌≡◌, ◌∙◌, List, sym, ap, subst, arith, reverse}
+use Rattle.std.proofs.Common.{◌∙◌, ◌∷◌, None, sym, ap, reverse}
+use Rattle.std.proofs.lemmas.Option.{MatchOption-at_some, MatchOption-at_none}
 use Rattle.std.proofs.lemmas.Result.{on_ok_weaker}
 use Rattle.om_types.specs.Nodes.{type_at}
+use Rattle.om_types.specs.Declarations.{unfolded}
 use Rattle.om_types.specs.Head.{head}
-use Rattle.om_layout.specs.declared.bracket.Step.{Step}
 use Rattle.om_layout.specs.declared.bracket.Step.TheVariants as steps
-use Rattle.om_layout.specs.Tags.{items, with_items}
-use Rattle.om_layout.specs.Steps.{AreLeft, steps_work}
-use Rattle.om_layout.proofs.WorkLemmas.{work_plain}
-use Rattle.om_layout.proofs.GatherLemmas.{include_done, include_none, include_items, pushed_first}
+use Rattle.om_layout.specs.Tags.{tags_at}
+use Rattle.om_layout.proofs.NearerLemmas.{type_kept, nearer_head, nearer_work_more}
+use Rattle.om_layout.proofs.GatherLemmas.{gathered_kept, left_by, include_there, include_next, included_less, next_less, last_less}
+use Rattle.om_layout.proofs.SettledLemmas.{settled_at, abbreviation_within}
 use Rattle.om_layout.proofs.bracket.include.Goals as goal
 
-pub returns-then-contains-clause-left : goal.returns-then-contains-clause-left
-returns-then-contains-clause-left c = λ decls tags all sound ended done left.
-    include_done decls sound c.args.types.now c.args.bracket (reverse c.args.waiting.now.items) tags all ended left c.args.done.now.keys
-    done (sym c.contains.ensures ∙ c.if-contains.true)
-
-pub returns-then-not-has_bracket-clause-left : goal.returns-then-not-has_bracket-clause-left
-returns-then-not-has_bracket-clause-left c = λ decls tags all sound ended done left.
-    include_none decls sound c.args.types.now c.args.bracket (reverse c.args.waiting.now.items) tags all ended left
-    (sym c.has_bracket.ensures ∙ c.if-not-has_bracket.true)
-
-pub returns-clause-left : goal.returns-clause-left
-returns-clause-left c =
+pub returns-then-is_settled-clause-gathered : goal.returns-then-is_settled-clause-gathered
+returns-then-is_settled-clause-gathered c = λ found all was.
+    let decls = c.args.decls.now in
     let types = c.args.types.now in
-    let first = pushed_first c.args.waiting.now.items c.push.new.self.items (steps.End c.args.bracket) c.in_ok-push.ensures.items in
-    on_ok_weaker c.push_items.result
-    (λ put decls tags all sound ended done left.
-    put decls tags all
-    (subst (λ (ss : List Step). AreLeft decls types (with_items (head decls) tags (items (type_at types c.args.bracket))) ss all) (sym first)
-    (include_items decls sound types c.args.bracket (reverse c.args.waiting.now.items) tags all ended left c.requires
-    (sym c.has_bracket.ensures ∙ c.if-not-has_bracket.false))))
-    c.push_items.ensures.left
+    let rest = reverse c.args.waiting.now.items in
+    let t = type_at types c.args.included in
+    left_by decls types found c.args.settled.now.keys rest all (steps.Included c.args.included ∷ rest) was
+    (λ left.
+    include_there decls c.requires.sound types c.args.included rest (tags_at types found) all left
+    (settled_at decls (tags_at types found) t c.abbreviation-decl.result c.abbreviation-decl.ensures
+    (c.is_settled.ensures c.if-is_settled.true decls (tags_at types found) was.brought)))
 
-pub returns-clause-work : goal.returns-clause-work
-returns-clause-work c =
-    let types = c.args.types.now in
-    let first = pushed_first c.args.waiting.now.items c.push.new.self.items (steps.End c.args.bracket) c.in_ok-push.ensures.items in
-    on_ok_weaker c.push_items.result
-    (λ put decls sound ended.
-    let put' = put decls in
-    let more = ap (steps_work decls types) first in
-    let mine = work_plain decls sound (type_at types c.args.bracket) ended in
-    omega (arith, put', more, mine))
-    c.push_items.ensures.work
+pub returns-then-is_settled-clause-less : goal.returns-then-is_settled-clause-less
+returns-then-is_settled-clause-less c = λ found all was.
+    included_less c.args.decls.now c.args.types.now c.args.included (reverse c.args.waiting.now.items)
+
+pub returns-in-Some-clause-gathered : goal.returns-in-Some-clause-gathered
+returns-in-Some-clause-gathered c =
+    let decls = c.args.decls.now in
+    let old = c.args.types.now in
+    let new = c.nearer.new.types in
+    let grown = c.in_ok-next.ensures.grown in
+    let n = c.args.included in
+    let rest = reverse c.args.waiting.now.items in
+    let nearer = MatchOption-at_some _ _ c.in-Some.next c.in-Some.is c.in_ok-next.ensures.ok in
+    let kept = type_kept old new n grown c.requires.included in
+    let same = nearer_head decls None c.requires.sound new (type_at old n) c.in-Some.next nearer ∙ ap (head decls) (sym kept) in
+    on_ok_weaker c.push_next.result
+    (λ put found all was.
+    left_by decls new found c.args.settled.now.keys (reverse c.push_next.new.waiting.items) all (steps.Included n ∷ rest)
+    (gathered_kept decls old new grown found c.args.settled.now.keys (steps.Included n ∷ rest) all was)
+    (λ left.
+    put decls new (tags_at new found) all (abbreviation_within decls (tags_at new found) (type_at old n) c.abbreviation-decl.result c.abbreviation-decl.ensures)
+    (include_next decls c.requires.sound new n rest (tags_at new found) all left c.in-Some.next nearer.within same)))
+    c.push_next.ensures.left
+
+pub returns-in-Some-clause-less : goal.returns-in-Some-clause-less
+returns-in-Some-clause-less c =
+    let decls = c.args.decls.now in
+    let old = c.args.types.now in
+    let new = c.nearer.new.types in
+    let n = c.args.included in
+    let nearer = MatchOption-at_some _ _ c.in-Some.next c.in-Some.is c.in_ok-next.ensures.ok in
+    on_ok_weaker c.push_next.result
+    (λ put found all was.
+    next_less decls old new c.in_ok-next.ensures.grown found c.args.settled.now.keys n (reverse c.args.waiting.now.items)
+    (reverse c.push_next.new.waiting.items) all c.requires.included was c.in-Some.next
+    (nearer_work_more decls None c.requires.sound new (type_at old n) c.in-Some.next nearer) (put decls new))
+    c.push_next.ensures.work
+
+pub returns-in-None-clause-gathered : goal.returns-in-None-clause-gathered
+returns-in-None-clause-gathered c =
+    let decls = c.args.decls.now in
+    let old = c.args.types.now in
+    let new = c.nearer.new.types in
+    let grown = c.in_ok-next.ensures.grown in
+    let n = c.args.included in
+    let rest = reverse c.args.waiting.now.items in
+    let none = MatchOption-at_none _ _ c.in-None.is c.in_ok-next.ensures.ok in
+    let ended = ap (unfolded decls) (type_kept old new n grown c.requires.included) ∙ none in
+    on_ok_weaker c.put_items.result
+    (λ put found all was.
+    left_by decls new found c.args.settled.now.keys (reverse c.put_items.new.waiting.items) all (steps.Included n ∷ rest)
+    (gathered_kept decls old new grown found c.args.settled.now.keys (steps.Included n ∷ rest) all was)
+    (λ left. put decls (tags_at new found) all c.requires.sound ended left))
+    c.put_items.ensures.left
+
+pub returns-in-None-clause-less : goal.returns-in-None-clause-less
+returns-in-None-clause-less c =
+    let decls = c.args.decls.now in
+    let old = c.args.types.now in
+    let new = c.nearer.new.types in
+    let grown = c.in_ok-next.ensures.grown in
+    let n = c.args.included in
+    let none = MatchOption-at_none _ _ c.in-None.is c.in_ok-next.ensures.ok in
+    let kept = type_kept old new n grown c.requires.included in
+    on_ok_weaker c.put_items.result
+    (λ put found all was.
+    last_less decls old new grown found c.args.settled.now.keys n (reverse c.args.waiting.now.items)
+    (reverse c.put_items.new.waiting.items) all c.requires.included was kept
+    (put decls c.requires.sound (ap (unfolded decls) kept ∙ none)))
+    c.put_items.ensures.work

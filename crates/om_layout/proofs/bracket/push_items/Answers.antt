@@ -1,5 +1,4 @@
-use Rattle.std.proofs.Common.{◌≡◌, ◌∙◌, List, refl, sym, ap, subst, arith, reverse}
-use Rattle.om_types.specs.declared.head.TagOf.{TagOf}
+use Rattle.std.proofs.Common.{List, refl, sym, ap, subst, arith, reverse}
 use Rattle.om_types.specs.Ty.{Ty}
 use Rattle.om_types.specs.Nodes.{type_at}
 use Rattle.om_types.specs.Head.{head}

@@ -1,4 +1,4 @@
-use Rattle.std.proofs.Common.{ℕ, ◌<◌, Option, arith}
+use Rattle.std.proofs.Common.{◌<◌, arith}
 use Rattle.om_types.specs.Nodes.{type_at}
 use Rattle.om_layout.specs.Way.{EachPasses}
 use Rattle.om_layout.proofs.WayLemmas.{leads_more}

@@ -1,4 +1,4 @@
-use Rattle.std.proofs.Common.{ℕ, ◌≡◌, ◌<◌, length, List, [], ◌∷◌, Some, sym, subst, All, arith}
+use Rattle.std.proofs.Common.{ℕ, ◌≡◌, ◌<◌, length, List, [], Some, sym, subst, All, arith}
 use Rattle.std.proofs.lemmas.List.Elements.{All-nil, All-cons, All-push, All-pop}
 use Rattle.indexmap.specs.IndexMap.{index_map_len}
 use Rattle.om_store.proofs.HeldLemmas.{Grows-none, Grows-then}

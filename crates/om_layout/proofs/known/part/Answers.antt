@@ -1,4 +1,4 @@
-use Rattle.std.proofs.Common.{◌≡◌, ◌∙◌, ap, ℕ, List}
+use Rattle.std.proofs.Common.{◌∙◌, ap, ℕ, List}
 use Rattle.std.specs.Prelude.{slice_get}
 use Rattle.om_layout.proofs.KnownLemmas.{some_less}
 use Rattle.om_layout.proofs.known.part.Goals as goal

@@ -1,0 +1,17 @@
+use Rattle.std.proofs.Common.{◌<◌, length, All}
+use Rattle.om_types.specs.Nodes.{type_at}
+use Rattle.om_layout.specs.Tags.{tags_at, tags_of_entries}
+use Rattle.om_layout.specs.Steps.{AreSettled, AreEachThere, EachBringsNone, numbers_work}
+use Rattle.om_layout.proofs.settled.are_there.Given as goal
+
+abbrev pub invariant-next : goal.invariant-next
+invariant-next l = record {
+  within : All (λ n. n < length l.types) l.waiting.items;
+  there :
+      AreSettled l.decls (tags_at l.types (tags_of_entries l.tags.entries)) l.settled.keys
+      → AreEachThere l.decls l.types (tags_at l.types (tags_of_entries l.tags.entries)) l.waiting.items
+      → EachBringsNone l.decls (tags_at l.types (tags_of_entries l.tags.entries)) (type_at l.types l.number);
+}
+
+abbrev pub decreases-next : goal.decreases-next
+decreases-next l = numbers_work l.decls l.types l.waiting.items

@@ -1,0 +1,176 @@
+//! Abbreviations whose tags are all there, at any arguments.
+
+ghost use Rattle.std.specs.Prelude.{◌≡◌, ◌<◌, ◌≤◌, ◌+◌, None, List, length, All, IfOk, OnOk, IsTrue};
+ghost use Rattle.om_types.specs.declared.decl.Decl.{Decl as Declaration};
+ghost use Rattle.om_types.specs.declared.head.TagOf.{TagOf as Tag};
+ghost use Rattle.om_types.specs.Ty.{Ty};
+ghost use Rattle.om_types.specs.Nodes.{type_at};
+ghost use Rattle.om_types.specs.Accepted.{AreSound};
+ghost use Rattle.om_scope.specs.Breaks.{names_of_decls};
+ghost use Rattle.om_scope.specs.Names.{number_of, ArePlaces};
+ghost use Rattle.om_store.specs.Held.{Grows};
+ghost use Rattle.om_layout.specs.Tags.{tags_at, tags_of_entries};
+ghost use Rattle.om_layout.specs.Way.{AreKnown, IsAbbreviation};
+ghost use Rattle.om_layout.specs.Work.{work};
+ghost use Rattle.om_layout.specs.Steps.{BringsNone, AreSettled, IsSettledAt, EachBringsNone, EachItemBringsNone, AreEachThere, numbers_work, item_work};
+
+use crate::bracket::{Tags, before_item, has_bracket};
+use crate::known::{Known, abbreviation, known_end};
+use indexmap::IndexSet;
+use om_model::Memory;
+use om_scope::table::Table;
+use om_store::{TypeNode, Types};
+use om_types::decl::{Body, Decl};
+use std::alloc::Global;
+
+/// Abbreviations, by the numbers of their declarations, whose tags are all there, at any arguments.
+pub(crate) type Settled = IndexSet<usize>;
+
+/// Whether an abbreviation is settled.
+pub(crate) fn is_settled(settled: &Settled, decl: Option<usize>) -> bool
+    ensures { IsTrue result → (decls : List Declaration) (tags : List (Tag Ty)) → AreSettled decls tags settled.now.keys → IsSettledAt decls tags decl }
+{
+    match decl {
+        Some(decl) => settled.contains(&decl),
+        None => false,
+    }
+}
+
+/// Settles an abbreviation, if all its tags are there at any arguments. It takes a step for each node of its type.
+pub(crate) fn settle(
+    alloc: Global,
+    types: &mut Types,
+    decls: &[Decl],
+    table: &Table<'_>,
+    known: &Known,
+    tags: &Tags,
+    settled: &mut Settled,
+    decl: usize,
+) -> Result<(), Memory>
+    requires places { ArePlaces (names_of_decls decls.now) (length decls.now) (number_of table.now) }
+    requires decl { decl < length decls.now }
+    requires sound { AreSound decls.now }
+    requires known { AreKnown decls.now None known.now }
+    ensures settled { let there = tags_at types.new (tags_of_entries tags.now.entries) in OnOk result (AreSettled decls.now there settled.old.keys → AreSettled decls.now there settled.new.keys) }
+    ensures grown { Grows types.old types.new }
+{
+    let Body::Abbreviation(body) = &decls[decl].body else {
+        return Ok(());
+    };
+    let number = types.add(alloc, body)?;
+    if are_there(alloc, types, decls, table, known, tags, settled, number)? {
+        settled.insert(decl)?;
+    }
+    Ok(())
+}
+
+/// Whether all tags of a type are there, whatever stands for its variables.
+fn are_there(
+    alloc: Global,
+    types: &Types,
+    decls: &[Decl],
+    table: &Table<'_>,
+    known: &Known,
+    tags: &Tags,
+    settled: &Settled,
+    number: usize,
+) -> Result<bool, Memory>
+    requires places { ArePlaces (names_of_decls decls.now) (length decls.now) (number_of table.now) }
+    requires number { number < length types.now }
+    requires sound { AreSound decls.now }
+    requires known { AreKnown decls.now None known.now }
+    ensures { let there = tags_at types.now (tags_of_entries tags.now.entries) in IfOk result (λ are. IsTrue are → AreSettled decls.now there settled.now.keys → EachBringsNone decls.now there (type_at types.now number)) }
+{
+    let mut waiting = vec![in alloc; number]?;
+    'next: while let Some(next) = waiting.pop() {
+        if !is_there(
+            alloc,
+            types,
+            decls,
+            table,
+            known,
+            tags,
+            settled,
+            next,
+            &mut waiting,
+        )? {
+            return Ok(false);
+        }
+    }
+    Ok(true)
+}
+
+/// Whether all tags of a type are there, once those of what waits are.
+fn is_there(
+    alloc: Global,
+    types: &Types,
+    decls: &[Decl],
+    table: &Table<'_>,
+    known: &Known,
+    tags: &Tags,
+    settled: &Settled,
+    number: usize,
+    waiting: &mut Vec<usize>,
+) -> Result<bool, Memory>
+    requires places { ArePlaces (names_of_decls decls.now) (length decls.now) (number_of table.now) }
+    requires number { number < length types.now }
+    requires sound { AreSound decls.now }
+    requires known { AreKnown decls.now None known.now }
+    requires within { All (λ n. n < length types.now) waiting.old.items }
+    ensures there { let there = tags_at types.now (tags_of_entries tags.now.entries) in IfOk result (λ is. IsTrue is → AreSettled decls.now there settled.now.keys → AreEachThere decls.now types.now there waiting.new.items → AreEachThere decls.now types.now there waiting.old.items × EachBringsNone decls.now there (type_at types.now number)) }
+    ensures less { IfOk result (λ is. IsTrue is → numbers_work decls.now types.now waiting.new.items ≤ numbers_work decls.now types.now waiting.old.items + work decls.now (type_at types.now number)) }
+    ensures within { OnOk result (All (λ n. n < length types.now) waiting.new.items) }
+{
+    let end = known_end(alloc, types, decls, table, known, number)?;
+    match abbreviation(types, decls, table, end) {
+        Some(decl) => Ok(settled.contains(&decl)),
+        None => items_are_there(types, tags, end, waiting),
+    }
+}
+
+/// Whether all items of a bracket are there, once what waits is. No other type's are.
+fn items_are_there(
+    types: &Types,
+    tags: &Tags,
+    number: usize,
+    waiting: &mut Vec<usize>,
+) -> Result<bool, Memory>
+    requires number { number < length types.now }
+    requires within { All (λ n. n < length types.now) waiting.old.items }
+    ensures there { let there = tags_at types.now (tags_of_entries tags.now.entries) in IfOk result (λ are. IsTrue are → (decls : List Declaration) → AreSound decls → AreEachThere decls types.now there waiting.new.items → AreEachThere decls types.now there waiting.old.items × EachBringsNone decls there (type_at types.now number)) }
+    ensures less { IfOk result (λ are. IsTrue are → (decls : List Declaration) → AreSound decls → numbers_work decls types.now waiting.new.items ≤ numbers_work decls types.now waiting.old.items + work decls (type_at types.now number)) }
+    ensures within { OnOk result (All (λ n. n < length types.now) waiting.new.items) }
+{
+    let mut at = number;
+    'whole: while let Some(whole) = before_item(types, at) {
+        if !item_is_there(types, tags, at, waiting)? {
+            return Ok(false);
+        }
+        at = whole;
+    }
+    Ok(has_bracket(types, at))
+}
+
+/// Whether the tag of an item is there, or all of what it includes, once what waits is.
+fn item_is_there(
+    types: &Types,
+    tags: &Tags,
+    item: usize,
+    waiting: &mut Vec<usize>,
+) -> Result<bool, Memory>
+    requires item { item < length types.now }
+    requires within { All (λ n. n < length types.now) waiting.old.items }
+    ensures there { let there = tags_at types.now (tags_of_entries tags.now.entries) in IfOk result (λ is. IsTrue is → (decls : List Declaration) → AreEachThere decls types.now there waiting.new.items → AreEachThere decls types.now there waiting.old.items × EachItemBringsNone decls there (type_at types.now item)) }
+    ensures less { IfOk result (λ is. IsTrue is → (decls : List Declaration) → numbers_work decls types.now waiting.new.items ≤ numbers_work decls types.now waiting.old.items + item_work (work decls) (type_at types.now item)) }
+    ensures within { OnOk result (All (λ n. n < length types.now) waiting.new.items) }
+{
+    match types.node(item) {
+        TypeNode::Tag(_, name) => Ok(tags.contains_key(name)),
+        TypeNode::TagOf(_, name, _) => Ok(tags.contains_key(name)),
+        TypeNode::Including(_, included) => {
+            waiting.push(included)?;
+            Ok(true)
+        }
+        _ => Ok(false),
+    }
+}
