@@ -95,3 +95,11 @@ own_more classes new k long own is j c at_j = ⊎_elim
 
 pub trees_are_a_table : IsTable (shapes.Sum 1 (record { mutable = false; fields = 0 ∷ 0 ∷ [] } ∷ []) ∷ [])
 trees_are_a_table = (omega arith, refl)
+
+-- a record of a record that may be changed, one that stays, and a float
+abbrev pub boxes_of : List ℕ → List ℕ → List ℕ → List (ShapeOf ℕ)
+boxes_of fields changed kept =
+    shapes.Product false fields ∷ shapes.Product true changed ∷ shapes.Product false kept ∷ shapes.Double ∷ shapes.AnyInt ∷ []
+
+pub boxes_are_a_table : IsTable (boxes_of (1 ∷ 2 ∷ 3 ∷ []) (4 ∷ []) (4 ∷ []))
+boxes_are_a_table = (omega arith, refl)

@@ -1,5 +1,5 @@
 -- The rows of types one after another, and the words of fields.
-use Rattle.std.proofs.Common.{ℕ, ◌%◌, ◌<◌, ◌≡◌, ◌∙◌, ⊎_elim, Bool, true, List, [], ◌∷◌, ◌++◌, length, Option, Some, None, refl, sym, ap, subst, arith}
+use Rattle.std.proofs.Common.{ℕ, suc, ◌%◌, ◌<◌, ◌≡◌, ◌∙◌, ⊎_elim, Bool, true, false, List, [], ◌∷◌, ◌++◌, length, Option, Some, None, refl, sym, ap, subst, arith}
 use Rattle.std.specs.Prelude.{slice_get, slice_index, map, pos, option_and_then, option_map, is_some, IsTrue, IsSome, ◌↔◌}
 use Rattle.std.proofs.lemmas.List.{length-map}
 use Rattle.std.proofs.lemmas.List.Elements.{All-contains}
@@ -23,8 +23,9 @@ use Rattle.om_check.proofs.PlaceLemmas.{slice_get-push_cases}
 use Rattle.om_check.proofs.VisitLemmas.{fields_are_values}
 use Rattle.om_check.specs.declared.visits.Visit.{Visit}
 use Rattle.om_check.specs.declared.search.Need.{Need}
-use Rattle.om_check.specs.Visits.{Enters}
-use Rattle.om_check.specs.Search.{EntersValue, TestsNeed}
+use Rattle.om_check.specs.declared.visits.Visits.{Visits}
+use Rattle.om_check.specs.Visits.{listed, AreLinked, Enters}
+use Rattle.om_check.specs.Search.{FitAll, EntersValue, TestsNeed}
 
 pub rows_none : (nodes : List (ShapeOf ℕ)) → AreRows nodes []
 rows_none nodes i row at_i = absurd (none-some row at_i)
@@ -86,6 +87,23 @@ pub tests_true :
     → field_of graph (vals.Ref need.object) need.step ≡ Some v → (table_shapes table).fits graph v need.ty → EntersValue table old new need v
     → TestsNeed table graph old new need true
 tests_true table graph old new need v valid there fits enters = record { value = v; valid = valid; there = there; tested = (fits, enters) }
+
+pub tests_false :
+    (table : Table) (graph : List Obj) (old : List Visit) (need : Need) (v : Val) → IsValue (length graph) v
+    → field_of graph (vals.Ref need.object) need.step ≡ Some v → ¬ (table_shapes table).fits graph v need.ty
+    → TestsNeed table graph old old need false
+tests_false table graph old need v valid there unfit = record { value = v; valid = valid; there = there; tested = (unfit, refl) }
+
+-- an object fits the type at which it was met first
+pub first_fits :
+    (table : Table) (graph : List Obj) (visits : Visits) (t : ℕ) (v : Val) (o : ℕ) → v ≡ vals.Ref o
+    → AreLinked table (length graph) visits → FitAll table graph (listed visits) → slice_get visits.first o ≡ Some (suc t)
+    → (table_shapes table).fits graph v t
+first_fits table graph visits t v o same linked fit at_o =
+    let f = linked.noted.met o t at_o in
+    subst (λ u. (table_shapes table).fits graph u t) (sym same)
+    (subst (λ i. (table_shapes table).fits graph (vals.Ref o) i) f.type
+    (subst (λ p. (table_shapes table).fits graph (vals.Ref p) f.visit.ty) f.object (fit f.place f.visit f.at)))
 
 pub enters_named :
     (table : Table) (old new : List Visit) (need : Need) (v : Val) (o : ℕ) → v ≡ vals.Ref o

@@ -1,7 +1,14 @@
 -- Tables whose types are unequal: each number is its own class.
 use Rattle.std.specs.Prelude.{ℕ, ◌≡◌, ◌<◌, Bool, true, ◌&&◌, nat_lt, List, [], ◌∷◌, length}
+use Rattle.std.specs.Prelude.{pos, replicate, false, true}
+use Rattle.om_model.specs.declared.value.Val.TheVariants as vals
+use Rattle.om_model.specs.declared.value.Obj.{Obj}
+use Rattle.om_model.specs.declared.value.Obj.TheVariants as objects
 use Rattle.om_types.specs.declared.shape.ShapeOf.{ShapeOf}
+use Rattle.om_types.specs.declared.shape.ShapeOf.TheVariants as shapes
 use Rattle.om_types.specs.Reached.{named_in}
+use Rattle.om_types.specs.Steps.{most_steps}
+use Rattle.om_types.specs.Table.{Table}
 
 abbrev pub all_below : ℕ → List ℕ → Bool
 all_below n [] = true
@@ -14,3 +21,27 @@ all_name_below n (node ∷ nodes) = all_below n (named_in node) && all_name_belo
 -- there are some, and they name one another
 abbrev pub IsTable : List (ShapeOf ℕ) → Type 0
 IsTable nodes = (0 < length nodes) × (all_name_below (length nodes) nodes ≡ true)
+
+-- ---- a list of items
+
+-- item list, where type item = Nil | Num of int | Text of string | Pair of item * item | Cell of item ref
+abbrev pub item_table : Table
+item_table = record {
+  nodes =
+      shapes.Sum 1 (record { mutable = false; fields = 1 ∷ 0 ∷ [] } ∷ [])
+      ∷ shapes.Sum 1 (record { mutable = false; fields = 2 ∷ [] } ∷ record { mutable = false; fields = 3 ∷ [] }
+      ∷ record { mutable = false; fields = 1 ∷ 1 ∷ [] } ∷ record { mutable = false; fields = 4 ∷ [] } ∷ [])
+      ∷ shapes.AnyInt ∷ shapes.Bytes false ∷ shapes.Product true (1 ∷ []) ∷ [];
+  classes = 0 ∷ 1 ∷ 2 ∷ 3 ∷ 4 ∷ [];
+}
+
+-- Nil, Nil and Text of 38 times c: five objects with seven fields
+abbrev pub items : List Obj
+items =
+    objects.Block 0 (vals.Int (pos 0) ∷ vals.Ref 1 ∷ []) ∷ objects.Block 0 (vals.Int (pos 0) ∷ vals.Ref 2 ∷ [])
+    ∷ objects.Block 0 (vals.Ref 3 ∷ vals.Int (pos 0) ∷ []) ∷ objects.Block 1 (vals.Ref 4 ∷ [])
+    ∷ objects.Bytes (replicate 38 99) ∷ []
+
+-- the root, and twelve objects and fields at each of five classes
+abbrev pub TakesSixtyOne : Type 0
+TakesSixtyOne = most_steps item_table items ≡ 61

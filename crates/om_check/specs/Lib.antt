@@ -1,4 +1,5 @@
 pub mod Row
+pub mod Rest
 pub mod Trail
 pub mod Visits
 pub mod Told

@@ -17,6 +17,11 @@ use Rattle.om_check.specs.Explored.{IsExplored, root_of}
 
 -- ---- one need
 
+-- each visit's object fits the type of the visit
+abbrev pub FitAll : Table → List Obj → List Visit → Type 0
+FitAll table graph all =
+    (k : ℕ) (v : Visit) → slice_get all k ≡ Some v → (table_shapes table).fits graph (vals.Ref v.object) v.ty
+
 -- an object is entered; other values are not
 abbrev pub EntersValue : Table → List Visit → List Visit → Need → Val → Type 0
 EntersValue table old new need (vals.Int z) = new ≡ old
@@ -94,7 +99,7 @@ pairs_of all = map (λ (v : Visit). (v.object, v.ty)) all
 pub record IsTestingVisit (table : Table) (graph : List Obj) (old now : Visits) (n r start steps : ℕ) : Type 0 where
   pub linked : AreLinked table (length graph) now
   pub testing : IsTesting table graph (listed old) (listed now) n r
-  pub few : steps ≤ start + 1 + r
+  pub few : steps ≤ start + r
 
 -- The needs of the first n visits were tested, in at most so many steps.
 pub record IsSearching (table : Table) (graph : List Obj) (old now : Visits) (n start steps : ℕ) : Type 0 where

@@ -1,13 +1,13 @@
--- The visits of a row.
+-- The visits of a trail.
 use Rattle.std.specs.Prelude.{◌<◌, ◌^◌, List, ◌++◌, map}
 use Rattle.om_check.specs.declared.visits.Visit.{Visit}
-use Rattle.om_check.specs.declared.trail.Short.{Short}
+use Rattle.om_check.specs.declared.trail.Tiny.{Tiny}
 
-abbrev pub widened : Short → Visit
-widened s = record { object = s.object; ty = s.ty; parent = s.parent; step = s.step }
+abbrev pub enlarged : Tiny → Visit
+enlarged t = record { object = t.object; ty = t.ty; parent = t.parent; step = t.step }
 
-abbrev pub visits_in : List Short → List Visit → List Visit
-visits_in shorts longs = map widened shorts ++ longs
+abbrev pub trail_of : List Tiny → List Visit → List Visit
+trail_of tinies rest = map enlarged tinies ++ rest
 
-abbrev pub IsShort : Visit → Type 0
-IsShort v = (v.object < 2 ^ 32) × ((v.ty < 2 ^ 32) × ((v.parent < 2 ^ 32) × (v.step < 2 ^ 32)))
+abbrev pub IsTiny : Visit → Type 0
+IsTiny v = (v.object < 2 ^ 32) × ((v.ty < 2 ^ 16) × ((v.parent < 2 ^ 32) × (v.step < 2 ^ 16)))

@@ -4,7 +4,9 @@
 mod cells;
 mod clash;
 mod decide;
+mod laws;
 mod path;
+mod rest;
 mod rows;
 mod search;
 mod steps;
@@ -16,6 +18,7 @@ mod verdict;
 mod visits;
 
 pub use decide::check;
+pub use laws::items_take_61_steps;
 pub use steps::Steps;
 pub use typing::Typing;
 pub use verdict::Verdict;

@@ -1,23 +1,26 @@
 //! Breadth first, each object is taken once at each class, and what it needs there is tested.
 
-ghost use Rattle.std.specs.Prelude.{◌≡◌, ◌<◌, ◌≤◌, ◌+◌, ◌↔◌, length, All, IfOk, OnOk, IsTrue};
+ghost use Rattle.std.specs.Prelude.{◌≡◌, ◌<◌, ◌≤◌, ◌+◌, ◌↔◌, length, All, IfOk, OnOk, IsTrue, Some, slice_get};
 ghost use Rattle.om_model.specs.Graph.{IsValue, IsGraph};
 ghost use Rattle.om_model.specs.declared.value.Val.{Val};
-ghost use Rattle.om_heap.specs.Heap.{object_at, fields_of, field_at, word_of, IsFieldWord};
+ghost use Rattle.om_model.specs.declared.value.Val.TheVariants as vals;
+ghost use Rattle.om_heap.specs.Heap.{object_at, fields_of, field_at, word_of, IsFieldWord, IsReferenceWord};
 ghost use Rattle.om_types.specs.Table.{table_shapes};
+ghost use Rattle.om_fits.specs.Needs.{needs_in};
 ghost use Rattle.om_check.specs.Rows.{AreRows};
 ghost use Rattle.om_types.specs.Steps.{most_steps};
 ghost use Rattle.om_type_table.specs.Made.{table_of, IsLawful};
 ghost use Rattle.om_check.specs.Visits.{listed, AreLinked};
 ghost use Rattle.om_check.specs.Explored.{IsExplored};
-ghost use Rattle.om_check.specs.Search.{TestsNeed, TestsVisit, Searches, cost_at};
+ghost use Rattle.om_check.specs.Search.{FitAll, TestsNeed, TestsVisit, Searches, cost_at, visit_needs};
 
 use crate::rows::rows_of;
 use crate::steps::Steps;
-use crate::visits::Visits;
-use om_fits::{Row, known_needs, needs_of, surely_fits};
+use crate::visits::{Visit, Visits};
+use om_fits::{Needs, Row, known_needs, needs_of, surely_fits};
 use om_heap::Heap;
 use om_model::Memory;
+use om_model::value::Val;
 use om_type_table::TypeTable;
 use std::alloc::Global;
 
@@ -102,10 +105,51 @@ fn test_visit(
     let Some(needs) = known_needs(heap, visit.object, table.shape(visit.ty)) else {
         return Ok(None);
     };
+    match needs {
+        Needs::Listed(types) => {
+            test_needs(
+                heap,
+                table,
+                rows,
+                visits,
+                n,
+                visit,
+                Needs::Listed(types),
+                steps,
+            )
+        }
+        _ => test_needs(heap, table, rows, visits, n, visit, needs, steps),
+    }
+}
+
+/// Tests these needs of visit n. It is compiled anew for each kind of needs.
+#[inline(always)]
+fn test_needs(
+    heap: &Heap,
+    table: &TypeTable,
+    rows: &[Row],
+    visits: &mut Visits,
+    n: usize,
+    visit: Visit,
+    needs: Needs<'_>,
+    steps: &mut Steps,
+) -> Result<Option<u64>, Memory>
+    requires visit { slice_get (listed visits.old) n ≡ Some visit }
+    requires needs { visit_needs (table_of table.now) heap.now visit ≡ needs_in needs }
+    requires graph { IsGraph heap.now }
+    requires rows { AreRows table.now.nodes rows.now }
+    requires lawful { IsLawful (table_of table.now) }
+    requires linked { AreLinked (table_of table.now) (length heap.now) visits.old }
+    requires explored { IsExplored (table_of table.now) heap.now (listed visits.old) n 0 }
+    ensures linked { OnOk result (AreLinked (table_of table.now) (length heap.now) visits.new) }
+    ensures tests { IfOk result (TestsVisit (table_of table.now) heap.now (listed visits.old) (listed visits.new) n) }
+    ensures steps { steps.new ≤ steps.old + length (visit_needs (table_of table.now) heap.now visit) }
+{
     if needs.len() == 0 {
         return Ok(None);
     }
     let words = heap.fields(visit.object);
+    let mut next = visit.object.wrapping_add(1);
     for k in 0..needs.len() {
         let (step, ty) = needs.get(k);
         steps.raise();
@@ -115,14 +159,24 @@ fn test_visit(
             step,
             ty,
         };
-        if !test_need(heap, table, rows, visits, need, words[step as usize])? {
+        if !test_need(
+            heap,
+            table,
+            rows,
+            visits,
+            need,
+            words[step as usize],
+            &mut next,
+        )? {
             return Ok(Some(step));
         }
     }
     Ok(None)
 }
 
-/// Tests a need, whose field has this word, and enters the object that is met.
+/// Tests a need, whose field has this word, and enters the object that is met. That is often object `next`; from then on
+/// the one after it may be the next.
+#[inline(always)]
 fn test_need(
     heap: &Heap,
     table: &TypeTable,
@@ -130,6 +184,7 @@ fn test_need(
     visits: &mut Visits,
     need: Need,
     word: u64,
+    next: &mut u64,
 ) -> Result<bool, Memory>
     requires graph { IsGraph heap.now }
     requires rows { AreRows table.now.nodes rows.now }
@@ -140,20 +195,41 @@ fn test_need(
     requires class { need.ty < length table.now.classes }
     requires types { All (λ visit. visit.ty < length table.now.classes) (listed visits.old) }
     requires linked { AreLinked (table_of table.now) (length heap.now) visits.old }
+    requires fit { FitAll (table_of table.now) heap.now (listed visits.old) }
     ensures linked { OnOk result (AreLinked (table_of table.now) (length heap.now) visits.new) }
     ensures tests { IfOk result (TestsNeed (table_of table.now) heap.now (listed visits.old) (listed visits.new) need) }
 {
+    if word % 8 != 0 {
+        return Ok(fits_type(heap, table, rows, need.ty, word));
+    }
+    let object = number_near(heap, *next, word);
+    *next = object.wrapping_add(1);
+    if visits.is_first_at(object, need.ty) {
+        return Ok(true);
+    }
     if !fits_type(heap, table, rows, need.ty, word) {
         return Ok(false);
     }
-    if word % 8 == 0 {
-        let object = heap.number(word);
-        visits.enter(table, object, need.ty, need.parent, need.step)?;
-    }
+    visits.enter(table, object, need.ty, need.parent, need.step)?;
     Ok(true)
 }
 
-/// Whether the value of a word fits a type.
+/// The number of the object that a reference's word names, which is often `guess`.
+#[inline(always)]
+fn number_near(heap: &Heap, guess: u64, word: u64) -> u64
+    requires { IsReferenceWord heap.now word }
+    ensures in_range { result < length heap.now }
+    ensures named { word ≡ word_of heap.now (vals.Ref result) }
+{
+    if guess < heap.count() && heap.word(Val::Ref(guess)) == word {
+        guess
+    } else {
+        heap.number(word)
+    }
+}
+
+/// Whether the value of a word fits a type: mostly the row tells it.
+#[inline(always)]
 fn fits_type(heap: &Heap, table: &TypeTable, rows: &[Row], ty: usize, word: u64) -> bool
     requires graph { IsGraph heap.now }
     requires rows { AreRows table.now.nodes rows.now }
@@ -164,5 +240,16 @@ fn fits_type(heap: &Heap, table: &TypeTable, rows: &[Row], ty: usize, word: u64)
     if ty < rows.len() && surely_fits(heap, rows[ty], word) {
         return true;
     }
+    fits_by_kind(heap, table, ty, word)
+}
+
+/// The same by the kind of the value.
+#[inline(never)]
+fn fits_by_kind(heap: &Heap, table: &TypeTable, ty: usize, word: u64) -> bool
+    requires graph { IsGraph heap.now }
+    requires word { IsFieldWord heap.now word }
+    requires node { ty < length table.now.nodes }
+    ensures { (v : Val) → IsValue (length heap.now) v → word ≡ word_of heap.now v → IsTrue result ↔ (table_shapes (table_of table.now)).fits heap.now v ty }
+{
     needs_of(heap, heap.value_of(word), table.shape(ty)).is_some()
 }

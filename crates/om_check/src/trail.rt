@@ -1,28 +1,29 @@
 //! Visits in a row that take little room while their numbers are small.
 
 ghost use Rattle.std.specs.Prelude.{◌≡◌, ◌+◌, ◌^◌, ◌<◌, ◌↔◌, [], ◌∷◌, ◌++◌, length, slice_get, Some, vec_len, OnOk, IsTrue};
-ghost use Rattle.om_check.specs.Trail.{visits_in, widened, IsShort};
+ghost use Rattle.om_check.specs.Trail.{trail_of, enlarged, IsTiny};
 
+use crate::rest::Rest;
 use crate::visits::Visit;
 use om_model::Memory;
 use std::alloc::Global;
 use std::marker::Model;
 
-/// A visit whose numbers are below 2^32.
+/// A visit whose object and parent are below 2^32, and its type and step below 2^16.
 #[derive(Clone, Copy)]
-pub struct Short {
+pub struct Tiny {
     pub object: u32,
-    pub ty: u32,
     pub parent: u32,
-    pub step: u32,
+    pub ty: u16,
+    pub step: u16,
 }
 
-/// Visits, which contracts see as their list. Each takes 16 bytes while the numbers of all are below 2^32, and those from
-/// then on twice as many.
+/// Visits, which contracts see as their list. Each takes 12 bytes while all are tiny; from the first one on that is not,
+/// 16 bytes or 32.
 #[derive(Drop)]
 pub struct Trail {
-    shorts: Vec<Short>,
-    longs: Vec<Visit>,
+    tinies: Vec<Tiny>,
+    rest: Rest,
 }
 
 impl Model for Trail {
@@ -31,13 +32,13 @@ impl Model for Trail {
 
     ghost Value = { List Visit };
 
-    ghost use Rattle.om_check.specs.Trail.{visits_in};
+    ghost use Rattle.om_check.specs.Trail.{trail_of};
 
-    ghost view = { λ t. visits_in t.shorts.items t.longs.items };
+    ghost view = { λ t. trail_of t.tinies.items t.rest };
 
-    ghost use Rattle.std.specs.Prelude.{◌+◌, ◌^◌, ◌<◌, vec_len};
+    ghost use Rattle.std.specs.Prelude.{◌+◌, ◌^◌, ◌<◌, vec_len, length};
 
-    ghost invariant = { λ t. vec_len t.shorts + vec_len t.longs < 2 ^ 64 };
+    ghost invariant = { λ t. vec_len t.tinies + length t.rest < 2 ^ 64 };
 }
 
 impl Trail {
@@ -46,8 +47,8 @@ impl Trail {
         ensures { result ≡ [] }
     {
         Trail {
-            shorts: Vec::new(alloc),
-            longs: Vec::new(alloc),
+            tinies: Vec::new(alloc),
+            rest: Rest::new(alloc),
         }
     }
 
@@ -56,7 +57,7 @@ impl Trail {
     pub fn len(&self) -> usize
         ensures { result ≡ length self.now }
     {
-        self.shorts.len() + self.longs.len()
+        self.tinies.len() + self.rest.len()
     }
 
     /// Visit k.
@@ -65,11 +66,11 @@ impl Trail {
         requires { k < length self.now }
         ensures { slice_get self.now k ≡ Some result }
     {
-        let shorts = self.shorts.len();
-        if k < shorts {
-            wide(self.shorts[k])
+        let tinies = self.tinies.len();
+        if k < tinies {
+            enlarge(self.tinies[k])
         } else {
-            self.longs[k - shorts]
+            self.rest.get(k - tinies)
         }
     }
 
@@ -78,58 +79,78 @@ impl Trail {
     pub fn push(&mut self, visit: Visit) -> Result<(), Memory>
         ensures { OnOk result (self.new ≡ self.old ++ visit ∷ []) }
     {
-        put(&mut self.shorts, &mut self.longs, visit)
+        put(&mut self.tinies, &mut self.rest, visit)
     }
 }
 
 /// Puts a visit at the end of the first list that has room for it and for those behind it.
 #[inline(always)]
-fn put(shorts: &mut Vec<Short>, longs: &mut Vec<Visit>, visit: Visit) -> Result<(), Memory>
-    requires { vec_len shorts.old + vec_len longs.old < 2 ^ 64 }
-    ensures put { OnOk result (visits_in shorts.new.items longs.new.items ≡ visits_in shorts.old.items longs.old.items ++ visit ∷ []) }
-    ensures few { vec_len shorts.new + vec_len longs.new < 2 ^ 64 }
+fn put(tinies: &mut Vec<Tiny>, rest: &mut Rest, visit: Visit) -> Result<(), Memory>
+    requires { vec_len tinies.old + length rest.old < 2 ^ 64 }
+    ensures put { OnOk result (trail_of tinies.new.items rest.new ≡ trail_of tinies.old.items rest.old ++ visit ∷ []) }
+    ensures few { vec_len tinies.new + length rest.new < 2 ^ 64 }
 {
-    if longs.is_empty() && is_short(visit) {
-        shorts.push(narrow(visit))?;
-    } else if shorts.len() < 1 << 63 {
-        longs.push(visit)?;
-    } else {
+    if rest.len() == 0 && is_tiny(visit) {
+        return append(tinies, shrink(visit));
+    }
+    put_in_rest(tinies, rest, visit)
+}
+
+/// Puts a visit behind the tiny ones.
+#[inline(never)]
+fn put_in_rest(tinies: &Vec<Tiny>, rest: &mut Rest, visit: Visit) -> Result<(), Memory>
+    ensures put { OnOk result (rest.new ≡ rest.old ++ visit ∷ []) }
+    ensures few { vec_len tinies.now + length rest.old < 2 ^ 64 → vec_len tinies.now + length rest.new < 2 ^ 64 }
+{
+    if rest.len() >= 1 << 62 || tinies.len() >= 1 << 63 {
         return Err(Memory);
     }
+    rest.push(visit)
+}
+
+/// Appends a visit. Memory is asked for only where no room is left.
+#[inline(always)]
+fn append(tinies: &mut Vec<Tiny>, tiny: Tiny) -> Result<(), Memory>
+    ensures { OnOk result (tinies.new.items ≡ tinies.old.items ++ tiny ∷ []) }
+{
+    if tinies.len() == tinies.capacity() {
+        return Ok(tinies.push(tiny)?);
+    }
+    tinies.push_reserved(tiny);
     Ok(())
 }
 
-/// Whether all numbers are below 2^32.
+/// Whether the numbers of a visit are tiny.
 #[inline(always)]
-fn is_short(visit: Visit) -> bool
-    ensures { IsTrue result ↔ IsShort visit }
+fn is_tiny(visit: Visit) -> bool
+    ensures { IsTrue result ↔ IsTiny visit }
 {
-    visit.object < 1 << 32 && visit.ty < 1 << 32 && visit.parent < 1 << 32 && visit.step < 1 << 32
+    visit.object < 1 << 32 && visit.ty < 1 << 16 && visit.parent < 1 << 32 && visit.step < 1 << 16
 }
 
 /// The visit in little room.
 #[inline(always)]
-fn narrow(visit: Visit) -> Short
-    requires { IsShort visit }
-    ensures { widened result ≡ visit }
+fn shrink(visit: Visit) -> Tiny
+    requires { IsTiny visit }
+    ensures { enlarged result ≡ visit }
 {
-    Short {
+    Tiny {
         object: visit.object as u32,
-        ty: visit.ty as u32,
         parent: visit.parent as u32,
-        step: visit.step as u32,
+        ty: visit.ty as u16,
+        step: visit.step as u16,
     }
 }
 
 /// The visit that takes little room.
 #[inline(always)]
-fn wide(short: Short) -> Visit
-    ensures { result ≡ widened short }
+fn enlarge(tiny: Tiny) -> Visit
+    ensures { result ≡ enlarged tiny }
 {
     Visit {
-        object: u64::from(short.object),
-        ty: short.ty as usize,
-        parent: short.parent as usize,
-        step: u64::from(short.step),
+        object: u64::from(tiny.object),
+        ty: tiny.ty as usize,
+        parent: tiny.parent as usize,
+        step: u64::from(tiny.step),
     }
 }

@@ -1,6 +1,7 @@
 //! The objects that a check has met, each at a type, in the order in which it meets them.
 
-ghost use Rattle.std.specs.Prelude.{ℕ, ◌≡◌, ◌<◌, ◌↔◌, ◌∷◌, ◌++◌, [], length, All, Some, slice_get, slice_index, IfOk, OnOk, IsTrue};
+ghost use Rattle.std.specs.Prelude.{ℕ, suc, ◌≡◌, ◌<◌, ◌↔◌, ◌∷◌, ◌++◌, [], length, All, Some, slice_get, slice_index, IfOk, OnOk, IsTrue};
+ghost use Rattle.std.specs.Bool.{OnTrue};
 ghost use Rattle.om_type_table.specs.Made.{table_of};
 ghost use Rattle.om_check.specs.Visits.{listed, AreLinked, IsMet, IsAppended, Enters};
 
@@ -73,6 +74,16 @@ impl Visits {
         ensures { slice_get (listed self.now) k ≡ Some result }
     {
         self.all.get(k)
+    }
+
+    /// Whether the first visit of an object is at this type.
+    #[inline(always)]
+    pub fn is_first_at(&self, object: u64, ty: usize) -> bool
+        requires { object < length self.now.first }
+        ensures { OnTrue result (slice_get self.now.first object ≡ Some (suc ty)) }
+    {
+        let first = self.first.get(object as usize);
+        first > 0 && first as usize - 1 == ty
     }
 
     /// Enters an object at a type, unless it was met at an equal one.

@@ -15,3 +15,7 @@ needs_in (needs.Argument t) = (1, t) ∷ []
 abbrev pub first_fields : List (Constr ℕ) → List ℕ
 first_fields [] = []
 first_fields (constr ∷ blocks) = constr.fields
+
+-- the fields of a constructor, by their places
+abbrev pub constr_needed : Constr ℕ → List (ℕ × ℕ)
+constr_needed constr = numbered_from 0 constr.fields

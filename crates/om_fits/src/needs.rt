@@ -5,9 +5,9 @@ ghost use Rattle.om_model.specs.Graph.{IsValue};
 ghost use Rattle.om_model.specs.declared.value.Val.TheVariants as vals;
 ghost use Rattle.om_types.specs.Fault.{type_of_field};
 ghost use Rattle.om_types.specs.Fitting.{fields_of, object_fields, none_if, numbered_from};
-ghost use Rattle.om_fits.specs.Needs.{needs_in, first_fields};
+ghost use Rattle.om_fits.specs.Needs.{needs_in, first_fields, constr_needed};
 
-use crate::parts::{block_needs, fits_atom, fits_custom, fits_doubles, fits_int};
+use crate::parts::{block_needs, block_tag, fits_atom, fits_custom, fits_doubles, fits_int};
 use om_heap::{Heap, Kind};
 use om_model::value::Val;
 use om_types::shape::{Constr, ShapeOf};
@@ -105,7 +105,14 @@ pub fn known_needs<'a>(heap: &Heap, o: u64, shape: &'a ShapeOf<usize>) -> Option
     match shape {
         ShapeOf::Product(_, types) => Some(Needs::Listed(types.as_slice())),
         ShapeOf::Sum(_, blocks) if blocks.len() == 1 => Some(first_needs(blocks.as_slice())),
+        ShapeOf::Sum(_, blocks) => tagged_needs(blocks.as_slice(), block_tag(heap, o)),
         ShapeOf::Bytes(_) => Some(Needs::Nothing),
+        ShapeOf::Double => Some(Needs::Nothing),
+        ShapeOf::FloatArray => Some(Needs::Nothing),
+        ShapeOf::FlatFloats(_, _) => Some(Needs::Nothing),
+        ShapeOf::Int32 => Some(Needs::Nothing),
+        ShapeOf::Int64 => Some(Needs::Nothing),
+        ShapeOf::Native => Some(Needs::Nothing),
         _ => object_needs(heap, o, shape),
     }
 }
@@ -117,6 +124,18 @@ fn first_needs(blocks: &[Constr<usize>]) -> Needs<'_>
     ensures { needs_in result ≡ numbered_from 0 (first_fields blocks.now) }
 {
     Needs::Listed(blocks[0].fields.as_slice())
+}
+
+/// What the constructor of a tag needs.
+#[inline(always)]
+fn tagged_needs(blocks: &[Constr<usize>], tag: u8) -> Option<Needs<'_>>
+    ensures { option_map needs_in result ≡ option_map constr_needed (slice_get blocks.now tag) }
+{
+    if (tag as usize) < blocks.len() {
+        Some(Needs::Listed(blocks[tag as usize].fields.as_slice()))
+    } else {
+        None
+    }
 }
 
 /// What an object needs at a shape, if it fits.

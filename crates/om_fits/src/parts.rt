@@ -164,7 +164,7 @@ pub fn is_mutable(heap: &Heap, o: u64, shape: &ShapeOf<usize>) -> bool
 }
 
 /// The tag of a block, and 0 of another object.
-fn block_tag(heap: &Heap, o: u64) -> u8
+pub fn block_tag(heap: &Heap, o: u64) -> u8
     requires { o < length heap.now }
     ensures { result ≡ fitting.tag_of_block (slice_get heap.now o) }
 {

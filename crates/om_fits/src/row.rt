@@ -1,12 +1,13 @@
 //! What surely fits a shape, told by words alone.
 
-ghost use Rattle.std.specs.Prelude.{◌≡◌, ◌≤◌, ℕ, ℤ, length, IsTrue, IsSome};
+ghost use Rattle.std.specs.Prelude.{◌≡◌, ◌⊎◌, ◌<◌, ◌≤◌, ◌%◌, ℕ, ℤ, length, IsTrue, IsSome};
 ghost use Rattle.om_model.specs.Graph.{IsInteger, IsValue, IsGraph};
 ghost use Rattle.om_model.specs.declared.value.Val.{Val};
 ghost use Rattle.om_types.specs.declared.shape.ShapeOf.{ShapeOf};
 ghost use Rattle.om_types.specs.Fitting as fitting;
 ghost use Rattle.om_heap.specs.Heap.{integer_word, word_of, IsFieldWord};
-ghost use Rattle.om_fits.specs.Row.{IsRowOf, IsSized, IsFirstHeader};
+ghost use Rattle.om_fits.specs.Row.{IsRowOf, IsSized, IsFirstHeader, AreAlike, IsNear, IsSizeAt};
+ghost use Rattle.std.specs.Bool.{OnTrue};
 
 use om_heap::Heap;
 use om_types::shape::{Constr, ShapeOf};
@@ -19,8 +20,10 @@ const NONE: u64 = 1023;
 pub struct Row {
     /// An integer fits where its word is at most that.
     pub most: u64,
-    /// An object fits where its header is that.
+    /// An object fits where its header is that ..
     pub header: u64,
+    /// .. or one of so many after it.
+    pub more: u64,
     /// An object fits where its header has this tag.
     pub tag: u64,
 }
@@ -33,11 +36,13 @@ pub fn row_of(shape: &ShapeOf<usize>) -> Row
         ShapeOf::AnyInt => Row {
             most: u64::MAX,
             header: NONE,
+            more: 0,
             tag: NONE,
         },
         ShapeOf::Below(limit) => Row {
             most: most_below(*limit),
             header: NONE,
+            more: 0,
             tag: NONE,
         },
         ShapeOf::Bytes(_) => row_of_tag(252),
@@ -47,11 +52,13 @@ pub fn row_of(shape: &ShapeOf<usize>) -> Row
         ShapeOf::Product(_, types) => Row {
             most: 0,
             header: header_of_fields(types.len()),
+            more: 0,
             tag: NONE,
         },
         ShapeOf::Sum(constants, blocks) => Row {
             most: most_below(*constants),
             header: first_header(blocks.as_slice()),
+            more: more_alike(blocks.as_slice()),
             tag: NONE,
         },
         _ => row_of_tag(NONE),
@@ -60,11 +67,12 @@ pub fn row_of(shape: &ShapeOf<usize>) -> Row
 
 /// Objects of a tag.
 fn row_of_tag(tag: u64) -> Row
-    ensures { result ≡ record { most = 0; header = 1023; tag = tag } }
+    ensures { result ≡ record { most = 0; header = 1023; more = 0; tag = tag } }
 {
     Row {
         most: 0,
         header: NONE,
+        more: 0,
         tag,
     }
 }
@@ -102,6 +110,43 @@ fn first_header(blocks: &[Constr<usize>]) -> u64
     }
 }
 
+/// How many constructors right behind the first one have as many fields, of those with tags below 244.
+fn more_alike(blocks: &[Constr<usize>]) -> u64
+    ensures { AreAlike blocks.now result }
+{
+    if blocks.is_empty() {
+        return 0;
+    }
+    let size = size_at(blocks, 0);
+    if size >= 1 << 53 {
+        return 0;
+    }
+    let mut more = 0;
+    while more < 243 && more + 1 < blocks.len() {
+        if size_at(blocks, more + 1) != size {
+            return more as u64;
+        }
+        more += 1;
+    }
+    more as u64
+}
+
+/// How many fields a constructor has.
+fn size_at(blocks: &[Constr<usize>], k: usize) -> usize
+    requires { k < length blocks.now }
+    ensures { IsSizeAt blocks.now k result }
+{
+    blocks[k].fields.len()
+}
+
+/// Whether a header surely fits a shape of this row.
+#[inline(always)]
+fn is_of(row: Row, header: u64) -> bool
+    ensures { OnTrue result (IsNear row header ⊎ (header % 1024 ≡ row.tag)) }
+{
+    header >= row.header && header - row.header <= row.more || header % 1024 == row.tag
+}
+
 /// Whether a word surely fits a shape of this row.
 #[inline(always)]
 pub fn surely_fits(heap: &Heap, row: Row, word: u64) -> bool
@@ -115,6 +160,5 @@ pub fn surely_fits(heap: &Heap, row: Row, word: u64) -> bool
     if word % 8 != 0 {
         return false;
     }
-    let header = heap.header_at(word);
-    header == row.header || header % 1024 == row.tag
+    is_of(row, heap.header_at(word))
 }

@@ -1,28 +1,55 @@
-use Rattle.std.proofs.Common.{◌∙◌, sym}
+use Rattle.std.proofs.Common.{◌≡◌, ◌∙◌, suc, Some, inl, refl, sym, subst}
+use Rattle.std.specs.Prelude.{slice_get}
+use Rattle.std.specs.Bool.{OnTrue}
+use Rattle.std.proofs.lemmas.Bool.{false≢true}
 use Rattle.om_type_table.specs.Made.{table_of}
 use Rattle.om_heap.specs.Heap.{field_at}
 use Rattle.om_heap.proofs.ReadLemmas.{word_of-inj}
 use Rattle.om_model.specs.declared.value.Val.TheVariants as vals
 use Rattle.om_check.specs.Visits.{listed}
-use Rattle.om_check.proofs.RowsLemmas.{field_there, field_valid, tests_true, enters_named, enters_none}
+use Rattle.om_check.proofs.NotedLemmas.{met_first, later_in}
+use Rattle.om_check.proofs.RowsLemmas.{field_there, field_valid, first_fits, tests_true, tests_false, enters_named}
 use Rattle.om_check.proofs.search.test_need.Goals as goal
 
-pub returns-in_ok-enter-clause-tests : goal.returns-in_ok-enter-clause-tests
-returns-in_ok-enter-clause-tests c =
-    let v = field_at c.args.heap.now c.args.need.object c.args.need.step in
-    let valid = field_valid c.args.heap.now c.args.need.object c.args.need.step c.requires.object c.requires.field c.requires.graph in
-    let same = word_of-inj c.args.heap.now v (vals.Ref c.number-object.result) c.requires.graph valid c.number-object.ensures.in_range
-    (sym c.requires.word ∙ c.number-object.ensures.named) in
-    tests_true (table_of c.args.table.now) c.args.heap.now (listed c.args.visits.now) (listed c.enter.new.self) c.args.need v valid
-    (field_there c.args.heap.now c.args.need.object c.args.need.step c.requires.object c.requires.field)
-    ((c.fits_type.ensures v valid c.requires.word).0 c.if-not-fits_type.false)
-    (enters_named (table_of c.args.table.now) (listed c.args.visits.now) (listed c.enter.new.self) c.args.need v c.number-object.result same c.in_ok-enter.ensures.enters)
+pub returns-then-is_first_at-clause-tests : goal.returns-then-is_first_at-clause-tests
+returns-then-is_first_at-clause-tests c =
+    let t = table_of c.args.table.now in
+    let graph = c.args.heap.now in
+    let all = listed c.args.visits.now in
+    let need = c.args.need in
+    let o = c.number_near-object.result in
+    let v = field_at graph need.object need.step in
+    let valid = field_valid graph need.object need.step c.requires.object c.requires.field c.requires.graph in
+    let same : v ≡ vals.Ref o = word_of-inj graph v (vals.Ref o) c.requires.graph valid c.number_near-object.ensures.in_range
+    (sym c.requires.word ∙ c.number_near-object.ensures.named) in
+    let met = subst (λ test. OnTrue test (slice_get c.args.visits.now.first o ≡ Some (suc need.ty))) c.if-is_first_at.true c.is_first_at.ensures in
+    tests_true t graph all all need v valid (field_there graph need.object need.step c.requires.object c.requires.field)
+    (first_fits t graph c.args.visits.now need.ty v o same c.requires.linked c.requires.fit met)
+    (enters_named t all all need v o same
+    (inl (met_first t all c.args.visits.now.first (later_in c.args.visits.now.later) c.requires.linked.noted o need.ty met, refl)))
 
-pub returns-else-word-eq0-clause-tests : goal.returns-else-word-eq0-clause-tests
-returns-else-word-eq0-clause-tests c =
-    let v = field_at c.args.heap.now c.args.need.object c.args.need.step in
-    let valid = field_valid c.args.heap.now c.args.need.object c.args.need.step c.requires.object c.requires.field c.requires.graph in
-    tests_true (table_of c.args.table.now) c.args.heap.now (listed c.args.visits.now) (listed c.args.visits.now) c.args.need v valid
-    (field_there c.args.heap.now c.args.need.object c.args.need.step c.requires.object c.requires.field)
-    ((c.fits_type.ensures v valid c.requires.word).0 c.if-not-fits_type.false)
-    (enters_none (table_of c.args.table.now) c.args.heap.now (listed c.args.visits.now) c.args.need v c.args.word c.requires.word c.if-word-eq0.false)
+pub returns-then-not-fits_type-clause-tests : goal.returns-then-not-fits_type-clause-tests
+returns-then-not-fits_type-clause-tests c =
+    let graph = c.args.heap.now in
+    let need = c.args.need in
+    let v = field_at graph need.object need.step in
+    let valid = field_valid graph need.object need.step c.requires.object c.requires.field c.requires.graph in
+    tests_false (table_of c.args.table.now) graph (listed c.args.visits.now) need v valid
+    (field_there graph need.object need.step c.requires.object c.requires.field)
+    (λ fits. false≢true (sym c.if-not-fits_type.true ∙ (c.fits_type-2.ensures v valid c.requires.word).1 fits))
+
+pub returns-clause-tests : goal.returns-clause-tests
+returns-clause-tests c =
+    let t = table_of c.args.table.now in
+    let graph = c.args.heap.now in
+    let all = listed c.args.visits.now in
+    let need = c.args.need in
+    let o = c.number_near-object.result in
+    let v = field_at graph need.object need.step in
+    let valid = field_valid graph need.object need.step c.requires.object c.requires.field c.requires.graph in
+    let same : v ≡ vals.Ref o = word_of-inj graph v (vals.Ref o) c.requires.graph valid c.number_near-object.ensures.in_range
+    (sym c.requires.word ∙ c.number_near-object.ensures.named) in
+    tests_true t graph all (listed c.enter.new.self) need v valid
+    (field_there graph need.object need.step c.requires.object c.requires.field)
+    ((c.fits_type-2.ensures v valid c.requires.word).0 c.if-not-fits_type.false)
+    (enters_named t all (listed c.enter.new.self) need v o same c.in_ok-enter.ensures.enters)

@@ -5,7 +5,7 @@ use Rattle.om_types.specs.Table.{node_or_none}
 use Rattle.om_heap.proofs.ReadLemmas.{word_of-inj}
 use Rattle.om_fits.specs.Needs.{needs_in}
 use Rattle.om_check.proofs.RowsLemmas.{some_mapped}
-use Rattle.om_check.proofs.search.fits_type.Goals as goal
+use Rattle.om_check.proofs.search.fits_by_kind.Goals as goal
 
 pub returns : goal.returns
 returns c = λ v is same.
