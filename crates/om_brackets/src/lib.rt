@@ -9,6 +9,3 @@ mod spellings;
 pub use arguments::least_clash;
 pub use item::Item;
 pub use spellings::{Collision, least_collision, nearer};
-
-#[cfg(test)]
-mod tests;

@@ -1,7 +1,7 @@
 //! One lexeme of a file, outside of types.
 
 ghost use Rattle.std.specs.Prelude.{◌≡◌, ◌++◌, ◌∷◌, [], length, IfOk};
-ghost use Rattle.om_parse.specs.FileCode.{more_decls, decl_code, after_decl_code, after_constr_code, after_record_code, after_field_code, listed_code, after_type_code, begin_file_code, begin_decl_code, take_param_code, after_param_code, take_decl_name_code, take_equals_code, take_upper_code, after_upper_code, close_record_code, begin_field_code, take_field_name_code, take_colon_code};
+ghost use Rattle.om_parse.specs.FileCode.{decl_code, after_decl_code, after_constr_code, after_record_code, after_field_code, listed_code, after_type_code, begin_file_code, begin_decl_code, take_param_code, after_param_code, take_decl_name_code, take_equals_code, take_upper_code, after_upper_code, close_record_code, begin_field_code, take_field_name_code, take_colon_code};
 
 use crate::names::copied;
 use crate::open::Phase;

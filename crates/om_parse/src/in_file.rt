@@ -1,6 +1,6 @@
 //! One lexeme of a file.
 
-ghost use Rattle.std.specs.Prelude.{List as Seq, ◌≡◌, [], Option, Some, None, Result, Ok, Err, IfOk};
+ghost use Rattle.std.specs.Prelude.{List as Seq, ◌≡◌, Option, Some, None, Result, Ok, Err};
 ghost use Rattle.om_parse.specs.declared.open.Frame.{Frame as AFrame};
 ghost use Rattle.om_parse.specs.TypeCode.{begin_code, step_code};
 ghost use Rattle.om_parse.specs.declared.so_far.FilePhase.TheVariants as files;

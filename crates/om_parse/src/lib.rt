@@ -17,6 +17,3 @@ mod types;
 pub use files::parse_file;
 pub use refused::{Fault, byte_of};
 pub use types::parse_type;
-
-#[cfg(test)]
-mod tests;

@@ -1,6 +1,6 @@
 //! What is open, the innermost first.
 
-ghost use Rattle.std.specs.Prelude.{◌≡◌, List, [], ◌∷◌, reverse, IfOk, Option, Some, None};
+ghost use Rattle.std.specs.Prelude.{◌≡◌, List, [], ◌∷◌, reverse, IfOk, Option};
 ghost use Rattle.om_parse.specs.declared.open.Frame.{Frame};
 ghost use Rattle.std.specs.Option.{option_copied};
 ghost use Rattle.om_parse.specs.Popped.{Popped, first};

@@ -10,4 +10,3 @@ pub mod SearchLemmas
 pub mod StepLemmas
 pub mod CyclicLemmas
 pub mod FirstLemmas
-pub mod WrittenLemmas

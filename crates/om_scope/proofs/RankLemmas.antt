@@ -132,9 +132,6 @@ module _ (all : List Mark) (i : ℕ) (mark : Mark) (unranked_before : is_ranked 
       (λ here. let same : rank ≡ given = same_rank rank given (sym is ∙ here.1) in omega arith)
       (ranked_before j given has)
 
-pub below_later : (all : List Mark) (limit : ℕ) → RanksBelow all limit → RanksBelow all (limit + 1)
-below_later all limit below = λ i rank has. let b : rank < limit = below i rank has in omega arith
-
 pub all_ranked :
     (all : List Mark) (nodes : List ℕ) → list_all (λ i. is_ranked all i) nodes ≡ true → (j : ℕ)
     → Contains nodes j → is_ranked all j ≡ true

@@ -109,10 +109,3 @@ module _ (decls : List Decl) (sites : List Site) (graph : Graph) (i : ℕ)
         let below : k < length decls = slice_get_within decls k d d_is in
         so_far.edges k j d site (omega arith) d_is site_is;
   }
-
-pub first_steps : (decls : List Decl) (sites : List Site) (graph : Graph) → graph ≡ []
-    → AreFirstSteps decls sites graph 0
-first_steps decls sites graph is = subst (λ g. AreFirstSteps decls sites g 0) (sym is) (record {
-  counted = refl;
-  edges = λ k j d site below d_is site_is. absurd (omega arith);
-})

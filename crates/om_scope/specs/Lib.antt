@@ -9,4 +9,3 @@ pub mod Ranks
 pub mod Search
 pub mod Sites
 pub mod Steps
-pub mod Written

@@ -25,6 +25,3 @@ pub use least::{place_if, sooner};
 pub use rule::NameRule;
 pub use site::{Placed, Site, TypeSite, Use};
 pub use sites::{least_break, least_break_in_type};
-
-#[cfg(test)]
-mod tests;

@@ -16,9 +16,6 @@ use Rattle.om_sites.specs.declared.fact.Facts.{Facts}
 use Rattle.om_sites.specs.Facts.{holds, is_alone, some_grow, capped, nothing, fact_at, facts_of, total_of, whole, leaf}
 use Rattle.om_sites.specs.Facts.{IsLeaf, IsFacts, AreFacts}
 
-cap_cap : (a b : ℕ) → capped (capped a + capped b) ≡ capped (a + b)
-cap_cap a b = omega arith
-
 cap_one : (a : ℕ) → capped (capped a + 1) ≡ capped (a + 1)
 cap_one a = omega arith
 

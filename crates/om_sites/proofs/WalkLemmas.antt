@@ -70,11 +70,6 @@ pub node_below :
 node_below all i node ordered below read =
     ordered i node (slice_get_read all (length all) i node refl below read)
 
--- two reads of one place
-pub same_read : {X : Type 0} (xs : List X) (i : ℕ) (x y : X) → i < length xs → x ≡ get_or xs i x → y ≡ get_or xs i y → x ≡ y
-same_read xs i x y below first second = same_Some x y
-    (sym (slice_get_read xs (length xs) i x refl below first) ∙ slice_get_read xs (length xs) i y refl below second)
-
 -- no node is the empty tuple
 pub no_nodes : (all : List Node) (t : Ty) → length all ≡ 0 → type_of all ≡ t → t ≡ tuple
 unfolding type_of types_of

@@ -2,7 +2,7 @@
 
 ghost use Rattle.std.specs.Prelude.{◌≡◌, ◌&&◌, ◌||◌, not, length, IfOk};
 ghost use Rattle.om_types.specs.Nodes.{types_of, AreOrdered};
-ghost use Rattle.om_sites.specs.Facts.{nothing, fact_at, leaf, whole, total_of, facts_of, AreFacts};
+ghost use Rattle.om_sites.specs.Facts.{fact_at, leaf, whole, total_of, facts_of, AreFacts};
 
 use om_model::Memory;
 use om_types::ty::Node;

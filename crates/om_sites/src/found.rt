@@ -1,6 +1,6 @@
 //! What is found of declarations and types.
 
-ghost use Rattle.std.specs.Prelude.{◌≡◌, ◌++◌, ◌∷◌, [], All, OnOk, slice_index};
+ghost use Rattle.std.specs.Prelude.{◌≡◌, ◌++◌, ◌∷◌, [], All, OnOk};
 ghost use Rattle.om_sites.specs.CountedFile.{carrying_in};
 ghost use Rattle.om_types.specs.Nodes.{types_of, AreOrdered};
 ghost use Rattle.om_scope.specs.Brackets.{brackets_told, all_told, IsOrdered};

@@ -20,8 +20,3 @@ pub use files::{FileSites, file_sites};
 pub use marked::marks;
 pub use texts::{file_text_sites, type_text_site};
 pub use types::{TypeFound, type_site};
-
-#[cfg(test)]
-mod mark_tests;
-#[cfg(test)]
-mod tests;

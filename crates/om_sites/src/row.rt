@@ -1,6 +1,6 @@
 //! The tags that a bracket writes.
 
-ghost use Rattle.std.specs.Prelude.{◌≡◌, ◌<◌, ◌++◌, IfOk, OnOk, length};
+ghost use Rattle.std.specs.Prelude.{◌≡◌, ◌<◌, ◌++◌, IfOk, OnOk};
 ghost use Rattle.std.specs.List.{filter_map};
 ghost use Rattle.om_types.specs.Nodes.{types_of, AreOrdered};
 ghost use Rattle.om_types.specs.Scope.{written_tag};

@@ -1,5 +1,0 @@
-use Rattle.om_scope.specs.Written.{file_of}
-use Rattle.om_scope.proofs.tests.least.Given as goal
-
-abbrev pub ghost-least_break : goal.ghost-least_break
-ghost-least_break g a = file_of a.decls.now a.names.now a.sites.now
