@@ -1,0 +1,33 @@
+-- Bytes that stand for themselves, and those that do not, behind what was put.
+use Rattle.std.proofs.Common.{ℕ, ◌+◌, ◌-◌, ◌<◌, ◌≤◌, ◌≡◌, ◌∙◌, List, [], ◌∷◌, ◌++◌, length, take, drop, get_or, sym, ap, append_assoc, arith, length-drop, get_or-drop}
+use Rattle.std.specs.List.{flat_map, slice_range}
+use Rattle.std.proofs.lemmas.List.{append-nil, take_more, flat_map_more}
+
+range_more : (xs : List ℕ) (start i : ℕ) → start ≤ i → i < length xs → slice_range xs start (i + 1) ≡ slice_range xs start i ++ get_or xs i 0 ∷ []
+range_more xs start i behind less =
+    let longer : i + 1 - start ≡ i - start + 1 = omega arith in
+    let at : start + (i - start) ≡ i = omega arith in
+    ap (λ k. take k (drop start xs)) longer
+    ∙ take_more (drop start xs) (i - start) 0 (omega (arith, length-drop start xs))
+    ∙ ap (λ b. slice_range xs start i ++ b ∷ []) (get_or-drop start xs (i - start) 0 ∙ ap (λ k. get_or xs k 0) at)
+
+module _ (f : ℕ → List ℕ) (xs old text : List ℕ) (start i : ℕ) (less : i < length xs) (put : text ++ slice_range xs start i ≡ old ++ flat_map f (take i xs)) where
+  next : old ++ flat_map f (take i xs) ++ f (get_or xs i 0) ≡ old ++ flat_map f (take (i + 1) xs)
+  next = flat_map_more f old (take i xs) (get_or xs i 0) ∙ ap (λ t. old ++ flat_map f t) (sym (take_more xs i 0 less))
+
+  pub plain_byte : start ≤ i → f (get_or xs i 0) ≡ get_or xs i 0 ∷ [] → text ++ slice_range xs start (i + 1) ≡ old ++ flat_map f (take (i + 1) xs)
+  plain_byte behind plain =
+      ap (λ t. text ++ t) (range_more xs start i behind less)
+      ∙ sym (append_assoc text (slice_range xs start i) (get_or xs i 0 ∷ []))
+      ∙ ap (λ t. t ++ get_or xs i 0 ∷ []) put
+      ∙ ap (λ t. old ++ flat_map f (take i xs) ++ t) (sym plain)
+      ∙ next
+
+  pub other_byte : (led all : List ℕ) → led ≡ text ++ slice_range xs start i → all ≡ led ++ f (get_or xs i 0) → all ++ slice_range xs (i + 1) (i + 1) ≡ old ++ flat_map f (take (i + 1) xs)
+  other_byte led all is_led is_all =
+      let none : i + 1 - (i + 1) ≡ 0 = omega arith in
+      ap (λ k. all ++ take k (drop (i + 1) xs)) none
+      ∙ append-nil all
+      ∙ is_all
+      ∙ ap (λ t. t ++ f (get_or xs i 0)) (is_led ∙ put)
+      ∙ next

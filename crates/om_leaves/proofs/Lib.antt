@@ -1,0 +1,6 @@
+pub mod DumpLemmas
+pub mod EscapeLemmas
+pub mod ReadBackLemmas
+pub mod RowLemmas
+pub mod StringLemmas
+mod FrameLemmas

@@ -1,0 +1,11 @@
+use Rattle.std.proofs.Common.{◌≡◌, ◌≤◌, ◌++◌, take}
+use Rattle.std.specs.List.{flat_map, slice_range}
+use Rattle.om_leaves.specs.Leaves.{escaped}
+use Rattle.om_leaves.proofs.escape.put_escaped.Given as goal
+
+-- the bytes from start on are still to be put
+abbrev pub invariant-loop-i : goal.invariant-loop-i
+invariant-loop-i l = record {
+  behind : l.start ≤ l.i;
+  put : l.text.items ++ slice_range l.bytes l.start l.i ≡ l.fn.text.items ++ flat_map (escaped l.quote) (take l.i l.bytes);
+}

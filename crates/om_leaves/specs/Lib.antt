@@ -1,0 +1,5 @@
+pub mod Dumped
+pub mod FrameView
+pub mod Frames
+pub mod Leaves
+pub mod ReadBack

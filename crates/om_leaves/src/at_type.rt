@@ -1,0 +1,139 @@
+//! The texts of values without parts, by the shape and the names of their type.
+
+ghost use Rattle.std.specs.Prelude.{◌≡◌, ◌<◌, ◌++◌, length, map, IsTrue, OnOk, unwrap_or, slice_get, []};
+ghost use Rattle.om_types.specs.Fitting.{fits_int, is_below};
+ghost use Rattle.om_heap.specs.Heap.{object_at, doubles_of, custom_object};
+ghost use Rattle.om_leaves.specs.Leaves.{below_text, float_text};
+ghost use Rattle.om_leaves.specs.Frames.{int_text, object_text, natural, tag_text, row_from, row_text};
+ghost use Rattle.om_leaves.specs.FrameView.{frame_in};
+
+use crate::bytes::put;
+use crate::frame::{Frame, doubles_frame_of, name_of_tag};
+use crate::leaves::{put_below, put_float, put_int, put_int32, put_int64, put_native};
+use crate::strings::put_string_of;
+use om_heap::{Heap, Kind};
+use om_model::Memory;
+use om_model::code::Custom;
+use om_model::list::List;
+use om_types::names::Names;
+use om_types::shape::ShapeOf;
+
+/// Puts an integer that fits the shape.
+pub fn put_int_at(
+    text: &mut Vec<u8>,
+    z: i64,
+    shape: &ShapeOf<usize>,
+    names: &Names,
+) -> Result<(), Memory>
+    requires fits { IsTrue (fits_int shape.now z) }
+    ensures { OnOk result (text.new.items ≡ text.old.items ++ int_text shape.now names.now z) }
+{
+    match shape {
+        ShapeOf::Below(many) => put_int_below(text, *many, z),
+        ShapeOf::Sum(constants, _) => put_constant(text, *constants, z, names.constants.as_slice()),
+        ShapeOf::Poly(_) => put_tag(text, z, names),
+        _ => put_int(text, z),
+    }
+}
+
+/// Puts an integer below so many. No type has more than 256 of them: one past that has no text, and is refused.
+fn put_int_below(text: &mut Vec<u8>, many: u64, z: i64) -> Result<(), Memory>
+    requires { IsTrue (is_below many z) }
+    ensures { OnOk result (text.new.items ≡ text.old.items ++ below_text many (natural z)) }
+{
+    match u8::try_from(z) {
+        Ok(value) => put_below(text, many, value),
+        Err(_) => Err(Memory),
+    }
+}
+
+/// Puts the name of a constant constructor, if there is one.
+fn put_constant(text: &mut Vec<u8>, many: u64, z: i64, constants: &[List<u8>]) -> Result<(), Memory>
+    requires { IsTrue (is_below many z) }
+    ensures { OnOk result (text.new.items ≡ text.old.items ++ unwrap_or (slice_get constants.now (natural z)) []) }
+{
+    if z as usize >= constants.len() {
+        return Ok(());
+    }
+    put(text, constants[z as usize].as_slice())
+}
+
+/// Puts the tag of this hash.
+fn put_tag(text: &mut Vec<u8>, hash: i64, names: &Names) -> Result<(), Memory>
+    ensures { OnOk result (text.new.items ≡ text.old.items ++ tag_text names.now hash) }
+{
+    put(text, b"`")?;
+    put(text, name_of_tag(names.tags.as_slice(), hash))
+}
+
+/// Puts an object without parts, and nothing for a block.
+pub fn put_object_at(
+    text: &mut Vec<u8>,
+    heap: &Heap,
+    o: u64,
+    shape: &ShapeOf<usize>,
+    names: &Names,
+) -> Result<(), Memory>
+    requires object { o < length heap.now }
+    ensures { OnOk result (text.new.items ≡ text.old.items ++ object_text shape.now names.now (object_at heap.now o)) }
+{
+    match heap.kind(o) {
+        Kind::Block(_, _) => Ok(()),
+        Kind::Bytes(len) => put_string_of(text, heap, o, len),
+        Kind::Double => put_float(text, heap.double(o, 0)),
+        Kind::Doubles(len) => put_doubles_at(text, heap, o, len, &doubles_frame_of(shape, names)),
+        Kind::Custom(custom) => put_custom_at(text, custom, shape, names),
+    }
+}
+
+/// Puts the doubles of an object in a frame.
+fn put_doubles_at(
+    text: &mut Vec<u8>,
+    heap: &Heap,
+    o: u64,
+    len: u64,
+    frame: &Frame<'_>,
+) -> Result<(), Memory>
+    requires object { o < length heap.now }
+    requires len { len ≡ length (doubles_of (object_at heap.now o)) }
+    ensures { OnOk result (text.new.items ≡ text.old.items ++ row_text (frame_in frame.now) (map float_text (doubles_of (object_at heap.now o)))) }
+{
+    frame.put_opening(text)?;
+    put_double_parts(text, heap, o, len, frame)?;
+    frame.put_closing(text)
+}
+
+/// Puts the doubles, and what stands before each.
+fn put_double_parts(
+    text: &mut Vec<u8>,
+    heap: &Heap,
+    o: u64,
+    len: u64,
+    frame: &Frame<'_>,
+) -> Result<(), Memory>
+    requires object { o < length heap.now }
+    requires len { len ≡ length (doubles_of (object_at heap.now o)) }
+    ensures { OnOk result (text.new.items ≡ text.old.items ++ row_from (frame_in frame.now) 0 (map float_text (doubles_of (object_at heap.now o)))) }
+{
+    for i in 0..len {
+        frame.put_before(text, i)?;
+        put_float(text, heap.double(o, i))?;
+    }
+    Ok(())
+}
+
+/// Puts a custom, which has one text at each type.
+fn put_custom_at(
+    text: &mut Vec<u8>,
+    custom: Custom,
+    shape: &ShapeOf<usize>,
+    names: &Names,
+) -> Result<(), Memory>
+    ensures { OnOk result (text.new.items ≡ text.old.items ++ object_text shape.now names.now (custom_object custom)) }
+{
+    match custom {
+        Custom::I32(n) => put_int32(text, n),
+        Custom::I64(n) => put_int64(text, n),
+        Custom::Native(n) => put_native(text, n),
+    }
+}

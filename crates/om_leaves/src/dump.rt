@@ -1,0 +1,143 @@
+//! The lines of a graph as it is, whatever its types.
+
+ghost use Rattle.std.specs.Prelude.{◌≡◌, ◌<◌, ◌++◌, length, OnOk, decimal};
+ghost use Rattle.std.specs.List.{flat_map};
+ghost use Rattle.om_heap.specs.Heap.{object_at, fields_of, doubles_of, IsOfKind};
+ghost use Rattle.om_leaves.specs.Dumped.{value_text, spaced_value, spaced_float, custom_text, text_of_kind, root_line, object_line};
+
+use crate::bytes::put;
+use crate::leaves::{put_float, put_int};
+use crate::strings::put_string_of;
+use itoa::Buffer;
+use om_heap::{Heap, Kind};
+use om_model::Memory;
+use om_model::code::Custom;
+use om_model::value::Val;
+
+/// Puts the line of the root.
+pub fn put_root_line(text: &mut Vec<u8>, root: Val) -> Result<(), Memory>
+    ensures { OnOk result (text.new.items ≡ text.old.items ++ root_line root) }
+{
+    put(text, b"root ")?;
+    put_value(text, root)?;
+    put(text, b"\n")
+}
+
+/// Puts the line of an object.
+#[tactic(auto, using(crate::proofs::DumpLemmas::text_by_kind))]
+pub fn put_object_line(text: &mut Vec<u8>, heap: &Heap, o: u64) -> Result<(), Memory>
+    requires { o < length heap.now }
+    ensures { OnOk result (text.new.items ≡ text.old.items ++ object_line o (object_at heap.now o)) }
+{
+    put(text, b"#")?;
+    put_number(text, o)?;
+    put_object(text, heap, o, heap.kind(o))?;
+    put(text, b"\n")
+}
+
+/// Puts an object of this kind.
+fn put_object(text: &mut Vec<u8>, heap: &Heap, o: u64, kind: Kind) -> Result<(), Memory>
+    requires object { o < length heap.now }
+    requires kind { IsOfKind kind (object_at heap.now o) }
+    ensures { OnOk result (text.new.items ≡ text.old.items ++ text_of_kind kind (object_at heap.now o)) }
+{
+    match kind {
+        Kind::Block(tag, size) => {
+            put(text, b" block ")?;
+            put_number(text, u64::from(tag))?;
+            put(text, b":")?;
+            put_fields(text, heap, o, size)
+        }
+        Kind::Bytes(len) => {
+            put(text, b" string ")?;
+            put_string_of(text, heap, o, len)
+        }
+        Kind::Double => {
+            put(text, b" float")?;
+            put_doubles(text, heap, o, 1)
+        }
+        Kind::Doubles(len) => {
+            put(text, b" floats")?;
+            put_doubles(text, heap, o, len)
+        }
+        Kind::Custom(custom) => put_custom(text, custom),
+    }
+}
+
+fn put_custom(text: &mut Vec<u8>, custom: Custom) -> Result<(), Memory>
+    ensures { OnOk result (text.new.items ≡ text.old.items ++ custom_text custom) }
+{
+    match custom {
+        Custom::I32(n) => {
+            put(text, b" int32 ")?;
+            put_int(text, i64::from(n))
+        }
+        Custom::I64(n) => {
+            put(text, b" int64 ")?;
+            put_int(text, n)
+        }
+        Custom::Native(n) => {
+            put(text, b" nativeint ")?;
+            put_int(text, n)
+        }
+    }
+}
+
+fn put_fields(text: &mut Vec<u8>, heap: &Heap, o: u64, size: u64) -> Result<(), Memory>
+    requires object { o < length heap.now }
+    requires size { size ≡ length (fields_of (object_at heap.now o)) }
+    ensures { OnOk result (text.new.items ≡ text.old.items ++ flat_map spaced_value (fields_of (object_at heap.now o))) }
+{
+    for i in 0..size {
+        put_spaced_value(text, heap.field(o, i))?;
+    }
+    Ok(())
+}
+
+fn put_doubles(text: &mut Vec<u8>, heap: &Heap, o: u64, len: u64) -> Result<(), Memory>
+    requires object { o < length heap.now }
+    requires len { len ≡ length (doubles_of (object_at heap.now o)) }
+    ensures { OnOk result (text.new.items ≡ text.old.items ++ flat_map spaced_float (doubles_of (object_at heap.now o))) }
+{
+    for i in 0..len {
+        put_spaced_float(text, heap.double(o, i))?;
+    }
+    Ok(())
+}
+
+fn put_spaced_value(text: &mut Vec<u8>, v: Val) -> Result<(), Memory>
+    ensures { OnOk result (text.new.items ≡ text.old.items ++ spaced_value v) }
+{
+    put(text, b" ")?;
+    put_value(text, v)
+}
+
+fn put_spaced_float(text: &mut Vec<u8>, bits: u64) -> Result<(), Memory>
+    ensures { OnOk result (text.new.items ≡ text.old.items ++ spaced_float bits) }
+{
+    put(text, b" ")?;
+    put_float(text, bits)
+}
+
+/// Puts a value, a reference by the object's number.
+fn put_value(text: &mut Vec<u8>, v: Val) -> Result<(), Memory>
+    ensures { OnOk result (text.new.items ≡ text.old.items ++ value_text v) }
+{
+    match v {
+        Val::Int(n) => put_int(text, n),
+        Val::Atom(tag) => {
+            put(text, b"@")?;
+            put_number(text, u64::from(tag))
+        }
+        Val::Ref(o) => {
+            put(text, b"#")?;
+            put_number(text, o)
+        }
+    }
+}
+
+fn put_number(text: &mut Vec<u8>, n: u64) -> Result<(), Memory>
+    ensures { OnOk result (text.new.items ≡ text.old.items ++ decimal n) }
+{
+    put(text, Buffer::new().format(n).as_bytes())
+}

@@ -1,0 +1,186 @@
+//! What stands around the parts of a value and between them, over lent names.
+
+ghost use Rattle.std.specs.Prelude.{ℕ, List, ◌≡◌, ◌<◌, ◌++◌, length, OnOk, find, option_map, unwrap_or, slice_get, [], ◌∷◌, ◌==◌, if◌then◌else◌, codes};
+ghost use Rattle.om_model.specs.declared.value.Obj.TheVariants as objects;
+ghost use Rattle.om_types.specs.declared.names.TagName.{TagName};
+ghost use Rattle.om_heap.specs.Heap.{object_at, fields_of};
+ghost use Rattle.om_leaves.specs.Frames.{frame_of, doubles_frame, named_frame, constr_frame, is_hash, label_at, before_part, tag_of_values};
+ghost use Rattle.om_leaves.specs.FrameView.{frame_in};
+
+use crate::bytes::put;
+use om_heap::{Heap, Kind};
+use om_model::Memory;
+use om_model::list::List;
+use om_model::value::Val;
+use om_types::names::{ConstrNames, Names, TagName};
+use om_types::shape::ShapeOf;
+
+/// What stands before, between and after parts.
+#[derive(Clone, Copy)]
+pub enum Frame<'a> {
+    /// A name, which may be empty, and the names of the fields, where they have names.
+    Named(&'a [u8], &'a [List<u8>]),
+    /// A tag's name without its backquote.
+    Tagged(&'a [u8]),
+    Array,
+}
+
+impl<'a> Frame<'a> {
+    /// Puts what stands before the parts.
+    pub fn put_opening(&self, text: &mut Vec<u8>) -> Result<(), Memory>
+        ensures { OnOk result (text.new.items ≡ text.old.items ++ (frame_in self.now).opening) }
+    {
+        match *self {
+            Frame::Named(name, fields) => {
+                put_ended(text, name, if fields.is_empty() { b'(' } else { b'{' })
+            }
+            Frame::Tagged(name) => {
+                put(text, b"`")?;
+                put(text, name)?;
+                put(text, b"(")
+            }
+            Frame::Array => put(text, b"[|"),
+        }
+    }
+
+    /// Puts what stands before part i: what stands between parts, and a label.
+    #[tactic(auto, using(crate::proofs::FrameLemmas::before_is))]
+    pub fn put_before(&self, text: &mut Vec<u8>, i: u64) -> Result<(), Memory>
+        ensures { OnOk result (text.new.items ≡ text.old.items ++ before_part (frame_in self.now) i) }
+    {
+        match *self {
+            Frame::Named(_, fields) => put_before_field(text, fields, i),
+            Frame::Tagged(_) => put_between(text, b", ", i),
+            Frame::Array => put_between(text, b"; ", i),
+        }
+    }
+
+    /// Puts what stands after the parts.
+    pub fn put_closing(&self, text: &mut Vec<u8>) -> Result<(), Memory>
+        ensures { OnOk result (text.new.items ≡ text.old.items ++ (frame_in self.now).closing) }
+    {
+        match *self {
+            Frame::Named(_, fields) => put_ended(
+                text,
+                b"",
+                if fields.is_empty() { b')' } else { b'}' },
+            ),
+            Frame::Tagged(_) => put(text, b")"),
+            Frame::Array => put(text, b"|]"),
+        }
+    }
+}
+
+/// Puts a name and one byte after it.
+fn put_ended(text: &mut Vec<u8>, name: &[u8], end: u8) -> Result<(), Memory>
+    ensures { OnOk result (text.new.items ≡ text.old.items ++ (name.now ++ end ∷ [])) }
+{
+    text.reserve(name.len() + 1)?;
+    if !name.is_empty() {
+        text.extend_from_slice(name)?;
+    }
+    text.push_reserved(end);
+    Ok(())
+}
+
+/// Puts what stands between two parts, before part i.
+fn put_between(text: &mut Vec<u8>, between: &[u8], i: u64) -> Result<(), Memory>
+    ensures { OnOk result (text.new.items ≡ text.old.items ++ (if i == 0 then [] else between.now)) }
+{
+    if i == 0 {
+        return Ok(());
+    }
+    put(text, between)
+}
+
+/// Puts what stands before field i, if these are the names of the fields.
+#[tactic(auto, using(crate::proofs::FrameLemmas::before_is))]
+fn put_before_field(text: &mut Vec<u8>, fields: &[List<u8>], i: u64) -> Result<(), Memory>
+    ensures { (name : List ℕ) → OnOk result (text.new.items ≡ text.old.items ++ before_part (named_frame name fields.now) i) }
+{
+    if i >= fields.len() as u64 {
+        return put_between(text, if fields.is_empty() { b", " } else { b"; " }, i);
+    }
+    put_field_name(text, fields[i as usize].as_slice(), i)
+}
+
+/// Puts the name of field i, after what stands between two fields.
+fn put_field_name(text: &mut Vec<u8>, name: &[u8], i: u64) -> Result<(), Memory>
+    ensures { OnOk result (text.new.items ≡ text.old.items ++ ((if i == 0 then [] else codes "; ") ++ (name.now ++ codes " = "))) }
+{
+    text.reserve(name.len() + 5)?;
+    if i > 0 {
+        text.push_reserved(b';');
+        text.push_reserved(b' ');
+    }
+    text.extend_from_slice(name)?;
+    text.push_reserved(b' ');
+    text.push_reserved(b'=');
+    text.push_reserved(b' ');
+    Ok(())
+}
+
+/// What stands around a block of this tag, which is object o.
+pub fn block_frame<'a>(
+    heap: &Heap,
+    o: u64,
+    tag: u8,
+    shape: &ShapeOf<usize>,
+    names: &'a Names,
+) -> Frame<'a>
+    requires object { o < length heap.now }
+    requires block { object_at heap.now o ≡ objects.Block tag (fields_of (object_at heap.now o)) }
+    ensures { frame_in result ≡ frame_of shape.now names.now tag (fields_of (object_at heap.now o)) }
+{
+    match shape {
+        ShapeOf::Sum(_, _) => constructor_frame(names.constructors.as_slice(), tag),
+        ShapeOf::Product(_, _) => Frame::Named(b"", names.fields.as_slice()),
+        ShapeOf::Poly(_) => Frame::Tagged(name_of_tag(names.tags.as_slice(), first_int(heap, o))),
+        _ => Frame::Array,
+    }
+}
+
+/// What stands around the parts of a constructor, by the tag of its block.
+fn constructor_frame(constructors: &[ConstrNames], tag: u8) -> Frame<'_>
+    ensures { frame_in result ≡ constr_frame (slice_get constructors.now tag) }
+{
+    if tag as usize >= constructors.len() {
+        return Frame::Named(b"", &[]);
+    }
+    let names = &constructors[tag as usize];
+    Frame::Named(names.name.as_slice(), names.fields.as_slice())
+}
+
+/// The name of the tag of this hash, if there is one.
+pub fn name_of_tag(tags: &[TagName], hash: i64) -> &[u8]
+    ensures { result.now ≡ unwrap_or (option_map (λ (tag : TagName). tag.name) (find (is_hash hash) tags.now)) [] }
+{
+    match tags.iter().find(|tag| tag.hash == hash) {
+        Some(tag) => tag.name.as_slice(),
+        None => b"",
+    }
+}
+
+/// The integer in field 0 of a block, and 0 where there is none.
+fn first_int(heap: &Heap, o: u64) -> i64
+    requires { o < length heap.now }
+    ensures { result ≡ tag_of_values (fields_of (object_at heap.now o)) }
+{
+    match heap.kind(o) {
+        Kind::Block(_, size) if size > 0 => match heap.field(o, 0) {
+            Val::Int(hash) => hash,
+            _ => 0,
+        },
+        _ => 0,
+    }
+}
+
+/// What stands around an array of doubles.
+pub fn doubles_frame_of<'a>(shape: &ShapeOf<usize>, names: &'a Names) -> Frame<'a>
+    ensures { frame_in result ≡ doubles_frame shape.now names.now }
+{
+    match shape {
+        ShapeOf::FlatFloats(_, _) => Frame::Named(b"", names.fields.as_slice()),
+        _ => Frame::Array,
+    }
+}
