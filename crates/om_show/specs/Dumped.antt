@@ -2,7 +2,7 @@
 use Rattle.std.specs.Prelude.{ℕ, suc, List, [], ◌∷◌, ◌++◌}
 use Rattle.om_model.specs.declared.value.Val.{Val}
 use Rattle.om_model.specs.declared.value.Obj.{Obj}
-use Rattle.om_print.specs.Dumped.{root_line, object_line}
+use Rattle.om_leaves.specs.Dumped.{root_line, object_line}
 
 -- the lines of the objects from number k on
 abbrev pub lines_from : ℕ → List Obj → List ℕ

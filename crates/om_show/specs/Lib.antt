@@ -2,3 +2,6 @@ pub mod Pieces
 pub mod Shown
 pub mod Dumped
 pub mod Rows
+pub mod Tables
+pub mod Laws
+pub mod Named

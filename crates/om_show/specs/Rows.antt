@@ -1,11 +1,10 @@
-use Rattle.std.specs.Prelude.{ℕ, ℤ, pos, negsuc, ◌≡◌, true, false, List, [], ◌∷◌, Option, Some, None, codes}
+use Rattle.std.specs.Prelude.{ℕ, pos, negsuc, ◌≡◌, false, List, [], ◌∷◌, Option, Some, None, codes}
 use Rattle.om_model.specs.declared.value.Val.{Val}
 use Rattle.om_model.specs.declared.value.Val.TheVariants.{Int, Atom, Ref}
 use Rattle.om_model.specs.declared.value.Obj.{Obj}
 use Rattle.om_model.specs.declared.value.Obj.TheVariants.{Block, Bytes, Double, Doubles, I32, I64, Native}
 use Rattle.om_types.specs.declared.decl.Field.{Field}
 use Rattle.om_types.specs.declared.decl.Arguments.TheVariants as arguments
-use Rattle.om_types.specs.declared.decl.Constructor.{Constructor}
 use Rattle.om_types.specs.declared.decl.Body.TheVariants as bodies
 use Rattle.om_types.specs.declared.decl.Decl.{Decl}
 use Rattle.om_types.specs.Ty.{Ty, named, tuple, bracket, part, tag, tag_of}

@@ -1,121 +1,17 @@
 -- The text of a value at a type, over any shapes and names. The text follows the value depth first, fields from left
 -- to right.
-use Rattle.std.specs.Prelude.{ℕ, ℤ, pos, negsuc, zero, suc, ◌+◌, ◌==◌, if◌then◌else◌, Bool, true, false, List, [], ◌∷◌, ◌++◌, length, map, slice_get, find, codes}
-use Rattle.std.specs.Prelude.{Option, Some, None, option_map, option_and_then, unwrap_or}
-use Rattle.std.specs.Fmt.{signed_decimal}
+use Rattle.std.specs.Prelude.{ℕ, zero, suc, ◌+◌, if◌then◌else◌, List, [], ◌∷◌, ◌++◌, length, slice_get, codes}
+use Rattle.std.specs.Prelude.{Option, Some, None, option_map, unwrap_or}
 use Rattle.om_model.specs.declared.value.Val.{Val}
 use Rattle.om_model.specs.declared.value.Val.TheVariants as vals
 use Rattle.om_model.specs.declared.value.Obj.{Obj}
 use Rattle.om_model.specs.declared.value.Obj.TheVariants as objects
-use Rattle.om_types.specs.declared.names.ConstrNames.{ConstrNames}
-use Rattle.om_types.specs.declared.names.TagName.{TagName}
 use Rattle.om_types.specs.declared.names.Names.{Names}
 use Rattle.om_types.specs.declared.shape.ShapeOf.{ShapeOf}
-use Rattle.om_types.specs.declared.shape.ShapeOf.TheVariants as shapes
-use Rattle.om_types.specs.Fitting.{is_number, fields_of, or_none, shaped}
+use Rattle.om_types.specs.Fitting.{fields_of, or_none, shaped}
 use Rattle.om_types.specs.Fault.{field_of, value_at}
-use Rattle.om_print.specs.Leaves.{string_text, float_text, below_text, int32_text, int64_text, native_text}
+use Rattle.om_leaves.specs.Frames.{Frame, frame_of, before_part, int_text, object_text}
 use Rattle.om_show.specs.Pieces.{Piece, Text, First, Again, has, text_of}
-
--- ---- parts in a row
-
--- what stands before the parts, before each of them, between two of them, and after them
-pub record Frame : Type 0 where
-  pub opening : List ℕ
-  -- before part i, where there is one
-  pub labels : List (List ℕ)
-  pub between : List ℕ
-  pub closing : List ℕ
-
-abbrev pub listed : List ℕ → Frame
-listed name = record { opening = name ++ codes "("; labels = []; between = codes ", "; closing = codes ")" }
-
-abbrev pub fields_frame : List ℕ → List (List ℕ) → Frame
-fields_frame name fields = record {
-  opening = name ++ codes "{";
-  labels = map (λ field. field ++ codes " = ") fields;
-  between = codes "; ";
-  closing = codes "}";
-}
-
--- a name alone is that of a tuple's or a constructor's parts; names of fields make a record
-abbrev pub named_frame : List ℕ → List (List ℕ) → Frame
-named_frame name [] = listed name
-named_frame name (field ∷ fields) = fields_frame name (field ∷ fields)
-
-abbrev pub array_frame : Frame
-array_frame = record { opening = codes "[|"; labels = []; between = codes "; "; closing = codes "|]" }
-
-abbrev pub constr_frame : Option ConstrNames → Frame
-constr_frame None = listed []
-constr_frame (Some names) = named_frame names.name names.fields
-
--- ---- names
-
-abbrev pub is_hash : ℤ → TagName → Bool
-is_hash z tag = is_number tag.hash z
-
--- the tag of this hash, with its backquote
-abbrev pub tag_text : Names → ℤ → List ℕ
-tag_text names z = codes "`" ++ unwrap_or (option_map (λ (tag : TagName). tag.name) (find (is_hash z) names.tags)) []
-
-abbrev pub natural : ℤ → ℕ
-natural (pos n) = n
-natural (negsuc n) = 0
-
--- the integer in field 0
-abbrev pub tag_of_values : List Val → ℤ
-tag_of_values (vals.Int z ∷ values) = z
-tag_of_values values = pos 0
-
-module _ {T : Type 0} where
-  -- ---- values without parts
-
-  abbrev pub int_text : ShapeOf T → Names → ℤ → List ℕ
-  int_text (shapes.Below many) names z = below_text many (natural z)
-  int_text (shapes.Sum constants blocks) names z = unwrap_or (slice_get names.constants (natural z)) []
-  int_text (shapes.Poly tags) names z = tag_text names z
-  int_text shape names z = signed_decimal z
-
-  -- ---- what stands around a block's parts
-
-  abbrev pub frame_of : ShapeOf T → Names → ℕ → List Val → Frame
-  frame_of (shapes.Sum constants blocks) names tag values = constr_frame (slice_get names.constructors tag)
-  frame_of (shapes.Product mutable ts) names tag values = named_frame [] names.fields
-  frame_of (shapes.Poly tags) names tag values = listed (tag_text names (tag_of_values values))
-  frame_of shape names tag values = array_frame
-
-  abbrev pub doubles_frame : ShapeOf T → Names → Frame
-  doubles_frame (shapes.FlatFloats mutable n) names = named_frame [] names.fields
-  doubles_frame shape names = array_frame
-
--- ---- a row of parts, each of which is pieces
-
-abbrev pub label_at : Frame → ℕ → List ℕ
-label_at frame i = unwrap_or (slice_get frame.labels i) []
-
--- what stands before part i
-abbrev pub before_part : Frame → ℕ → List ℕ
-before_part frame zero = label_at frame zero
-before_part frame (suc i) = frame.between ++ label_at frame (suc i)
-
-abbrev pub row_from : Frame → ℕ → List (List ℕ) → List ℕ
-row_from frame i [] = []
-row_from frame i (part ∷ parts) = before_part frame i ++ part ++ row_from frame (suc i) parts
-
--- a row of texts
-abbrev pub row_text : Frame → List (List ℕ) → List ℕ
-row_text frame parts = frame.opening ++ row_from frame 0 parts ++ frame.closing
-
-module _ {T : Type 0} where
-  abbrev pub object_text : ShapeOf T → Names → Obj → List ℕ
-  object_text shape names (objects.Block tag values) = []
-  object_text shape names (objects.Bytes bytes) = string_text bytes
-  object_text shape names (objects.Double bits) = float_text bits
-  object_text shape names (objects.Doubles all) = row_text (doubles_frame shape names) (map float_text all)
-  object_text shape names (objects.I32 z) = int32_text z
-  object_text shape names (objects.I64 z) = int64_text z
-  object_text shape names (objects.Native z) = native_text z
 
 -- ---- a value as pieces
 

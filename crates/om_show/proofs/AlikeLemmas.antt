@@ -1,0 +1,92 @@
+-- A value has one text at two types whose shapes and names say the same, part by part.
+use Rattle.std.proofs.Common.{ℕ, zero, suc, ◌+◌, ◌≡◌, ◌∙◌, ℤ, List, [], ◌∷◌, length, Option, Some, None, refl, ap}
+use Rattle.std.specs.Prelude.{if◌then◌else◌, slice_get, unwrap_or}
+use Rattle.om_model.specs.declared.value.Val.{Val}
+use Rattle.om_model.specs.declared.value.Val.TheVariants as vals
+use Rattle.om_model.specs.declared.value.Obj.{Obj}
+use Rattle.om_model.specs.declared.value.Obj.TheVariants as objects
+use Rattle.om_types.specs.declared.names.Names.{Names}
+use Rattle.om_types.specs.declared.shape.ShapeOf.{ShapeOf}
+use Rattle.om_types.specs.Fitting.{fields_of, or_none}
+use Rattle.om_types.specs.Fault.{field_of}
+use Rattle.om_equal.proofs.NeedAgreement.{NeedsAgree, FieldsAgree}
+use Rattle.om_leaves.specs.Frames.{Frame, frame_of, before_part, int_text, object_text}
+use Rattle.om_show.specs.Pieces.{Text, First, Again, has, text_of}
+use Rattle.om_show.specs.Shown.{Met, met, led_by, parts_from, object_met, met_within, shown_text}
+
+module _ {T U : Type 0} (shape : T → ShapeOf T) (names : T → Names) (shape' : U → ShapeOf U)
+    (names' : U → Names) (Of : T → U → Type 0) (graph : List Obj) where
+  -- texts of values without parts, frames, and what is needed
+  pub record SayAlike : Type 0 where
+    pub ints : (t : T) (u : U) → Of t u → (z : ℤ) → int_text (shape t) (names t) z ≡ int_text (shape' u) (names' u) z
+    pub frames : (t : T) (u : U) → Of t u → (tag : ℕ) (values : List Val)
+        → frame_of (shape t) (names t) tag values ≡ frame_of (shape' u) (names' u) tag values
+    pub texts : (t : T) (u : U) → Of t u → (object : Obj)
+        → object_text (shape t) (names t) object ≡ object_text (shape' u) (names' u) object
+    pub fields : (v : Val) (t : T) (u : U) → Of t u
+        → FieldsAgree Of (fields_of graph v (shape t)) (fields_of graph v (shape' u))
+
+  abbrev MeetAlike : (List ℕ → Val → T → Met) → (List ℕ → Val → U → Met) → Type 0
+  MeetAlike meet meet' =
+      (seen : List ℕ) (v : Val) (t : T) (u : U) → Of t u → meet seen v t ≡ meet' seen v u
+
+  needs_alike : (ns : Option (List (ℕ × T))) (ms : Option (List (ℕ × U))) → FieldsAgree Of ns ms
+      → NeedsAgree Of (or_none ns) (or_none ms)
+  needs_alike None None agree = tt
+  needs_alike (Some ns) (Some ms) agree = agree
+  needs_alike None (Some ms) agree = absurd agree
+  needs_alike (Some ns) None agree = absurd agree
+
+  module _ (meet : List ℕ → Val → T → Met) (meet' : List ℕ → Val → U → Met)
+      (alike : MeetAlike meet meet') where
+    parts_alike : (frame : Frame) (v : Val) (i : ℕ) (ns : List (ℕ × T)) (ms : List (ℕ × U)) (seen : List ℕ)
+        → NeedsAgree Of ns ms → parts_from shape names graph meet frame v i ns seen
+        ≡ parts_from shape' names' graph meet' frame v i ms seen
+    parts_alike frame v i [] [] seen agree = refl
+    parts_alike frame v i [] (m ∷ ms) seen agree = absurd agree
+    parts_alike frame v i (n ∷ ns) [] seen agree = absurd agree
+    parts_alike frame v i (n ∷ ns) (m ∷ ms) seen agree =
+        let part : ℕ → Val = λ k. unwrap_or (field_of graph v k) v in
+        let after : Met = meet' seen (part m.0) m.1 in
+        let first : meet seen (part n.0) n.1 ≡ after =
+        alike seen (part n.0) n.1 m.1 agree.1 ∙ ap (λ k. meet' seen (part k) m.1) agree.0 in
+        ap (λ (one : Met). led_by (Text (before_part frame i) ∷ one.pieces)
+        (parts_from shape names graph meet frame v (suc i) ns one.seen)) first
+        ∙ ap (led_by (Text (before_part frame i) ∷ after.pieces))
+        (parts_alike frame v (suc i) ns ms after.seen agree.2)
+
+    module _ (same : SayAlike) where
+      object_alike : (seen : List ℕ) (o : ℕ) (t : T) (u : U) → Of t u → (object : Option Obj)
+          → object_met shape names graph meet seen o t object
+          ≡ object_met shape' names' graph meet' seen o u object
+      object_alike seen o t u of None = refl
+      object_alike seen o t u of (Some (objects.Block tag values)) =
+          let v : Val = vals.Ref o in
+          let frame : Frame = frame_of (shape' u) (names' u) tag values in
+          ap (λ (f : Frame). led_by (First o ∷ Text f.opening ∷ [])
+          (parts_from shape names graph meet f v 0 (or_none (fields_of graph v (shape t))) seen))
+          (same.frames t u of tag values)
+          ∙ ap (led_by (First o ∷ Text frame.opening ∷ []))
+          (parts_alike frame v 0 (or_none (fields_of graph v (shape t)))
+          (or_none (fields_of graph v (shape' u))) seen
+          (needs_alike (fields_of graph v (shape t)) (fields_of graph v (shape' u))
+          (same.fields v t u of)))
+      object_alike seen o t u of (Some object) =
+          ap (λ text. met (First o ∷ Text text ∷ []) seen) (same.texts t u of object)
+
+  module _ (same : SayAlike) where
+    within_alike : (n : ℕ) → MeetAlike (met_within shape names graph n) (met_within shape' names' graph n)
+    within_alike zero seen v t u of = refl
+    within_alike (suc n) seen (vals.Int z) t u of =
+        ap (λ text. met (Text text ∷ []) seen) (same.ints t u of z)
+    within_alike (suc n) seen (vals.Atom tag) t u of = refl
+    within_alike (suc n) seen (vals.Ref o) t u of =
+        ap (λ (m : Met). if has seen o then met (Again o ∷ []) seen else m)
+        (object_alike (met_within shape names graph n) (met_within shape' names' graph n)
+        (within_alike n) same (o ∷ seen) o t u of (slice_get graph o))
+
+    pub shown_alike : (v : Val) (t : T) (u : U) → Of t u
+        → shown_text shape names graph v t ≡ shown_text shape' names' graph v u
+    unfolding shown_text
+    shown_alike v t u of =
+        ap (λ (m : Met). text_of m.pieces) (within_alike (length graph + 1) [] v t u of)

@@ -1,0 +1,5 @@
+pub mod AlikeLemmas
+pub mod TableLemmas
+pub mod FuelLemmas
+pub mod NamedLemmas
+pub mod PartLemmas

@@ -1,0 +1,181 @@
+-- What a table of types says of a value's text is what its types say.
+use Rattle.std.proofs.Common.{ℕ, ◌≡◌, ◌∙◌, ⊎_elim, ℤ, List, [], ◌∷◌, Option, Some, None, refl, ap, sym}
+use Rattle.std.specs.Prelude.{map, slice_get, option_map, option_and_then, unwrap_or}
+use Rattle.om_model.proofs.Options.{Contains-none}
+use Rattle.om_model.specs.declared.value.Val.{Val}
+use Rattle.om_model.specs.declared.value.Obj.{Obj}
+use Rattle.om_model.specs.declared.value.Obj.TheVariants as objects
+use Rattle.om_types.specs.declared.decl.Decl.{Decl}
+use Rattle.om_types.specs.declared.names.Names.{Names}
+use Rattle.om_types.specs.declared.shape.ShapeOf.{ShapeOf}
+use Rattle.om_types.specs.declared.shape.ShapeOf.TheVariants as shapes
+use Rattle.om_types.specs.Ty.{Ty}
+use Rattle.om_types.specs.Equal.{Equal, declared_shapes}
+use Rattle.om_types.specs.Fault.{step, value_at}
+use Rattle.om_types.specs.Fitting.{shaped}
+use Rattle.om_types.specs.Names.{no_names, names_of}
+use Rattle.om_types.specs.Shape.{shape}
+use Rattle.om_types.specs.Table.{with_parts, node_or_none, table_shapes}
+use Rattle.om_equal.proofs.SimulationLemmas.{SamePlace, place_same}
+use Rattle.om_equal.proofs.TableLemmas.{slice_get-mapped, mapped_some, fields_same, table_says}
+use Rattle.om_type_table.specs.declared.table.TypeTable.{TypeTable}
+use Rattle.om_type_table.specs.Made.{types_of, table_of, IsTypeTable}
+use Rattle.om_leaves.specs.Frames.{Frame, frame_of, doubles_frame, int_text, object_text, row_text}
+use Rattle.om_leaves.specs.Leaves.{float_text}
+use Rattle.om_show.specs.Laws.{SameClass, ShowAlike}
+use Rattle.om_show.specs.Shown.{shown_text, shown_at}
+use Rattle.om_show.specs.Tables.{shape_in, names_in}
+use Rattle.om_show.proofs.AlikeLemmas.{SayAlike, shown_alike}
+
+-- ---- texts of values without parts, and frames, do not look at parts of shapes
+
+module _ {T U : Type 0} (f : T → U) (names : Names) where
+  int_kept : (s : ShapeOf T) (z : ℤ) → int_text (with_parts f s) names z ≡ int_text s names z
+  int_kept (shapes.Below many) z = refl
+  int_kept (shapes.Sum constants blocks) z = refl
+  int_kept (shapes.Poly tags) z = refl
+  int_kept s z = refl
+
+  frame_kept : (s : ShapeOf T) (tag : ℕ) (values : List Val)
+      → frame_of (with_parts f s) names tag values ≡ frame_of s names tag values
+  frame_kept (shapes.Sum constants blocks) tag values = refl
+  frame_kept (shapes.Product mutable ts) tag values = refl
+  frame_kept (shapes.Poly tags) tag values = refl
+  frame_kept s tag values = refl
+
+  doubles_kept : (s : ShapeOf T) → doubles_frame (with_parts f s) names ≡ doubles_frame s names
+  doubles_kept (shapes.FlatFloats mutable n) = refl
+  doubles_kept s = refl
+
+  text_kept : (s : ShapeOf T) (object : Obj)
+      → object_text (with_parts f s) names object ≡ object_text s names object
+  text_kept s (objects.Doubles all) =
+      ap (λ (frame : Frame). row_text frame (map float_text all)) (doubles_kept s)
+  text_kept s object = refl
+
+-- ---- the value at a path does not depend on which types are equal
+
+module _ {T : Type 0} (shape : T → ShapeOf T) (Equal Other : T → T → Type 0) (graph : List Obj) where
+  along_any : (path : List ℕ) (next : Option (Val × T))
+      → ((v : Val) (t : T) → value_at (shaped shape Equal) graph v t path ≡ value_at (shaped shape Other) graph v t path)
+      → option_and_then (λ (place : Val × T). value_at (shaped shape Equal) graph place.0 place.1 path) next
+      ≡ option_and_then (λ (place : Val × T). value_at (shaped shape Other) graph place.0 place.1 path) next
+  along_any path None same = refl
+  along_any path (Some place) same = same place.0 place.1
+
+  any_equality : (path : List ℕ) (v : Val) (t : T)
+      → value_at (shaped shape Equal) graph v t path ≡ value_at (shaped shape Other) graph v t path
+  any_equality [] v t = refl
+  any_equality (i ∷ path) v t =
+      along_any path (step (shaped shape Equal) graph v t i) (any_equality path)
+
+-- ---- tables
+
+module _ (decls : List Decl) (t : Ty) (table : TypeTable) (is : IsTypeTable decls t table) where
+  abbrev pub Is : ℕ → Ty → Type 0
+  Is i u = slice_get (types_of table) i ≡ Some u
+
+  -- the shape at a number is the type's, but for numbers in the place of types
+  shape_is : (i : ℕ) (u : Ty) → Is i u
+      → with_parts (slice_get (types_of table)) (shape_in table i) ≡ with_parts Some (shape decls u)
+  shape_is i u at =
+      let found = mapped_some (with_parts (slice_get (types_of table))) (slice_get table.nodes i)
+      (with_parts Some (shape decls u))
+      (sym (slice_get-mapped (with_parts (slice_get (types_of table))) table.nodes i)
+      ∙ ap (λ all. slice_get all i) is.made.nodes
+      ∙ slice_get-mapped (λ u. with_parts Some (shape decls u)) (types_of table) i
+      ∙ ap (option_map (λ u. with_parts Some (shape decls u))) at) in
+      ap (λ node. with_parts (slice_get (types_of table)) (node_or_none node)) found.1 ∙ found.2
+
+  names_are : (i : ℕ) (u : Ty) → Is i u → names_in table i ≡ names_of decls u
+  names_are i u at =
+      ap (λ all. unwrap_or (slice_get all i) no_names) is.named
+      ∙ ap (λ found. unwrap_or found no_names) (slice_get-mapped (names_of decls) (types_of table) i)
+      ∙ ap (λ found. unwrap_or (option_map (names_of decls) found) no_names) at
+
+  module _ (graph : List Obj) where
+    ints : (i : ℕ) (u : Ty) → Is i u → (z : ℤ)
+        → int_text (shape_in table i) (names_in table i) z ≡ int_text (shape decls u) (names_of decls u) z
+    ints i u at z =
+        ap (λ names. int_text (shape_in table i) names z) (names_are i u at)
+        ∙ sym (int_kept (slice_get (types_of table)) (names_of decls u) (shape_in table i) z)
+        ∙ ap (λ s. int_text s (names_of decls u) z) (shape_is i u at)
+        ∙ int_kept Some (names_of decls u) (shape decls u) z
+
+    frames : (i : ℕ) (u : Ty) → Is i u → (tag : ℕ) (values : List Val)
+        → frame_of (shape_in table i) (names_in table i) tag values
+        ≡ frame_of (shape decls u) (names_of decls u) tag values
+    frames i u at tag values =
+        ap (λ names. frame_of (shape_in table i) names tag values) (names_are i u at)
+        ∙ sym (frame_kept (slice_get (types_of table)) (names_of decls u) (shape_in table i) tag values)
+        ∙ ap (λ s. frame_of s (names_of decls u) tag values) (shape_is i u at)
+        ∙ frame_kept Some (names_of decls u) (shape decls u) tag values
+
+    texts : (i : ℕ) (u : Ty) → Is i u → (object : Obj)
+        → object_text (shape_in table i) (names_in table i) object
+        ≡ object_text (shape decls u) (names_of decls u) object
+    texts i u at object =
+        ap (λ names. object_text (shape_in table i) names object) (names_are i u at)
+        ∙ sym (text_kept (slice_get (types_of table)) (names_of decls u) (shape_in table i) object)
+        ∙ ap (λ s. object_text s (names_of decls u) object) (shape_is i u at)
+        ∙ text_kept Some (names_of decls u) (shape decls u) object
+
+    alike : SayAlike (shape_in table) (names_in table) (shape decls) (names_of decls) Is graph
+    alike = record {
+      ints = ints;
+      frames = frames;
+      texts = texts;
+      fields = λ v i u at. fields_same decls (types_of table) (table_of table) is.made graph v i u at;
+    }
+
+    pub shown_same : (v : Val) (i : ℕ) (u : Ty) → Is i u
+        → shown_text (shape_in table) (names_in table) graph v i ≡ shown_text (shape decls) (names_of decls) graph v u
+    shown_same v i u at =
+        shown_alike (shape_in table) (names_in table) (shape decls) (names_of decls) Is graph alike v i u at
+
+    abbrev text_at : Val × ℕ → List ℕ
+    text_at place = shown_text (shape_in table) (names_in table) graph place.0 place.1
+
+    abbrev declared_text_at : Val × Ty → List ℕ
+    declared_text_at place = shown_text (shape decls) (names_of decls) graph place.0 place.1
+
+    places_same : (p : Option (Val × ℕ)) (q : Option (Val × Ty))
+        → SamePlace (table_shapes (table_of table)) (declared_shapes decls) Is graph p q
+        → option_map text_at p ≡ option_map declared_text_at q
+    places_same None None places = refl
+    places_same (Some p) (Some q) places =
+        ap Some (ap (λ w. shown_text (shape_in table) (names_in table) graph w p.1) places.0
+        ∙ shown_same q.0 p.1 q.1 places.1)
+    places_same None (Some q) places = absurd places
+    places_same (Some p) None places = absurd places
+
+    -- whichever numbers and types are equal
+    pub part_same : (Same : ℕ → ℕ → Type 0) (Same' : Ty → Ty → Type 0) (v : Val) (i : ℕ) (u : Ty)
+        → Is i u → (path : List ℕ)
+        → shown_at (shape_in table) (names_in table) graph Same v i path
+        ≡ shown_at (shape decls) (names_of decls) graph Same' v u path
+    part_same Same Same' v i u at path =
+        ap (option_map text_at) (any_equality (shape_in table) Same
+        (λ j k. slice_get table.classes j ≡ slice_get table.classes k) graph path v i)
+        ∙ places_same (value_at (table_shapes (table_of table)) graph v i path)
+        (value_at (declared_shapes decls) graph v u path)
+        (place_same (table_shapes (table_of table)) (declared_shapes decls) Is graph
+        (table_says decls (types_of table) (table_of table) is.made graph) path v i u at)
+        ∙ ap (option_map declared_text_at) (any_equality (shape decls) (Equal decls) Same' graph path v u)
+
+  pub show_alike : (i : ℕ) (u : Ty) → Is i u → ShowAlike decls table i u
+  show_alike i u at = record {
+    whole = λ graph v. shown_same graph v i u at;
+    part = λ graph v path. part_same graph (SameClass table) (Equal decls) v i u at path;
+    plain_part = λ graph v path. part_same graph ◌≡◌ ◌≡◌ v i u at path;
+  }
+
+  -- the type that was asked for has the number 0
+  root_is : Is 0 t
+  root_is = ⊎_elim
+      (λ seen. absurd (Contains-none t seen.0))
+      (λ new. ap (λ all. slice_get all 0) new.2)
+      is.reached.in_order
+
+  pub root_alike : ShowAlike decls table 0 t
+  root_alike = show_alike 0 t root_is

@@ -1,0 +1,75 @@
+-- What a table of types says of a value's text is what its types say, and texts are whole.
+use Rattle.std.specs.Prelude.{ℕ, ◌+◌, ◌≡◌, List, [], length, Some, slice_get, IsSome}
+use Rattle.om_model.specs.declared.value.Val.{Val}
+use Rattle.om_model.specs.declared.value.Obj.{Obj}
+use Rattle.om_types.specs.declared.decl.Decl.{Decl}
+use Rattle.om_types.specs.Accepted.{AreWellFormed, IsSoundType}
+use Rattle.om_types.specs.Equal.{Equal, declared_shapes}
+use Rattle.om_types.specs.Fault.{value_at}
+use Rattle.om_types.specs.Fitting.{fields_of}
+use Rattle.om_types.specs.Names.{names_of}
+use Rattle.om_types.specs.Reached.{IsReached}
+use Rattle.om_types.specs.Shape.{shape}
+use Rattle.om_types.specs.Ty.{Ty}
+use Rattle.om_types.specs.Typing.{HasType}
+use Rattle.om_type_table.specs.declared.table.TypeTable.{TypeTable}
+use Rattle.om_type_table.specs.Made.{types_of, IsTypeTable}
+use Rattle.om_show.specs.Named.{HasItsNames}
+use Rattle.om_show.specs.Shown.{met_within, shown_text, shown_at}
+use Rattle.om_show.specs.Tables.{shape_in, names_in}
+
+-- numbers of one class are equal
+abbrev pub SameClass : TypeTable → ℕ → ℕ → Type 0
+SameClass table i j = slice_get table.classes i ≡ slice_get table.classes j
+
+-- A value has one text at a number and at its type, and so has the part at each path. Which types are equal does not
+-- matter: it is said for those of one class, and for those that are the same.
+pub record ShowAlike (decls : List Decl) (table : TypeTable) (i : ℕ) (t : Ty) : Type 0 where
+  pub whole : (graph : List Obj) (v : Val)
+      → shown_text (shape_in table) (names_in table) graph v i
+      ≡ shown_text (shape decls) (names_of decls) graph v t
+  pub part : (graph : List Obj) (v : Val) (path : List ℕ)
+      → shown_at (shape_in table) (names_in table) graph (SameClass table) v i path
+      ≡ shown_at (shape decls) (names_of decls) graph (Equal decls) v t path
+  pub plain_part : (graph : List Obj) (v : Val) (path : List ℕ)
+      → shown_at (shape_in table) (names_in table) graph ◌≡◌ v i path
+      ≡ shown_at (shape decls) (names_of decls) graph ◌≡◌ v t path
+
+-- so it is at every number of a table
+abbrev pub TablesShowAlike : Type 0
+TablesShowAlike =
+    (decls : List Decl) (t : Ty) (table : TypeTable) → IsTypeTable decls t table
+    → (i : ℕ) (u : Ty) → slice_get (types_of table) i ≡ Some u → ShowAlike decls table i u
+
+-- and at the number 0, which is that of the type that was asked for
+abbrev pub RootsShowAlike : Type 0
+RootsShowAlike =
+    (decls : List Decl) (t : Ty) (table : TypeTable) → IsTypeTable decls t table → ShowAlike decls table 0 t
+
+-- where more values may be one inside the other than there are objects, and one, the same pieces are met: nothing is cut off
+abbrev pub MoreIsTheSame : Type 0
+MoreIsTheSame =
+    (decls : List Decl) (graph : List Obj) (v : Val) (t : Ty) (more : ℕ)
+    → met_within (shape decls) (names_of decls) graph (length graph + 1 + more) [] v t
+    ≡ met_within (shape decls) (names_of decls) graph (length graph + 1) [] v t
+
+-- the same at a number of a table
+abbrev pub MoreIsTheSameByNumbers : Type 0
+MoreIsTheSameByNumbers =
+    (table : TypeTable) (graph : List Obj) (v : Val) (i : ℕ) (more : ℕ)
+    → met_within (shape_in table) (names_in table) graph (length graph + 1 + more) [] v i
+    ≡ met_within (shape_in table) (names_in table) graph (length graph + 1) [] v i
+
+-- where a value fits a type, the type has the names that its text wants
+abbrev pub NoNameIsMissing : Type 0
+NoNameIsMissing =
+    (decls : List Decl) (graph : List Obj) (v : Val) (t : Ty) → IsSome (fields_of graph v (shape decls t))
+    → HasItsNames (shape decls t) (names_of decls t) graph v
+
+-- so where a value has its type, the names are there at each of its parts
+abbrev pub NoNameIsMissingInParts : Type 0
+NoNameIsMissingInParts =
+    (decls : List Decl) (t : Ty) (types : List Ty) → AreWellFormed decls → IsSoundType decls t → IsReached decls t types
+    → (graph : List Obj) (v : Val) → HasType (declared_shapes decls) graph v t
+    → (path : List ℕ) (w : Val) (u : Ty) → value_at (declared_shapes decls) graph v t path ≡ Some (w, u)
+    → HasItsNames (shape decls u) (names_of decls u) graph w

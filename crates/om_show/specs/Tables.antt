@@ -1,0 +1,13 @@
+-- The shapes and the names that a table of types has by its numbers. A number that is not in the table has no values.
+use Rattle.std.specs.Prelude.{ℕ, slice_get, unwrap_or}
+use Rattle.om_types.specs.declared.names.Names.{Names}
+use Rattle.om_types.specs.declared.shape.ShapeOf.{ShapeOf}
+use Rattle.om_types.specs.Names.{no_names}
+use Rattle.om_types.specs.Table.{node_or_none}
+use Rattle.om_type_table.specs.declared.table.TypeTable.{TypeTable}
+
+abbrev pub shape_in : TypeTable → ℕ → ShapeOf ℕ
+shape_in table i = node_or_none (slice_get table.nodes i)
+
+abbrev pub names_in : TypeTable → ℕ → Names
+names_in table i = unwrap_or (slice_get table.names i) no_names
