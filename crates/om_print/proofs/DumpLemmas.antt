@@ -1,23 +1,21 @@
--- An object's text by what kind it is.
-use Rattle.std.proofs.Common.{ℕ, ◌≡◌, ◌++◌, sym, ap, subst}
-use Rattle.std.specs.Prelude.{codes}
-use Rattle.std.proofs.lemmas.List.{append-nil}
-use Rattle.om_model.specs.declared.code.Custom.TheVariants as customs
+-- Lines of objects, one more at a time.
+use Rattle.std.proofs.Common.{ℕ, zero, suc, ◌≡◌, ◌+◌, ◌<◌, ◌∙◌, List, [], ◌∷◌, ◌++◌, length, take, sym, ap, arith, append_assoc, append-nil}
 use Rattle.om_model.specs.declared.value.Obj.{Obj}
-use Rattle.om_model.specs.declared.value.Obj.TheVariants as objects
-use Rattle.om_heap.specs.declared.kind.Kind.{Kind}
-use Rattle.om_heap.specs.declared.kind.Kind.TheVariants as kinds
-use Rattle.om_heap.specs.Heap.{IsOfKind}
-use Rattle.om_print.specs.Dumped.{spaced_float, object_text, text_of_kind}
+use Rattle.om_heap.specs.Heap.{object_at}
+use Rattle.om_leaves.specs.Dumped.{object_line}
+use Rattle.om_show.specs.Dumped.{lines_from}
 
-one_double : (bits : ℕ) → text_of_kind kinds.Double (objects.Double bits) ≡ object_text (objects.Double bits)
-one_double bits = ap (λ rest. codes " float" ++ rest) (append-nil (spaced_float bits))
+lines_after : (k i n : ℕ) (g : List Obj) → n ≡ k + i → i < length g → lines_from k (take (suc i) g) ≡ lines_from k (take i g) ++ object_line n (object_at g i)
+lines_after k i n [] is less = absurd (omega arith)
+lines_after k zero n (object ∷ g) is less = let e : n ≡ k = omega arith in rw e (append-nil (object_line k object))
+lines_after k (suc i) n (object ∷ g) is less =
+    ap (λ rest. object_line k object ++ rest) (lines_after (suc k) i n g (omega arith) (omega arith))
+    ∙ sym (append_assoc (object_line k object) (lines_from (suc k) (take i g)) (object_line n (object_at g i)))
 
-pub text_by_kind : (kind : Kind) (object : Obj) → IsOfKind kind object → text_of_kind kind object ≡ object_text object
-text_by_kind (kinds.Block tag size) object is = sym (ap object_text is.0)
-text_by_kind (kinds.Bytes len) object is = sym (ap object_text is.0)
-text_by_kind kinds.Double object is = subst (λ x. text_of_kind kinds.Double x ≡ object_text x) (sym is) (one_double _)
-text_by_kind (kinds.Doubles len) object is = sym (ap object_text is.0)
-text_by_kind (kinds.Custom (customs.I32 z)) object is = sym (ap object_text is)
-text_by_kind (kinds.Custom (customs.I64 z)) object is = sym (ap object_text is)
-text_by_kind (kinds.Custom (customs.Native z)) object is = sym (ap object_text is)
+pub lines_more : (i : ℕ) (g : List Obj) → i < length g → lines_from 0 (take (i + 1) g) ≡ lines_from 0 (take i g) ++ object_line i (object_at g i)
+lines_more i g less = let e : i + 1 ≡ suc i = omega arith in rw e (lines_after 0 i i g (omega arith) less)
+
+pub line_put : (before root lines line later old new : List ℕ) → new ≡ old ++ line → old ≡ before ++ (root ++ lines) → later ≡ lines ++ line → new ≡ before ++ (root ++ later)
+line_put before root lines line later old new put were is =
+    put ∙ ap (λ x. x ++ line) were ∙ append_assoc before (root ++ lines) line ∙ ap (λ x. before ++ x) (append_assoc root lines line)
+    ∙ ap (λ x. before ++ (root ++ x)) (sym is)

@@ -1,2 +1,7 @@
 pub mod DumpLemmas
-pub mod ReadBackLemmas
+pub mod LabelLemmas
+pub mod LeftLemmas
+pub mod MarkLemmas
+pub mod ShownLemmas
+pub mod TypedLemmas
+pub mod WalkLemmas

@@ -1,3 +1,4 @@
-pub mod Dumped
-pub mod Leaves
-pub mod ReadBack
+pub mod Labels
+pub mod Put
+pub mod Typed
+pub mod Walking

@@ -1,16 +1,13 @@
-//! Values as text: those that have no parts, and the lines of a graph as it is.
+//! Puts texts: of a graph as it is, and of a value at a type, with labels for the objects that are met again.
 #![tactic(auto)]
 
-mod bytes;
-mod dump;
-mod escape;
-pub mod laws;
-mod leaves;
+mod block;
+mod dumped;
+mod labels;
+mod shown;
+mod sink;
+mod walk;
 
-pub use bytes::put;
-pub use dump::{put_object_line, put_root_line};
-pub use escape::{put_char, put_escaped, put_string};
-pub use leaves::{put_below, put_float, put_int, put_int32, put_int64, put_native};
-
-#[cfg(test)]
-mod tests;
+pub use dumped::put_dump;
+pub use shown::put_shown_at;
+pub use sink::{dump, show, show_at};

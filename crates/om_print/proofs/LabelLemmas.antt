@@ -1,0 +1,170 @@
+-- Labels: which objects have one, and their numbers.
+use Rattle.std.proofs.Common.{ℕ, suc, ◌≡◌, ◌+◌, ◌<◌, ◌≤◌, ◌==◌, ◌∙◌, ◌⊎◌, ⊎_elim, inl, inr, Bool, true, false, cond, List, [], ◌∷◌, ◌++◌, length, drop, get_or, refl, sym, ap, subst, arith, append-nil}
+use Rattle.std.specs.Prelude.{◌||◌, filter, codes}
+use Rattle.std.proofs.lemmas.Bool.Decides.{eqb_tells}
+use Rattle.std.proofs.lemmas.List.{length-append, length-set}
+use Rattle.std.proofs.lemmas.List.Folds.{list_any-append}
+use Rattle.om_model.specs.declared.value.Obj.{Obj}
+use Rattle.om_type_table.specs.declared.table.TypeTable.{TypeTable}
+use Rattle.om_show.specs.Pieces.{Piece, Text, First, Again, has, firsts, agains, labelled, number_in, label_text, piece_text}
+use Rattle.om_print.specs.declared.walk.Step.{Step}
+use Rattle.om_print.specs.declared.walk.Step.TheVariants as steps
+use Rattle.om_print.specs.declared.walk.Walk.{Walk}
+use Rattle.om_print.specs.Labels.{agains_of, marks_after, IsMarkable}
+use Rattle.om_print.specs.Walking.{pieces_left, step_pieces, IsStep, IsWalk, Goes}
+use Rattle.om_print.proofs.MarkLemmas.{mark_set}
+
+-- ---- numbers
+
+-- an object has a label exactly where its number is one
+pub label_cases : (objects : List ℕ) (o : ℕ) → ((has objects o ≡ true) × (number_in objects o < length objects)) ⊎ ((has objects o ≡ false) × (length objects ≤ number_in objects o))
+label_cases [] o = inr (refl, omega arith)
+label_cases (x ∷ objects) o = ⊎_elim
+    (λ same. inl (ap (λ b. b || has objects o) same.0, subst (λ n. n < suc (length objects)) (sym (ap (λ b. cond b 0 (suc (number_in objects o))) same.0)) (omega arith)))
+    (λ other.
+    let is : number_in (x ∷ objects) o ≡ suc (number_in objects o) = ap (λ b. cond b 0 (suc (number_in objects o))) other.0 in
+    ⊎_elim
+    (λ some. inl (ap (λ b. b || has objects o) other.0 ∙ some.0, omega (arith, is, some.1)))
+    (λ none. inr (ap (λ b. b || has objects o) other.0 ∙ none.0, omega (arith, is, none.1)))
+    (label_cases objects o))
+    (eqb_tells x o)
+
+-- the numbers of the objects from number k on, counted from k
+abbrev pub AreNumbersFrom : ℕ → List ℕ → List ℕ → Type 0
+AreNumbersFrom k objects numbers = (o : ℕ) → o < length numbers → get_or numbers o 0 ≡ k + number_in (drop k objects) o
+
+pub no_label : (objects : List ℕ) (o number : ℕ) → number ≡ number_in objects o → length objects ≤ number → piece_text objects (First o) ≡ []
+no_label objects o number is past = ⊎_elim
+    (λ some. absurd (omega (arith, is, some.1)))
+    (λ none. ap (λ b. cond b (label_text objects o ++ codes "=") []) none.0)
+    (label_cases objects o)
+
+pub some_label : (objects : List ℕ) (o number : ℕ) → number ≡ number_in objects o → number < length objects → piece_text objects (First o) ≡ label_text objects o ++ codes "="
+some_label objects o number is less = ⊎_elim
+    (λ some. ap (λ b. cond b (label_text objects o ++ codes "=") []) some.0)
+    (λ none. absurd (omega (arith, is, none.1)))
+    (label_cases objects o)
+
+-- ---- pieces one after the other
+
+agains-append : (ps qs : List Piece) → agains (ps ++ qs) ≡ agains ps ++ agains qs
+agains-append [] qs = refl
+agains-append (Text bytes ∷ ps) qs = agains-append ps qs
+agains-append (First o ∷ ps) qs = agains-append ps qs
+agains-append (Again o ∷ ps) qs = ap (λ os. o ∷ os) (agains-append ps qs)
+
+firsts-append : (ps qs : List Piece) → firsts (ps ++ qs) ≡ firsts ps ++ firsts qs
+firsts-append [] qs = refl
+firsts-append (Text bytes ∷ ps) qs = firsts-append ps qs
+firsts-append (First o ∷ ps) qs = ap (λ os. o ∷ os) (firsts-append ps qs)
+firsts-append (Again o ∷ ps) qs = firsts-append ps qs
+
+or_turns : (a b c : Bool) → (a || (b || c)) ≡ ((b || a) || c)
+or_turns true true c = refl
+or_turns true false c = refl
+or_turns false true c = refl
+or_turns false false c = refl
+
+pub filter_same : (p q : ℕ → Bool) → ((x : ℕ) → p x ≡ q x) → (xs : List ℕ) → filter p xs ≡ filter q xs
+filter_same p q same [] = refl
+filter_same p q same (x ∷ xs) =
+    ap (λ b. cond b (x ∷ filter p xs) (filter p xs)) (same x) ∙ ap (λ ys. cond (q x) (x ∷ ys) ys) (filter_same p q same xs)
+
+append_associative : {A : Type 0} (xs ys zs : List A) → (xs ++ ys) ++ zs ≡ xs ++ (ys ++ zs)
+append_associative [] ys zs = refl
+append_associative (x ∷ xs) ys zs = ap (λ vs. x ∷ vs) (append_associative xs ys zs)
+
+module _ (table : TypeTable) (graph : List Obj) where
+  -- ---- steps
+
+  pub some_piece : (step : Step) → 1 ≤ length (step_pieces table graph step)
+  some_piece (steps.Integer z t) = omega arith
+  some_piece steps.Empty = omega arith
+  some_piece (steps.Again o) = omega arith
+  some_piece (steps.Leaf o t) = omega arith
+  some_piece (steps.Opening o frame) = omega arith
+  some_piece (steps.Before frame i) = omega arith
+  some_piece (steps.Closing frame) = omega arith
+
+  pub fewer_left : (left : List Piece) (order : List ℕ) (step : Step) (new : Walk) → Goes table graph left order step new → length (pieces_left table graph new) < length left
+  fewer_left left order step new goes =
+      omega (arith, ap length goes.pieces, length-append (step_pieces table graph step) (pieces_left table graph new), some_piece step)
+
+  pub markable : (n : ℕ) (step : Step) → n ≡ length graph → IsStep table graph step → IsMarkable n step
+  markable n (steps.Integer z t) many is = tt
+  markable n steps.Empty many is = tt
+  markable n (steps.Again o) many is = omega (arith, many, is)
+  markable n (steps.Leaf o t) many is = tt
+  markable n (steps.Opening o frame) many is = tt
+  markable n (steps.Before frame i) many is = tt
+  markable n (steps.Closing frame) many is = tt
+
+  step_agains : (step : Step) → agains (step_pieces table graph step) ≡ agains_of step
+  step_agains (steps.Integer z t) = refl
+  step_agains steps.Empty = refl
+  step_agains (steps.Again o) = refl
+  step_agains (steps.Leaf o t) = refl
+  step_agains (steps.Opening o frame) = refl
+  step_agains (steps.Before frame i) = refl
+  step_agains (steps.Closing frame) = refl
+
+  marks_more : (step : Step) (marks : List Bool) (x : ℕ) → IsMarkable (length marks) step → get_or (marks_after step marks) x false ≡ (has (agains_of step) x || get_or marks x false)
+  marks_more (steps.Integer z t) marks x inside = refl
+  marks_more steps.Empty marks x inside = refl
+  marks_more (steps.Again o) marks x inside = mark_set marks o x inside ∙ ap (λ b. b || get_or marks x false) (one (o == x)) where
+    one : (b : Bool) → b ≡ (b || false)
+    one true = refl
+    one false = refl
+  marks_more (steps.Leaf o t) marks x inside = refl
+  marks_more (steps.Opening o frame) marks x inside = refl
+  marks_more (steps.Before frame i) marks x inside = refl
+  marks_more (steps.Closing frame) marks x inside = refl
+
+  marks_length : (step : Step) (marks : List Bool) → length (marks_after step marks) ≡ length marks
+  marks_length (steps.Integer z t) marks = refl
+  marks_length steps.Empty marks = refl
+  marks_length (steps.Again o) marks = length-set marks o true
+  marks_length (steps.Leaf o t) marks = refl
+  marks_length (steps.Opening o frame) marks = refl
+  marks_length (steps.Before frame i) marks = refl
+  marks_length (steps.Closing frame) marks = refl
+
+  -- ---- which objects are met again
+
+  -- marks and meetings so far, and those in the pieces that are left, are those in all pieces
+  pub record AreCounted (all : List Piece) (walk : Walk) (again : List Bool) : Type 0 where
+    pub is_walk : IsWalk table graph walk
+    pub many : length again ≡ length graph
+    pub met_again : (x : ℕ) → has (agains all) x ≡ (get_or again x false || has (agains (pieces_left table graph walk)) x)
+    pub met_first : firsts all ≡ walk.order.items ++ firsts (pieces_left table graph walk)
+
+  pub counted_more : (all : List Piece) (walk new : Walk) (again : List Bool) (step : Step) → AreCounted all walk again → Goes table graph (pieces_left table graph walk) walk.order.items step new
+      → AreCounted all new (marks_after step again)
+  counted_more all walk new again step are goes =
+      let now = step_pieces table graph step in
+      let later = pieces_left table graph new in
+      let inside = markable (length again) step are.many goes.valid in record {
+        is_walk = goes.walk;
+        many = marks_length step again ∙ are.many;
+        met_again = λ x.
+            are.met_again x
+            ∙ ap (λ ps. get_or again x false || has (agains ps) x) goes.pieces
+            ∙ ap (λ os. get_or again x false || has os x) (agains-append now later ∙ ap (λ os. os ++ agains later) (step_agains step))
+            ∙ ap (λ b. get_or again x false || b) (list_any-append (λ other. other == x) (agains_of step) (agains later))
+            ∙ or_turns (get_or again x false) (has (agains_of step) x) (has (agains later) x)
+            ∙ ap (λ b. b || has (agains later) x) (sym (marks_more step again x inside));
+        met_first =
+            are.met_first ∙ ap (λ ps. walk.order.items ++ firsts ps) goes.pieces ∙ ap (λ os. walk.order.items ++ os) (firsts-append now later)
+            ∙ sym (append_associative walk.order.items (firsts now) (firsts later)) ∙ ap (λ os. os ++ firsts later) (sym goes.order);
+      }
+
+  -- at the end they are those of the pieces with labels
+  pub counted_all : (all : List Piece) (walk : Walk) (again : List Bool) (order : List ℕ) → AreCounted all walk again → pieces_left table graph walk ≡ [] → order ≡ walk.order.items
+      → filter (λ o. get_or again o false) order ≡ labelled all
+  counted_all all walk again order are none is =
+      let first : firsts all ≡ order = are.met_first ∙ ap (λ ps. walk.order.items ++ firsts ps) none ∙ append-nil walk.order.items ∙ sym is in
+      filter_same (λ o. get_or again o false) (has (agains all)) (λ x. or_none (get_or again x false) ∙ sym (are.met_again x ∙ ap (λ ps. get_or again x false || has (agains ps) x) none)) order
+      ∙ ap (filter (has (agains all))) (sym first) where
+        or_none : (b : Bool) → b ≡ (b || false)
+        or_none true = refl
+        or_none false = refl

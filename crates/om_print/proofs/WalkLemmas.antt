@@ -1,0 +1,340 @@
+-- One step of a walk.
+use Rattle.std.proofs.Common.{ℕ, suc, ◌≡◌, ◌+◌, ◌-◌, ◌<◌, ◌≤◌, ◌∙◌, true, false, cond, List, [], ◌∷◌, ◌++◌, length, drop, reverse, get_or, set, replicate, refl, sym, ap, subst, arith, append-nil, Some, None, ℤ, pos, length-set}
+use Rattle.std.specs.Prelude.{All, Contains, slice_get, codes}
+use Rattle.std.proofs.lemmas.List.{length-append, length-replicate, length-map, drop_all}
+use Rattle.std.proofs.lemmas.List.Elements.{All-nil, All-push, All-pop, All-contains}
+use Rattle.std.proofs.lemmas.Option.{slice_get-get_or}
+use Rattle.om_model.specs.declared.value.Val.{Val}
+use Rattle.om_model.specs.declared.value.Val.TheVariants as vals
+use Rattle.om_model.specs.declared.value.Obj.{Obj}
+use Rattle.om_model.specs.declared.value.Obj.TheVariants as objects
+use Rattle.om_model.specs.Graph.{IsValue, IsObject, IsGraph}
+use Rattle.om_model.proofs.Options.{slice_get-Contains}
+use Rattle.om_types.specs.Fitting.{or_none, fields_of as needed_of}
+use Rattle.om_type_table.specs.declared.table.TypeTable.{TypeTable}
+use Rattle.om_type_table.specs.Made.{table_of, IsLawful}
+use Rattle.om_heap.specs.Heap.{object_at, fields_of, field_at, word_of, IsFieldWord}
+use Rattle.om_heap.proofs.ReadLemmas.{field_word-at, word_of-inj}
+use Rattle.om_fits.specs.Needs.{needs_in}
+use Rattle.om_leaves.specs.Frames.{Frame, frame_of, before_part, int_text, object_text}
+use Rattle.om_leaves.specs.FrameView.{frame_in}
+use Rattle.om_show.specs.Pieces.{Piece, Text, First, Again, has, firsts}
+use Rattle.om_show.specs.Shown.{Met, met, led_by, object_met, parts_from}
+use Rattle.om_show.specs.Tables.{shape_in, names_in}
+use Rattle.om_print.specs.Typed.{IsTypedAt}
+use Rattle.om_print.specs.declared.block.OpenBlock.{OpenBlock}
+use Rattle.om_print.specs.declared.walk.Step.{Step}
+use Rattle.om_print.specs.declared.walk.Step.TheVariants as steps
+use Rattle.om_print.specs.declared.walk.Walk.{Walk}
+use Rattle.om_print.specs.Walking.{how_many, meet, parts_left, left_of, step_pieces, IsStep, IsPart, IsOpen, IsWalk, Goes}
+use Rattle.om_print.proofs.LeftLemmas.{value_left, block_left, closing_left, before_left}
+use Rattle.om_print.proofs.MarkLemmas.{reversed_more, marked_more, how_many_none, how_many_within, how_many_set, no_marks}
+use Rattle.om_print.proofs.TypedLemmas.{integer_fits, there, part_typed}
+
+pub field_word_at : (graph : List Obj) (words : List ℕ) (i : ℕ) → All (IsFieldWord graph) words → i < length words → IsFieldWord graph (get_or words i 0)
+field_word_at graph words i valid inside = All-contains (IsFieldWord graph) words (get_or words i 0) valid (slice_get-Contains words i (get_or words i 0) (slice_get-get_or words i 0 inside))
+
+module _ (table : TypeTable) (graph : List Obj) where
+  -- open blocks are met, and there are no more of those than objects
+  pub few_blocks : (walk : Walk) → IsWalk table graph walk → length walk.stack.items ≤ length graph
+  few_blocks walk is = omega (arith, is.depth, is.counted, is.many, how_many_within walk.marks.items)
+
+  -- the step of a value that opens no block
+  pub value_goes : (walk new : Walk) (v : Val) (t : ℕ) (step : Step) → IsWalk table graph walk → new.stack.items ≡ walk.stack.items → new.value ≡ None
+      → meet table graph (suc (length graph - length walk.stack.items)) (reverse walk.order.items) v t ≡ led_by (step_pieces table graph step) (met [] (reverse new.order.items))
+      → new.order.items ≡ walk.order.items ++ firsts (step_pieces table graph step) → IsStep table graph step → IsWalk table graph new
+      → Goes table graph (left_of table graph walk.stack.items (Some (v, t)) walk.order.items) walk.order.items step new
+  value_goes walk new v t step is blocks none meets order valid is_new = record {
+    pieces = value_left table graph walk.stack.items v t walk.order.items new.order.items (step_pieces table graph step) (few_blocks walk is) meets
+        ∙ ap (λ bs. step_pieces table graph step ++ left_of table graph bs None new.order.items) (sym blocks)
+        ∙ ap (λ value. step_pieces table graph step ++ left_of table graph new.stack.items value new.order.items) (sym none);
+    order = order;
+    valid = valid;
+    walk = is_new;
+  }
+
+  -- ---- values that are no objects, and objects that are met again
+
+  pub integer_goes : (walk : Walk) (v : Val) (z : ℤ) (t : ℕ) → v ≡ vals.Int z → IsWalk table graph walk → walk.value ≡ None → IsTypedAt (table_of table) graph v t
+      → Goes table graph (left_of table graph walk.stack.items (Some (v, t)) walk.order.items) walk.order.items (steps.Integer z t) walk
+  integer_goes walk v z t v_is is none typed =
+      let meets : meet table graph (suc (length graph - length walk.stack.items)) (reverse walk.order.items) v t ≡ met (Text (int_text (shape_in table t) (names_in table t) z) ∷ []) (reverse walk.order.items) =
+      ap (λ x. meet table graph (suc (length graph - length walk.stack.items)) (reverse walk.order.items) x t) v_is in
+      value_goes walk walk v t (steps.Integer z t) is refl none meets (sym (append-nil walk.order.items))
+      (typed.number, integer_fits (table_of table) graph z t (subst (λ x. IsTypedAt (table_of table) graph x t) v_is typed)) is
+
+  pub atom_goes : (walk : Walk) (v : Val) (tag t : ℕ) → v ≡ vals.Atom tag → IsWalk table graph walk → walk.value ≡ None
+      → Goes table graph (left_of table graph walk.stack.items (Some (v, t)) walk.order.items) walk.order.items steps.Empty walk
+  atom_goes walk v tag t v_is is none =
+      let meets : meet table graph (suc (length graph - length walk.stack.items)) (reverse walk.order.items) v t ≡ met (Text (codes "[||]") ∷ []) (reverse walk.order.items) =
+      ap (λ x. meet table graph (suc (length graph - length walk.stack.items)) (reverse walk.order.items) x t) v_is in
+      value_goes walk walk v t steps.Empty is refl none meets (sym (append-nil walk.order.items)) tt is
+
+  -- what is met where an object is met first
+  abbrev first_met : ℕ → List ℕ → ℕ → ℕ → Met
+  first_met k seen o t = object_met (shape_in table) (names_in table) graph (meet table graph k) (o ∷ seen) o t (slice_get graph o)
+
+  met_marked : (k : ℕ) (seen : List ℕ) (o t : ℕ) → has seen o ≡ true → meet table graph (suc k) seen (vals.Ref o) t ≡ met (Again o ∷ []) seen
+  met_marked k seen o t marked = ap (λ b. cond b (met (Again o ∷ []) seen) (first_met k seen o t)) marked
+
+  met_unmarked : (k : ℕ) (seen : List ℕ) (o t : ℕ) → has seen o ≡ false → meet table graph (suc k) seen (vals.Ref o) t ≡ first_met k seen o t
+  met_unmarked k seen o t unmarked = ap (λ b. cond b (met (Again o ∷ []) seen) (first_met k seen o t)) unmarked
+
+  pub again_goes : (walk : Walk) (v : Val) (o t : ℕ) → v ≡ vals.Ref o → IsWalk table graph walk → walk.value ≡ None → o < length graph → get_or walk.marks.items o false ≡ true
+      → Goes table graph (left_of table graph walk.stack.items (Some (v, t)) walk.order.items) walk.order.items (steps.Again o) walk
+  again_goes walk v o t v_is is none inside marked =
+      let k = length graph - length walk.stack.items in
+      let seen = reverse walk.order.items in
+      let meets : meet table graph (suc k) seen v t ≡ met (Again o ∷ []) seen =
+      ap (λ x. meet table graph (suc k) seen x t) v_is ∙ met_marked k seen o t (sym (is.marked o) ∙ marked) in
+      value_goes walk walk v t (steps.Again o) is refl none meets (sym (append-nil walk.order.items)) inside is
+
+  -- ---- objects that are met first
+
+  pub record IsMarked (walk new : Walk) (o : ℕ) : Type 0 where
+    pub value : new.value ≡ None
+    pub blocks : new.stack.items ≡ walk.stack.items
+    pub marks : new.marks.items ≡ set walk.marks.items o true
+    pub order : new.order.items ≡ walk.order.items ++ o ∷ []
+
+  pub marked_walk : (walk new : Walk) (o : ℕ) → IsWalk table graph walk → o < length graph → get_or walk.marks.items o false ≡ false → IsMarked walk new o → IsWalk table graph new
+  marked_walk walk new o is inside unmet marked =
+      let there : o < length walk.marks.items = omega (arith, is.many) in
+      let one_more : length (walk.order.items ++ o ∷ []) ≡ suc (length walk.order.items) = omega (arith, length-append walk.order.items (o ∷ [])) in record {
+        is_graph = is.is_graph;
+        value = rw marked.value tt;
+        blocks = subst (All (IsOpen table graph)) (sym marked.blocks) is.blocks;
+        many = ap length marked.marks ∙ length-set walk.marks.items o true ∙ is.many;
+        marked = rw (marked.marks, marked.order) (marked_more walk.marks.items walk.order.items o there is.marked);
+        counted = ap how_many marked.marks ∙ how_many_set walk.marks.items o there unmet ∙ ap suc is.counted ∙ sym (ap length marked.order ∙ one_more);
+        inside = subst (All (λ x. x < length graph)) (sym marked.order) (All-push (λ x. x < length graph) walk.order.items o is.inside inside);
+        depth = omega (arith, is.depth, ap length marked.blocks, ap length marked.order, one_more);
+      }
+
+  leaf_met : (meets : List ℕ → Val → ℕ → Met) (seen : List ℕ) (o t : ℕ) (object : Obj) → ((tag : ℕ) (values : List Val) → object ≡ objects.Block tag values → ⊥)
+      → object_met (shape_in table) (names_in table) graph meets seen o t (Some object) ≡ met (First o ∷ Text (object_text (shape_in table t) (names_in table t) object) ∷ []) seen
+  leaf_met meets seen o t (objects.Block tag values) no_block = absurd (no_block tag values refl)
+  leaf_met meets seen o t (objects.Bytes bytes) no_block = refl
+  leaf_met meets seen o t (objects.Double bits) no_block = refl
+  leaf_met meets seen o t (objects.Doubles all) no_block = refl
+  leaf_met meets seen o t (objects.I32 z) no_block = refl
+  leaf_met meets seen o t (objects.I64 z) no_block = refl
+  leaf_met meets seen o t (objects.Native z) no_block = refl
+
+  object_there : (o : ℕ) → o < length graph → slice_get graph o ≡ Some (object_at graph o)
+  object_there o inside = slice_get-get_or graph o (objects.I32 (pos 0)) inside
+
+  pub leaf_goes : (walk new : Walk) (o t : ℕ) → IsWalk table graph walk → o < length graph → t < length table.nodes → get_or walk.marks.items o false ≡ false → IsMarked walk new o
+      → ((tag : ℕ) (values : List Val) → object_at graph o ≡ objects.Block tag values → ⊥)
+      → Goes table graph (left_of table graph walk.stack.items (Some (vals.Ref o, t)) walk.order.items) walk.order.items (steps.Leaf o t) new
+  leaf_goes walk new o t is inside number unmet marked no_block =
+      let k = length graph - length walk.stack.items in
+      let seen = reverse walk.order.items in
+      let p : List Piece = First o ∷ Text (object_text (shape_in table t) (names_in table t) (object_at graph o)) ∷ [] in
+      let later : reverse new.order.items ≡ o ∷ seen = ap reverse marked.order ∙ reversed_more walk.order.items o in
+      let meets : meet table graph (suc k) seen (vals.Ref o) t ≡ met p (reverse new.order.items) =
+      met_unmarked k seen o t (sym (is.marked o) ∙ unmet)
+      ∙ ap (object_met (shape_in table) (names_in table) graph (meet table graph k) (o ∷ seen) o t) (object_there o inside)
+      ∙ leaf_met (meet table graph k) (o ∷ seen) o t (object_at graph o) no_block
+      ∙ ap (met p) (sym later) in
+      value_goes walk new (vals.Ref o) t (steps.Leaf o t) is marked.blocks marked.value meets marked.order (inside, number) (marked_walk walk new o is inside unmet marked)
+
+  -- the block is the one that opens
+  pub record IsBegun (o t tag : ℕ) (block : OpenBlock) : Type 0 where
+    pub object : block.object ≡ o
+    pub frame : frame_in block.frame ≡ frame_of (shape_in table t) (names_in table t) tag (fields_of (object_at graph o))
+    pub needs : needs_in block.needs ≡ or_none (needed_of graph (vals.Ref o) (shape_in table t))
+    pub next : block.next ≡ 0
+    pub is_open : IsOpen table graph block
+
+  opening_met : (k : ℕ) (seen : List ℕ) (o t tag : ℕ) (block : OpenBlock) → o < length graph → object_at graph o ≡ objects.Block tag (fields_of (object_at graph o)) → IsBegun o t tag block
+      → first_met k seen o t ≡ led_by (First o ∷ Text (frame_in block.frame).opening ∷ []) (parts_left table graph k block (o ∷ seen))
+  opening_met k seen o t tag block inside is begun =
+      let S = shape_in table in
+      let N = names_in table in
+      let frame = frame_of (S t) (N t) tag (fields_of (object_at graph o)) in
+      let needs = or_none (needed_of graph (vals.Ref o) (S t)) in
+      let P = λ (f : Frame) (object next : ℕ) (ns : List (ℕ × ℕ)). led_by (First o ∷ Text f.opening ∷ []) (parts_from S N graph (meet table graph k) f (vals.Ref object) next (drop next ns) (o ∷ seen)) in
+      ap (object_met S N graph (meet table graph k) (o ∷ seen) o t) (object_there o inside ∙ ap Some is)
+      ∙ ap (λ f. P f o 0 needs) (sym begun.frame)
+      ∙ ap (λ x. P (frame_in block.frame) x 0 needs) (sym begun.object)
+      ∙ ap (λ x. P (frame_in block.frame) block.object x needs) (sym begun.next)
+      ∙ ap (P (frame_in block.frame) block.object block.next) (sym begun.needs)
+
+  pub opening_goes : (walk marked new : Walk) (block : OpenBlock) (o t tag : ℕ) → IsWalk table graph walk → o < length graph → get_or walk.marks.items o false ≡ false → IsMarked walk marked o
+      → object_at graph o ≡ objects.Block tag (fields_of (object_at graph o)) → IsBegun o t tag block
+      → new.value ≡ None → new.marks.items ≡ marked.marks.items → new.order.items ≡ marked.order.items → new.stack.items ≡ marked.stack.items ++ block ∷ []
+      → Goes table graph (left_of table graph walk.stack.items (Some (vals.Ref o, t)) walk.order.items) walk.order.items (steps.Opening o block.frame) new
+  opening_goes walk marked new block o t tag is inside unmet is_marked is_block begun value marks order blocks =
+      let k = length graph - length walk.stack.items in
+      let seen = reverse walk.order.items in
+      let p : List Piece = First o ∷ Text (frame_in block.frame).opening ∷ [] in
+      let all : new.order.items ≡ walk.order.items ++ o ∷ [] = order ∙ is_marked.order in
+      let later : reverse new.order.items ≡ o ∷ seen = ap reverse all ∙ reversed_more walk.order.items o in
+      let meets : meet table graph (suc k) seen (vals.Ref o) t ≡ led_by p (parts_left table graph k block (reverse new.order.items)) =
+      met_unmarked k seen o t (sym (is.marked o) ∙ unmet) ∙ opening_met k seen o t tag block inside is_block begun ∙ ap (λ s. led_by p (parts_left table graph k block s)) (sym later) in
+      let m = marked_walk walk marked o is inside unmet is_marked in
+      let deeper : new.stack.items ≡ walk.stack.items ++ block ∷ [] = blocks ∙ ap (λ bs. bs ++ block ∷ []) is_marked.blocks in record {
+        pieces = block_left table graph walk.stack.items block (vals.Ref o) t walk.order.items new.order.items p (few_blocks walk is) meets
+            ∙ ap (λ bs. p ++ left_of table graph bs None new.order.items) (sym deeper)
+            ∙ ap (λ x. p ++ left_of table graph new.stack.items x new.order.items) (sym value);
+        order = all;
+        valid = inside;
+        walk = record {
+          is_graph = is.is_graph;
+          value = rw value tt;
+          blocks = subst (All (IsOpen table graph)) (sym blocks) (All-push (IsOpen table graph) marked.stack.items block m.blocks begun.is_open);
+          many = ap length marks ∙ m.many;
+          marked = rw (marks, order) m.marked;
+          counted = ap how_many marks ∙ m.counted ∙ sym (ap length order);
+          inside = subst (All (λ x. x < length graph)) (sym order) m.inside;
+          depth = omega (arith, is.depth, ap length deeper, length-append walk.stack.items (block ∷ []), ap length all, length-append walk.order.items (o ∷ []));
+        };
+      }
+
+  pub open_parts : (o t : ℕ) (needs : List (ℕ × ℕ)) → IsLawful (table_of table) → IsTypedAt (table_of table) graph (vals.Ref o) t → needs ≡ or_none (needed_of graph (vals.Ref o) (shape_in table t))
+      → (k i u : ℕ) → slice_get needs k ≡ Some (i, u) → IsPart table graph o i u
+  open_parts o t needs lawful typed is k i u at_k =
+      let needed = subst (λ (ns : List (ℕ × ℕ)). Contains ns (i, u)) is (slice_get-Contains needs k (i, u) at_k) in
+      let part = part_typed (table_of table) graph lawful o t i u typed needed in
+      let here = there graph o i part.0 part.1 in record {
+        there = here.inside;
+        field = part.1 ∙ ap Some (sym here.is);
+        typed = subst (λ v. IsTypedAt (table_of table) graph v u) (sym here.is) part.2;
+      }
+
+  -- ---- where no value comes next
+
+  -- a block less
+  pub record IsClosed (walk new : Walk) (block : OpenBlock) : Type 0 where
+    pub value : new.value ≡ None
+    pub blocks : walk.stack.items ≡ new.stack.items ++ block ∷ []
+    pub marks : new.marks.items ≡ walk.marks.items
+    pub order : new.order.items ≡ walk.order.items
+
+  pub block_open : (walk : Walk) (outer : List OpenBlock) (block : OpenBlock) → IsWalk table graph walk → walk.stack.items ≡ outer ++ block ∷ [] → All (IsOpen table graph) outer × IsOpen table graph block
+  block_open walk outer block is blocks = All-pop (IsOpen table graph) walk.stack.items outer (Some block) blocks is.blocks
+
+  one_less : (walk : Walk) (outer : List OpenBlock) (block : OpenBlock) → IsWalk table graph walk → walk.stack.items ≡ outer ++ block ∷ [] → length outer < length graph
+  one_less walk outer block is blocks = omega (arith, few_blocks walk is, ap length blocks, length-append outer (block ∷ []))
+
+  pub closing_goes : (walk new : Walk) (block : OpenBlock) → IsWalk table graph walk → IsClosed walk new block → length (needs_in block.needs) ≤ block.next
+      → Goes table graph (left_of table graph walk.stack.items None walk.order.items) walk.order.items (steps.Closing block.frame) new
+  closing_goes walk new block is closed past =
+      let outer = new.stack.items in
+      let p : List Piece = Text (frame_in block.frame).closing ∷ [] in
+      let less = one_less walk outer block is closed.blocks in record {
+        pieces = ap (λ bs. left_of table graph bs None walk.order.items) closed.blocks
+            ∙ closing_left table graph outer block walk.order.items (omega arith) (drop_all block.next (needs_in block.needs) past)
+            ∙ ap (λ o. p ++ left_of table graph outer None o) (sym closed.order)
+            ∙ ap (λ x. p ++ left_of table graph outer x new.order.items) (sym closed.value);
+        order = closed.order ∙ sym (append-nil walk.order.items);
+        valid = tt;
+        walk = record {
+          is_graph = is.is_graph;
+          value = rw closed.value tt;
+          blocks = (block_open walk outer block is closed.blocks).0;
+          many = ap length closed.marks ∙ is.many;
+          marked = rw (closed.marks, closed.order) is.marked;
+          counted = ap how_many closed.marks ∙ is.counted ∙ sym (ap length closed.order);
+          inside = subst (All (λ x. x < length graph)) (sym closed.order) is.inside;
+          depth = omega (arith, is.depth, ap length closed.blocks, length-append outer (block ∷ []), ap length closed.order);
+        };
+      }
+
+  valid_fields : (n : ℕ) (object : Obj) → IsObject n object → All (IsValue n) (fields_of object)
+  valid_fields n (objects.Block tag values) valid = valid.2
+  valid_fields n (objects.Bytes bytes) valid = All-nil (IsValue n)
+  valid_fields n (objects.Double bits) valid = All-nil (IsValue n)
+  valid_fields n (objects.Doubles all) valid = All-nil (IsValue n)
+  valid_fields n (objects.I32 z) valid = All-nil (IsValue n)
+  valid_fields n (objects.I64 z) valid = All-nil (IsValue n)
+  valid_fields n (objects.Native z) valid = All-nil (IsValue n)
+
+  field_valid : (o i : ℕ) → IsGraph graph → o < length graph → i < length (fields_of (object_at graph o)) → IsValue (length graph) (field_at graph o i)
+  field_valid o i valid inside short =
+      let object : IsObject (length graph) (object_at graph o) = All-contains (IsObject (length graph)) graph (object_at graph o) valid (slice_get-Contains graph o (object_at graph o) (object_there o inside)) in
+      All-contains (IsValue (length graph)) (fields_of (object_at graph o)) (field_at graph o i) (valid_fields (length graph) (object_at graph o) object)
+      (slice_get-Contains (fields_of (object_at graph o)) i (field_at graph o i) (slice_get-get_or (fields_of (object_at graph o)) i (vals.Int (pos 0)) short))
+
+  no_fields_none : (n tag : ℕ) (values : List Val) → IsObject n (objects.Block tag values) → 0 < length values
+  no_fields_none n tag values valid = valid.1
+
+  -- a block has fields
+  pub some_fields : (o tag : ℕ) → IsGraph graph → o < length graph → object_at graph o ≡ objects.Block tag (fields_of (object_at graph o)) → 0 < length (fields_of (object_at graph o))
+  some_fields o tag valid inside is =
+      no_fields_none (length graph) tag (fields_of (object_at graph o))
+      (subst (IsObject (length graph)) is (All-contains (IsObject (length graph)) graph (object_at graph o) valid (slice_get-Contains graph o (object_at graph o) (object_there o inside))))
+
+  -- the value of a field's word is the field
+  pub word_is_field : (block : OpenBlock) (i : ℕ) (v : Val) → IsGraph graph → IsOpen table graph block → i < length (fields_of (object_at graph block.object))
+      → IsValue (length graph) v → get_or block.fields.now i 0 ≡ word_of graph v → v ≡ field_at graph block.object i
+  word_is_field block i v valid is short is_value word =
+      word_of-inj graph v (field_at graph block.object i) valid is_value (field_valid block.object i valid is.inside short)
+      (sym word ∙ ap (λ ws. get_or ws i 0) is.words ∙ field_word-at graph (fields_of (object_at graph block.object)) i (vals.Int (pos 0)) short)
+
+  pub words_many : (block : OpenBlock) → IsOpen table graph block → length block.fields.now ≡ length (fields_of (object_at graph block.object))
+  words_many block is = ap length is.words ∙ length-map (fields_of (object_at graph block.object)) (word_of graph)
+
+  -- the next part of the innermost block comes next
+  pub record IsAdvanced (walk new : Walk) (outer : List OpenBlock) (block next : OpenBlock) (i t : ℕ) (v : Val) : Type 0 where
+    pub value : new.value ≡ Some (v, t)
+    pub blocks : new.stack.items ≡ outer ++ next ∷ []
+    pub marks : new.marks.items ≡ walk.marks.items
+    pub order : new.order.items ≡ walk.order.items
+    pub need : slice_get (needs_in block.needs) block.next ≡ Some (i, t)
+    pub part : v ≡ field_at graph block.object i
+    pub object : next.object ≡ block.object
+    pub fields : next.fields ≡ block.fields
+    pub frame : next.frame ≡ block.frame
+    pub needs : next.needs ≡ block.needs
+    pub number : next.next ≡ block.next + 1
+
+  pub still_open : (block next : OpenBlock) → IsOpen table graph block → next.object ≡ block.object → next.fields ≡ block.fields → next.needs ≡ block.needs → IsOpen table graph next
+  still_open block next is object fields needs = record {
+    inside = rw object is.inside;
+    words = rw (object, fields) is.words;
+    valid = rw fields is.valid;
+    parts = λ k i t at_k. rw object (is.parts k i t (ap (λ n. slice_get (needs_in n) k) (sym needs) ∙ at_k));
+  }
+
+  pub part_goes : (walk new : Walk) (outer : List OpenBlock) (block next : OpenBlock) (i t : ℕ) (v : Val) → IsWalk table graph walk → walk.stack.items ≡ outer ++ block ∷ [] → IsValue (length graph) v
+      → IsAdvanced walk new outer block next i t v
+      → Goes table graph (left_of table graph walk.stack.items None walk.order.items) walk.order.items (steps.Before block.frame block.next) new
+  part_goes walk new outer block next i t v is blocks value advanced =
+      let p : List Piece = Text (before_part (frame_in block.frame) block.next) ∷ [] in
+      let both = block_open walk outer block is blocks in
+      let part = both.1.parts block.next i t advanced.need in record {
+        pieces = ap (λ bs. left_of table graph bs None walk.order.items) blocks
+            ∙ before_left table graph outer block next walk.order.items i t v (one_less walk outer block is blocks) advanced.need (part.field ∙ ap Some (sym advanced.part)) advanced.object advanced.frame advanced.needs advanced.number
+            ∙ ap (λ bs. p ++ left_of table graph bs (Some (v, t)) walk.order.items) (sym advanced.blocks)
+            ∙ ap (λ o. p ++ left_of table graph new.stack.items (Some (v, t)) o) (sym advanced.order)
+            ∙ ap (λ x. p ++ left_of table graph new.stack.items x new.order.items) (sym advanced.value);
+        order = advanced.order ∙ sym (append-nil walk.order.items);
+        valid = tt;
+        walk = record {
+          is_graph = is.is_graph;
+          value = rw advanced.value (value, subst (λ x. IsTypedAt (table_of table) graph x t) (sym advanced.part) part.typed);
+          blocks = subst (All (IsOpen table graph)) (sym advanced.blocks) (All-push (IsOpen table graph) outer next both.0 (still_open block next both.1 advanced.object advanced.fields advanced.needs));
+          many = ap length advanced.marks ∙ is.many;
+          marked = rw (advanced.marks, advanced.order) is.marked;
+          counted = ap how_many advanced.marks ∙ is.counted ∙ sym (ap length advanced.order);
+          inside = subst (All (λ x. x < length graph)) (sym advanced.order) is.inside;
+          depth = omega (arith, is.depth, ap length blocks, length-append outer (block ∷ []), ap length advanced.blocks, length-append outer (next ∷ []), ap length advanced.order);
+        };
+      }
+
+  -- ---- the first step
+
+  pub first_walk : (walk : Walk) (v : Val) (t : ℕ) → walk.value ≡ Some (v, t) → walk.stack.items ≡ [] → walk.marks.items ≡ replicate (length graph) false → walk.order.items ≡ []
+      → IsGraph graph → IsValue (length graph) v → IsTypedAt (table_of table) graph v t → IsWalk table graph walk
+  first_walk walk v t value blocks marks order is_graph is_value typed = record {
+    is_graph = is_graph;
+    value = rw value (is_value, typed);
+    blocks = subst (All (IsOpen table graph)) (sym blocks) (All-nil (IsOpen table graph));
+    many = ap length marks ∙ length-replicate (length graph) false;
+    marked = rw (marks, order) (no_marks (length graph));
+    counted = ap how_many marks ∙ how_many_none (length graph) ∙ sym (ap length order);
+    inside = subst (All (λ x. x < length graph)) (sym order) (All-nil (λ x. x < length graph));
+    depth = omega (arith, ap length blocks, ap length order);
+  }

@@ -1,0 +1,14 @@
+use Rattle.std.proofs.Common.{◌≡◌, ◌++◌, Some, [], length}
+use Rattle.std.specs.List.{flat_map}
+use Rattle.om_show.specs.Pieces.{piece_text}
+use Rattle.om_print.specs.Walking.{left_of, pieces_left, IsWalk}
+use Rattle.om_print.proofs.shown.put_with_labels.Given as goal
+
+abbrev pub invariant-loop-walk : goal.invariant-loop-walk
+invariant-loop-walk l =
+    IsWalk l.table l.heap l.walk
+    × (l.text.items ++ flat_map (piece_text l.labels.objects.items) (pieces_left l.table l.heap l.walk)
+    ≡ l.fn.text.items ++ flat_map (piece_text l.labels.objects.items) (left_of l.table l.heap [] (Some (l.fn.v, l.fn.at)) []))
+
+abbrev pub decreases-loop-walk : goal.decreases-loop-walk
+decreases-loop-walk l = length (pieces_left l.table l.heap l.walk)

@@ -1,0 +1,9 @@
+use Rattle.std.proofs.Common.{◌≡◌, refl, rules, arith, replicate, length, false}
+use Rattle.std.proofs.lemmas.Grind.{common_steps}
+use Rattle.om_print.proofs.WalkLemmas.{first_walk}
+use Rattle.om_print.proofs.walk.Walk.new.Goals as goal
+
+pub returns-clause-walk : goal.returns-clause-walk
+returns-clause-walk c =
+    let marks : c.in_ok-vec.field-0.items ≡ replicate (length c.args.heap.now) false = first_of (search rules, grind (arith, common_steps)) in
+    first_walk c.args.table.now c.args.heap.now _ c.args.v c.args.at refl c.new.ensures.items marks c.new-2.ensures.items c.count.ensures.heap.is_graph c.requires.value c.requires.typed

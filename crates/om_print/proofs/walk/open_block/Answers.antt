@@ -1,0 +1,23 @@
+use Rattle.std.proofs.Common.{◌≡◌, rules, arith}
+use Rattle.std.proofs.lemmas.Grind.{common_steps}
+use Rattle.om_model.specs.declared.value.Val.TheVariants as vals
+use Rattle.om_types.specs.Fitting.{or_none, fields_of}
+use Rattle.om_fits.specs.Needs.{needs_in}
+use Rattle.om_show.specs.Tables.{shape_in}
+use Rattle.om_print.proofs.WalkLemmas.{open_parts, some_fields}
+use Rattle.om_print.proofs.walk.open_block.Goals as goal
+
+pub returns-clause-open : goal.returns-clause-open
+returns-clause-open c =
+    let table = c.args.table.now in
+    let graph = c.args.heap.now in
+    let needs : needs_in c.unwrap_or.result ≡ or_none (fields_of graph (vals.Ref c.args.o) (shape_in table c.args.at)) =
+    first_of (search rules, grind (arith, common_steps)) in record {
+      inside = c.requires.inside;
+      words = c.fields.ensures.words;
+      valid = c.fields.ensures.valid;
+      parts = open_parts table graph c.args.o c.args.at (needs_in c.unwrap_or.result) c.requires.lawful c.requires.typed needs;
+    }
+
+pub fields-requires : goal.fields-requires
+fields-requires c = some_fields c.args.table.now c.args.heap.now c.args.o c.args.tag c.requires.graph c.requires.inside c.requires.block

@@ -1,0 +1,13 @@
+-- Values that are typed at a number of a table of types.
+use Rattle.std.specs.Prelude.{ℕ, ◌<◌, List, length}
+use Rattle.om_model.specs.declared.value.Val.{Val}
+use Rattle.om_model.specs.declared.value.Obj.{Obj}
+use Rattle.om_types.specs.Table.{Table, table_shapes}
+use Rattle.om_types.specs.Typing.{IsHeld, IsTyping}
+
+-- the value fits the type, and some typing lists it
+pub record IsTypedAt (table : Table) (graph : List Obj) (v : Val) (at : ℕ) : Type 0 where
+  pub number : at < length table.nodes
+  pub pairs : List (ℕ × ℕ)
+  pub typing : IsTyping (table_shapes table) graph pairs
+  pub held : IsHeld (table_shapes table) graph pairs v at

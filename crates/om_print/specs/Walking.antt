@@ -1,0 +1,122 @@
+-- Where a walk is among the pieces of a value.
+use Rattle.std.specs.Prelude.{ℕ, suc, zero, ◌+◌, ◌-◌, ◌<◌, ◌≤◌, ◌≡◌, List, [], ◌∷◌, ◌++◌, length, drop, reverse, map, All, Option, None, Some, IfSome, IsTrue, slice_get, slice_index_or, Bool, true, false, codes}
+use Rattle.om_model.specs.declared.value.Val.{Val}
+use Rattle.om_model.specs.declared.value.Val.TheVariants as vals
+use Rattle.om_model.specs.declared.value.Obj.{Obj}
+use Rattle.om_model.specs.Graph.{IsValue, IsGraph}
+use Rattle.om_types.specs.Fitting.{fits_int}
+use Rattle.om_types.specs.Typing.{field_at as typed_field}
+use Rattle.om_type_table.specs.declared.table.TypeTable.{TypeTable}
+use Rattle.om_type_table.specs.Made.{table_of}
+use Rattle.om_heap.specs.Heap.{object_at, fields_of, field_at, word_of, IsFieldWord}
+use Rattle.om_fits.specs.Needs.{needs_in}
+use Rattle.om_leaves.specs.Frames.{before_part, int_text, object_text}
+use Rattle.om_leaves.specs.FrameView.{frame_in}
+use Rattle.om_show.specs.Pieces.{Piece, Text, First, Again, has, firsts}
+use Rattle.om_show.specs.Shown.{Met, met, led_by, met_within, parts_from}
+use Rattle.om_show.specs.Tables.{shape_in, names_in}
+use Rattle.om_print.specs.Typed.{IsTypedAt}
+use Rattle.om_print.specs.declared.block.OpenBlock.{OpenBlock}
+use Rattle.om_print.specs.declared.walk.Step.{Step}
+use Rattle.om_print.specs.declared.walk.Step.TheVariants as steps
+use Rattle.om_print.specs.declared.walk.Walk.{Walk}
+
+-- ---- marks
+
+-- exactly the objects that were met have one
+abbrev pub AreMarked : List Bool → List ℕ → Type 0
+AreMarked marks order = (o : ℕ) → slice_index_or marks o false ≡ has (reverse order) o
+
+-- how many marks are set
+abbrev pub how_many : List Bool → ℕ
+how_many [] = 0
+how_many (true ∷ marks) = suc (how_many marks)
+how_many (false ∷ marks) = how_many marks
+
+-- ---- what is left
+
+abbrev pub needs_left : OpenBlock → List (ℕ × ℕ)
+needs_left block = drop block.next (needs_in block.needs)
+
+module _ (table : TypeTable) (graph : List Obj) where
+  abbrev pub meet : ℕ → List ℕ → Val → ℕ → Met
+  meet n seen v t = met_within (shape_in table) (names_in table) graph n seen v t
+
+  -- the parts of a block that are left, where n values may be one inside the other
+  abbrev pub parts_left : ℕ → OpenBlock → List ℕ → Met
+  parts_left n block seen =
+      parts_from (shape_in table) (names_in table) graph (meet n) (frame_in block.frame) (vals.Ref block.object) block.next (needs_left block) seen
+
+  -- the blocks that are open, the outermost first, after what is inside all of them
+  abbrev pub after_inner : ℕ → List OpenBlock → Met → Met
+  after_inner n [] inside = inside
+  after_inner zero (block ∷ blocks) inside = inside
+  after_inner (suc n) (block ∷ blocks) inside =
+      let m = after_inner n blocks inside in led_by m.pieces (parts_left n block m.seen)
+
+  -- the value that comes next, if one does
+  abbrev pub value_met : ℕ → Option (Val × ℕ) → List ℕ → Met
+  value_met n None seen = met [] seen
+  value_met n (Some next) seen = meet n seen next.0 next.1
+
+  -- the pieces that are left, where these objects were met in this order
+  unfoldable pub left_of : List OpenBlock → Option (Val × ℕ) → List ℕ → List Piece
+  left_of blocks value order =
+      (after_inner (length graph + 1) blocks (value_met (length graph + 1 - length blocks) value (reverse order))).pieces
+
+  abbrev pub pieces_left : Walk → List Piece
+  pieces_left walk = left_of walk.stack.items walk.value walk.order.items
+
+  -- ---- steps
+
+  abbrev pub step_pieces : Step → List Piece
+  step_pieces (steps.Integer z t) = Text (int_text (shape_in table t) (names_in table t) z) ∷ []
+  step_pieces steps.Empty = Text (codes "[||]") ∷ []
+  step_pieces (steps.Again o) = Again o ∷ []
+  step_pieces (steps.Leaf o t) = First o ∷ Text (object_text (shape_in table t) (names_in table t) (object_at graph o)) ∷ []
+  step_pieces (steps.Opening o frame) = First o ∷ Text (frame_in frame).opening ∷ []
+  step_pieces (steps.Before frame i) = Text (before_part (frame_in frame) i) ∷ []
+  step_pieces (steps.Closing frame) = Text (frame_in frame).closing ∷ []
+
+  -- it names objects and types that are there, and integers at types that they fit
+  abbrev pub IsStep : Step → Type 0
+  IsStep (steps.Integer z t) = (t < length table.nodes) × IsTrue (fits_int (shape_in table t) z)
+  IsStep (steps.Again o) = o < length graph
+  IsStep (steps.Leaf o t) = (o < length graph) × (t < length table.nodes)
+  IsStep (steps.Opening o frame) = o < length graph
+  IsStep step = Unit {0}
+
+  -- ---- what holds of a walk
+
+  -- field i of an object is there and typed
+  pub record IsPart (o i t : ℕ) : Type 0 where
+    pub there : i < length (fields_of (object_at graph o))
+    pub field : typed_field graph o i ≡ Some (field_at graph o i)
+    pub typed : IsTypedAt (table_of table) graph (field_at graph o i) t
+
+  pub record IsOpen (block : OpenBlock) : Type 0 where
+    pub inside : block.object < length graph
+    pub words : block.fields.now ≡ map (word_of graph) (fields_of (object_at graph block.object))
+    pub valid : All (IsFieldWord graph) block.fields.now
+    pub parts : (k i t : ℕ) → slice_get (needs_in block.needs) k ≡ Some (i, t) → IsPart block.object i t
+
+  pub record IsWalk (walk : Walk) : Type 0 where
+    pub is_graph : IsGraph graph
+    pub value : IfSome walk.value (λ next. IsValue (length graph) next.0 × IsTypedAt (table_of table) graph next.0 next.1)
+    pub blocks : All IsOpen walk.stack.items
+    pub many : length walk.marks.items ≡ length graph
+    pub marked : AreMarked walk.marks.items walk.order.items
+    pub counted : how_many walk.marks.items ≡ length walk.order.items
+    pub inside : All (λ o. o < length graph) walk.order.items
+    pub depth : length walk.stack.items ≤ length walk.order.items
+
+  -- a step takes its pieces from those that were left
+  pub record Goes (left : List Piece) (met_before : List ℕ) (step : Step) (new : Walk) : Type 0 where
+    pub pieces : left ≡ step_pieces step ++ pieces_left new
+    pub order : new.order.items ≡ met_before ++ firsts (step_pieces step)
+    pub valid : IsStep step
+    pub walk : IsWalk new
+
+  abbrev pub Gives : List Piece → List ℕ → Walk → Option Step → Type 0
+  Gives left met_before new None = (left ≡ []) × (new.order.items ≡ met_before)
+  Gives left met_before new (Some step) = Goes left met_before step new

@@ -1,0 +1,73 @@
+//! The same texts put to a sink. All memory is taken before the first byte is put.
+
+ghost use Rattle.std.specs.Prelude.{◌≡◌, ◌<◌, length, IsErrOf};
+ghost use Rattle.om_model.specs.Graph.{IsValue};
+ghost use Rattle.om_types.specs.Table.{table_shapes};
+ghost use Rattle.om_types.specs.Typing.{HasType};
+ghost use Rattle.om_type_table.specs.Made.{table_of, IsLawful};
+ghost use Rattle.om_edge.specs.Sink.{Writes};
+ghost use Rattle.om_edge.specs.State.{change};
+ghost use Rattle.om_show.specs.Dumped.{dump_text};
+ghost use Rattle.om_show.specs.Shown.{shown_text};
+ghost use Rattle.om_show.specs.Tables.{shape_in, names_in};
+
+use crate::dumped::put_dump;
+use crate::shown::put_shown_at;
+use om_edge::{Sink, WriteError, put_all};
+use om_heap::Heap;
+use om_model::value::Val;
+use om_type_table::TypeTable;
+use std::alloc::Global;
+
+/// Puts the text of a value at a type of the table to a sink. After a fault a proper prefix was put, out of memory nothing.
+pub fn show_at<K: Sink>(
+    alloc: Global,
+    heap: &Heap,
+    v: Val,
+    table: &TypeTable,
+    at: usize,
+    out: &mut K,
+) -> Result<(), WriteError>
+    requires value { IsValue (length heap.now) v }
+    requires lawful { IsLawful (table_of table.now) }
+    requires named { length table.now.names ≡ length table.now.nodes }
+    requires number { at < length table.now.nodes }
+    requires typed { HasType (table_shapes (table_of table.now)) heap.now v at }
+    ensures puts { Writes (change (K.state out.old) (K.state out.new)) (shown_text (shape_in table.now) (names_in table.now) heap.now v at) result }
+    ensures untouched { IsErrOf result WriteError.Memory → out.new ≡ out.old }
+{
+    let mut text = Vec::new(alloc);
+    put_shown_at(&mut text, alloc, heap, v, table, at)?;
+    put_all(out, text.as_slice())?;
+    Ok(())
+}
+
+/// Puts the text of a value at the type that was asked for.
+pub fn show<K: Sink>(
+    alloc: Global,
+    heap: &Heap,
+    root: Val,
+    table: &TypeTable,
+    out: &mut K,
+) -> Result<(), WriteError>
+    requires value { IsValue (length heap.now) root }
+    requires lawful { IsLawful (table_of table.now) }
+    requires named { length table.now.names ≡ length table.now.nodes }
+    requires typed { HasType (table_shapes (table_of table.now)) heap.now root 0 }
+    ensures puts { Writes (change (K.state out.old) (K.state out.new)) (shown_text (shape_in table.now) (names_in table.now) heap.now root 0) result }
+    ensures untouched { IsErrOf result WriteError.Memory → out.new ≡ out.old }
+{
+    show_at(alloc, heap, root, table, table.root(), out)
+}
+
+/// Puts the lines of a graph as it is to a sink.
+pub fn dump<K: Sink>(alloc: Global, heap: &Heap, root: Val, out: &mut K) -> Result<(), WriteError>
+    requires { IsValue (length heap.now) root }
+    ensures puts { Writes (change (K.state out.old) (K.state out.new)) (dump_text heap.now root) result }
+    ensures untouched { IsErrOf result WriteError.Memory → out.new ≡ out.old }
+{
+    let mut text = Vec::new(alloc);
+    put_dump(&mut text, heap, root)?;
+    put_all(out, text.as_slice())?;
+    Ok(())
+}

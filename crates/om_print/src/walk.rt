@@ -1,0 +1,212 @@
+//! The pieces of a value at a type, depth first and parts from left to right.
+
+ghost use Rattle.std.specs.Prelude.{◌≡◌, ◌<◌, length, Some, None, All, IfOk, [], false, slice_index, slice_index_or};
+ghost use Rattle.om_model.specs.Graph.{IsValue, IsGraph};
+ghost use Rattle.om_model.specs.declared.value.Val.TheVariants as vals;
+ghost use Rattle.om_model.specs.declared.value.Obj.TheVariants as objects;
+ghost use Rattle.om_types.specs.Fitting.{or_none, fields_of as needed_of};
+ghost use Rattle.om_heap.specs.Heap.{object_at, fields_of, word_of, IsFieldWord};
+ghost use Rattle.om_fits.specs.Needs.{needs_in};
+ghost use Rattle.om_leaves.specs.Frames.{frame_of};
+ghost use Rattle.om_leaves.specs.FrameView.{frame_in};
+ghost use Rattle.om_show.specs.Tables.{shape_in, names_in};
+ghost use Rattle.om_type_table.specs.Made.{table_of, IsLawful};
+ghost use Rattle.om_print.specs.Typed.{IsTypedAt};
+ghost use Rattle.om_print.specs.Walking.{left_of, pieces_left, IsOpen, IsWalk, Goes, Gives};
+
+use crate::block::OpenBlock;
+use om_fits::{Needs, known_needs};
+use om_heap::{Heap, Kind};
+use om_leaves::{Frame, block_frame};
+use om_model::Memory;
+use om_model::value::Val;
+use om_type_table::TypeTable;
+use std::alloc::Global;
+
+/// One piece, or two of an object that is met for the first time.
+#[derive(Clone, Copy)]
+pub enum Step<'a> {
+    /// An integer at the type of this number.
+    Integer(i64, usize),
+    /// The array without elements.
+    Empty,
+    /// An object that was met before.
+    Again(u64),
+    /// An object without parts at the type of this number.
+    Leaf(u64, usize),
+    /// A block, and what stands around its parts.
+    Opening(u64, Frame<'a>),
+    /// What stands before this part.
+    Before(Frame<'a>, u64),
+    /// What stands after the parts.
+    Closing(Frame<'a>),
+}
+
+/// A place among the pieces of a value.
+#[derive(Drop)]
+pub struct Walk<'a> {
+    // the value that comes next and the number of its type, where a value does
+    value: Option<(Val, usize)>,
+    // the blocks that are open, the innermost last
+    stack: Vec<OpenBlock<'a>>,
+    // which objects were met, by their numbers, and in which order
+    marks: Vec<bool>,
+    order: Vec<u64>,
+}
+
+impl<'a> Walk<'a> {
+    /// Before the first piece.
+    pub fn new(
+        alloc: Global,
+        heap: &Heap,
+        v: Val,
+        table: &TypeTable,
+        at: usize,
+    ) -> Result<Walk<'a>, Memory>
+        requires value { IsValue (length heap.now) v }
+        requires typed { IsTypedAt (table_of table.now) heap.now v at }
+        ensures walk { IfOk result (IsWalk table.now heap.now) }
+        ensures value { IfOk result (λ walk. walk.value ≡ Some (v, at)) }
+        ensures blocks { IfOk result (λ walk. walk.stack.items ≡ []) }
+        ensures order { IfOk result (λ walk. walk.order.items ≡ []) }
+    {
+        Ok(Walk {
+            value: Some((v, at)),
+            stack: Vec::new(alloc),
+            marks: vec![in alloc; false; heap.count() as usize]?,
+            order: Vec::new(alloc),
+        })
+    }
+
+    /// The next step.
+    #[inline(always)]
+    pub fn next(&mut self, heap: &'a Heap, table: &'a TypeTable) -> Result<Option<Step<'a>>, Memory>
+        requires walk { IsWalk table.now heap.now self.old }
+        requires lawful { IsLawful (table_of table.now) }
+        requires named { length table.now.names ≡ length table.now.nodes }
+        ensures { IfOk result (Gives table.now heap.now (pieces_left table.now heap.now self.old) self.old.order.items self.new) }
+    {
+        let Some((v, at)) = self.value else {
+            return Ok(self.go_on(heap, table));
+        };
+        self.value = None;
+        Ok(Some(self.meet(heap, table, v, at)?))
+    }
+
+    /// The objects that were met, in the order of first meetings.
+    pub fn order(&self) -> &[u64]
+        ensures { result.now ≡ self.now.order.items }
+    {
+        &self.order
+    }
+
+    // The step of a value that comes next.
+    #[inline(always)]
+    fn meet(
+        &mut self,
+        heap: &'a Heap,
+        table: &'a TypeTable,
+        v: Val,
+        at: usize,
+    ) -> Result<Step<'a>, Memory>
+        requires walk { IsWalk table.now heap.now self.old }
+        requires none { self.old.value ≡ None }
+        requires value { IsValue (length heap.now) v }
+        requires typed { IsTypedAt (table_of table.now) heap.now v at }
+        requires lawful { IsLawful (table_of table.now) }
+        requires named { length table.now.names ≡ length table.now.nodes }
+        ensures { IfOk result (λ step. Goes table.now heap.now (left_of table.now heap.now self.old.stack.items (Some (v, at)) self.old.order.items) self.old.order.items step self.new) }
+    {
+        match v {
+            Val::Int(z) => Ok(Step::Integer(z, at)),
+            Val::Atom(_) => Ok(Step::Empty),
+            Val::Ref(o) if self.marks[o as usize] => Ok(Step::Again(o)),
+            Val::Ref(o) => self.meet_first(heap, table, o, at),
+        }
+    }
+
+    // The step of an object that was not met.
+    #[inline(always)]
+    fn meet_first(
+        &mut self,
+        heap: &'a Heap,
+        table: &'a TypeTable,
+        o: u64,
+        at: usize,
+    ) -> Result<Step<'a>, Memory>
+        requires walk { IsWalk table.now heap.now self.old }
+        requires none { self.old.value ≡ None }
+        requires unmet { slice_index_or self.old.marks.items o false ≡ false }
+        requires inside { o < length heap.now }
+        requires typed { IsTypedAt (table_of table.now) heap.now (vals.Ref o) at }
+        requires lawful { IsLawful (table_of table.now) }
+        requires named { length table.now.names ≡ length table.now.nodes }
+        ensures { IfOk result (λ step. Goes table.now heap.now (left_of table.now heap.now self.old.stack.items (Some (vals.Ref o, at)) self.old.order.items) self.old.order.items step self.new) }
+    {
+        self.marks[o as usize] = true;
+        self.order.push(o)?;
+        let Kind::Block(tag, _) = heap.kind(o) else {
+            return Ok(Step::Leaf(o, at));
+        };
+        let block = open_block(heap, table, o, tag, at);
+        self.stack.push(block)?;
+        Ok(Step::Opening(o, block.frame))
+    }
+
+    // The step where no value comes next: before the next part of the innermost block, or after its last one.
+    #[inline(always)]
+    fn go_on(&mut self, heap: &Heap, table: &TypeTable) -> Option<Step<'a>>
+        requires walk { IsWalk table.now heap.now self.old }
+        requires none { self.old.value ≡ None }
+        ensures { Gives table.now heap.now (left_of table.now heap.now self.old.stack.items None self.old.order.items) self.old.order.items self.new result }
+    {
+        if self.stack.is_empty() {
+            return None;
+        }
+        let last = self.stack.len() - 1;
+        let block = self.stack[last];
+        if block.next >= block.needs.len() {
+            self.stack.truncate(last);
+            return Some(Step::Closing(block.frame));
+        }
+        let (i, at) = block.needs.get(block.next);
+        self.value = Some((value_at(heap, block.fields, i), at));
+        self.stack[last].next = block.next + 1;
+        Some(Step::Before(block.frame, block.next))
+    }
+}
+
+// The value of a field, by the words of all of them.
+#[inline(always)]
+fn value_at(heap: &Heap, fields: &[u64], i: u64) -> Val
+    requires valid { All (IsFieldWord heap.now) fields.now }
+    requires inside { i < length fields.now }
+    ensures word { slice_index fields.now i ≡ word_of heap.now result }
+    ensures valid { IsValue (length heap.now) result }
+{
+    heap.value_of(fields[i as usize])
+}
+
+// A block before its first part.
+fn open_block<'a>(heap: &'a Heap, table: &'a TypeTable, o: u64, tag: u8, at: usize) -> OpenBlock<'a>
+    requires graph { IsGraph heap.now }
+    requires block { object_at heap.now o ≡ objects.Block tag (fields_of (object_at heap.now o)) }
+    requires inside { o < length heap.now }
+    requires typed { IsTypedAt (table_of table.now) heap.now (vals.Ref o) at }
+    requires lawful { IsLawful (table_of table.now) }
+    requires named { length table.now.names ≡ length table.now.nodes }
+    ensures object { result.object ≡ o }
+    ensures frame { frame_in result.frame ≡ frame_of (shape_in table.now at) (names_in table.now at) tag (fields_of (object_at heap.now o)) }
+    ensures needs { needs_in result.needs ≡ or_none (needed_of heap.now (vals.Ref o) (shape_in table.now at)) }
+    ensures next { result.next ≡ 0 }
+    ensures open { IsOpen table.now heap.now result }
+{
+    let shape = table.shape(at);
+    OpenBlock {
+        object: o,
+        fields: heap.fields(o),
+        frame: block_frame(heap, o, tag, shape, table.names(at)),
+        needs: known_needs(heap, o, shape).unwrap_or(Needs::Nothing),
+        next: 0,
+    }
+}
