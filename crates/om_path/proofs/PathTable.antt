@@ -15,7 +15,7 @@ use Rattle.om_path.specs.Machine.{plain_number, number_of, is_dot, State, at, st
 abbrev pub none : State → ℕ
 none s = 0
 
-abbrev zeros : Kinds → List ℕ
+abbrev pub zeros : Kinds → List ℕ
 zeros lexemes = map (λ (kind : LexemeKind). 0) lexemes
 
 -- ---- what a lexeme is
@@ -25,7 +25,7 @@ plain_is : (minus : Bool) (value : ℤ) (suffix : Suffix) (n : ℕ) → plain_nu
 plain_is false (pos m) suffixes.Absent n h = let e : m ≡ n = cc in ap number e
 plain_is minus value suffix n h = absurd (cc)
 
-number_is : (kind : LexemeKind) (n : ℕ) → number_of kind ≡ Some n → kind ≡ number n
+pub number_is : (kind : LexemeKind) (n : ℕ) → number_of kind ≡ Some n → kind ≡ number n
 number_is (kinds.Integer i) n h = plain_is i.minus i.value i.suffix n h
 number_is kind n h = absurd (cc)
 
@@ -56,7 +56,7 @@ leads_steps path (n ∷ ns) =
     (subst (λ p. Leads step none (at (path ++ n ∷ []) false) (steps_kinds ns) (zeros (steps_kinds ns)) (at p false))
     (append_assoc path (n ∷ []) ns) (leads_steps (path ++ n ∷ []) ns)))
 
-leads : (path : List ℕ) → Leads step none start (path_kinds path) (ends path) (final path)
+pub leads : (path : List ℕ) → Leads step none start (path_kinds path) (ends path) (final path)
 leads [] = go refl (omega arith) stop
 leads (n ∷ ns) = leads_steps [] (n ∷ ns)
 

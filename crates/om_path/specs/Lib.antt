@@ -1,3 +1,7 @@
 pub mod Answer
+pub mod LineCode
+pub mod LineGrammar
+pub mod LineMachine
 pub mod Machine
 pub mod PathGrammar
+pub mod ScriptAnswer

@@ -1,13 +1,19 @@
-//! Paths as text.
+//! Paths and scripts of edits as text.
 #![tactic(auto)]
 
+mod edits;
 mod fault;
+mod front;
 mod laws;
+mod line;
 mod read;
+mod text;
 
+pub use edits::{Edit, Script, ScriptFault, ScriptLine};
 pub use fault::PathFault;
-pub use laws::one_answer;
+pub use laws::{one_answer, one_script_answer};
 pub use read::read_path;
+pub use text::read_script;
 
 #[cfg(test)]
 mod tests;

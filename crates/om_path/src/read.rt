@@ -14,7 +14,7 @@ use om_parse::byte_of;
 use std::alloc::Global;
 
 /// The number that a lexeme is, where it has no sign and no suffix.
-fn number_of(kind: &LexemeKind) -> Option<u64>
+pub fn number_of(kind: &LexemeKind) -> Option<u64>
     ensures { result ≡ number_of kind.now }
 {
     let LexemeKind::Integer(integer) = kind else {
@@ -48,7 +48,7 @@ fn is_dot(kind: &LexemeKind) -> bool
 }
 
 /// Goes on by a lexeme, where a path does.
-fn step(path: &mut Path, after_dot: bool, kind: &LexemeKind) -> Result<bool, Memory>
+pub fn step(path: &mut Path, after_dot: bool, kind: &LexemeKind) -> Result<bool, Memory>
     ensures { IfOk result (λ goes. step (at path.old after_dot) kind.now ≡ stepped goes path.new after_dot) }
 {
     if !after_dot {
@@ -64,7 +64,7 @@ fn step(path: &mut Path, after_dot: bool, kind: &LexemeKind) -> Result<bool, Mem
 }
 
 /// Whether a path may end here.
-fn is_whole(path: &Path, after_dot: bool) -> bool
+pub fn is_whole(path: &Path, after_dot: bool) -> bool
     ensures { accepted (at path.now after_dot) ≡ (if result then Some path.now else None) }
 {
     if path.len() == 0 {

@@ -1,0 +1,180 @@
+-- A line has one answer: one outcome of the lexer, and its lexemes are none, one edit, or have one
+-- place at which no line goes on.
+use Rattle.std.proofs.Common.{ℕ, ◌+◌, ◌≡◌, ◌<◌, ◌∙◌, ⊎_elim, List, [], ◌∷◌, ◌++◌, length, drop, Some, None, refl, sym, ap, subst, arith, length-append, append_assoc}
+use Rattle.std.specs.Prelude.{Result, Ok, Err}
+use Rattle.std.proofs.lemmas.List.{drop_at}
+use Rattle.om_lex.specs.declared.lexeme.Lexeme.{Lexeme}
+use Rattle.om_lex.specs.declared.lexeme.LexFault.{LexFault}
+use Rattle.om_lex.proofs.PartLaws.{has_one_outcome}
+use Rattle.om_grammar.specs.Grammar.{Kinds}
+use Rattle.om_grammar.specs.Refusals.{IsSyntax}
+use Rattle.om_grammar.proofs.TableLemmas.{one_text}
+use Rattle.om_grammar.proofs.LawLemmas.{text_or_syntax, no_syntax}
+use Rattle.om_parse.specs.Parsed.{kinds_of, byte_of}
+use Rattle.om_parse.proofs.LexemeLemmas.{kinds_length}
+use Rattle.om_path.specs.PathGrammar.{number, path_kinds}
+use Rattle.om_path.specs.LineGrammar.{LineTree, set_line, link_line, unshare_line, equals, assigned, line_kinds}
+use Rattle.om_path.specs.LineMachine.{role_kinds}
+use Rattle.om_path.specs.ScriptAnswer.{tree_of, EndWith, HasLiteralOf, IsEdit, LineAnswer, IsRead, IsLineLexed, IsLineAnswer}
+use Rattle.om_path.specs.declared.edits.Edit.{Edit}
+use Rattle.om_path.specs.declared.edits.Edit.TheVariants as edits
+use Rattle.om_path.specs.declared.edits.ScriptLine.{ScriptLine}
+use Rattle.om_path.specs.declared.edits.ScriptFault.TheVariants as faults
+use Rattle.om_path.specs.declared.front.Role.TheVariants as roles
+use Rattle.om_path.proofs.LineTable.{line_table}
+
+-- ---- one answer at most
+
+no_both : (lexemes : List Lexeme) (line : LineTree) (k : ℕ) → line_kinds line ≡ kinds_of lexemes → IsSyntax line_kinds (kinds_of lexemes) k → ⊥
+no_both lexemes line k e s = no_syntax line_table line k (subst (λ all. IsSyntax line_kinds all k) (sym e) s)
+
+one_place : (lexemes : List Lexeme) (j k : ℕ) → IsSyntax line_kinds (kinds_of lexemes) j → IsSyntax line_kinds (kinds_of lexemes) k → j ≡ k
+one_place lexemes j k a b = ⊎_elim
+    (λ (line, e). absurd (no_both lexemes line j e a))
+    (λ (n, s, alone). alone j a ∙ sym (alone k b))
+    (text_or_syntax line_table (kinds_of lexemes))
+
+-- a line has lexemes
+not_empty : (line : LineTree) → line_kinds line ≡ [] → ⊥
+not_empty (set_line value path all) h = cc
+not_empty (link_line value path source) h = cc
+not_empty (unshare_line value path) h = cc
+
+no_line : (lexemes : List Lexeme) (line : LineTree) → lexemes ≡ [] → line_kinds line ≡ kinds_of lexemes → ⊥
+no_line lexemes line none h = not_empty line (h ∙ ap kinds_of none)
+
+none_or_some : (lexemes : List Lexeme) → lexemes ≡ [] → 0 < length lexemes → ⊥
+none_or_some lexemes none some = let e : length lexemes ≡ 0 = ap length none in absurd (omega arith)
+
+-- the last lexemes, so many
+same_end : (lexemes one other : List Lexeme) → kinds_of one ≡ kinds_of other → EndWith lexemes one → EndWith lexemes other → one ≡ other
+same_end lexemes one other k (before, e) (front, f) =
+    let lengths : length one ≡ length other = sym (kinds_length one) ∙ ap length k ∙ kinds_length other in
+    let all : length before + length one ≡ length lexemes = sym (length-append before one) ∙ ap length (sym e) in
+    let whole : length front + length other ≡ length lexemes = sym (length-append front other) ∙ ap length (sym f) in
+    let same : length before ≡ length front = omega arith in
+    sym (drop_at before one (length before) refl) ∙ ap (drop (length before)) (sym e ∙ f) ∙ drop_at front other (length before) (sym same)
+
+record Same (value other : ℕ) (one two : Edit) : Type 0 where
+  values : value ≡ other
+  edits : one ≡ two
+
+same_set : (p q : List ℕ) (l m : List Lexeme) (n k : ℕ) → p ≡ q → l ≡ m → n ≡ k → edits.Set p l n ≡ edits.Set q m k
+same_set p q l m n k a b c = cc
+
+same_edit : (lexemes : List Lexeme) (end value other : ℕ) (one two : Edit) → tree_of value one ≡ tree_of other two →
+    HasLiteralOf lexemes end one → HasLiteralOf lexemes end two → Same value other one two
+same_edit lexemes end value other (edits.Set p l n) (edits.Set q m k) h (a, s) (b, t) =
+    let values : value ≡ other = cc in
+    let paths : p ≡ q = cc in
+    let kinds : kinds_of l ≡ kinds_of m = cc in
+    record { values = values; edits = same_set p q l m n k paths (same_end lexemes l m kinds a b) (s ∙ sym t) }
+same_edit lexemes end value other (edits.Set p l n) (edits.Link q r) h a b = absurd (cc)
+same_edit lexemes end value other (edits.Set p l n) (edits.Unshare q) h a b = absurd (cc)
+same_edit lexemes end value other (edits.Link p s) (edits.Set q m k) h a b = absurd (cc)
+same_edit lexemes end value other (edits.Link p s) (edits.Link q r) h a b =
+    let values : value ≡ other = cc in
+    let paths : p ≡ q = cc in
+    let sources : s ≡ r = cc in
+    record { values = values; edits = cc }
+same_edit lexemes end value other (edits.Link p s) (edits.Unshare q) h a b = absurd (cc)
+same_edit lexemes end value other (edits.Unshare p) (edits.Set q m k) h a b = absurd (cc)
+same_edit lexemes end value other (edits.Unshare p) (edits.Link q r) h a b = absurd (cc)
+same_edit lexemes end value other (edits.Unshare p) (edits.Unshare q) h a b =
+    let values : value ≡ other = cc in
+    let paths : p ≡ q = cc in
+    record { values = values; edits = cc }
+
+same_line : (one other : ScriptLine) → one.number ≡ other.number → one.value ≡ other.value → one.edit ≡ other.edit → one ≡ other
+same_line one other n v e =
+    let a : one ≡ record { number = other.number; value = one.value; edit = one.edit } = ap (λ (x : ℕ). let l : ScriptLine = record { number = x; value = one.value; edit = one.edit } in l) n in
+    let b : record { number = other.number; value = one.value; edit = one.edit } ≡ record { number = other.number; value = other.value; edit = one.edit } =
+    ap (λ (x : ℕ). let l : ScriptLine = record { number = other.number; value = x; edit = one.edit } in l) v in
+    let c : record { number = other.number; value = other.value; edit = one.edit } ≡ other =
+    ap (λ (x : Edit). let l : ScriptLine = record { number = other.number; value = other.value; edit = x } in l) e in
+    a ∙ b ∙ c
+
+module _ (number : ℕ) (lexemes : List Lexeme) (end : ℕ) where
+  same_answer : (one other : ScriptLine) → one.number ≡ number → other.number ≡ number → IsEdit lexemes end one.value one.edit → IsEdit lexemes end other.value other.edit → one ≡ other
+  same_answer one other n m a b =
+      let trees = one_text line_table (tree_of one.value one.edit) (tree_of other.value other.edit) (a.0 ∙ sym b.0) in
+      let same = same_edit lexemes end one.value other.value one.edit other.edit trees a.1 b.1 in
+      same_line one other (n ∙ sym m) same.values same.edits
+
+  pub one_read : (one other : LineAnswer) → IsRead number lexemes end one → IsRead number lexemes end other → one ≡ other
+  one_read (Ok None) (Ok None) a b = refl
+  one_read (Ok None) (Ok (Some line)) a (n, (e, f)) = absurd (no_line lexemes (tree_of line.value line.edit) a e)
+  one_read (Ok None) (Err (faults.Syntax line place)) a (n, some, k, s, at) = absurd (none_or_some lexemes a some)
+  one_read (Ok (Some line)) (Ok None) (n, (e, f)) b = absurd (no_line lexemes (tree_of line.value line.edit) b e)
+  one_read (Ok (Some line)) (Ok (Some other)) (n, a) (m, b) = ap (λ l. Ok (Some l)) (same_answer line other n m a b)
+  one_read (Ok (Some line)) (Err (faults.Syntax l place)) (n, (e, f)) (m, some, k, s, at) = absurd (no_both lexemes (tree_of line.value line.edit) k e s)
+  one_read (Err (faults.Syntax line place)) (Ok None) (n, some, k, s, at) b = absurd (none_or_some lexemes b some)
+  one_read (Err (faults.Syntax l place)) (Ok (Some line)) (m, some, k, s, at) (n, (e, f)) = absurd (no_both lexemes (tree_of line.value line.edit) k e s)
+  one_read (Err (faults.Syntax line place)) (Err (faults.Syntax other byte)) (n, some, j, s, at) (m, more, k, t, there) =
+      let lines : line ≡ other = n ∙ sym m in
+      let places : place ≡ byte = sym at ∙ ap (byte_of lexemes end) (one_place lexemes j k s t) ∙ there in
+      ap (λ x. Err (faults.Syntax x place)) lines ∙ ap (λ x. Err (faults.Syntax other x)) places
+  one_read one (Err (faults.Lex line fault)) a b = absurd b
+  one_read one (Err faults.Memory) a b = absurd b
+  one_read (Err (faults.Lex line fault)) other a b = absurd a
+  one_read (Err faults.Memory) other a b = absurd a
+
+one_lexed : (number end : ℕ) (outcome : Result (List Lexeme) LexFault) (one other : LineAnswer) → IsLineLexed number end outcome one → IsLineLexed number end outcome other → one ≡ other
+one_lexed number end (Ok lexemes) one other a b = one_read number lexemes end one other a b
+one_lexed number end (Err fault) one other a b = sym a ∙ b
+
+pub one_line_answer : (number : ℕ) (text : List ℕ) (one other : LineAnswer) → IsLineAnswer number text one → IsLineAnswer number text other → one ≡ other
+one_line_answer number text one other (o, a, l) (p, b, m) =
+    let law = has_one_outcome text in
+    let same : p ≡ o = law.2 p b ∙ sym (law.2 o a) in
+    one_lexed number (length text) o one other l (subst (λ outcome. IsLineLexed number (length text) outcome other) same m)
+
+-- ---- and one at least
+
+record Split (lexemes : List Lexeme) (last : Kinds) : Type 0 where
+  before : List Lexeme
+  after : List Lexeme
+  whole : lexemes ≡ before ++ after
+  spelled : kinds_of after ≡ last
+
+split : (xs ys : Kinds) (lexemes : List Lexeme) → xs ++ ys ≡ kinds_of lexemes → Split lexemes ys
+split [] ys lexemes h = record { before = []; after = lexemes; whole = refl; spelled = sym h }
+split (x ∷ xs) ys [] h = absurd (cc)
+split (x ∷ xs) ys (l ∷ rest) h =
+    let tails : xs ++ ys ≡ kinds_of rest = cc in
+    let s = split xs ys rest tails in
+    record { before = l ∷ s.before; after = s.after; whole = ap (λ all. l ∷ all) s.whole; spelled = s.spelled }
+
+abbrev set_front : ℕ → List ℕ → Kinds
+set_front value path = number value ∷ (role_kinds roles.Set ++ assigned path [])
+
+begins : (value : ℕ) (path : List ℕ) (last : Kinds) → set_front value path ++ last ≡ line_kinds (set_line value path last)
+begins value path last = ap (λ xs. number value ∷ (role_kinds roles.Set ++ xs)) (append_assoc (path_kinds path) (equals ∷ []) last)
+
+module _ (number : ℕ) (lexemes : List Lexeme) (end : ℕ) where
+  some_line : (line : LineTree) → line_kinds line ≡ kinds_of lexemes → (answer : LineAnswer) × IsRead number lexemes end answer
+  some_line (set_line value path last) h =
+      let s = split (set_front value path) last lexemes (begins value path last ∙ h) in
+      let spelled : line_kinds (set_line value path (kinds_of s.after)) ≡ kinds_of lexemes = ap (λ xs. line_kinds (set_line value path xs)) s.spelled ∙ h in
+      (Ok (Some (record { number = number; value = value; edit = edits.Set path s.after end })), (refl, (spelled, ((s.before, s.whole), refl))))
+  some_line (link_line value path source) h = (Ok (Some (record { number = number; value = value; edit = edits.Link path source })), (refl, (h, tt)))
+  some_line (unshare_line value path) h = (Ok (Some (record { number = number; value = value; edit = edits.Unshare path })), (refl, (h, tt)))
+
+  some_read : (all : List Lexeme) → all ≡ lexemes → (answer : LineAnswer) × IsRead number lexemes end answer
+  some_read [] e = (Ok None, sym e)
+  some_read (l ∷ rest) e =
+      let some : 0 < length lexemes = subst (λ (all : List Lexeme). 0 < length all) e (omega arith) in
+      ⊎_elim {C = (answer : LineAnswer) × IsRead number lexemes end answer}
+      (λ (line, h). some_line line h)
+      (λ (k, s, alone). (Err (faults.Syntax number (byte_of lexemes end k)), (refl, some, k, s, refl)))
+      (text_or_syntax line_table (kinds_of lexemes))
+
+some_lexed : (number end : ℕ) (outcome : Result (List Lexeme) LexFault) → (answer : LineAnswer) × IsLineLexed number end outcome answer
+some_lexed number end (Ok lexemes) = some_read number lexemes end lexemes refl
+some_lexed number end (Err fault) = (Err (faults.Lex number fault), refl)
+
+pub some_line_answer : (number : ℕ) (text : List ℕ) → (answer : LineAnswer) × IsLineAnswer number text answer
+some_line_answer number text =
+    let law = has_one_outcome text in
+    let lexed = some_lexed number (length text) law.0 in
+    (lexed.0, (law.0, law.1, lexed.1))

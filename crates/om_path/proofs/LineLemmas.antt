@@ -1,0 +1,174 @@
+-- The code follows the table of lines.
+use Rattle.std.proofs.Common.{ℕ, suc, ◌≡◌, ◌∙◌, ◌<◌, List, [], ◌∷◌, ◌++◌, length, take, drop, get_or, Option, Some, None, refl, sym, ap, subst, arith, append-nil}
+use Rattle.std.specs.Prelude.{Ok, Err, IfOk, IfErr, option_map, option_and_then, unwrap_or}
+use Rattle.std.proofs.lemmas.List.{take-append-drop, drop-map}
+use Rattle.std.proofs.lemmas.Option.{slice_get_past}
+use Rattle.om_lex.specs.declared.lexeme.Lexeme.{Lexeme}
+use Rattle.om_lex.specs.declared.lexeme.LexFault.{LexFault}
+use Rattle.om_lex.specs.declared.lexeme.LexFault.TheVariants as lexer
+use Rattle.om_lex.specs.LexText.{Lexes, Faults, UnlessMemory as unless_lexer}
+use Rattle.om_grammar.specs.Grammar.{Kinds}
+use Rattle.om_grammar.specs.Refusals.{IsSyntax}
+use Rattle.om_grammar.specs.Machine.{run, Leads}
+use Rattle.om_grammar.proofs.MachineLemmas.{leads_run}
+use Rattle.om_grammar.proofs.TableLemmas.{take_whole, run_more, is_syntax_at, syntax_end, text_is_read}
+use Rattle.om_parse.specs.Parsed.{kinds_of, byte_of}
+use Rattle.om_parse.proofs.LexemeLemmas.{kinds_length, kinds_next}
+use Rattle.om_path.specs.Machine.{at, accepted}
+use Rattle.om_path.specs.LineGrammar.{LineTree, set_line, link_line, unshare_line, line_kinds}
+use Rattle.om_path.specs.LineMachine.{LineState, reading, literal, line_start, line_step, line_accepted, next_of, state_of, ended}
+use Rattle.om_path.specs.LineCode.{IsTold, whole_line, ended_line}
+use Rattle.om_path.specs.ScriptAnswer.{tree_of, HasLiteralOf, LineAnswer, IsRead, IsLineAnswer, UnlessMemory, line_fault}
+use Rattle.om_path.specs.declared.edits.Edit.TheVariants as edits
+use Rattle.om_path.specs.declared.edits.ScriptLine.{ScriptLine}
+use Rattle.om_path.specs.declared.edits.ScriptFault.TheVariants as faults
+use Rattle.om_path.specs.declared.front.Role.{Role}
+use Rattle.om_path.specs.declared.front.Role.TheVariants as roles
+use Rattle.om_path.specs.declared.front.Front.{Front}
+use Rattle.om_path.specs.declared.front.Front.TheVariants as fronts
+use Rattle.om_path.specs.declared.front.Told.{Told}
+use Rattle.om_path.specs.declared.front.Told.TheVariants as tolds
+use Rattle.om_path.specs.declared.front.Next.{Next}
+use Rattle.om_path.specs.declared.front.Next.TheVariants as nexts
+use Rattle.om_path.proofs.PathTable.{zeros}
+use Rattle.om_path.proofs.LineTable.{flat, line_table, literal_leads}
+
+-- the lexemes up to a place are read as this
+abbrev pub LineReached : List Lexeme → ℕ → Front → Type 0
+LineReached lexemes place f = run line_step line_start (take place (kinds_of lexemes)) ≡ Some (reading f)
+
+module _ (lexemes : List Lexeme) (place : ℕ) (f : Front) (reached : LineReached lexemes place f) where
+  module _ (l : Lexeme) (within : place < length lexemes) (is : l ≡ get_or lexemes place l) where
+    pub further : (next : Next) → next_of f l.kind ≡ next → run line_step line_start (take (suc place) (kinds_of lexemes)) ≡ state_of next
+    further next h =
+        ap (run line_step line_start) (kinds_next lexemes place l within is)
+        ∙ run_more line_step (take place (kinds_of lexemes)) line_start (reading f) (state_of next) l.kind reached (ap state_of h)
+
+    pub stuck : next_of f l.kind ≡ nexts.Nowhere → IsSyntax line_kinds (kinds_of lexemes) place
+    stuck h =
+        is_syntax_at line_table (kinds_of lexemes) place l.kind (reading f)
+        (omega (arith, kinds_length lexemes)) (kinds_next lexemes place l within is) reached (ap state_of h)
+
+  pub read_all : place ≡ length lexemes → run line_step line_start (kinds_of lexemes) ≡ Some (reading f)
+  read_all all =
+      let here : place ≡ length (kinds_of lexemes) = all ∙ sym (kinds_length lexemes) in
+      let whole : take place (kinds_of lexemes) ≡ kinds_of lexemes = ap (λ n. take n (kinds_of lexemes)) here ∙ take_whole (kinds_of lexemes) in
+      sym (ap (run line_step line_start) whole) ∙ reached
+
+-- ---- a line's end
+
+no_end_in : (number value : ℕ) (role : Role) (o : Option (List ℕ)) → whole_line number value role o ≡ None → ended value role o ≡ None
+no_end_in number value role None h = refl
+no_end_in number value (roles.Source target) (Some path) h = absurd (cc)
+no_end_in number value roles.Unshare (Some path) h = absurd (cc)
+no_end_in number value role (Some path) h = refl
+
+no_end : (number : ℕ) (f : Front) → ended_line number f ≡ None → line_accepted (reading f) ≡ None
+no_end number fronts.Start h = refl
+no_end number (fronts.Value value) h = refl
+no_end number (fronts.Steps value role path after_dot) h = no_end_in number value role (accepted (at path after_dot)) h
+
+-- an end of this tree gives this line
+record Ends (number : ℕ) (o : Option LineTree) (line : ScriptLine) : Type 0 where
+  numbers : line.number ≡ number
+  spelled : o ≡ Some (tree_of line.value line.edit)
+  free : (lexemes : List Lexeme) (end : ℕ) → HasLiteralOf lexemes end line.edit
+
+is_end_in : (number value : ℕ) (role : Role) (o : Option (List ℕ)) (line : ScriptLine) → whole_line number value role o ≡ Some line → Ends number (ended value role o) line
+is_end_in number value role None line h = absurd (cc)
+is_end_in number value (roles.Source target) (Some path) line h =
+    let is : record { number = number; value = value; edit = edits.Link target path } ≡ line = cc in
+    subst (Ends number (Some (link_line value target path))) is (record { numbers = refl; spelled = refl; free = λ lexemes end. tt })
+is_end_in number value roles.Unshare (Some path) line h =
+    let is : record { number = number; value = value; edit = edits.Unshare path } ≡ line = cc in
+    subst (Ends number (Some (unshare_line value path))) is (record { numbers = refl; spelled = refl; free = λ lexemes end. tt })
+is_end_in number value role (Some path) line h = absurd (cc)
+
+is_end : (number : ℕ) (f : Front) (line : ScriptLine) → ended_line number f ≡ Some line → Ends number (line_accepted (reading f)) line
+is_end number fronts.Start line h = absurd (cc)
+is_end number (fronts.Value value) line h = absurd (cc)
+is_end number (fronts.Steps value role path after_dot) line h = is_end_in number value role (accepted (at path after_dot)) line h
+
+-- reading goes on from where a front led
+run_on : (xs ys : Kinds) (s m : LineState) → run line_step s xs ≡ Some m → run line_step s (xs ++ ys) ≡ run line_step m ys
+run_on [] ys s m h = let e : s ≡ m = cc in ap (λ n. run line_step n ys) e
+run_on (kind ∷ rest) ys s m h = on (line_step s kind) (λ n. run_on rest ys n m) h
+  where
+    on : (next : Option LineState) → ((n : LineState) → run line_step n rest ≡ Some m → run line_step n (rest ++ ys) ≡ run line_step m ys) →
+        option_and_then (λ n. run line_step n rest) next ≡ Some m → option_and_then (λ n. run line_step n (rest ++ ys)) next ≡ run line_step m ys
+    on None f i = absurd (cc)
+    on (Some n) f i = f n i
+
+literal_run : (value : ℕ) (path : List ℕ) (xs : Kinds) → run line_step (literal value path []) xs ≡ Some (literal value path xs)
+literal_run value path xs = leads_whole (literal_leads value path [] xs)
+  where
+    leads_whole : Leads line_step flat (literal value path []) xs (zeros xs) (literal value path xs) → run line_step (literal value path []) xs ≡ Some (literal value path xs)
+    leads_whole p = ap (run line_step (literal value path [])) (sym (append-nil xs)) ∙ leads_run p []
+
+past_end : (lexemes : List Lexeme) (end : ℕ) → byte_of lexemes end (length lexemes) ≡ end
+past_end lexemes end = ap (λ o. unwrap_or (option_map (λ (l : Lexeme). l.span.first) o) end) (slice_get_past lexemes (length lexemes) (omega arith))
+
+-- ---- what the code answers
+
+module _ (lexemes : List Lexeme) (number end : ℕ) where
+  pub is_stuck : 0 < length lexemes → (place : ℕ) → IsSyntax line_kinds (kinds_of lexemes) place → (byte : ℕ) → byte ≡ byte_of lexemes end place →
+      IsRead number lexemes end (Err (faults.Syntax number byte))
+  is_stuck some place s byte e = (refl, some, place, s, sym e)
+
+  pub ends_early : 0 < length lexemes → (f : Front) → run line_step line_start (kinds_of lexemes) ≡ Some (reading f) → ended_line number f ≡ None →
+      IsRead number lexemes end (Err (faults.Syntax number end))
+  ends_early some f h e = (
+    refl,
+    some,
+    length lexemes,
+    subst (IsSyntax line_kinds (kinds_of lexemes)) (kinds_length lexemes) (syntax_end line_table (kinds_of lexemes) (reading f) h (no_end number f e)),
+    past_end lexemes end,
+  )
+
+  pub is_ended : (f : Front) → run line_step line_start (kinds_of lexemes) ≡ Some (reading f) → (line : ScriptLine) → ended_line number f ≡ Some line →
+      IsRead number lexemes end (Ok (Some line))
+  is_ended f h line e =
+      let i = is_end number f line e in
+      (i.numbers, (text_is_read line_table (tree_of line.value line.edit) (reading f) (kinds_of lexemes) h i.spelled, i.free lexemes end))
+
+  pub is_set : (value : ℕ) (path : List ℕ) (place : ℕ) → run line_step line_start (take place (kinds_of lexemes)) ≡ Some (literal value path []) →
+      (line : ScriptLine) → line ≡ record { number = number; value = value; edit = edits.Set path (drop place lexemes) end } →
+      IsRead number lexemes end (Ok (Some line))
+  is_set value path place h line e =
+      let last = kinds_of (drop place lexemes) in
+      let parts : kinds_of lexemes ≡ take place (kinds_of lexemes) ++ last =
+      sym (take-append-drop place (kinds_of lexemes)) ∙ ap (λ xs. take place (kinds_of lexemes) ++ xs) (drop-map (λ (l : Lexeme). l.kind) place lexemes) in
+      let ran : run line_step line_start (kinds_of lexemes) ≡ Some (literal value path last) =
+      ap (run line_step line_start) parts ∙ run_on (take place (kinds_of lexemes)) last line_start (literal value path []) h ∙ literal_run value path last in
+      subst (λ l. IsRead number lexemes end (Ok (Some l))) (sym e)
+      (refl, (text_is_read line_table (set_line value path last) (literal value path last) (kinds_of lexemes) ran refl, ((take place lexemes, sym (take-append-drop place lexemes)), refl)))
+
+pub told_all : (lexemes : List Lexeme) (told : Told) (f : Front) → told ≡ tolds.All f → IsTold lexemes told → run line_step line_start (kinds_of lexemes) ≡ Some (reading f)
+told_all lexemes told f e h = subst (IsTold lexemes) e h
+
+pub told_literal : (lexemes : List Lexeme) (told : Told) (value : ℕ) (path : List ℕ) (place : ℕ) → told ≡ tolds.Literal value path place → IsTold lexemes told →
+    run line_step line_start (take place (kinds_of lexemes)) ≡ Some (literal value path [])
+told_literal lexemes told value path place e h = let i = subst (IsTold lexemes) e h in i.1
+
+-- ---- from the lexer's outcome
+
+module _ (number : ℕ) (text : List ℕ) where
+  pub lexed_line : (lexemes : List Lexeme) → Lexes text lexemes → (result : LineAnswer) →
+      IfOk result (λ line. IsRead number lexemes (length text) (Ok line)) → IfOk result (λ line. IsLineAnswer number text (Ok line))
+  lexed_line lexemes lexes (Ok line) h = (Ok lexemes, lexes, h)
+  lexed_line lexemes lexes (Err fault) h = tt
+
+  pub lexed_line_fault : (lexemes : List Lexeme) → Lexes text lexemes → (result : LineAnswer) →
+      IfErr result (UnlessMemory (λ fault. IsRead number lexemes (length text) (Err fault))) →
+      IfErr result (UnlessMemory (λ fault. IsLineAnswer number text (Err fault)))
+  lexed_line_fault lexemes lexes (Ok line) h = tt
+  lexed_line_fault lexemes lexes (Err (faults.Syntax line place)) h = (Ok lexemes, lexes, h)
+  lexed_line_fault lexemes lexes (Err (faults.Lex line fault)) h = absurd h
+  lexed_line_fault lexemes lexes (Err faults.Memory) h = tt
+
+  pub refused_line : (fault : LexFault) → unless_lexer (Faults text) fault → UnlessMemory (λ f. IsLineAnswer number text (Err f)) (line_fault number fault)
+  refused_line (lexer.BadByte place) h = (Err (lexer.BadByte place), h, refl)
+  refused_line (lexer.OpenString place) h = (Err (lexer.OpenString place), h, refl)
+  refused_line (lexer.OpenComment place) h = (Err (lexer.OpenComment place), h, refl)
+  refused_line (lexer.TooBig place) h = (Err (lexer.TooBig place), h, refl)
+  refused_line lexer.Memory h = tt

@@ -1,0 +1,17 @@
+use Rattle.std.proofs.Common.{sym, ◌∙◌}
+use Rattle.om_path.proofs.LineLemmas.{told_all, told_literal, is_ended, ends_early, is_set}
+use Rattle.om_path.proofs.line.line_of.Goals as goal
+
+pub returns-in-Some-clause-line : goal.returns-in-Some-clause-line
+returns-in-Some-clause-line c =
+    is_ended c.args.lexemes.items c.args.number c.args.end c.in-All.front (told_all c.args.lexemes.items c.args.told c.in-All.front c.in-All.is c.requires.told) c.in-Some.line (sym c.ended.ensures ∙ c.in-Some.is)
+
+pub returns-in-All-clause-fault : goal.returns-in-All-clause-fault
+returns-in-All-clause-fault c =
+    ends_early c.args.lexemes.items c.args.number c.args.end c.requires.some c.in-All.front (told_all c.args.lexemes.items c.args.told c.in-All.front c.in-All.is c.requires.told) (sym c.ended.ensures ∙ c.in-None.is)
+
+pub returns-in-Literal-clause-line : goal.returns-in-Literal-clause-line
+returns-in-Literal-clause-line c =
+    is_set c.args.lexemes.items c.args.number c.args.end c.in-Literal.value c.in-Literal.path c.in-Literal.place
+    (told_literal c.args.lexemes.items c.args.told c.in-Literal.value c.in-Literal.path c.in-Literal.place c.in-Literal.is c.requires.told)
+    c.in_ok-set_line-in-Literal.field-0 c.in_ok-set_line-in-Literal.ensures

@@ -1,0 +1,41 @@
+-- What the parts of the code tell of a line.
+use Rattle.std.specs.Prelude.{ℕ, ◌≡◌, ◌≤◌, Option, Some, None, List, [], length, take}
+use Rattle.om_lex.specs.declared.lexeme.Lexeme.{Lexeme}
+use Rattle.om_grammar.specs.Machine.{run}
+use Rattle.om_grammar.specs.Refusals.{IsSyntax}
+use Rattle.om_parse.specs.Parsed.{kinds_of}
+use Rattle.om_path.specs.Machine.{at, accepted}
+use Rattle.om_path.specs.LineGrammar.{line_kinds}
+use Rattle.om_path.specs.LineMachine.{reading, literal, line_start, line_step}
+use Rattle.om_path.specs.declared.edits.Edit.{Edit}
+use Rattle.om_path.specs.declared.edits.Edit.TheVariants as edits
+use Rattle.om_path.specs.declared.edits.ScriptLine.{ScriptLine}
+use Rattle.om_path.specs.declared.front.Role.{Role}
+use Rattle.om_path.specs.declared.front.Role.TheVariants as roles
+use Rattle.om_path.specs.declared.front.Front.{Front}
+use Rattle.om_path.specs.declared.front.Front.TheVariants as fronts
+use Rattle.om_path.specs.declared.front.Told.{Told}
+use Rattle.om_path.specs.declared.front.Told.TheVariants as tolds
+
+abbrev pub IsTold : List Lexeme → Told → Type 0
+IsTold lexemes (tolds.All f) = run line_step line_start (kinds_of lexemes) ≡ Some (reading f)
+IsTold lexemes (tolds.Literal value path place) =
+    (place ≤ length lexemes) × (run line_step line_start (take place (kinds_of lexemes)) ≡ Some (literal value path []))
+IsTold lexemes (tolds.Stuck place) = IsSyntax line_kinds (kinds_of lexemes) place
+
+abbrev pub edit_of : Role → List ℕ → Option Edit
+edit_of (roles.Source target) path = Some (edits.Link target path)
+edit_of roles.Unshare path = Some (edits.Unshare path)
+edit_of role path = None
+
+abbrev pub numbered : ℕ → ℕ → Option Edit → Option ScriptLine
+numbered number value None = None
+numbered number value (Some edit) = Some (record { number = number; value = value; edit = edit })
+
+abbrev pub whole_line : ℕ → ℕ → Role → Option (List ℕ) → Option ScriptLine
+whole_line number value role None = None
+whole_line number value role (Some path) = numbered number value (edit_of role path)
+
+abbrev pub ended_line : ℕ → Front → Option ScriptLine
+ended_line number (fronts.Steps value role path after_dot) = whole_line number value role (accepted (at path after_dot))
+ended_line number f = None

@@ -1,0 +1,25 @@
+-- How a line of a script is written: `K set PATH = LITERAL`, `K link PATH = PATH` or `K unshare PATH`.
+use Rattle.std.specs.Prelude.{ℕ, List, ◌∷◌, ◌++◌, codes}
+use Rattle.om_lex.specs.declared.lexeme.LexemeKind.{LexemeKind}
+use Rattle.om_lex.specs.declared.lexeme.LexemeKind.TheVariants as kinds
+use Rattle.om_lex.specs.declared.lexeme.Symbol.TheVariants as symbols
+use Rattle.om_grammar.specs.Grammar.{Kinds}
+use Rattle.om_path.specs.PathGrammar.{number, path_kinds}
+
+-- the number of a value, and the edit; the literal is any lexemes, also none
+pub data LineTree : Type 0 where
+  set_line : (value : ℕ) (path : List ℕ) (literal : Kinds) → LineTree
+  link_line : (value : ℕ) (path source : List ℕ) → LineTree
+  unshare_line : (value : ℕ) (path : List ℕ) → LineTree
+
+abbrev pub equals : LexemeKind
+equals = kinds.Symbol symbols.Equals
+
+-- the path, an equals sign, and what comes after it
+abbrev pub assigned : List ℕ → Kinds → Kinds
+assigned path rest = path_kinds path ++ equals ∷ rest
+
+abbrev pub line_kinds : LineTree → Kinds
+line_kinds (set_line value path literal) = number value ∷ kinds.Lower (codes "set") ∷ assigned path literal
+line_kinds (link_line value path source) = number value ∷ kinds.Lower (codes "link") ∷ assigned path (path_kinds source)
+line_kinds (unshare_line value path) = number value ∷ kinds.Lower (codes "unshare") ∷ path_kinds path

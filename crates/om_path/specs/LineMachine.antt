@@ -1,0 +1,110 @@
+-- The table that reads a line's lexemes one by one.
+use Rattle.std.specs.Prelude.{ℕ, Bool, true, false, if◌then◌else◌, Option, Some, None, List, [], ◌∷◌, ◌++◌, map, codes}
+use Rattle.std.specs.Str.{bytes_eq}
+use Rattle.om_lex.specs.declared.lexeme.LexemeKind.{LexemeKind}
+use Rattle.om_lex.specs.declared.lexeme.LexemeKind.TheVariants as kinds
+use Rattle.om_lex.specs.declared.lexeme.Symbol.TheVariants as symbols
+use Rattle.om_grammar.specs.Grammar.{Kinds}
+use Rattle.om_path.specs.PathGrammar.{number}
+use Rattle.om_path.specs.Machine.{number_of, State, at, step, front, accepted}
+use Rattle.om_path.specs.LineGrammar.{LineTree, set_line, link_line, unshare_line, assigned, line_kinds}
+use Rattle.om_path.specs.declared.front.Role.{Role}
+use Rattle.om_path.specs.declared.front.Role.TheVariants as roles
+use Rattle.om_path.specs.declared.front.Front.{Front}
+use Rattle.om_path.specs.declared.front.Front.TheVariants as fronts
+use Rattle.om_path.specs.declared.front.Next.{Next}
+use Rattle.om_path.specs.declared.front.Next.TheVariants as nexts
+
+-- what was read: up to the `=` of `set`, and after it
+pub data LineState : Type 0 where
+  reading : Front → LineState
+  literal : (value : ℕ) (path : List ℕ) (read : Kinds) → LineState
+
+abbrev pub line_start : LineState
+line_start = reading fronts.Start
+
+-- ---- one lexeme
+
+abbrev pub valued : Option ℕ → Next
+valued None = nexts.Nowhere
+valued (Some value) = nexts.Onward (fronts.Value value)
+
+abbrev pub named_role : List ℕ → Option Role
+named_role name =
+    if bytes_eq name (codes "set") then Some roles.Set
+    else (if bytes_eq name (codes "link") then Some roles.Link
+    else (if bytes_eq name (codes "unshare") then Some roles.Unshare else None))
+
+abbrev pub role_of : LexemeKind → Option Role
+role_of (kinds.Lower name) = named_role name
+role_of kind = None
+
+abbrev pub begun : ℕ → Option Role → Next
+begun value None = nexts.Nowhere
+begun value (Some role) = nexts.Onward (fronts.Steps value role [] false)
+
+abbrev pub is_equals : LexemeKind → Bool
+is_equals (kinds.Symbol symbols.Equals) = true
+is_equals kind = false
+
+-- after the equals sign, where a whole path stands before it
+abbrev pub after_equals : ℕ → Role → Option (List ℕ) → Next
+after_equals value role None = nexts.Nowhere
+after_equals value roles.Set (Some path) = nexts.Literal value path
+after_equals value roles.Link (Some path) = nexts.Onward (fronts.Steps value (roles.Source path) [] false)
+after_equals value role (Some path) = nexts.Nowhere
+
+abbrev pub along : ℕ → Role → Option State → Next
+along value role None = nexts.Nowhere
+along value role (Some (at path after_dot)) = nexts.Onward (fronts.Steps value role path after_dot)
+
+abbrev pub steps_next : ℕ → Role → State → LexemeKind → Next
+steps_next value role s kind = if is_equals kind then after_equals value role (accepted s) else along value role (step s kind)
+
+abbrev pub next_of : Front → LexemeKind → Next
+next_of fronts.Start kind = valued (number_of kind)
+next_of (fronts.Value value) kind = begun value (role_of kind)
+next_of (fronts.Steps value role path after_dot) kind = steps_next value role (at path after_dot) kind
+
+abbrev pub state_of : Next → Option LineState
+state_of (nexts.Onward f) = Some (reading f)
+state_of (nexts.Literal value path) = Some (literal value path [])
+state_of nexts.Nowhere = None
+
+abbrev pub line_step : LineState → LexemeKind → Option LineState
+line_step (reading f) kind = state_of (next_of f kind)
+line_step (literal value path read) kind = Some (literal value path (read ++ kind ∷ []))
+
+-- ---- the lexemes that a state has read
+
+abbrev pub role_kinds : Role → Kinds
+role_kinds roles.Set = kinds.Lower (codes "set") ∷ []
+role_kinds roles.Link = kinds.Lower (codes "link") ∷ []
+role_kinds (roles.Source path) = kinds.Lower (codes "link") ∷ assigned path []
+role_kinds roles.Unshare = kinds.Lower (codes "unshare") ∷ []
+
+abbrev pub front_kinds : Front → Kinds
+front_kinds fronts.Start = []
+front_kinds (fronts.Value value) = number value ∷ []
+front_kinds (fronts.Steps value role path after_dot) = number value ∷ (role_kinds role ++ front (at path after_dot))
+
+abbrev pub line_front : LineState → Kinds
+line_front (reading f) = front_kinds f
+line_front (literal value path read) = line_kinds (set_line value path read)
+
+-- ---- a line's end
+
+abbrev pub ended : ℕ → Role → Option (List ℕ) → Option LineTree
+ended value role None = None
+ended value (roles.Source path) (Some source) = Some (link_line value path source)
+ended value roles.Unshare (Some path) = Some (unshare_line value path)
+ended value role (Some path) = None
+
+abbrev pub line_accepted : LineState → Option LineTree
+line_accepted (reading (fronts.Steps value role path after_dot)) = ended value role (accepted (at path after_dot))
+line_accepted (reading f) = None
+line_accepted (literal value path read) = Some (set_line value path read)
+
+-- no lexeme of a line ends a type
+abbrev pub line_ends : LineTree → List ℕ
+line_ends line = map (λ (kind : LexemeKind). 0) (line_kinds line)

@@ -1,0 +1,252 @@
+//! A line of a script from its lexemes.
+
+ghost use Rattle.std.specs.Prelude.{◌≡◌, ◌<◌, ◌≤◌, IfOk, IfErr, Option, Some, None, Ok, Err, length, drop};
+ghost use Rattle.om_path.specs.Machine.{at, number_of};
+ghost use Rattle.om_path.specs.LineMachine.{named_role, role_of, valued, begun, is_equals, after_equals, steps_next, next_of};
+ghost use Rattle.om_path.specs.ScriptAnswer.{IsRead, IsLineAnswer, UnlessMemory};
+ghost use Rattle.om_path.specs.LineCode.{IsTold, edit_of, ended_line};
+ghost use Rattle.om_path.specs.declared.edits.Edit.TheVariants as edits;
+
+use crate::edits::{Edit, ScriptFault, ScriptLine, line_fault};
+use crate::front::{Front, Next, Role, Told};
+use crate::read::{is_whole, number_of, step};
+use om_lex::lexeme::{Lexeme, LexemeKind, Symbol};
+use om_lex::tokens;
+use om_model::Memory;
+use om_model::list::List;
+use om_model::path::Path;
+use om_parse::byte_of;
+use std::alloc::Global;
+
+/// What the path after a word is for.
+fn named_role(name: &[u8]) -> Option<Role>
+    ensures { result ≡ named_role name.now }
+{
+    if name == b"set".as_slice() {
+        Some(Role::Set)
+    } else if name == b"link".as_slice() {
+        Some(Role::Link)
+    } else if name == b"unshare".as_slice() {
+        Some(Role::Unshare)
+    } else {
+        None
+    }
+}
+
+/// What the path after a lexeme is for, where that is one of the three words.
+fn role_of(kind: &LexemeKind) -> Option<Role>
+    ensures { result ≡ role_of kind.now }
+{
+    match kind {
+        LexemeKind::Lower(name) => named_role(name.as_slice()),
+        _ => None,
+    }
+}
+
+/// After the value's number, where the lexeme is one.
+fn valued(kind: &LexemeKind) -> Next
+    ensures { result ≡ valued (number_of kind.now) }
+{
+    match number_of(kind) {
+        Some(value) => Next::Onward(Front::Value(value)),
+        None => Next::Nowhere,
+    }
+}
+
+/// After the word.
+fn begun(alloc: Global, value: u64, kind: &LexemeKind) -> Next
+    ensures { result ≡ begun value (role_of kind.now) }
+{
+    match role_of(kind) {
+        Some(role) => Next::Onward(Front::Steps(value, role, Path::new(alloc), false)),
+        None => Next::Nowhere,
+    }
+}
+
+/// Whether a lexeme is an equals sign.
+fn is_equals(kind: &LexemeKind) -> bool
+    ensures { result ≡ is_equals kind.now }
+{
+    match kind {
+        LexemeKind::Symbol(Symbol::Equals) => true,
+        _ => false,
+    }
+}
+
+/// After a whole path and an equals sign.
+fn after_equals(alloc: Global, value: u64, role: Role, path: Path) -> Next
+    ensures { result ≡ after_equals value role (Some path) }
+{
+    match role {
+        Role::Set => Next::Literal(value, path),
+        Role::Link => {
+            Next::Onward(Front::Steps(value, Role::Source(path), Path::new(alloc), false))
+        }
+        _ => Next::Nowhere,
+    }
+}
+
+/// After a lexeme in a path, or behind it.
+fn steps_next(
+    alloc: Global,
+    value: u64,
+    role: Role,
+    mut path: Path,
+    after_dot: bool,
+    kind: &LexemeKind,
+) -> Result<Next, Memory>
+    ensures { IfOk result (λ next. steps_next value role (at path after_dot) kind.now ≡ next) }
+{
+    if is_equals(kind) {
+        if is_whole(&path, after_dot) {
+            return Ok(after_equals(alloc, value, role, path));
+        }
+        return Ok(Next::Nowhere);
+    }
+    if step(&mut path, after_dot, kind)? {
+        Ok(Next::Onward(Front::Steps(value, role, path, !after_dot)))
+    } else {
+        Ok(Next::Nowhere)
+    }
+}
+
+/// After one more lexeme.
+fn next_of(alloc: Global, front: Front, kind: &LexemeKind) -> Result<Next, Memory>
+    ensures { IfOk result (λ next. next_of front kind.now ≡ next) }
+{
+    match front {
+        Front::Start => Ok(valued(kind)),
+        Front::Value(value) => Ok(begun(alloc, value, kind)),
+        Front::Steps(value, role, path, after_dot) => {
+            steps_next(alloc, value, role, path, after_dot, kind)
+        }
+    }
+}
+
+/// Reads lexemes up to the `=` of `set`, or where no line goes on, or all of them.
+fn told(alloc: Global, lexemes: &[Lexeme]) -> Result<Told, Memory>
+    ensures { IfOk result (IsTold lexemes.now) }
+{
+    let mut front = Front::Start;
+    for (place, lexeme) in lexemes.iter().enumerate() {
+        match next_of(alloc, front, &lexeme.kind)? {
+            Next::Onward(next) => front = next,
+            Next::Literal(value, path) => return Ok(Told::Literal(value, path, place + 1)),
+            Next::Nowhere => return Ok(Told::Stuck(place)),
+        }
+    }
+    Ok(Told::All(front))
+}
+
+/// The edit of a line that ends after a whole path.
+fn edit_of(role: Role, path: Path) -> Option<Edit>
+    ensures { result ≡ edit_of role path }
+{
+    match role {
+        Role::Source(target) => Some(Edit::Link(target, path)),
+        Role::Unshare => Some(Edit::Unshare(path)),
+        _ => None,
+    }
+}
+
+/// The line that ends here, if one may.
+fn ended(front: Front, number: usize) -> Option<ScriptLine>
+    ensures { result ≡ ended_line number front }
+{
+    let Front::Steps(value, role, path, after_dot) = front else {
+        return None;
+    };
+    if !is_whole(&path, after_dot) {
+        return None;
+    }
+    match edit_of(role, path) {
+        Some(edit) => Some(ScriptLine {
+            number,
+            value,
+            edit,
+        }),
+        None => None,
+    }
+}
+
+/// A `set` whose literal is the lexemes from a place on.
+fn set_line(
+    number: usize,
+    value: u64,
+    path: Path,
+    mut lexemes: Vec<Lexeme>,
+    place: usize,
+    end: usize,
+) -> Result<ScriptLine, Memory>
+    requires { place ≤ length lexemes.items }
+    ensures { IfOk result (λ line. line ≡ record { number = number; value = value; edit = edits.Set path (drop place lexemes.items) end }) }
+{
+    let literal = List::of(lexemes.split_off(place)?);
+    Ok(ScriptLine {
+        number,
+        value,
+        edit: Edit::Set(path, literal, end),
+    })
+}
+
+/// The line that was told of its lexemes, of which there are some.
+fn line_of(
+    told: Told,
+    lexemes: Vec<Lexeme>,
+    number: usize,
+    end: usize,
+) -> Result<ScriptLine, ScriptFault>
+    requires some { 0 < length lexemes.items }
+    requires told { IsTold lexemes.items told }
+    ensures line { IfOk result (λ line. IsRead number lexemes.items end (Ok (Some line))) }
+    ensures fault { IfErr result (UnlessMemory (λ fault. IsRead number lexemes.items end (Err fault))) }
+{
+    match told {
+        Told::All(front) => match ended(front, number) {
+            Some(line) => Ok(line),
+            None => Err(ScriptFault::Syntax(number, end)),
+        },
+        Told::Literal(value, path, place) => {
+            Ok(set_line(number, value, path, lexemes, place, end)?)
+        }
+        Told::Stuck(place) => Err(ScriptFault::Syntax(
+            number,
+            byte_of(lexemes.as_slice(), end, place),
+        )),
+    }
+}
+
+/// What the lexemes of a line are.
+fn read_lexemes(
+    alloc: Global,
+    lexemes: Vec<Lexeme>,
+    number: usize,
+    end: usize,
+) -> Result<Option<ScriptLine>, ScriptFault>
+    ensures line { IfOk result (λ line. IsRead number lexemes.items end (Ok line)) }
+    ensures fault { IfErr result (UnlessMemory (λ fault. IsRead number lexemes.items end (Err fault))) }
+{
+    if lexemes.is_empty() {
+        return Ok(None);
+    }
+    let told = told(alloc, lexemes.as_slice())?;
+    match line_of(told, lexemes, number, end) {
+        Ok(line) => Ok(Some(line)),
+        Err(fault) => Err(fault),
+    }
+}
+
+/// What a line is.
+pub fn read_line(
+    alloc: Global,
+    text: &[u8],
+    number: usize,
+) -> Result<Option<ScriptLine>, ScriptFault>
+    ensures line { IfOk result (λ line. IsLineAnswer number text.now (Ok line)) }
+    ensures fault { IfErr result (UnlessMemory (λ fault. IsLineAnswer number text.now (Err fault))) }
+{
+    match tokens(alloc, text) {
+        Ok(lexemes) => read_lexemes(alloc, lexemes, number, text.len()),
+        Err(fault) => Err(line_fault(number, fault)),
+    }
+}
