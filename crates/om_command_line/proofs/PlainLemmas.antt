@@ -1,23 +1,26 @@
 -- Plain words are accepted, and ask for what they say.
-use Rattle.std.proofs.Common.{◌≡◌, ◌∙◌, ◌==◌, ◌≤◌, ℕ, Bool, true, false, List, [], ◌∷◌, drop, cond, Some, None, codes, refl, sym, ap, subst, arith}
-use Rattle.std.specs.Prelude.{if◌then◌else◌}
+use Rattle.std.proofs.Common.{◌≡◌, ◌∙◌, ◌==◌, ◌≤◌, ℕ, suc, Bool, true, false, List, [], ◌∷◌, ◌++◌, drop, cond, Option, Some, None, codes, refl, sym, ap, subst, arith}
+use Rattle.std.specs.Prelude.{if◌then◌else◌, fold, option_map}
+use Rattle.std.specs.List.{All}
 use Rattle.std.specs.Str.{bytes_eq}
 use Rattle.std.specs.Str.Parse.{IsNumeral, digits_value, without_leading_plus}
 use Rattle.std.proofs.lemmas.Bool.{ne_eqb}
+use Rattle.std.proofs.lemmas.List.Elements.{All-head, All-tail}
 use Rattle.std.proofs.lemmas.Str.Parse.{digit_from_value}
 use Rattle.clap.specs.Lexer.{long_of, short_of}
-use Rattle.clap.specs.Walk.{Held, Rule, Text, Walk, arg_by_id, arg_by_index, finished, idle, nothing_held, option, option_word, rows_after, settled, to_positional, value, walk, walk_from, walked}
-use Rattle.clap.specs.Simple.{Shape, built_leaf, inherited, marked_built, with_leaf_noted}
+use Rattle.clap.specs.Walk.{Held, Rule, Text, Walk, arg_by_id, arg_by_index, finished, idle, nothing_held, option as waits_for, option_word, rows_after, settled, to_positional, value, walk, walk_from, walked}
+use Rattle.clap.specs.Simple.{Shape}
 use Rattle.clap.specs.Faults.{check_fault, defaults_fault, level_fault, settle_fault, step_fault, turn_fault, walk_fault}
 use Rattle.clap.specs.Kinds.{Kinds, or_else}
 use Rattle.clap.specs.ValueTests.{accepts}
-use Rattle.clap.specs.Words.{Row, fault_of, first_of, one_of, subcommand_of}
+use Rattle.clap.specs.Words.{Row, first_of, one_of}
 use Rattle.clap.specs.declared.builder.value_parser.ValueParser.TheVariants.{Unsigned}
 use Rattle.clap.specs.declared.error.kind.ErrorKind.TheVariants as kind
 use Rattle.clap.proofs.OnLiterals.{clap_on_literals}
 use Rattle.clap.proofs.ValueTestLemmas.{Accepts-accepts, accepts-Accepts}
-use Rattle.om_outcome.specs.CommandLine.{IsArgument, HasLimit, check_command, command_set, greatest_limit, same_command, usual_limit, Request, check, compare, ArePlain, Asks}
+use Rattle.om_outcome.specs.CommandLine.{IsArgument, HasLimit, HasTyped, greatest_limit, Request, check, show, get, dump, compare, ArePlain, ArePlainLimit, Asks, AsksBy}
 use Rattle.om_command_line.proofs.RequestLemmas.{asks_by}
+use Rattle.om_command_line.proofs.SetLemmas.{IsNamed, check_named, show_named, get_named, dump_named, same_named, get_places, leaf, limit_rule, named_fault, named_met, typed_places}
 
 -- ---- what clap sees in an argument
 
@@ -48,7 +51,7 @@ argument_turn s h n word is = rw (no_dashes word is, no_long word is, no_short w
 
 -- or to the option that waits for it
 abbrev waiting_for : Text → Held → ℕ → Walk
-waiting_for id h n = record { held = h; waiting = option id; position = n; is_trailing = false; stopped = None }
+waiting_for id h n = record { held = h; waiting = waits_for id; position = n; is_trailing = false; stopped = None }
 
 option_walked : (c : List Rule) (id : Text) (h : Held) (n : ℕ) (word : List ℕ) → IsArgument word
     → walked c [] (waiting_for id h n) word
@@ -98,246 +101,239 @@ limit_accepted text limit numeral is least =
     Accepts-accepts false (Unsigned 0 greatest_limit) text (subst (IsNumeral 10) (sym same) numeral, omega (arith, number, least), omega arith, omega (arith, number, least))
 
 -- a limit that is read of a text which clap accepts
-limit_has : (arguments : List Row) (text : List ℕ) (limit : ℕ) → one_of (codes "limit") arguments ≡ Some text → accepts false (Unsigned 0 greatest_limit) text ≡ true
+pub limit_has : (arguments : List Row) (text : List ℕ) (limit : ℕ) → one_of (codes "limit") arguments ≡ Some text → accepts false (Unsigned 0 greatest_limit) text ≡ true
     → digits_value 10 (without_leading_plus text) ≡ limit → HasLimit arguments limit
 limit_has arguments text limit has accepted is =
     let in_range = accepts-Accepts false (Unsigned 0 greatest_limit) text accepted in
     let most = in_range.3 in (text, has, in_range.0, is, omega (arith, is, most))
 
--- ---- the commands, as they are built
+-- ---- arguments, each at its place
 
-abbrev leaf : Shape → Shape
-leaf s = built_leaf (inherited (with_leaf_noted (marked_built command_set.top)) s)
-
-abbrev check_leaf : Shape
-check_leaf = leaf check_command
-
-abbrev same_leaf : Shape
-same_leaf = leaf same_command
-
--- ---- `check FILE TYPE`
-
+-- what is held after one
 abbrev held_after : Shape → Held → ℕ → Text → Held
 held_after s h n word = (to_positional s.rules (arg_by_index s.rules n) word (standing h n) h).held
 
-module _ (s : Shape) (words : List (List ℕ)) (w : Walk) (ends : walk s.rules [] nothing_held words ≡ w) where
-  -- what is read of the arguments, by where the walk ends
-  row_at : (id : Text) → first_of id (rows_after s.rules [] words) ≡ first_of id (finished s.rules w.held)
-  row_at id = ap (λ w. first_of id (finished s.rules w.held)) ends
+abbrev held_at_end : Shape → Held → ℕ → List Text → Held
+held_at_end s h n [] = h
+held_at_end s h n (word ∷ rest) = held_at_end s (held_after s h n word) (suc n) rest
 
-  one_at : (id : Text) → one_of id (rows_after s.rules [] words) ≡ one_of id (finished s.rules w.held)
-  one_at id = ap (λ w. one_of id (finished s.rules w.held)) ends
+abbrev place_at_end : ℕ → List Text → ℕ
+place_at_end n [] = n
+place_at_end n (word ∷ rest) = place_at_end (suc n) rest
 
-module _ (file type : List ℕ) (is_file : IsArgument file) (is_type : IsArgument type) where
-  abbrev plain_two : List (List ℕ)
-  plain_two = file ∷ type ∷ []
+-- each has its place, and takes it without a fault
+abbrev ArePlaced : Shape → Held → ℕ → List Text → Type 0
+ArePlaced s h n [] = Unit {0}
+ArePlaced s h n (word ∷ rest) =
+    (to_positional s.rules (arg_by_index s.rules n) word (standing h n) h ≡ standing (held_after s h n word) (suc n)) × (step_fault s n h value ≡ [])
+    × ArePlaced s (held_after s h n word) (suc n) rest
 
-  abbrev file_held : Held
-  file_held = held_after check_leaf nothing_held 1 file
+arguments_walked : (s : Shape) (h : Held) (n : ℕ) (words : List Text) → All IsArgument words → ArePlaced s h n words
+    → fold (walked s.rules []) (standing h n) words ≡ standing (held_at_end s h n words) (place_at_end n words)
+arguments_walked s h n [] are placed = refl
+arguments_walked s h n (word ∷ rest) are (step, turn, more) =
+    ap (λ w. fold (walked s.rules []) w rest) (argument_walked s.rules h n word (All-head IsArgument word rest are) ∙ step)
+    ∙ arguments_walked s (held_after s h n word) (suc n) rest (All-tail IsArgument word rest are) more
 
-  abbrev type_held : Held
-  type_held = held_after check_leaf file_held 2 type
+arguments_pass : (s : Shape) (h : Held) (n : ℕ) (words : List Text) → All IsArgument words → ArePlaced s h n words → walk_fault s [] (standing h n) words ≡ []
+arguments_pass s h n [] are placed = walk_no_words s (standing h n)
+arguments_pass s h n (word ∷ rest) are (step, turn, more) =
+    let is = All-head IsArgument word rest are in
+    walk_no_fault s (standing h n) (standing (held_after s h n word) (suc n)) word rest (argument_turn s h n word is ∙ turn) (argument_walked s.rules h n word is ∙ step)
+    (arguments_pass s (held_after s h n word) (suc n) rest (All-tail IsArgument word rest are) more)
 
-  two_file : walked check_leaf.rules [] (standing nothing_held 1) file ≡ standing file_held 2
-  two_file = argument_walked check_leaf.rules nothing_held 1 file is_file
+-- ---- `--limit N`, where it is there
 
-  two_type : walked check_leaf.rules [] (standing file_held 2) type ≡ standing type_held 3
-  two_type = argument_walked check_leaf.rules file_held 2 type is_type
+abbrev text_in : List Text → Option Text
+text_in (name ∷ text ∷ []) = Some text
+text_in option = None
 
-  two_walk : walk check_leaf.rules [] nothing_held plain_two ≡ standing type_held 3
-  two_walk = ap (λ w. walked check_leaf.rules [] w type) two_file ∙ two_type
+-- what is held of it
+abbrev held_by : Option Text → Held
+held_by text = record { rows = []; pending = option_map (λ t. (codes "limit", t ∷ [])) text; skip = 0 }
 
-  two_none : walk_fault check_leaf [] (walk_from nothing_held) plain_two ≡ []
-  two_none =
-      walk_no_fault check_leaf (standing nothing_held 1) (standing file_held 2) file (type ∷ []) (argument_turn check_leaf nothing_held 1 file is_file) two_file
-      (walk_no_fault check_leaf (standing file_held 2) (standing type_held 3) type [] (argument_turn check_leaf file_held 2 type is_type) two_type (walk_no_words check_leaf (standing type_held 3)))
+abbrev limit_text : Option Text → Text
+limit_text None = codes "134217728"
+limit_text (Some text) = text
 
-  two_end : or_else (settle_fault check_leaf.rules check_leaf.args_override_self type_held)
-      (or_else (defaults_fault (settled check_leaf.rules type_held).rows check_leaf.rules) (check_fault check_leaf (finished check_leaf.rules type_held) false)) ≡ []
-  unfolding defaults_fault
-  two_end = refl
+abbrev IsAccepted : Option Text → Type 0
+IsAccepted text = accepts false (Unsigned 0 greatest_limit) (limit_text text) ≡ true
 
-  two_level : level_fault check_leaf [] nothing_held plain_two false [] ≡ []
-  two_level = level_at check_leaf plain_two (standing type_held 3) two_walk two_none ∙ two_end
+option_accepted : (option : List Text) (limit : ℕ) → ArePlainLimit option limit → IsAccepted (text_in option)
+option_accepted [] limit plain = refl
+option_accepted (name ∷ []) limit plain = absurd plain
+option_accepted (name ∷ text ∷ []) limit (is, numeral, writes, least) = limit_accepted text limit numeral writes least
+option_accepted (name ∷ text ∷ more ∷ rest) limit plain = absurd plain
 
-  two_fault : fault_of command_set (codes "check" ∷ plain_two) ≡ or_else (level_fault check_leaf [] nothing_held plain_two false []) []
-  unfolding clap_on_literals
-  two_fault = refl
-
-  two_met : subcommand_of command_set (codes "check" ∷ plain_two) ≡ Some (codes "check", rows_after check_leaf.rules [] plain_two)
-  unfolding clap_on_literals
-  two_met = refl
-
-  check_asks : Asks (codes "check" ∷ plain_two) (check file type usual_limit)
-  check_asks =
-      asks_by (codes "check" ∷ plain_two) (check file type usual_limit) (codes "check") (rows_after check_leaf.rules [] plain_two)
-      (two_fault ∙ ap (λ k. or_else k []) two_level, two_met) (
-        refl,
-        row_at check_leaf plain_two (standing type_held 3) two_walk (codes "FILE"),
-        row_at check_leaf plain_two (standing type_held 3) two_walk (codes "TYPE"),
-        limit_has (rows_after check_leaf.rules [] plain_two) (codes "134217728") usual_limit (one_at check_leaf plain_two (standing type_held 3) two_walk (codes "limit")) refl refl,
-      )
-
--- ---- with `--limit N`
+option_writes : (option : List Text) (limit : ℕ) → ArePlainLimit option limit → digits_value 10 (without_leading_plus (limit_text (text_in option))) ≡ limit
+option_writes [] limit plain = sym plain
+option_writes (name ∷ []) limit plain = absurd plain
+option_writes (name ∷ text ∷ []) limit (is, numeral, writes, least) = ap (digits_value 10) (no_plus text numeral) ∙ writes
+option_writes (name ∷ text ∷ more ∷ rest) limit plain = absurd plain
 
 abbrev option_held : Held
 option_held = record { rows = []; pending = Some (codes "limit", []); skip = 0 }
 
-module _ (text : List ℕ) (limit : ℕ) (numeral : IsNumeral 10 text) (writes : digits_value 10 text ≡ limit) (least : limit ≤ greatest_limit) where
-  accepted : accepts false (Unsigned 0 greatest_limit) text ≡ true
-  accepted = limit_accepted text limit numeral writes least
+module _ (name : Text) (places : List Rule) where
+  abbrev own : Shape
+  own = leaf name places
 
-  number : digits_value 10 (without_leading_plus text) ≡ limit
-  number = ap (digits_value 10) (no_plus text numeral) ∙ writes
-
-  abbrev limit_held : Held
-  limit_held = record { rows = []; pending = Some (codes "limit", text ∷ []); skip = 0 }
-
-  -- ---- `same --limit N`
-
-  abbrev same_words : List (List ℕ)
-  same_words = codes "--limit" ∷ text ∷ []
-
-  same_option : walked same_leaf.rules [] (standing nothing_held 1) (codes "--limit") ≡ waiting_for (codes "limit") option_held 1
+  option_met : walked own.rules [] (standing nothing_held 1) (codes "--limit") ≡ waiting_for (codes "limit") option_held 1
   unfolding clap_on_literals
-  same_option = refl
+  option_met = refl
 
-  same_option_turn : turn_fault same_leaf [] (standing nothing_held 1) (codes "--limit") ≡ []
+  option_passes : turn_fault own [] (standing nothing_held 1) (codes "--limit") ≡ []
   unfolding clap_on_literals
-  same_option_turn = refl
+  option_passes = refl
 
-  same_limit : walked same_leaf.rules [] (waiting_for (codes "limit") option_held 1) text ≡ standing limit_held 1
-  same_limit = option_walked same_leaf.rules (codes "limit") option_held 1 text (digits_are_argument text numeral)
+  text_walked : (text : Text) → IsArgument text → walked own.rules [] (waiting_for (codes "limit") option_held 1) text ≡ standing (held_by (Some text)) 1
+  text_walked text is = option_walked own.rules (codes "limit") option_held 1 text is
 
-  same_walk : walk same_leaf.rules [] nothing_held same_words ≡ standing limit_held 1
-  same_walk = ap (λ w. walked same_leaf.rules [] w text) same_option ∙ same_limit
+  options_walked : (option : List Text) (limit : ℕ) → ArePlainLimit option limit → (rest : List Text)
+      → fold (walked own.rules []) (standing nothing_held 1) (option ++ rest) ≡ fold (walked own.rules []) (standing (held_by (text_in option)) 1) rest
+  options_walked [] limit plain rest = refl
+  options_walked (first ∷ []) limit plain rest = absurd plain
+  options_walked (first ∷ text ∷ []) limit (is, numeral, writes, least) rest =
+      ap (λ n. fold (walked own.rules []) (walked own.rules [] (walked own.rules [] (standing nothing_held 1) n) text) rest) is
+      ∙ (ap (λ w. fold (walked own.rules []) (walked own.rules [] w text) rest) option_met
+      ∙ ap (λ w. fold (walked own.rules []) w rest) (text_walked text (digits_are_argument text numeral)))
+  options_walked (first ∷ text ∷ more ∷ others) limit plain rest = absurd plain
 
-  same_none : walk_fault same_leaf [] (walk_from nothing_held) same_words ≡ []
-  same_none =
-      walk_no_fault same_leaf (standing nothing_held 1) (waiting_for (codes "limit") option_held 1) (codes "--limit") (text ∷ []) same_option_turn same_option
-      (walk_no_fault same_leaf (waiting_for (codes "limit") option_held 1) (standing limit_held 1) text [] (option_turn same_leaf (codes "limit") option_held 1 text (digits_are_argument text numeral)) same_limit
-      (walk_no_words same_leaf (standing limit_held 1)))
+  options_pass : (option : List Text) (limit : ℕ) → ArePlainLimit option limit → (rest : List Text)
+      → walk_fault own [] (standing (held_by (text_in option)) 1) rest ≡ [] → walk_fault own [] (standing nothing_held 1) (option ++ rest) ≡ []
+  options_pass [] limit plain rest pass = pass
+  options_pass (first ∷ []) limit plain rest pass = absurd plain
+  options_pass (first ∷ text ∷ []) limit (is, numeral, writes, least) rest pass =
+      let argument = digits_are_argument text numeral in
+      subst (λ n. walk_fault own [] (standing nothing_held 1) (n ∷ text ∷ rest) ≡ []) (sym is)
+      (walk_no_fault own (standing nothing_held 1) (waiting_for (codes "limit") option_held 1) (codes "--limit") (text ∷ rest) option_passes option_met
+      (walk_no_fault own (waiting_for (codes "limit") option_held 1) (standing (held_by (Some text)) 1) text rest (option_turn own (codes "limit") option_held 1 text argument)
+      (text_walked text argument) pass))
+  options_pass (first ∷ text ∷ more ∷ others) limit plain rest pass = absurd plain
 
-  same_end : or_else (settle_fault same_leaf.rules same_leaf.args_override_self limit_held)
-      (or_else (defaults_fault (settled same_leaf.rules limit_held).rows same_leaf.rules) (check_fault same_leaf (finished same_leaf.rules limit_held) false)) ≡ []
+-- ---- a command that is written plainly
+
+-- no fault after the walk
+abbrev EndsWell : Shape → Held → Type 0
+EndsWell s h = or_else (settle_fault s.rules s.args_override_self h) (or_else (defaults_fault (settled s.rules h).rows s.rules) (check_fault s (finished s.rules h) false)) ≡ []
+
+module _ (name : Text) (places : List Rule) (named : IsNamed name places) (option : List Text) (limit : ℕ) (plain : ArePlainLimit option limit)
+    (arguments : List Text) (are : All IsArgument arguments) where
+  abbrev last_held : Held
+  last_held = held_at_end (leaf name places) (held_by (text_in option)) 1 arguments
+
+  written_asks : ArePlaced (leaf name places) (held_by (text_in option)) 1 arguments → EndsWell (leaf name places) last_held
+      → (request : Request) → AsksBy name (finished (limit_rule ∷ places) last_held) request → Asks (name ∷ option ++ arguments) request
+  written_asks placed ends request by =
+      let last : Walk = standing last_held (place_at_end 1 arguments) in
+      let walks : walk (limit_rule ∷ places) [] nothing_held (option ++ arguments) ≡ last =
+      options_walked name places option limit plain arguments ∙ arguments_walked (leaf name places) (held_by (text_in option)) 1 arguments are placed in
+      let passes : walk_fault (leaf name places) [] (walk_from nothing_held) (option ++ arguments) ≡ [] =
+      options_pass name places option limit plain arguments (arguments_pass (leaf name places) (held_by (text_in option)) 1 arguments are placed) in
+      let level : level_fault (leaf name places) [] nothing_held (option ++ arguments) false [] ≡ [] = level_at (leaf name places) (option ++ arguments) last walks passes ∙ ends in
+      asks_by (name ∷ option ++ arguments) request name (rows_after (limit_rule ∷ places) [] (option ++ arguments))
+      (named_fault name places named (option ++ arguments) ∙ ap (λ k. or_else k []) level, named_met name places named (option ++ arguments))
+      (subst (λ (w : Walk). AsksBy name (finished (limit_rule ∷ places) w.held) request) (sym walks) by)
+
+-- the limit, where the rows after the walk have it
+has_limit : (option : List Text) (limit : ℕ) → ArePlainLimit option limit → (arguments : List Row) → one_of (codes "limit") arguments ≡ Some (limit_text (text_in option)) → HasLimit arguments limit
+has_limit option limit plain arguments has = limit_has arguments (limit_text (text_in option)) limit has (option_accepted option limit plain) (option_writes option limit plain)
+
+settled_limit : (text : Text) → IsAccepted (Some text) → or_else (if accepts false (Unsigned 0 greatest_limit) text then [] else kind.ValueValidation ∷ []) [] ≡ []
+settled_limit text accepted = ap (λ b. or_else (if b then [] else kind.ValueValidation ∷ []) []) accepted
+
+-- ---- no argument
+
+module _ (name : Text) where
+  none_end : (text : Option Text) → IsAccepted text → EndsWell (leaf name []) (held_by text)
   unfolding defaults_fault
-  same_end = ap (λ b. or_else (or_else (if b then [] else kind.ValueValidation ∷ []) []) []) accepted
+  none_end None accepted = refl
+  none_end (Some text) accepted = ap (λ b. or_else (or_else (if b then [] else kind.ValueValidation ∷ []) []) []) accepted
 
-  same_level : level_fault same_leaf [] nothing_held same_words false [] ≡ []
-  same_level = level_at same_leaf same_words (standing limit_held 1) same_walk same_none ∙ same_end
+  none_limit : (text : Option Text) → one_of (codes "limit") (finished (limit_rule ∷ []) (held_by text)) ≡ Some (limit_text text)
+  none_limit None = refl
+  none_limit (Some text) = refl
 
-  same_fault : fault_of command_set (codes "same" ∷ same_words) ≡ or_else (level_fault same_leaf [] nothing_held same_words false []) []
-  unfolding clap_on_literals
-  same_fault = refl
+-- ---- FILE and TYPE
 
-  same_met : subcommand_of command_set (codes "same" ∷ same_words) ≡ Some (codes "same", rows_after same_leaf.rules [] same_words)
-  unfolding clap_on_literals
-  same_met = refl
+module _ (name file type : Text) where
+  abbrev two_held : Option Text → Held
+  two_held text = held_at_end (leaf name typed_places) (held_by text) 1 (file ∷ type ∷ [])
 
-  same_asks_limit : Asks (codes "same" ∷ same_words) (compare limit)
-  same_asks_limit =
-      asks_by (codes "same" ∷ same_words) (compare limit) (codes "same") (rows_after same_leaf.rules [] same_words)
-      (same_fault ∙ ap (λ k. or_else k []) same_level, same_met)
-      (refl, limit_has (rows_after same_leaf.rules [] same_words) text limit (one_at same_leaf same_words (standing limit_held 1) same_walk (codes "limit")) accepted number)
+  two_placed : (text : Option Text) → IsAccepted text → ArePlaced (leaf name typed_places) (held_by text) 1 (file ∷ type ∷ [])
+  two_placed None accepted = (refl, refl, (refl, refl, tt))
+  two_placed (Some text) accepted = (refl, settled_limit text accepted, (refl, refl, tt))
 
-  -- ---- `check --limit N FILE TYPE`
+  two_end : (text : Option Text) → EndsWell (leaf name typed_places) (two_held text)
+  unfolding defaults_fault
+  two_end None = refl
+  two_end (Some text) = refl
 
-  module _ (file type : List ℕ) (is_file : IsArgument file) (is_type : IsArgument type) where
-    abbrev check_words : List (List ℕ)
-    check_words = codes "--limit" ∷ text ∷ file ∷ type ∷ []
+  two_read : (text : Option Text)
+      → (first_of (codes "FILE") (finished (limit_rule ∷ typed_places) (two_held text)) ≡ Some file)
+      × (first_of (codes "TYPE") (finished (limit_rule ∷ typed_places) (two_held text)) ≡ Some type)
+      × (one_of (codes "limit") (finished (limit_rule ∷ typed_places) (two_held text)) ≡ Some (limit_text text))
+  two_read None = (refl, refl, refl)
+  two_read (Some text) = (refl, refl, refl)
 
-    abbrev next_held : Held
-    next_held = held_after check_leaf limit_held 1 file
+-- ---- FILE, TYPE and PATH
 
-    abbrev last_held : Held
-    last_held = held_after check_leaf next_held 2 type
+module _ (name file type path : Text) where
+  abbrev three_held : Option Text → Held
+  three_held text = held_at_end (leaf name get_places) (held_by text) 1 (file ∷ type ∷ path ∷ [])
 
-    check_option : walked check_leaf.rules [] (standing nothing_held 1) (codes "--limit") ≡ waiting_for (codes "limit") option_held 1
-    unfolding clap_on_literals
-    check_option = refl
+  three_placed : (text : Option Text) → IsAccepted text → ArePlaced (leaf name get_places) (held_by text) 1 (file ∷ type ∷ path ∷ [])
+  three_placed None accepted = (refl, refl, (refl, refl, (refl, refl, tt)))
+  three_placed (Some text) accepted = (refl, settled_limit text accepted, (refl, refl, (refl, refl, tt)))
 
-    check_option_turn : turn_fault check_leaf [] (standing nothing_held 1) (codes "--limit") ≡ []
-    unfolding clap_on_literals
-    check_option_turn = refl
+  three_end : (text : Option Text) → EndsWell (leaf name get_places) (three_held text)
+  unfolding defaults_fault
+  three_end None = refl
+  three_end (Some text) = refl
 
-    check_limit : walked check_leaf.rules [] (waiting_for (codes "limit") option_held 1) text ≡ standing limit_held 1
-    check_limit = option_walked check_leaf.rules (codes "limit") option_held 1 text (digits_are_argument text numeral)
-
-    check_file : walked check_leaf.rules [] (standing limit_held 1) file ≡ standing next_held 2
-    check_file = argument_walked check_leaf.rules limit_held 1 file is_file
-
-    check_file_turn : turn_fault check_leaf [] (standing limit_held 1) file ≡ []
-    check_file_turn = argument_turn check_leaf limit_held 1 file is_file ∙ ap (λ b. or_else (if b then [] else kind.ValueValidation ∷ []) []) accepted
-
-    check_type : walked check_leaf.rules [] (standing next_held 2) type ≡ standing last_held 3
-    check_type = argument_walked check_leaf.rules next_held 2 type is_type
-
-    check_walk : walk check_leaf.rules [] nothing_held check_words ≡ standing last_held 3
-    check_walk =
-        ap (λ w. walked check_leaf.rules [] (walked check_leaf.rules [] (walked check_leaf.rules [] w text) file) type) check_option
-        ∙ (ap (λ w. walked check_leaf.rules [] (walked check_leaf.rules [] w file) type) check_limit
-        ∙ (ap (λ w. walked check_leaf.rules [] w type) check_file ∙ check_type))
-
-    check_none : walk_fault check_leaf [] (walk_from nothing_held) check_words ≡ []
-    check_none =
-        walk_no_fault check_leaf (standing nothing_held 1) (waiting_for (codes "limit") option_held 1) (codes "--limit") (text ∷ file ∷ type ∷ []) check_option_turn check_option
-        (walk_no_fault check_leaf (waiting_for (codes "limit") option_held 1) (standing limit_held 1) text (file ∷ type ∷ []) (option_turn check_leaf (codes "limit") option_held 1 text (digits_are_argument text numeral)) check_limit
-        (walk_no_fault check_leaf (standing limit_held 1) (standing next_held 2) file (type ∷ []) check_file_turn check_file
-        (walk_no_fault check_leaf (standing next_held 2) (standing last_held 3) type [] (argument_turn check_leaf next_held 2 type is_type) check_type (walk_no_words check_leaf (standing last_held 3)))))
-
-    check_end : or_else (settle_fault check_leaf.rules check_leaf.args_override_self last_held)
-        (or_else (defaults_fault (settled check_leaf.rules last_held).rows check_leaf.rules) (check_fault check_leaf (finished check_leaf.rules last_held) false)) ≡ []
-    unfolding defaults_fault
-    check_end = refl
-
-    check_level : level_fault check_leaf [] nothing_held check_words false [] ≡ []
-    check_level = level_at check_leaf check_words (standing last_held 3) check_walk check_none ∙ check_end
-
-    check_fault_is : fault_of command_set (codes "check" ∷ check_words) ≡ or_else (level_fault check_leaf [] nothing_held check_words false []) []
-    unfolding clap_on_literals
-    check_fault_is = refl
-
-    check_met : subcommand_of command_set (codes "check" ∷ check_words) ≡ Some (codes "check", rows_after check_leaf.rules [] check_words)
-    unfolding clap_on_literals
-    check_met = refl
-
-    check_asks_limit : Asks (codes "check" ∷ check_words) (check file type limit)
-    check_asks_limit =
-        asks_by (codes "check" ∷ check_words) (check file type limit) (codes "check") (rows_after check_leaf.rules [] check_words)
-        (check_fault_is ∙ ap (λ k. or_else k []) check_level, check_met) (
-          refl,
-          row_at check_leaf check_words (standing last_held 3) check_walk (codes "FILE"),
-          row_at check_leaf check_words (standing last_held 3) check_walk (codes "TYPE"),
-          limit_has (rows_after check_leaf.rules [] check_words) text limit (one_at check_leaf check_words (standing last_held 3) check_walk (codes "limit")) accepted number,
-        )
-
--- ---- `same`
-
-same_is_accepted : fault_of command_set (codes "same" ∷ []) ≡ []
-unfolding clap_on_literals
-same_is_accepted = refl
-
-same_is_met : subcommand_of command_set (codes "same" ∷ []) ≡ Some (codes "same", rows_after same_leaf.rules [] [])
-unfolding clap_on_literals
-same_is_met = refl
-
-same_asks : Asks (codes "same" ∷ []) (compare usual_limit)
-same_asks =
-    asks_by (codes "same" ∷ []) (compare usual_limit) (codes "same") (rows_after same_leaf.rules [] []) (same_is_accepted, same_is_met)
-    (refl, limit_has (rows_after same_leaf.rules [] []) (codes "134217728") usual_limit refl refl refl)
+  three_read : (text : Option Text)
+      → (first_of (codes "FILE") (finished (limit_rule ∷ get_places) (three_held text)) ≡ Some file)
+      × (first_of (codes "TYPE") (finished (limit_rule ∷ get_places) (three_held text)) ≡ Some type)
+      × (first_of (codes "PATH") (finished (limit_rule ∷ get_places) (three_held text)) ≡ Some path)
+      × (one_of (codes "limit") (finished (limit_rule ∷ get_places) (three_held text)) ≡ Some (limit_text text))
+  three_read None = (refl, refl, refl, refl)
+  three_read (Some text) = (refl, refl, refl, refl)
 
 -- ---- all of them
 
+module _ (option : List Text) (limit : ℕ) (plain : ArePlainLimit option limit) where
+  module _ (name : Text) (named : IsNamed name []) (are : All IsArgument []) where
+    none_asks : (request : Request) → (HasLimit (finished (limit_rule ∷ []) (held_by (text_in option))) limit → AsksBy name (finished (limit_rule ∷ []) (held_by (text_in option))) request)
+        → Asks (name ∷ option ++ []) request
+    none_asks request by =
+        written_asks name [] named option limit plain [] are tt (none_end name (text_in option) (option_accepted option limit plain)) request
+        (by (has_limit option limit plain (finished (limit_rule ∷ []) (held_by (text_in option))) (none_limit name (text_in option))))
+
+  module _ (name file type : Text) (named : IsNamed name typed_places) (are : All IsArgument (file ∷ type ∷ [])) where
+    two_ask : (request : Request)
+        → (HasTyped (finished (limit_rule ∷ typed_places) (two_held name file type (text_in option))) file type limit
+        → AsksBy name (finished (limit_rule ∷ typed_places) (two_held name file type (text_in option))) request) → Asks (name ∷ option ++ file ∷ type ∷ []) request
+    two_ask request by =
+        let read = two_read name file type (text_in option) in
+        written_asks name typed_places named option limit plain (file ∷ type ∷ []) are (two_placed name file type (text_in option) (option_accepted option limit plain))
+        (two_end name file type (text_in option)) request
+        (by (read.0, read.1, has_limit option limit plain (finished (limit_rule ∷ typed_places) (two_held name file type (text_in option))) read.2))
+
+  three_ask : (file type path : Text) → All IsArgument (file ∷ type ∷ path ∷ []) → Asks (codes "get" ∷ option ++ file ∷ type ∷ path ∷ []) (get file type path limit)
+  three_ask file type path are =
+      let read = three_read (codes "get") file type path (text_in option) in
+      written_asks (codes "get") get_places get_named option limit plain (file ∷ type ∷ path ∷ []) are
+      (three_placed (codes "get") file type path (text_in option) (option_accepted option limit plain)) (three_end (codes "get") file type path (text_in option)) (get file type path limit)
+      (refl, (read.0, read.1, has_limit option limit plain (finished (limit_rule ∷ get_places) (three_held (codes "get") file type path (text_in option))) read.3), read.2)
+
 pub plain_words_ask : (words : List (List ℕ)) (request : Request) → ArePlain words request → Asks words request
-plain_words_ask words (check file type limit) ([], usual, is_file, is_type, are) =
-    subst (λ w. Asks w (check file type limit)) (sym are) (subst (λ n. Asks (codes "check" ∷ file ∷ type ∷ []) (check file type n)) (sym usual) (check_asks file type is_file is_type))
-plain_words_ask words (check file type limit) (name ∷ [], none, is_file, is_type, are) = absurd none
-plain_words_ask words (check file type limit) (name ∷ text ∷ [], (is, numeral, writes, least), is_file, is_type, are) =
-    subst (λ w. Asks w (check file type limit)) (sym (are ∙ ap (λ n. codes "check" ∷ n ∷ text ∷ file ∷ type ∷ []) is)) (check_asks_limit text limit numeral writes least file type is_file is_type)
-plain_words_ask words (check file type limit) (name ∷ text ∷ more ∷ others, none, is_file, is_type, are) = absurd none
-plain_words_ask words (compare limit) ([], usual, are) =
-    subst (λ w. Asks w (compare limit)) (sym are) (subst (λ n. Asks (codes "same" ∷ []) (compare n)) (sym usual) same_asks)
-plain_words_ask words (compare limit) (name ∷ [], none, rest) = absurd none
-plain_words_ask words (compare limit) (name ∷ text ∷ [], (is, numeral, writes, least), are) =
-    subst (λ w. Asks w (compare limit)) (sym (are ∙ ap (λ n. codes "same" ∷ n ∷ text ∷ []) is)) (same_asks_limit text limit numeral writes least)
-plain_words_ask words (compare limit) (name ∷ text ∷ more ∷ others, none, rest) = absurd none
+plain_words_ask words (check file type limit) (option, plain, are, is) =
+    subst (λ w. Asks w (check file type limit)) (sym is) (two_ask option limit plain (codes "check") file type check_named are (check file type limit) (λ has. (refl, has)))
+plain_words_ask words (show file type limit) (option, plain, are, is) =
+    subst (λ w. Asks w (show file type limit)) (sym is) (two_ask option limit plain (codes "show") file type show_named are (show file type limit) (λ has. (refl, has)))
+plain_words_ask words (get file type path limit) (option, plain, are, is) =
+    subst (λ w. Asks w (get file type path limit)) (sym is) (three_ask option limit plain file type path are)
+plain_words_ask words (dump limit) (option, plain, are, is) =
+    subst (λ w. Asks w (dump limit)) (sym is) (none_asks option limit plain (codes "dump") dump_named are (dump limit) (λ has. (refl, has)))
+plain_words_ask words (compare limit) (option, plain, are, is) =
+    subst (λ w. Asks w (compare limit)) (sym is) (none_asks option limit plain (codes "same") same_named are (compare limit) (λ has. (refl, has)))

@@ -6,7 +6,8 @@ use Rattle.std.specs.Str.Parse.{ParsesUnsigned, IsNumeral, digits_value, without
 use Rattle.clap.specs.Words.{ReadsOne, Row, first_value, one_of, one_text, rows_of}
 use Rattle.clap.specs.declared.parser.matches.Found.{Found}
 use Rattle.clap.proofs.WalkLemmas.{first_value-rows, one_text-rows}
-use Rattle.om_outcome.specs.CommandLine.{HasArgument, HasLimit, greatest_limit, Request, check, compare, AsksBy}
+use Rattle.om_outcome.specs.CommandLine.{HasArgument, HasLimit, HasTyped, greatest_limit, Request, AsksBy}
+use Rattle.om_command_line.proofs.RequestLemmas.{only_request, request_told}
 
 -- what a getter of a number says, where `parse` gives what `Gives` says
 module _ {E : Type 0} (Gives : List ℕ → Result ℕ E → Type 0) (parses : (text : List ℕ) (r : Result ℕ E) → Gives text r → ParsesUnsigned 64 10 text r)
@@ -49,13 +50,27 @@ module _ (found : Found) (name : List ℕ) (r : Option (Bor (List ℕ))) (is : o
       let e : None ≡ Some text = sym (ap (option_map (λ (s : Bor (List ℕ)). s.now)) none) ∙ (is ∙ (first_value-rows found name ∙ has)) in
       cc e
 
--- where an argument of `check` is missing, it asks for nothing
-pub nothing_checked : (arguments : List Row)
-    → ((file type : List ℕ) (limit : ℕ) → HasArgument arguments (codes "FILE") file → HasArgument arguments (codes "TYPE") type → HasLimit arguments limit → ⊥)
-    → (request : Request) → AsksBy (codes "check") arguments request → ⊥
-nothing_checked arguments none (check file type limit) by = none file type limit by.1 by.2 by.3
-nothing_checked arguments none (compare limit) by = let e : codes "check" ≡ codes "same" = by.0 in cc e
+-- where what a command wants is missing, it asks for nothing
+module _ (arguments : List Row) where
+  asks_told : (command : List ℕ) (request : Request) → AsksBy command arguments request → AsksBy command arguments (only_request command arguments)
+  asks_told command request by = subst (AsksBy command arguments) (request_told command arguments request by) by
 
-pub nothing_compared : (arguments : List Row) → ((limit : ℕ) → HasLimit arguments limit → ⊥) → (request : Request) → AsksBy (codes "same") arguments request → ⊥
-nothing_compared arguments none (check file type limit) by = let e : codes "same" ≡ codes "check" = by.0 in cc e
-nothing_compared arguments none (compare limit) by = none limit by.1
+  module _ (none : (file type : List ℕ) (limit : ℕ) → HasTyped arguments file type limit → ⊥) where
+    pub nothing_checked : (request : Request) → AsksBy (codes "check") arguments request → ⊥
+    nothing_checked request by = none _ _ _ (asks_told (codes "check") request by).1
+
+    pub nothing_shown : (request : Request) → AsksBy (codes "show") arguments request → ⊥
+    nothing_shown request by = none _ _ _ (asks_told (codes "show") request by).1
+
+    pub nothing_got : (request : Request) → AsksBy (codes "get") arguments request → ⊥
+    nothing_got request by = none _ _ _ (asks_told (codes "get") request by).1
+
+  pub nothing_at_path : ((path : List ℕ) → HasArgument arguments (codes "PATH") path → ⊥) → (request : Request) → AsksBy (codes "get") arguments request → ⊥
+  nothing_at_path none request by = none _ (asks_told (codes "get") request by).2
+
+  module _ (none : (limit : ℕ) → HasLimit arguments limit → ⊥) where
+    pub nothing_dumped : (request : Request) → AsksBy (codes "dump") arguments request → ⊥
+    nothing_dumped request by = none _ (asks_told (codes "dump") request by).1
+
+    pub nothing_compared : (request : Request) → AsksBy (codes "same") arguments request → ⊥
+    nothing_compared request by = none _ (asks_told (codes "same") request by).1

@@ -1,33 +1,72 @@
 -- What accepted words ask for is one thing.
-use Rattle.std.proofs.Common.{◌≡◌, ◌≢◌, ◌∙◌, ℕ, true, List, [], Option, Some, Err, codes, refl, sym, ap, subst, inl, inr}
-use Rattle.clap.specs.Words.{App, HasKind, HasMatchesOf, IsAmong, Row, fault_of, is_simple, is_simple_and_free, kind_of, subcommand_of, subcommand_rows_of}
+use Rattle.std.proofs.Common.{◌≡◌, ◌≢◌, ◌∙◌, ℕ, true, List, [], Option, Some, Err, codes, refl, sym, ap, ap₂, subst, inl, inr, unwrap_or}
+use Rattle.std.specs.Prelude.{if◌then◌else◌}
+use Rattle.std.specs.Str.{bytes_eq}
+use Rattle.std.specs.Str.Parse.{digits_value, without_leading_plus}
+use Rattle.clap.specs.Words.{App, HasKind, HasMatchesOf, IsAmong, Row, fault_of, first_of, is_simple, is_simple_and_free, kind_of, one_of, subcommand_of, subcommand_rows_of}
 use Rattle.clap.specs.declared.error.Error.{Error}
 use Rattle.clap.specs.declared.error.kind.ErrorKind.TheVariants as kinds
 use Rattle.clap.specs.declared.parser.matches.ArgMatches.{ArgMatches}
 use Rattle.clap.proofs.OnLiterals.{clap_on_literals}
-use Rattle.om_outcome.specs.CommandLine.{Accepted, HasArgument, HasLimit, command_set, Request, check, compare, AsksBy, Asks, IsUsage}
+use Rattle.om_outcome.specs.CommandLine.{Accepted, HasArgument, HasLimit, command_set, Request, check, show, get, dump, compare, AsksBy, Asks, IsUsage}
 use Rattle.om_command_line.specs.declared.read.Unread.{Unread}
 use Rattle.om_command_line.specs.declared.read.Unread.TheVariants.{Usage, Memory}
 use Rattle.om_command_line.specs.Requests.{ReadsWords}
 
-one_argument : (arguments : List Row) (name text other : List ℕ) → HasArgument arguments name text → HasArgument arguments name other → text ≡ other
-one_argument arguments name text other has again = let e = sym has ∙ again in cc e
+-- ---- a command may ask for one thing alone, which its arguments tell
 
-one_limit : (arguments : List Row) (limit other : ℕ) → HasLimit arguments limit → HasLimit arguments other → limit ≡ other
-one_limit arguments limit other (text, has, numeral, is, least) (again, has', numeral', is', least') =
-    let e : Some text ≡ Some again = sym has ∙ has' in
-    let same : text ≡ again = cc e in
-    sym is ∙ (rw same is')
+abbrev argument_in : List Row → List ℕ → List ℕ
+argument_in arguments name = unwrap_or (first_of name arguments) []
 
-by_one : (command : List ℕ) (arguments : List Row) (request other : Request) → AsksBy command arguments request → AsksBy command arguments other → request ≡ other
-by_one command arguments (check file type limit) (check file' type' limit') (name, is_file, is_type, is_limit) (name', is_file', is_type', is_limit') =
-    let files = one_argument arguments _ file file' is_file is_file' in
-    let types = one_argument arguments _ type type' is_type is_type' in
-    let limits = one_limit arguments limit limit' is_limit is_limit' in
-    cc (files, types, limits)
-by_one command arguments (check file type limit) (compare limit') by by' = let e : codes "check" ≡ codes "same" = sym by.0 ∙ by'.0 in absurd (cc e)
-by_one command arguments (compare limit') (check file type limit) by by' = let e : codes "same" ≡ codes "check" = sym by.0 ∙ by'.0 in absurd (cc e)
-by_one command arguments (compare limit) (compare limit') (name, is_limit) (name', is_limit') = ap compare (one_limit arguments limit limit' is_limit is_limit')
+abbrev limit_in : List Row → ℕ
+limit_in arguments = digits_value 10 (without_leading_plus (unwrap_or (one_of (codes "limit") arguments) []))
+
+abbrev pub check_in : List Row → Request
+check_in arguments = check (argument_in arguments (codes "FILE")) (argument_in arguments (codes "TYPE")) (limit_in arguments)
+
+abbrev pub show_in : List Row → Request
+show_in arguments = show (argument_in arguments (codes "FILE")) (argument_in arguments (codes "TYPE")) (limit_in arguments)
+
+abbrev pub get_in : List Row → Request
+get_in arguments = get (argument_in arguments (codes "FILE")) (argument_in arguments (codes "TYPE")) (argument_in arguments (codes "PATH")) (limit_in arguments)
+
+abbrev pub only_request : List ℕ → List Row → Request
+only_request command arguments =
+    if bytes_eq command (codes "check") then check_in arguments
+    else (if bytes_eq command (codes "show") then show_in arguments
+    else (if bytes_eq command (codes "get") then get_in arguments
+    else (if bytes_eq command (codes "dump") then dump (limit_in arguments) else compare (limit_in arguments))))
+
+argument_told : (arguments : List Row) (name text : List ℕ) → HasArgument arguments name text → text ≡ argument_in arguments name
+argument_told arguments name text has = ap (λ (o : Option (List ℕ)). unwrap_or o []) (sym has)
+
+limit_told : (arguments : List Row) (limit : ℕ) → HasLimit arguments limit → limit ≡ limit_in arguments
+limit_told arguments limit (text, has, numeral, is, least) = sym is ∙ ap (λ (o : Option (List ℕ)). digits_value 10 (without_leading_plus (unwrap_or o []))) (sym has)
+
+pub request_told : (command : List ℕ) (arguments : List Row) (request : Request) → AsksBy command arguments request → request ≡ only_request command arguments
+request_told command arguments (check file type limit) (name, (is_file, is_type, is_limit)) =
+    let files = argument_told arguments _ file is_file in
+    let types = argument_told arguments _ type is_type in
+    let limits = limit_told arguments limit is_limit in
+    let told : check file type limit ≡ check_in arguments = cc (files, types, limits) in
+    subst (λ k. check file type limit ≡ only_request k arguments) (sym name) told
+request_told command arguments (show file type limit) (name, (is_file, is_type, is_limit)) =
+    let files = argument_told arguments _ file is_file in
+    let types = argument_told arguments _ type is_type in
+    let limits = limit_told arguments limit is_limit in
+    let told : show file type limit ≡ show_in arguments = cc (files, types, limits) in
+    subst (λ k. show file type limit ≡ only_request k arguments) (sym name) told
+request_told command arguments (get file type path limit) (name, (is_file, is_type, is_limit), is_path) =
+    let files = argument_told arguments _ file is_file in
+    let types = argument_told arguments _ type is_type in
+    let paths = argument_told arguments _ path is_path in
+    let limits = limit_told arguments limit is_limit in
+    let told : get file type path limit ≡ get_in arguments = cc (files, types, paths, limits) in
+    subst (λ k. get file type path limit ≡ only_request k arguments) (sym name) told
+request_told command arguments (dump limit) (name, is_limit) =
+    subst (λ k. dump limit ≡ only_request k arguments) (sym name) (ap dump (limit_told arguments limit is_limit))
+request_told command arguments (compare limit) (name, is_limit) =
+    subst (λ k. compare limit ≡ only_request k arguments) (sym name) (ap compare (limit_told arguments limit is_limit))
 
 -- what accepted words ask for
 pub asks_by : (words : List (List ℕ)) (request : Request) (command : List ℕ) (arguments : List Row) → Accepted words command arguments → AsksBy command arguments request → Asks words request
@@ -50,7 +89,7 @@ one_request words request other asks asks' =
     let one = asked_by words request asks in
     let two = asked_by words other asks' in
     let same = one_read (subcommand_of command_set words) one.0 two.0 one.1 two.1 one.2.1 two.2.1 in
-    by_one two.0 two.1 request other (subst (λ a. AsksBy two.0 a request) same.1 (subst (λ c. AsksBy c one.1 request) same.0 one.3)) two.3
+    request_told one.0 one.1 request one.3 ∙ (ap₂ only_request same.0 same.1 ∙ sym (request_told two.0 two.1 other two.3))
 
 -- ---- what clap answers of the command set
 

@@ -1,6 +1,7 @@
 -- The laws of the words.
-use Rattle.std.specs.Prelude.{ℕ, ◌≡◌, List}
-use Rattle.om_outcome.specs.CommandLine.{Request, Asks, ArePlain}
+use Rattle.std.specs.Prelude.{ℕ, ◌≡◌, List, []}
+use Rattle.clap.specs.Words.{fault_of}
+use Rattle.om_outcome.specs.CommandLine.{command_set, Request, Asks, ArePlain}
 
 -- words ask for one thing at most
 abbrev pub HasOneRequest : Type 0
@@ -9,3 +10,7 @@ HasOneRequest = (words : List (List ℕ)) (request other : Request) → Asks wor
 -- plain words ask for what they say
 abbrev pub PlainWordsAsk : Type 0
 PlainWordsAsk = (words : List (List ℕ)) (request : Request) → ArePlain words request → Asks words request
+
+-- words in which clap finds no fault ask for something
+abbrev pub AcceptedWordsAsk : Type 0
+AcceptedWordsAsk = (words : List (List ℕ)) → fault_of command_set words ≡ [] → (request : Request) × Asks words request

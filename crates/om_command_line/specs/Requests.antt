@@ -3,10 +3,11 @@ use Rattle.std.specs.Prelude.{ℕ, ◌≡◌, List, map, Option, Some, None, Res
 use Rattle.std.specs.declared.alloc.Global.{Global}
 use Rattle.clap.specs.Words.{Row, found_of, rows_of, subcommand_rows_of}
 use Rattle.clap.specs.declared.parser.matches.ArgMatches.{ArgMatches}
-use Rattle.om_outcome.specs.CommandLine.{HasLimit}
+use Rattle.om_outcome.specs.CommandLine.{HasLimit, HasTyped}
 use Rattle.om_outcome.specs.CommandLine as outcome
 use Rattle.om_command_line.specs.declared.read.Request.{Request}
 use Rattle.om_command_line.specs.declared.read.Request.TheVariants as requests
+use Rattle.om_command_line.specs.declared.read.Typed.{Typed}
 use Rattle.om_command_line.specs.declared.read.Unread.{Unread}
 use Rattle.om_command_line.specs.declared.read.Unread.TheVariants.{Usage, Memory}
 
@@ -15,6 +16,9 @@ texts words = map (λ word. string_bytes word) words
 
 abbrev pub request_of : Request → outcome.Request
 request_of (requests.Check file type limit) = outcome.check file.now type.now limit
+request_of (requests.Show file type limit) = outcome.show file.now type.now limit
+request_of (requests.Get file type path limit) = outcome.get file.now type.now path.now limit
+request_of (requests.Dump limit) = outcome.dump limit
 request_of (requests.Same limit) = outcome.compare limit
 
 -- the arguments of a command
@@ -25,6 +29,11 @@ arguments_of matches = rows_of (found_of matches)
 abbrev pub ReadsLimit : List Row → Option ℕ → Type 0
 ReadsLimit arguments (Some limit) = HasLimit arguments limit
 ReadsLimit arguments None = (limit : ℕ) → HasLimit arguments limit → ⊥
+
+-- FILE, TYPE and the limit are read, if they are there
+abbrev pub ReadsTyped : List Row → Option Typed → Type 0
+ReadsTyped arguments (Some typed) = HasTyped arguments typed.file.now typed.type_text.now typed.limit
+ReadsTyped arguments None = (file type : List ℕ) (limit : ℕ) → HasTyped arguments file type limit → ⊥
 
 -- what a command with these arguments asks for is read, if it is anything
 abbrev pub ReadsBy : List ℕ → List Row → Option Request → Type 0

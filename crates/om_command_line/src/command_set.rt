@@ -2,7 +2,8 @@
 
 ghost use Rattle.std.specs.Prelude.{◌≡◌, IfOk, false};
 ghost use Rattle.clap.specs.Words.{app_of, rule_of};
-ghost use Rattle.om_outcome.specs.CommandLine.{limit_option, wanted as rule_wanted, command_set as the_command_set};
+ghost use Rattle.om_outcome.specs.CommandLine.{limit_option, wanted as rule_wanted, limited as limited_app, typed as typed_app, program as the_program, command_set as the_command_set};
+ghost use Rattle.om_command_line.specs.Commands.{Tells, get_app};
 
 use clap::{Arg, Command, value_parser};
 use std::alloc::{AllocError, Global};
@@ -29,20 +30,53 @@ fn wanted<'a>(alloc: Global, name: &'a str) -> Arg<'a>
     Arg::new(alloc, name).required(true)
 }
 
-/// The commands, with their arguments.
-pub fn command_set<'a>(alloc: Global) -> Result<Command<'a>, AllocError>
-    ensures { IfOk result (λ command. app_of command ≡ the_command_set) }
+// `NAME [--limit N]`.
+fn limited<'a>(alloc: Global, name: &'a str) -> Result<Command<'a>, AllocError>
+    ensures { IfOk result (λ command. Tells command (limited_app name.entry.now)) }
 {
-    let check = Command::new(alloc, "check")
-        .arg(limit(alloc))?
+    Command::new(alloc, name).arg(limit(alloc))
+}
+
+// `NAME [--limit N] FILE TYPE`.
+fn typed<'a>(alloc: Global, name: &'a str) -> Result<Command<'a>, AllocError>
+    ensures { IfOk result (λ command. Tells command (typed_app name.entry.now)) }
+{
+    limited(alloc, name)?
         .arg(wanted(alloc, "FILE"))?
-        .arg(wanted(alloc, "TYPE"))?;
-    let same = Command::new(alloc, "same").arg(limit(alloc))?;
+        .arg(wanted(alloc, "TYPE"))
+}
+
+// `get [--limit N] FILE TYPE PATH`.
+fn get<'a>(alloc: Global) -> Result<Command<'a>, AllocError>
+    ensures { IfOk result (λ command. Tells command get_app) }
+{
+    typed(alloc, "get")?.arg(wanted(alloc, "PATH"))
+}
+
+// A command is wanted, and none asks for help.
+fn program<'a>(alloc: Global) -> Command<'a>
+    ensures { app_of result ≡ the_program }
+{
     Command::new(alloc, "omarshal")
         .no_binary_name(true)
         .subcommand_required(true)
         .disable_help_flag(true)
         .disable_help_subcommand(true)
+}
+
+/// The commands, with their arguments.
+pub fn command_set<'a>(alloc: Global) -> Result<Command<'a>, AllocError>
+    ensures { IfOk result (λ command. app_of command ≡ the_command_set) }
+{
+    let check = typed(alloc, "check")?;
+    let show = typed(alloc, "show")?;
+    let get = get(alloc)?;
+    let dump = limited(alloc, "dump")?;
+    let same = limited(alloc, "same")?;
+    program(alloc)
         .subcommand(check)?
+        .subcommand(show)?
+        .subcommand(get)?
+        .subcommand(dump)?
         .subcommand(same)
 }

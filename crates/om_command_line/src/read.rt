@@ -4,7 +4,7 @@ ghost use Rattle.std.specs.Prelude.{◌≡◌, ◌≢◌, codes};
 ghost use Rattle.clap.specs.Words.{kind_of};
 ghost use Rattle.clap.specs.declared.error.kind.ErrorKind.TheVariants as kinds;
 ghost use Rattle.om_command_line.specs.declared.read.Unread.TheVariants as unreads;
-ghost use Rattle.om_command_line.specs.Requests.{arguments_of, texts, ReadsBy, ReadsLimit, ReadsMet, ReadsWords};
+ghost use Rattle.om_command_line.specs.Requests.{arguments_of, texts, ReadsBy, ReadsLimit, ReadsMet, ReadsTyped, ReadsWords};
 
 use crate::command_set::{GREATEST_LIMIT, command_set};
 use clap::error::ErrorKind;
@@ -18,6 +18,23 @@ pub enum Request<'a> {
     Check {
         file: &'a str,
         type_text: &'a str,
+        limit: u64,
+    },
+    /// The texts of the values of the input, at the type.
+    Show {
+        file: &'a str,
+        type_text: &'a str,
+        limit: u64,
+    },
+    /// The text of the part at the path, at the type.
+    Get {
+        file: &'a str,
+        type_text: &'a str,
+        path_text: &'a str,
+        limit: u64,
+    },
+    /// The values of the input as they are.
+    Dump {
         limit: u64,
     },
     /// Whether the two values of the input are the same.
@@ -58,9 +75,17 @@ fn limit_of(arguments: &ArgMatches) -> Option<u64>
     }
 }
 
-// What `check` asks for.
-fn check_of<'a>(arguments: &ArgMatches<'a>) -> Option<Request<'a>>
-    ensures { ReadsBy (codes "check") (arguments_of arguments.now) result }
+// FILE and TYPE, with the limit.
+#[derive(Clone, Copy)]
+struct Typed<'a> {
+    file: &'a str,
+    type_text: &'a str,
+    limit: u64,
+}
+
+// What `check`, `show` and `get` want.
+fn typed_of<'a>(arguments: &ArgMatches<'a>) -> Option<Typed<'a>>
+    ensures { ReadsTyped (arguments_of arguments.now) result }
 {
     let Some(file) = arguments.get_str("FILE") else {
         return None;
@@ -71,11 +96,67 @@ fn check_of<'a>(arguments: &ArgMatches<'a>) -> Option<Request<'a>>
     let Some(limit) = limit_of(arguments) else {
         return None;
     };
-    Some(Request::Check {
+    Some(Typed {
         file,
         type_text,
         limit,
     })
+}
+
+// What `check` asks for.
+fn check_of<'a>(arguments: &ArgMatches<'a>) -> Option<Request<'a>>
+    ensures { ReadsBy (codes "check") (arguments_of arguments.now) result }
+{
+    match typed_of(arguments) {
+        Some(typed) => Some(Request::Check {
+            file: typed.file,
+            type_text: typed.type_text,
+            limit: typed.limit,
+        }),
+        None => None,
+    }
+}
+
+// What `show` asks for.
+fn show_of<'a>(arguments: &ArgMatches<'a>) -> Option<Request<'a>>
+    ensures { ReadsBy (codes "show") (arguments_of arguments.now) result }
+{
+    match typed_of(arguments) {
+        Some(typed) => Some(Request::Show {
+            file: typed.file,
+            type_text: typed.type_text,
+            limit: typed.limit,
+        }),
+        None => None,
+    }
+}
+
+// What `get` asks for.
+fn get_of<'a>(arguments: &ArgMatches<'a>) -> Option<Request<'a>>
+    ensures { ReadsBy (codes "get") (arguments_of arguments.now) result }
+{
+    let Some(typed) = typed_of(arguments) else {
+        return None;
+    };
+    let Some(path_text) = arguments.get_str("PATH") else {
+        return None;
+    };
+    Some(Request::Get {
+        file: typed.file,
+        type_text: typed.type_text,
+        path_text,
+        limit: typed.limit,
+    })
+}
+
+// What `dump` asks for.
+fn dump_of<'a>(arguments: &ArgMatches<'a>) -> Option<Request<'a>>
+    ensures { ReadsBy (codes "dump") (arguments_of arguments.now) result }
+{
+    match limit_of(arguments) {
+        Some(limit) => Some(Request::Dump { limit }),
+        None => None,
+    }
 }
 
 // What `same` asks for.
@@ -94,6 +175,9 @@ fn request_by<'a>(command: &str, arguments: &ArgMatches<'a>) -> Option<Request<'
 {
     match command {
         "check" => check_of(arguments),
+        "show" => show_of(arguments),
+        "get" => get_of(arguments),
+        "dump" => dump_of(arguments),
         "same" => same_of(arguments),
         _ => None,
     }

@@ -1,87 +1,82 @@
-use crate::{Request, Unread, read_words};
+use crate::{Request, read_words};
 use std::alloc::Global;
 use std::test::Fail;
 
-// The words between spaces.
-fn words_of(alloc: Global, text: &str) -> Result<Vec<String>, Fail> {
+// What the words between spaces ask for.
+fn asked(alloc: Global, text: &str) -> Result<String, Fail> {
     let mut words = Vec::new(alloc);
     for word in text.split(' ') {
         words.push(String::from_str(alloc, word)?)?;
     }
-    Ok(words)
-}
-
-// The limit that the words ask for.
-fn limit_of(alloc: Global, text: &str) -> Result<Result<u64, Unread>, Fail> {
-    let words = words_of(alloc, text)?;
     Ok(match read_words(alloc, words.as_slice()) {
-        Ok(Request::Check { limit, .. }) => Ok(limit),
-        Ok(Request::Same { limit }) => Ok(limit),
-        Err(unread) => Err(unread),
+        Ok(
+            Request::Check {
+                file,
+                type_text,
+                limit,
+            },
+        ) => format!(in alloc; "check {file} {type_text} {limit}")?,
+        Ok(
+            Request::Show {
+                file,
+                type_text,
+                limit,
+            },
+        ) => format!(in alloc; "show {file} {type_text} {limit}")?,
+        Ok(
+            Request::Get {
+                file,
+                type_text,
+                path_text,
+                limit,
+            },
+        ) => format!(in alloc; "get {file} {type_text} {path_text} {limit}")?,
+        Ok(Request::Dump { limit }) => format!(in alloc; "dump {limit}")?,
+        Ok(Request::Same { limit }) => format!(in alloc; "same {limit}")?,
+        Err(unread) => format!(in alloc; "{unread:?}")?,
     })
 }
 
 #[test]
-fn limits(rt: HostRuntime) -> Result<(), Fail> {
-    let alloc = rt.alloc();
-    assert_eq!(rt; limit_of(alloc, "same")?, Ok(134_217_728));
-    assert_eq!(rt; limit_of(alloc, "check t.ml int")?, Ok(134_217_728));
-    assert_eq!(rt; limit_of(alloc, "same --limit 0")?, Ok(0));
-    assert_eq!(rt; limit_of(alloc, "same --limit 007")?, Ok(7));
-    assert_eq!(rt; limit_of(alloc, "same --limit=5")?, Ok(5));
-    assert_eq!(rt; limit_of(alloc, "check t.ml int --limit +6")?, Ok(6));
-    assert_eq!(rt;
-        limit_of(alloc, "same --limit 1099511627776")?,
-        Ok(1_099_511_627_776)
-    );
-    assert_eq!(rt;
-        limit_of(alloc, "same --limit 1099511627777")?,
-        Err(Unread::Usage)
-    );
-    assert_eq!(rt; limit_of(alloc, "same --limit ten")?, Err(Unread::Usage));
-    assert_eq!(rt; limit_of(alloc, "same --limit")?, Err(Unread::Usage));
-    assert_eq!(rt;
-        limit_of(alloc, "same --limit 1 --limit 1")?,
-        Err(Unread::Usage)
-    );
-    Ok(())
-}
-
-#[test]
-fn file_and_type(rt: HostRuntime) -> Result<(), Fail> {
-    let words = words_of(rt.alloc(), "check --limit 10 -- -t.ml int")?;
-    let request = read_words(rt.alloc(), words.as_slice());
-    assert!(rt;
-        matches!(
-            request,
-            Ok(Request::Check {
-                file: "-t.ml",
-                type_text: "int",
-                limit: 10
-            })
-        )
-    );
+fn what_is_asked_for(rt: HostRuntime) -> Result<(), Fail> {
+    for (words, request) in [
+        ("check t.ml int", "check t.ml int 134217728"),
+        ("check t.ml int --limit +6", "check t.ml int 6"),
+        ("check --limit 10 -- -t.ml int", "check -t.ml int 10"),
+        ("show t.ml int", "show t.ml int 134217728"),
+        ("get t.ml int .a --limit=5", "get t.ml int .a 5"),
+        ("dump", "dump 134217728"),
+        ("dump --limit 007", "dump 7"),
+        ("same --limit 0", "same 0"),
+        ("same --limit 1099511627776", "same 1099511627776"),
+    ] {
+        assert_eq!(rt; asked(rt.alloc(), words)?.as_str(), request);
+    }
     Ok(())
 }
 
 #[test]
 fn refused_words(rt: HostRuntime) -> Result<(), Fail> {
-    for text in [
+    for words in [
         "",
-        "check",
+        "--",
         "check t.ml",
         "check t.ml int int",
         "check -t.ml int",
+        "check --help",
+        "show t.ml",
+        "get t.ml int",
+        "dump t.ml",
         "same t.ml",
-        "show t.ml int",
+        "same --limit 1099511627777",
+        "same --limit ten",
+        "same --limit",
+        "same --limit 1 --limit 1",
         "Same",
         "help",
-        "--help",
-        "check --help",
         "-h",
-        "--version",
     ] {
-        assert_eq!(rt; limit_of(rt.alloc(), text)?, Err(Unread::Usage));
+        assert_eq!(rt; asked(rt.alloc(), words)?.as_str(), "Usage");
     }
     Ok(())
 }

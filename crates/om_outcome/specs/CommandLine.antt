@@ -1,5 +1,5 @@
 -- The command line: what `clap` is told of it, which words are accepted, and what plain words ask for.
-use Rattle.std.specs.Prelude.{ℕ, ◌^◌, ◌≤◌, ◌≡◌, ◌≢◌, true, List, [], ◌∷◌, ◌++◌, Option, None, Some, codes}
+use Rattle.std.specs.Prelude.{ℕ, ◌^◌, ◌≤◌, ◌≡◌, ◌≢◌, true, List, [], ◌∷◌, ◌++◌, All, Option, None, Some, codes}
 use Rattle.std.specs.Str.Parse.{IsNumeral, digits_value, without_leading_plus}
 use Rattle.clap.specs.Words.{App, Row, Rule, Shape, fault_of, first_of, new_app, new_rule, one_of, subcommand_of, with_rule, with_subcommand}
 use Rattle.clap.specs.declared.builder.value_parser.ValueParser.TheVariants.{Unsigned}
@@ -25,13 +25,32 @@ limit_option = record (new_rule (codes "limit")) {
 abbrev pub wanted : List ℕ → Rule
 wanted name = record (new_rule name) { required = true }
 
+-- NAME [--limit N], and the same with FILE and TYPE
+abbrev pub limited : List ℕ → App
+limited name = with_rule (new_app name) limit_option
+
+abbrev pub typed : List ℕ → App
+typed name = with_rule (with_rule (limited name) (wanted (codes "FILE"))) (wanted (codes "TYPE"))
+
 -- `check [--limit N] FILE TYPE`
 abbrev pub check_command : Shape
-check_command = (with_rule (with_rule (with_rule (new_app (codes "check")) limit_option) (wanted (codes "FILE"))) (wanted (codes "TYPE"))).top
+check_command = (typed (codes "check")).top
+
+-- `show [--limit N] FILE TYPE`
+abbrev pub show_command : Shape
+show_command = (typed (codes "show")).top
+
+-- `get [--limit N] FILE TYPE PATH`
+abbrev pub get_command : Shape
+get_command = (with_rule (typed (codes "get")) (wanted (codes "PATH"))).top
+
+-- `dump [--limit N]`
+abbrev pub dump_command : Shape
+dump_command = (limited (codes "dump")).top
 
 -- `same [--limit N]`
 abbrev pub same_command : Shape
-same_command = (with_rule (new_app (codes "same")) limit_option).top
+same_command = (limited (codes "same")).top
 
 -- a command is wanted; the words do not begin with the program's name, and none asks for help
 abbrev pub program : App
@@ -46,7 +65,9 @@ program = record {
 }
 
 abbrev pub command_set : App
-command_set = with_subcommand (with_subcommand program check_command) same_command
+command_set =
+    with_subcommand (with_subcommand (with_subcommand (with_subcommand (with_subcommand program
+    check_command) show_command) get_command) dump_command) same_command
 
 -- ---- accepted words
 
@@ -70,12 +91,23 @@ HasLimit arguments limit =
 -- what is asked for, with the limit of words on 64 bits in a value
 pub data Request : Type 0 where
   check : (file type : List ℕ) → (limit : ℕ) → Request
+  show : (file type : List ℕ) → (limit : ℕ) → Request
+  get : (file type path : List ℕ) → (limit : ℕ) → Request
+  dump : (limit : ℕ) → Request
   compare : (limit : ℕ) → Request
+
+-- the arguments of a command that reads values at a type
+abbrev pub HasTyped : List Row → List ℕ → List ℕ → ℕ → Type 0
+HasTyped arguments file type limit =
+    HasArgument arguments (codes "FILE") file × HasArgument arguments (codes "TYPE") type × HasLimit arguments limit
 
 -- what a command with these arguments asks for
 abbrev pub AsksBy : List ℕ → List Row → Request → Type 0
-AsksBy command arguments (check file type limit) =
-    (command ≡ codes "check") × HasArgument arguments (codes "FILE") file × HasArgument arguments (codes "TYPE") type × HasLimit arguments limit
+AsksBy command arguments (check file type limit) = (command ≡ codes "check") × HasTyped arguments file type limit
+AsksBy command arguments (show file type limit) = (command ≡ codes "show") × HasTyped arguments file type limit
+AsksBy command arguments (get file type path limit) =
+    (command ≡ codes "get") × HasTyped arguments file type limit × HasArgument arguments (codes "PATH") path
+AsksBy command arguments (dump limit) = (command ≡ codes "dump") × HasLimit arguments limit
 AsksBy command arguments (compare limit) = (command ≡ codes "same") × HasLimit arguments limit
 
 -- clap accepts the words, and this is what it reads of them
@@ -89,11 +121,22 @@ IsUsage words = (request : Request) → Asks words request → ⊥
 -- FILE and TYPE, where the command has them
 abbrev pub typed_by : Request → Option (List ℕ × List ℕ)
 typed_by (check file type limit) = Some (file, type)
+typed_by (show file type limit) = Some (file, type)
+typed_by (get file type path limit) = Some (file, type)
+typed_by (dump limit) = None
 typed_by (compare limit) = None
+
+-- PATH, where the command has one
+abbrev pub path_of : Request → Option (List ℕ)
+path_of (get file type path limit) = Some path
+path_of request = None
 
 -- the limit of words on 64 bits in a value
 abbrev pub limit_of : Request → ℕ
 limit_of (check file type limit) = limit
+limit_of (show file type limit) = limit
+limit_of (get file type path limit) = limit
+limit_of (dump limit) = limit
 limit_of (compare limit) = limit
 
 -- ---- plain words
@@ -111,9 +154,15 @@ ArePlainLimit (option ∷ text ∷ []) limit =
     (option ≡ codes "--limit") × IsNumeral 10 text × (digits_value 10 text ≡ limit) × (limit ≤ greatest_limit)
 ArePlainLimit (option ∷ text ∷ more ∷ rest) limit = ⊥
 
+-- a command's name, perhaps a limit, and then its arguments
+abbrev pub AreWritten : List (List ℕ) → List ℕ → ℕ → List (List ℕ) → Type 0
+AreWritten words command limit arguments =
+    (option : List (List ℕ)) × ArePlainLimit option limit × All IsArgument arguments × (words ≡ command ∷ option ++ arguments)
+
 -- the words that are written plainly, with what they ask for
 abbrev pub ArePlain : List (List ℕ) → Request → Type 0
-ArePlain words (check file type limit) =
-    (option : List (List ℕ)) × ArePlainLimit option limit × IsArgument file × IsArgument type
-    × (words ≡ codes "check" ∷ option ++ file ∷ type ∷ [])
-ArePlain words (compare limit) = (option : List (List ℕ)) × ArePlainLimit option limit × (words ≡ codes "same" ∷ option)
+ArePlain words (check file type limit) = AreWritten words (codes "check") limit (file ∷ type ∷ [])
+ArePlain words (show file type limit) = AreWritten words (codes "show") limit (file ∷ type ∷ [])
+ArePlain words (get file type path limit) = AreWritten words (codes "get") limit (file ∷ type ∷ path ∷ [])
+ArePlain words (dump limit) = AreWritten words (codes "dump") limit []
+ArePlain words (compare limit) = AreWritten words (codes "same") limit []

@@ -4,7 +4,7 @@
 use Rattle.std.specs.Prelude.{ℕ, suc, ◌<◌, ◌≡◌, ◌≢◌, ◌↔◌, ◌⊎◌, Bool, true, false, IsTrue, ◌&&◌, if◌then◌else◌, List, [], ◌∷◌, ◌++◌, length, Option, Some, None, Result, Ok, Err, MatchResult, codes, decimal}
 use Rattle.om_model.specs.declared.status.Status.{Status}
 use Rattle.om_model.specs.declared.status.Status.TheVariants as statuses
-pub use Rattle.om_outcome.specs.CommandLine.{Request, check, compare, Asks, IsUsage, typed_by, limit_of}
+pub use Rattle.om_outcome.specs.CommandLine.{Request, check, show, get, dump, compare, Asks, IsUsage, typed_by, path_of, limit_of}
 use Rattle.om_outcome.specs.RefusalText.{refusal_text, truncated_text}
 use Rattle.om_format.specs.Iso.{Iso}
 use Rattle.om_format.specs.Tree.{Tree, root, objects_of}
@@ -48,6 +48,7 @@ pub record Given : Type 0 where
 
 pub data Stop : Type 0 where
   usage : Stop
+  bad_path : Stop
   not_two_values : Stop
   cannot_open : List ℕ → Stop
   declarations : List ℕ → Stop
@@ -59,6 +60,7 @@ pub data Stop : Type 0 where
 
 abbrev pub status_of : Stop → Status
 status_of usage = statuses.Usage
+status_of bad_path = statuses.Usage
 status_of not_two_values = statuses.Usage
 status_of (cannot_open name) = statuses.OpenFault
 status_of (declarations refusal) = statuses.Types
@@ -70,6 +72,7 @@ status_of out_of_memory = statuses.Memory
 
 abbrev pub stop_text : Stop → List ℕ
 stop_text usage = codes "usage"
+stop_text bad_path = codes "bad path"
 stop_text not_two_values = codes "not two values"
 stop_text (cannot_open name) = codes "cannot open " ++ name
 stop_text (declarations refusal) = codes "types: " ++ refusal
@@ -183,12 +186,22 @@ ReadsFile name unfetched (Err stop) = ⊥
 
 -- ---- the types
 
+-- what is said of a value at a type: whether it has the type, its text, or the text of the part at a path; where it has not
+-- the type, that and why
+pub data Saying : Type 0 where
+  the_verdict : Saying
+  the_text : Saying
+  the_part : (path : List ℕ) → Saying
+
 -- What the run takes from the declarations D and the types T: what a FILE and a TYPE are read as, or the texts of their
--- refusals; and the line that is said of a value at a type, which tells whether the value has the type.
+-- refusals; the path that a PATH is, if it is one; the line that is said of a value at a type, which tells whether nothing
+-- is wrong with it; and the lines of a value as it is.
 pub record Language (D T : Type 0) : Type 1 where
   pub ReadsDeclarations : List ℕ → Result D (List ℕ) → Type 0
   pub ReadsType : D → List ℕ → Result T (List ℕ) → Type 0
-  pub LineOf : T → Tree → List ℕ → Bool → Type 0
+  pub ReadsPath : List ℕ → Option (List ℕ) → Type 0
+  pub LineOf : Saying → T → Tree → List ℕ → Bool → Type 0
+  pub lines_of : Tree → List ℕ
 
 -- FILE is opened and read, then its declarations, then TYPE
 abbrev pub ReadsTypeOf : {D T : Type 0} → Language D T → (List ℕ → Found) → List ℕ × List ℕ → Result T Stop → Type 0
@@ -197,15 +210,29 @@ ReadsTypeOf language file typed =
     Then (OrRefusal (language.ReadsDeclarations text) declarations) (λ decls.
     OrRefusal (language.ReadsType decls typed.1) requested_type))
 
+-- PATH is a path, or the run stops
+abbrev pub ReadsPathOf : {D T : Type 0} → Language D T → List ℕ → Result (List ℕ) Stop → Type 0
+ReadsPathOf language text (Ok path) = language.ReadsPath text (Some path)
+ReadsPathOf language text (Err stop) = language.ReadsPath text None × (stop ≡ bad_path)
+
 -- what is done with each value, where the words, the files and the type are read
 pub data Work (T : Type 0) : Type 0 where
-  checks : T → Work T
+  tells : Saying → T → Work T
+  dumps : Work T
   compares : Work T
 
--- FILE and TYPE of `check`; `same` has none
+-- this is told of the values at the type
+abbrev pub TellsAt : {D T : Type 0} → Language D T → (List ℕ → Found) → List ℕ × List ℕ → Saying → Result (Work T) Stop → Type 0
+TellsAt language file typed saying result =
+    Then (ReadsTypeOf language file typed) (λ type found. found ≡ Ok (tells saying type)) result
+
+-- PATH comes before FILE, and `dump` and `same` have neither
 abbrev pub FindsWork : {D T : Type 0} → Language D T → (List ℕ → Found) → Request → Result (Work T) Stop → Type 0
-FindsWork language file (check name type_text limit) result =
-    Then (ReadsTypeOf language file (name, type_text)) (λ type found. found ≡ Ok (checks type)) result
+FindsWork language file (check name type_text limit) result = TellsAt language file (name, type_text) the_verdict result
+FindsWork language file (show name type_text limit) result = TellsAt language file (name, type_text) the_text result
+FindsWork language file (get name type_text path_text limit) result =
+    Then (ReadsPathOf language path_text) (λ path. TellsAt language file (name, type_text) (the_part path)) result
+FindsWork language file (dump limit) result = result ≡ Ok dumps
 FindsWork language file (compare limit) result = result ≡ Ok compares
 
 -- ---- all stages before the values
@@ -228,8 +255,9 @@ Prepares language words file =
 
 -- what is said of value k; after a stop nothing is: `same` takes two, and says nothing of them before the input's end
 abbrev pub Says : {D T : Type 0} → Language D T → Work T → ℕ → Tree → Said → Type 0
-Says language (checks type) k tree said =
-    (verdict : List ℕ) × language.LineOf type tree verdict said.well × (said.text ≡ line verdict)
+Says language (tells saying type) k tree said =
+    (text : List ℕ) × language.LineOf saying type tree text said.well × (said.text ≡ line text)
+Says language dumps k tree said = (said.text ≡ language.lines_of tree) × (said.well ≡ true)
 Says language compares k tree said = (k < 2) × (said ≡ nothing_said)
 
 -- what is said of the values, the first of which has number k
@@ -242,7 +270,8 @@ AllSay language work k (tree ∷ trees) (said ∷ more) =
 
 -- After these values the command stops at the bytes that come there, whatever they become: `same` at any after two values.
 abbrev pub StopsAt : {D T : Type 0} → Language D T → Work T → ℕ → List Tree → List ℕ → Stop → Type 0
-StopsAt language (checks type) limit trees rest stop = ⊥
+StopsAt language (tells saying type) limit trees rest stop = ⊥
+StopsAt language dumps limit trees rest stop = ⊥
 StopsAt language compares limit trees rest stop = (length trees ≡ 2) × (rest ≢ []) × (stop ≡ not_two_values)
 
 -- the values of the two trees are the same
@@ -256,7 +285,8 @@ comparison false = record { text = line (codes "differ"); well = false }
 
 -- the command's last reply, once the input's end is found after all values
 abbrev pub Finishes : {D T : Type 0} → Language D T → Work T → List Tree → Reply → Type 0
-Finishes language (checks type) trees last = last ≡ says nothing_said
+Finishes language (tells saying type) trees last = last ≡ says nothing_said
+Finishes language dumps trees last = last ≡ says nothing_said
 Finishes language compares (first ∷ second ∷ []) last = (alike : Bool) × (IsTrue alike ↔ AreSame first second) × (last ≡ says (comparison alike))
 Finishes language compares trees last = last ≡ stops not_two_values
 

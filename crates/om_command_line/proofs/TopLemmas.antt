@@ -1,0 +1,138 @@
+-- Words in which clap finds no fault begin with a command's name.
+use Rattle.std.proofs.Common.{◌≡◌, ◌∙◌, ◌⊎◌, inl, inr, ℕ, Bool, true, false, List, [], ◌∷◌, Option, Some, None, codes, length, refl, sym, ap, subst, true≢false}
+use Rattle.std.specs.Prelude.{if◌then◌else◌, slice_get}
+use Rattle.std.specs.Option.{option_map_or}
+use Rattle.std.specs.Str.{bytes_eq, chars}
+use Rattle.std.proofs.lemmas.Slice.Eq.{bytes_eq-Decides}
+use Rattle.clap.specs.Lexer.{long_of, short_of}
+use Rattle.clap.specs.Walk.{Held, Step, Text, after_flag, bundle, bundle_met, bundle_step, idle, long_or_other, nothing_held, plain, short_or_plain, subcommand_met, subcommand_or_other, trailing, walk_from, walked}
+use Rattle.clap.specs.Faults.{built_fault, bundle_fault, bundle_step_fault, flag_word_fault, flags_fault, other_fault, step_fault, turn_fault, walk_fault}
+use Rattle.clap.specs.Kinds.{Kinds, or_else}
+use Rattle.clap.specs.Words.{fault_of}
+use Rattle.clap.specs.declared.error.kind.ErrorKind.TheVariants as kind
+use Rattle.clap.proofs.OnLiterals.{clap_on_literals}
+use Rattle.om_outcome.specs.CommandLine.{command_set}
+use Rattle.om_command_line.proofs.SetLemmas.{command_names, commands, fault_is, top}
+
+-- no fault in two steps, none in either
+pub both_none : (a b : Kinds) → or_else a b ≡ [] → (a ≡ []) × (b ≡ [])
+both_none [] b none = (refl, none)
+both_none (k ∷ ks) b none = cc none
+
+-- ---- a first word
+
+abbrev pub IsCommand : Text → Type 0
+IsCommand word = (word ≡ codes "check") ⊎ ((word ≡ codes "show") ⊎ ((word ≡ codes "get") ⊎ ((word ≡ codes "dump") ⊎ (word ≡ codes "same"))))
+
+is_text : (name word : Text) → (word ≡ name) ⊎ (bytes_eq name word ≡ false)
+is_text name word = go (bytes_eq name word) refl
+  where
+    go : (b : Bool) → bytes_eq name word ≡ b → (word ≡ name) ⊎ (bytes_eq name word ≡ false)
+    go true e = inl (sym ((bytes_eq-Decides name word).0 e))
+    go false e = inr e
+
+none_met : (word : Text) → bytes_eq (codes "check") word ≡ false → bytes_eq (codes "show") word ≡ false → bytes_eq (codes "get") word ≡ false → bytes_eq (codes "dump") word ≡ false
+    → bytes_eq (codes "same") word ≡ false → subcommand_met command_names idle word ≡ None
+none_met word a b c d e = rw (a, b, c, d, e) refl
+
+command_or_none : (word : Text) → IsCommand word ⊎ (subcommand_met command_names idle word ≡ None)
+command_or_none word = at_check (is_text (codes "check") word)
+  where
+    at_same : bytes_eq (codes "check") word ≡ false → bytes_eq (codes "show") word ≡ false → bytes_eq (codes "get") word ≡ false → bytes_eq (codes "dump") word ≡ false
+        → (word ≡ codes "same") ⊎ (bytes_eq (codes "same") word ≡ false) → IsCommand word ⊎ (subcommand_met command_names idle word ≡ None)
+    at_same a b c d (inl is) = inl (inr (inr (inr (inr is))))
+    at_same a b c d (inr e) = inr (none_met word a b c d e)
+
+    at_dump : bytes_eq (codes "check") word ≡ false → bytes_eq (codes "show") word ≡ false → bytes_eq (codes "get") word ≡ false
+        → (word ≡ codes "dump") ⊎ (bytes_eq (codes "dump") word ≡ false) → IsCommand word ⊎ (subcommand_met command_names idle word ≡ None)
+    at_dump a b c (inl is) = inl (inr (inr (inr (inl is))))
+    at_dump a b c (inr d) = at_same a b c d (is_text (codes "same") word)
+
+    at_get : bytes_eq (codes "check") word ≡ false → bytes_eq (codes "show") word ≡ false → (word ≡ codes "get") ⊎ (bytes_eq (codes "get") word ≡ false)
+        → IsCommand word ⊎ (subcommand_met command_names idle word ≡ None)
+    at_get a b (inl is) = inl (inr (inr (inl is)))
+    at_get a b (inr c) = at_dump a b c (is_text (codes "dump") word)
+
+    at_show : bytes_eq (codes "check") word ≡ false → (word ≡ codes "show") ⊎ (bytes_eq (codes "show") word ≡ false) → IsCommand word ⊎ (subcommand_met command_names idle word ≡ None)
+    at_show a (inl is) = inl (inr (inl is))
+    at_show a (inr b) = at_get a b (is_text (codes "get") word)
+
+    at_check : (word ≡ codes "check") ⊎ (bytes_eq (codes "check") word ≡ false) → IsCommand word ⊎ (subcommand_met command_names idle word ≡ None)
+    at_check (inl is) = inl (inl is)
+    at_check (inr a) = at_show a (is_text (codes "show") word)
+
+-- ---- one that names no command
+
+-- what a word comes to, and what it is then
+abbrev fault_then : Kinds → Held × Step → Kinds
+fault_then fault met = or_else fault (step_fault top 1 met.0 met.1)
+
+-- a bundle of flags: none is known
+bundle_refused : (word flags : Text) → fault_then (bundle_fault [] false flags nothing_held) (after_flag [] idle word (bundle [] flags nothing_held).0 (bundle [] flags nothing_held).1) ≡ [] → ⊥
+unfolding flags_fault bundle_met
+bundle_refused word [] none = let bad : kind.UnknownArgument ∷ kind.InvalidSubcommand ∷ [] ≡ [] = none in cc bad
+bundle_refused word (x ∷ xs) none = go (slice_get (chars (x ∷ xs)) 0) none
+  where
+    go : (o : Option ℕ)
+        → fault_then (bundle_step_fault [] false o (x ∷ xs) 0 nothing_held (flags_fault [] false (length xs)))
+        (after_flag [] idle word (bundle_step [] o (x ∷ xs) 0 plain nothing_held (bundle_met [] (length xs))).0 (bundle_step [] o (x ∷ xs) 0 plain nothing_held (bundle_met [] (length xs))).1) ≡ [] → ⊥
+    go None none = let bad : kind.UnknownArgument ∷ kind.InvalidSubcommand ∷ [] ≡ [] = none in cc bad
+    go (Some c) none = let bad : kind.UnknownArgument ∷ [] ≡ [] = none in cc bad
+
+short_refused : (word : Text) (flags : Option Text)
+    → fault_then (option_map_or (λ f. bundle_fault [] false f nothing_held) flags []) (short_or_plain [] idle word flags nothing_held) ≡ [] → ⊥
+short_refused word None none = let bad : kind.UnknownArgument ∷ kind.InvalidSubcommand ∷ [] ≡ [] = none in cc bad
+short_refused word (Some flags) none = bundle_refused word flags none
+
+flag_refused : (word : Text) (long : Option (Text × Option Text)) → fault_then (flag_word_fault [] false long word nothing_held) (long_or_other [] idle word long nothing_held) ≡ [] → ⊥
+flag_refused word (Some p) none = let bad : kind.UnknownArgument ∷ [] ≡ [] = none in cc bad
+flag_refused word None none = short_refused word (short_of word) none
+
+word_refused : (word : Text) → subcommand_met command_names idle word ≡ None → bytes_eq word (codes "--") ≡ false → turn_fault top command_names (walk_from nothing_held) word ≡ [] → ⊥
+word_refused word unnamed no_dashes none =
+    let at_none : fault_then (other_fault top None word nothing_held) (subcommand_or_other [] None idle 1 word nothing_held) ≡ [] =
+    sym (ap (λ o. fault_then (other_fault top o word nothing_held) (subcommand_or_other [] o idle 1 word nothing_held)) unnamed) ∙ none in
+    let at_flag : fault_then (flag_word_fault [] false (long_of word) word nothing_held) (long_or_other [] idle word (long_of word) nothing_held) ≡ [] =
+    sym (ap (λ b. fault_then (if b then [] else flag_word_fault [] false (long_of word) word nothing_held)
+    (if b then (nothing_held, trailing 1) else long_or_other [] idle word (long_of word) nothing_held)) no_dashes) ∙ at_none in
+    flag_refused word (long_of word) at_flag
+
+-- after `--` no word is taken, and without one a command is missing
+dashes_refused : (rest : List Text) → built_fault commands nothing_held (codes "--" ∷ rest) ≡ [] → ⊥
+unfolding clap_on_literals
+dashes_refused [] none = let bad : kind.MissingSubcommand ∷ [] ≡ [] = none in cc bad
+dashes_refused (x ∷ xs) none = let bad : kind.UnknownArgument ∷ kind.InvalidSubcommand ∷ [] ≡ [] = none in cc bad
+
+no_words_refused : built_fault commands nothing_held [] ≡ [] → ⊥
+unfolding clap_on_literals
+no_words_refused none = let bad : kind.MissingSubcommand ∷ [] ≡ [] = none in cc bad
+
+first_passes : (word : Text) (rest : List Text) → walk_fault top command_names (walk_from nothing_held) (word ∷ rest) ≡ [] → turn_fault top command_names (walk_from nothing_held) word ≡ []
+unfolding walk_fault
+first_passes word rest none =
+    (both_none (turn_fault top command_names (walk_from nothing_held) word) (walk_fault top command_names (walked [] command_names (walk_from nothing_held) word) rest) none).0
+
+unnamed_refused : (word : Text) (rest : List Text) → subcommand_met command_names idle word ≡ None → built_fault commands nothing_held (word ∷ rest) ≡ [] → ⊥
+unnamed_refused word rest unnamed none = go (is_text (codes "--") word)
+  where
+    go : (word ≡ codes "--") ⊎ (bytes_eq (codes "--") word ≡ false) → ⊥
+    go (inl is) = dashes_refused rest (subst (λ w. built_fault commands nothing_held (w ∷ rest) ≡ []) is none)
+    go (inr other) = word_refused word unnamed (flipped (bytes_eq word (codes "--")) refl) (first_passes word rest (both_none (walk_fault top command_names (walk_from nothing_held) (word ∷ rest)) _ none).0)
+      where
+        flipped : (b : Bool) → bytes_eq word (codes "--") ≡ b → bytes_eq word (codes "--") ≡ false
+        flipped true e =
+            let same : word ≡ codes "--" = (bytes_eq-Decides word (codes "--")).0 e in
+            absurd (true≢false (subst (λ w. bytes_eq (codes "--") w ≡ false) same other))
+        flipped false e = e
+
+-- the words begin with a command's name
+pub words_begin : (words : List Text) → fault_of command_set words ≡ [] → (name : Text) × (rest : List Text) × (words ≡ name ∷ rest) × IsCommand name
+words_begin words none = go words (sym (fault_is words) ∙ none)
+  where
+    go : (words : List Text) → built_fault commands nothing_held words ≡ [] → (name : Text) × (rest : List Text) × (words ≡ name ∷ rest) × IsCommand name
+    go [] none = absurd (no_words_refused none)
+    go (word ∷ rest) none = at (command_or_none word)
+      where
+        at : IsCommand word ⊎ (subcommand_met command_names idle word ≡ None) → (name : Text) × (rest' : List Text) × (word ∷ rest ≡ name ∷ rest') × IsCommand name
+        at (inl is) = (word, rest, refl, is)
+        at (inr unnamed) = absurd (unnamed_refused word rest unnamed none)
