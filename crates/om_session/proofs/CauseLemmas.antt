@@ -6,19 +6,21 @@ use Rattle.om_model.specs.declared.status.Status.TheVariants as statuses
 use Rattle.om_model.specs.declared.refusal.ReadRefusal.{ReadRefusal}
 use Rattle.om_format.specs.Stream.{SpellAll, End, clean, refused, cut, IsTail, Stream}
 use Rattle.om_format.specs.Tree.{Tree}
-use Rattle.om_outcome.specs.Outcome.{IsUsage, Taken, InputEnd, at_end, at_fault, at_length, unasked, whole, Found, opened, missing, failed, unfetched, Given, Stop, usage, declarations, read_fault, too_long, status_of, Said, nothing_said, stops, Reply, Replies, replies, texts_of, all_well as well_said, ending_of, stopped, Request, check, compare, Work, checks, compares, AllSay, SayFirst, Finishes, comparison, Task, Language, ReadsFile, ReadsTypeOf, Prepares, RunReplies, ValuesReply, StopsAt, out_of_memory, stop_text, err_line, Closes, fault_of, limit_of, Asks}
+use Rattle.om_outcome.specs.Outcome.{IsUsage, Taken, InputEnd, at_end, at_fault, at_length, unasked, whole, Found, opened, missing, failed, unfetched, Given, Stop, usage, bad_path, declarations, read_fault, too_long, status_of, Said, nothing_said, says, stops, Reply, Replies, replies, texts_of, all_well as well_said, ending_of, stopped, Saying, Request, check, show, get, dump, compare, Work, tells, dumps, compares, AllSay, SayFirst, Finishes, comparison, Task, Language, ReadsFile, ReadsTypeOf, TellsAt, Prepares, RunReplies, ValuesReply, StopsAt, out_of_memory, stop_text, err_line, Closes, fault_of, limit_of, Asks}
 use Rattle.om_edge.specs.Faults.{HasCause, RoseOrLast}
 use Rattle.om_edge.specs.Files.{File, contents_of}
 use Rattle.om_edge.specs.Sink.{Puts, PutsPart}
 use Rattle.om_session.specs.Call.{Call}
 use Rattle.om_session.specs.Given.{IsFoundOf, TakesFrom, Fetched, IsMeasured, is_fault, has_read_fault}
-use Rattle.om_session.specs.Run.{IsSaidFirst, PutsLine, Completes, Breaks, Account, AsksForFile, CannotOpen, OnlyUsage, OnlyReadFault, OnlyWriteFault, OnlyOpenFault, OnlyTooLong, IfUsage, IsUnsaid, TellsWriteFault, TellsOpenFault, TellsReadFault, AsksFor, IsRefusedType, OnlyTypes, FetchesFor, AreNotTwo, OnlyValue, HoldBadValue, IfMissing}
+use Rattle.om_session.specs.Run.{HasNoPath, AsksBadly, IsSaidFirst, PutsLine, Completes, Breaks, Account, AsksForFile, CannotOpen, OnlyUsage, OnlyReadFault, OnlyWriteFault, OnlyOpenFault, OnlyTooLong, IfUsage, IsUnsaid, TellsWriteFault, TellsOpenFault, TellsReadFault, AsksFor, IsRefusedType, OnlyTypes, FetchesFor, AreNotTwo, OnlyValue, HoldBadValue, IfMissing}
 use Rattle.std.proofs.lemmas.Option.{IfSome_then}
 use Rattle.om_session.proofs.HeadlineLemmas.{tail_after, tail_some, front_none, goes_on_more}
 use Rattle.om_session.proofs.PutLemmas.{rose_after}
 use Rattle.om_session.proofs.ValueLemmas.{spell_after, first_after, few_said}
-use Rattle.om_session.proofs.WordLemmas.{check_or_compare, no_file, same_check}
-use Rattle.om_session.proofs.CompleteLemmas.{IsLawful, prepares_once}
+use Rattle.om_command_line.proofs.RequestLemmas.{one_request}
+use Rattle.om_session.proofs.WordLemmas.{one_typed, unnamed}
+use Rattle.om_session.proofs.FindingLemmas.{Finding, finding, asks_comparison, Suits, finds_suits}
+use Rattle.om_session.proofs.CompleteLemmas.{IsLawful, path_or_not, for_or_badly, prepares_once}
 
 some_and : {X : Type 0} (o : Option X) (P : X → Type 0) → IsSome o → IfSome o P → IsSomeAnd o P
 some_and None P some h = absurd (cc some)
@@ -55,13 +57,6 @@ bad_after language task bytes more bad refusal is =
       some = λ e. cc e;
       goes_on = goes_on_more language task.work task.limit bad.trees bad.rest more (tail_some task.limit bad.rest refusal tail) bad.goes_on;
     }
-
--- the work of a request
-abbrev pub Suits : {T : Type 0} → Request → Work T → Type 0
-Suits (check f t most) (checks type) = Unit {0}
-Suits (check f t most) compares = ⊥
-Suits (compare most) (checks type) = ⊥
-Suits (compare most) compares = Unit {0}
 
 -- the stages before the values are passed
 abbrev pub IsReady : {D T : Type 0} → Language D T → List (List ℕ) → Given → Type 0
@@ -111,12 +106,13 @@ pub data Why {D T : Type 0} (language : Language D T) (words : List (List ℕ)) 
   all_well : (task : Task T) → Prepares language words given.file (Ok task) → given.input.until ≡ at_end → NoRefusal language task given.input → Why language words call given statuses.Well
   some_no : (task : Task T) → Prepares language words given.file (Ok task) → given.input.until ≡ at_end → NoRefusal language task given.input → Why language words call given statuses.No
   not_plain : IsUsage words → Why language words call given statuses.Usage
+  badly_asked : AsksBadly language words → Why language words call given statuses.Usage
   not_two : (task : Task T) → Prepares language words given.file (Ok task) → NotTwo task given.input → Why language words call given statuses.Usage
-  not_there : (name : List ℕ) → AsksForFile words name → given.file name ≡ missing → Why language words call given statuses.OpenFault
-  not_opened : (name : List ℕ) → AsksForFile words name → given.file name ≡ failed → Why language words call given statuses.OpenFault
-  no_types : (name type text : List ℕ) → AsksFor words name type → given.file name ≡ opened (whole text) → IsRefusedType language text type → Why language words call given statuses.Types
-  file_fault : (name : List ℕ) (taken : Taken) → AsksForFile words name → given.file name ≡ opened taken → taken.until ≡ at_fault → Why language words call given statuses.ReadFault
-  file_long : (name : List ℕ) (taken : Taken) → AsksForFile words name → given.file name ≡ opened taken → taken.until ≡ at_length → Why language words call given statuses.TooLong
+  not_there : (name : List ℕ) → AsksForFile language words name → given.file name ≡ missing → Why language words call given statuses.OpenFault
+  not_opened : (name : List ℕ) → AsksForFile language words name → given.file name ≡ failed → Why language words call given statuses.OpenFault
+  no_types : (name type text : List ℕ) → AsksFor language words name type → given.file name ≡ opened (whole text) → IsRefusedType language text type → Why language words call given statuses.Types
+  file_fault : (name : List ℕ) (taken : Taken) → AsksForFile language words name → given.file name ≡ opened taken → taken.until ≡ at_fault → Why language words call given statuses.ReadFault
+  file_long : (name : List ℕ) (taken : Taken) → AsksForFile language words name → given.file name ≡ opened taken → taken.until ≡ at_length → Why language words call given statuses.TooLong
   no_value : (task : Task T) → Prepares language words given.file (Ok task) → NoValue language task given.input → Why language words call given statuses.Value
   input_fault : given.input.until ≡ at_fault → Why language words call given statuses.ReadFault
   input_long : (task : Task T) → Prepares language words given.file (Ok task) → given.input.until ≡ at_length → NoRefusal language task given.input → Why language words call given statuses.TooLong
@@ -126,7 +122,7 @@ pub data Why {D T : Type 0} (language : Language D T) (words : List (List ℕ)) 
 
 module _ {D T : Type 0} (language : Language D T) (words : List (List ℕ)) (call : Call) (given : Given) where
   -- FILE was not read to its end
-  file_why : (name : List ℕ) → AsksForFile words name → (found : Found) → given.file name ≡ found → (s : Stop) → ReadsFile name found (Err s) → Why language words call given (status_of s)
+  file_why : (name : List ℕ) → AsksForFile language words name → (found : Found) → given.file name ≡ found → (s : Stop) → ReadsFile name found (Err s) → Why language words call given (status_of s)
   file_why name is (opened taken) e s r = until_why taken.until refl r where
     until_why : (u : InputEnd) → taken.until ≡ u → fault_of u ≡ Some s → Why language words call given (status_of s)
     until_why at_end same r = absurd (cc r)
@@ -137,23 +133,33 @@ module _ {D T : Type 0} (language : Language D T) (words : List (List ℕ)) (cal
   file_why name is failed e s r = subst (λ s. Why language words call given (status_of s)) (sym r) (not_opened name is e)
   file_why name is unfetched e s r = absurd r
 
-  type_why : (f t : List ℕ) → AsksFor words f t → (s : Stop) → ReadsTypeOf language given.file (f, t) (Err s) → Why language words call given (status_of s)
+  type_why : (f t : List ℕ) → AsksFor language words f t → (s : Stop) → ReadsTypeOf language given.file (f, t) (Err s) → Why language words call given (status_of s)
   type_why f t is s (Err stop, r, same) =
       let e : stop ≡ s = cc in subst (λ s. Why language words call given (status_of s)) e (file_why f (t, is) (given.file f) refl stop r)
   type_why f t is s (Ok text, r, (Err stop, (refusal, reads, e), same)) =
       let told : declarations refusal ≡ s = cc in subst (λ s. Why language words call given (status_of s)) told (no_types f t text is r (inl (refusal, reads)))
   type_why f t is s (Ok text, r, (Ok decls, reads, (refusal, unread, e))) = subst (λ s. Why language words call given (status_of s)) (sym e) (no_types f t text is r (inr (decls, refusal, reads, unread)))
 
+  tells_why : (f t : List ℕ) (saying : Saying) → AsksFor language words f t → (s : Stop) → TellsAt language given.file (f, t) saying (Err s) → Why language words call given (status_of s)
+  tells_why f t saying is s (Ok type, reads, found) = absurd (cc found)
+  tells_why f t saying is s (Err first, reads, e) =
+      let told : first ≡ s = cc in subst (λ s. Why language words call given (status_of s)) told (type_why f t is first reads)
+
+  finds_why : (request : Request) → Asks words request → (s : Stop) → Finding language given.file request (Err s) → Why language words call given (status_of s)
+  finds_why request asks s (inl (none, e)) =
+      let told : bad_path ≡ s = cc in
+      subst (λ s. Why language words call given (status_of s)) told (badly_asked (record { request = request; asks = asks; no_path = none }))
+  finds_why request asks s (inr (has, inl (f, t, saying, typed, told))) =
+      tells_why f t saying (record { request = request; asks = asks; has_path = has; typed = typed }) s told
+  finds_why request asks s (inr (has, inr (none, work, e))) = absurd (cc e)
+
   prepares_why : (s : Stop) → Prepares language words given.file (Err s) → Why language words call given (status_of s)
   prepares_why s (Err stop, (none, e), same) =
       let told : usage ≡ s = cc in subst (λ s. Why language words call given (status_of s)) told (not_plain none)
-  prepares_why s (Ok (check f t most), asks, (Ok work, found, same)) = absurd (cc same)
-  prepares_why s (Ok (check f t most), asks, (Err stop, (Ok type, reads, found), same)) = absurd (cc found)
-  prepares_why s (Ok (check f t most), asks, (Err stop, (Err first, reads, e), same)) =
-      let told : first ≡ s = cc in
-      subst (λ s. Why language words call given (status_of s)) told (type_why f t (check f t most, asks, refl) first reads)
-  prepares_why s (Ok (compare most), asks, (Ok work, found, same)) = absurd (cc same)
-  prepares_why s (Ok (compare most), asks, (Err stop, found, same)) = absurd (cc found)
+  prepares_why s (Ok request, asks, (Ok work, found, same)) = absurd (cc same)
+  prepares_why s (Ok request, asks, (Err stop, found, same)) =
+      let told : stop ≡ s = cc in
+      subst (λ s. Why language words call given (status_of s)) told (finds_why request asks stop (finding language given.file request (Err stop) found))
 
   module _ (task : Task T) (p : Prepares language words given.file (Ok task)) where
     abbrev Because : List Said → Reply → Type 0
@@ -176,11 +182,16 @@ module _ {D T : Type 0} (language : Language D T) (words : List (List ℕ)) (cal
       abbrev bad : (end : End) → IsTail task.limit rest end → end ≢ clean → HoldBadValue language task given.input.bytes
       bad end tail some = record { trees = trees; said = said; rest = rest; first = first; end = end; tail = tail; some = some; goes_on = goes_on }
 
+      -- the input ends after values of which all is said
+      all_said_why : {work : Work T} → task.work ≡ work → given.input.until ≡ at_end → rest ≡ [] → (work ≡ compares → ⊥) → (last : Reply) → last ≡ says nothing_said → Because said last
+      all_said_why is e none other last h =
+          subst (λ l. Because said l) (sym h)
+          (well_why e (not_refused clean none (λ refusal e. cc e) (λ e. refl) (λ e k. absurd (other (sym is ∙ k)))) (well_said (said ++ nothing_said ∷ [])))
+
       -- the input ends after the values
       ends_why : (work : Work T) → task.work ≡ work → given.input.until ≡ at_end → rest ≡ [] → (last : Reply) → Finishes language work trees last → Because said last
-      ends_why (checks t) is e none last h =
-          subst (λ l. Because said l) (sym h)
-          (well_why e (not_refused clean none (λ refusal e. cc e) (λ e. refl) (λ e k. absurd (cc (sym is ∙ k)))) (well_said (said ++ nothing_said ∷ [])))
+      ends_why (tells saying t) is e none last h = all_said_why is e none (λ e. cc e) last h
+      ends_why dumps is e none last h = all_said_why is e none (λ e. cc e) last h
       ends_why compares is e none last h = counted trees refl h where
         fewer : (all : List Tree) → trees ≡ all → length all < 2 → Why language words call given statuses.Usage
         fewer all same less = not_two task p (record {
@@ -228,29 +239,26 @@ module _ {D T : Type 0} (language : Language D T) (words : List (List ℕ)) (cal
     -- a byte comes after two values
     stops_why : (work : Work T) → task.work ≡ work → (said : List Said) (trees : List Tree) (rest : List ℕ) → SpellAll task.limit given.input.bytes trees rest → (stop : Stop)
         → StopsAt language work task.limit trees rest stop → (last : Reply) → last ≡ stops stop → Because said last
-    stops_why (checks t) is said trees rest spelled stop at last same = absurd at
+    stops_why (tells saying t) is said trees rest spelled stop at last same = absurd at
+    stops_why dumps is said trees rest spelled stop at last same = absurd at
     stops_why compares is said trees rest spelled stop (two, some, told) last same =
         subst (λ l. Because said l) (sym (same ∙ ap (λ s. stops s) told)) (not_two task p (record { is = is; trees = trees; rest = rest; spelled = spelled; why = inl (two, some) }))
 
   pub task_asks : (task : Task T) → Prepares language words given.file (Ok task) → (request : Request) × Asks words request × (task.limit ≡ limit_of request) × Suits request task.work
   task_asks task (Err stop, h, same) = absurd (cc same)
-  task_asks task (Ok (check f t most), asks, (Err stop, h, same)) = absurd (cc same)
-  task_asks task (Ok (check f t most), asks, (Ok work, (Err stop, reads, h), same)) = absurd (cc h)
-  task_asks task (Ok (check f t most), asks, (Ok work, (Ok type, reads, h), same)) =
-      let told : task ≡ record { work = work; limit = limit_of (check f t most) } = cc in
-      let is : work ≡ checks type = cc in
-      (check f t most, asks, ap (λ t. t.limit) told, subst (λ w. Suits (check f t most) w) (sym (ap (λ t. t.work) told ∙ is)) tt)
-  task_asks task (Ok (compare most), asks, (Err stop, h, same)) = absurd (cc same)
-  task_asks task (Ok (compare most), asks, (Ok work, h, same)) =
-      let told : task ≡ record { work = work; limit = limit_of (compare most) } = cc in
-      let is : work ≡ compares = cc in
-      (compare most, asks, ap (λ t. t.limit) told, subst (λ w. Suits (compare most) w) (sym (ap (λ t. t.work) told ∙ is)) tt)
+  task_asks task (Ok request, asks, (Err stop, h, same)) = absurd (cc same)
+  task_asks task (Ok request, asks, (Ok work, h, same)) =
+      let told : task ≡ record { work = work; limit = limit_of request } = cc in
+      (request, asks, ap (λ t. t.limit) told, subst (λ w. Suits request w) (sym (ap (λ t. t.work) told)) (finds_suits language given.file request work h))
 
   -- where values are compared, the words are those of `same`
   pub compare_asked : (task : Task T) → Prepares language words given.file (Ok task) → task.work ≡ compares → Asks words (compare task.limit)
-  compare_asked task p is = let asked = task_asks task p in at asked.0 asked.1 asked.2 (subst (λ w. Suits asked.0 w) is asked.3) where
-    at : (request : Request) → Asks words request → task.limit ≡ limit_of request → Suits {T = T} request compares → Asks words (compare task.limit)
-    at (check f t most) asks limit h = absurd h
+  compare_asked task p is = let asked = task_asks task p in at asked.0 asked.1 asked.2 (sym (subst (λ w. Suits asked.0 w) is asked.3)) where
+    at : (request : Request) → Asks words request → task.limit ≡ limit_of request → asks_comparison request ≡ true → Asks words (compare task.limit)
+    at (check f t most) asks limit h = absurd (cc h)
+    at (show f t most) asks limit h = absurd (cc h)
+    at (get f t text most) asks limit h = absurd (cc h)
+    at (dump most) asks limit h = absurd (cc h)
     at (compare most) asks limit h = subst (λ n. Asks words (compare n)) (sym limit) asks
 
   says_why : (all : Replies) → RunReplies language words given all → Why language words call given (ending_of all).status
@@ -280,8 +288,8 @@ module _ {D T : Type 0} (language : Language D T) (words : List (List ℕ)) (cal
           subst (λ l. Puts call.err (ending_of (replies a.said l)).err) e line,
         ))
 
-  pub file_fetched : (name : List ℕ) → AsksForFile words name → Fetched call.files name (a.given.file name)
-  file_fetched name (type, (request, asks, typed)) = subst (λ o. IfSome o (λ t. Fetched call.files t.0 (a.given.file t.0))) typed (a.files.asked request asks)
+  pub file_fetched : (name : List ℕ) → AsksForFile language words name → Fetched call.files name (a.given.file name)
+  file_fetched name (type, is) = a.files.asked name type is
 
   -- ---- the causes
 
@@ -293,7 +301,7 @@ module _ {D T : Type 0} (language : Language D T) (words : List (List ℕ)) (cal
   only_write_fault e = write_of (subst (λ s. Why language words call a.given s) e account_why)
 
   -- a read of FILE failed
-  pub read_fault_of : (name : List ℕ) (taken : Taken) → AsksForFile words name → a.given.file name ≡ opened taken → taken.until ≡ at_fault → RoseOrLast call.files.before.read_faults call.files.after.read_faults
+  pub read_fault_of : (name : List ℕ) (taken : Taken) → AsksForFile language words name → a.given.file name ≡ opened taken → taken.until ≡ at_fault → RoseOrLast call.files.before.read_faults call.files.after.read_faults
   read_fault_of name taken is found e =
       let f = file_fetched name is in
       let cause = subst (λ o. HasCause call.files.before.read_faults call.files.after.read_faults (has_read_fault o)) found f.reading in
@@ -307,7 +315,7 @@ module _ {D T : Type 0} (language : Language D T) (words : List (List ℕ)) (cal
   pub only_read_fault : OnlyReadFault call
   only_read_fault e = read_of (subst (λ s. Why language words call a.given s) e account_why)
 
-  open_of : Why language words call a.given statuses.OpenFault → (name : List ℕ) × AsksForFile words name × CannotOpen call.files name
+  open_of : Why language words call a.given statuses.OpenFault → (name : List ℕ) × AsksForFile language words name × CannotOpen call.files name
   open_of (not_there name is found) =
       let f = subst (λ o. Fetched call.files name o) found (file_fetched name is) in
       (name, is, inr (some_and call.files.before.map (λ all. contents_of all name ≡ None) (f.told refl) f.map))
@@ -315,12 +323,12 @@ module _ {D T : Type 0} (language : Language D T) (words : List (List ℕ)) (cal
       let f = subst (λ o. Fetched call.files name o) found (file_fetched name is) in
       (name, is, inl (f.opening.rose, f.named refl))
 
-  pub only_open_fault : OnlyOpenFault words call
+  pub only_open_fault : OnlyOpenFault language words call
   only_open_fault e = open_of (subst (λ s. Why language words call a.given s) e account_why)
 
   -- FILE is too long
-  pub file_long_of : (name : List ℕ) (taken : Taken) → AsksForFile words name → a.given.file name ≡ opened taken → taken.until ≡ at_length
-      → (name : List ℕ) × AsksForFile words name × IfSome call.files.before.map (λ all. IsSomeAnd (contents_of all name) (λ bytes. 2 ^ 48 ≤ length bytes))
+  pub file_long_of : (name : List ℕ) (taken : Taken) → AsksForFile language words name → a.given.file name ≡ opened taken → taken.until ≡ at_length
+      → (name : List ℕ) × AsksForFile language words name × IfSome call.files.before.map (λ all. IsSomeAnd (contents_of all name) (λ bytes. 2 ^ 48 ≤ length bytes))
   file_long_of name taken is found e =
       let f = subst (λ o. Fetched call.files name o) found (file_fetched name is) in
       let long = (subst (λ u. IsMeasured u (length taken.bytes)) e f.measured).0 in (
@@ -333,13 +341,13 @@ module _ {D T : Type 0} (language : Language D T) (words : List (List ℕ)) (cal
 
   long_of : Why language words call a.given statuses.TooLong
       → IfSome call.input.before.bytes (λ bytes. 2 ^ 48 ≤ length bytes)
-      ⊎ ((name : List ℕ) × AsksForFile words name × IfSome call.files.before.map (λ all. IsSomeAnd (contents_of all name) (λ bytes. 2 ^ 48 ≤ length bytes)))
+      ⊎ ((name : List ℕ) × AsksForFile language words name × IfSome call.files.before.map (λ all. IsSomeAnd (contents_of all name) (λ bytes. 2 ^ 48 ≤ length bytes)))
   long_of (input_long task p e held) =
       let long = (subst (λ u. IsMeasured u (length a.given.input.bytes)) e a.input.measured).0 in
       inl (IfSome_then call.input.before.bytes a.input.told (λ bytes t. longer bytes a.given.input t.0 t.1 long))
   long_of (file_long name taken is found e) = inr (file_long_of name taken is found e)
 
-  pub only_too_long : OnlyTooLong words call
+  pub only_too_long : OnlyTooLong language words call
   only_too_long e = long_of (subst (λ s. Why language words call a.given s) e account_why)
 
   -- ---- what has to be told
@@ -364,8 +372,27 @@ module _ {D T : Type 0} (language : Language D T) (words : List (List ℕ)) (cal
         may (inl said) = inl (subst P (sym same) (says_P (replies a.said c.last) said))
         may (inr e) = inr (inl (same ∙ ap (λ l. (ending_of (replies a.said l)).status) e))
 
-  pub if_usage : IfUsage words call
-  if_usage none = said_status (λ s. s ≡ statuses.Usage) (usage_says none)
+  -- PATH is no path
+  module _ (lawful : IsLawful language) (bad : AsksBadly language words) where
+    found_badly : (request : Request) → Asks words request → (found : Result (Work T) Stop) → Finding language a.given.file request found → found ≡ Err bad_path
+    found_badly request asks found (inl (none, e)) = e
+    found_badly request asks found (inr (has, rest)) =
+        absurd (path_or_not language lawful request has (subst (λ q. HasNoPath language q) (one_request words bad.request request bad.asks asks) bad.no_path))
+
+    badly_says : (all : Replies) → RunReplies language words a.given all → (ending_of all).status ≡ statuses.Usage
+    badly_says all (Ok task, (Err stop, h, same), said) = absurd (cc same)
+    badly_says all (Ok task, (Ok request, asks, (Err s, h, same)), said) = absurd (cc same)
+    badly_says all (Ok task, (Ok request, asks, (Ok work, h, same)), said) =
+        let told : ◌≡◌ {A = Result (Work T) Stop} (Ok work) (Err bad_path) = found_badly request asks (Ok work) (finding language a.given.file request (Ok work) h) in absurd (cc told)
+    badly_says all (Err stop, (Err first, h, same), e) = absurd (h.0 bad.request bad.asks)
+    badly_says all (Err stop, (Ok request, asks, (Ok work, h, same)), e) = absurd (cc same)
+    badly_says all (Err stop, (Ok request, asks, (Err s, h, same)), e) =
+        let told : ◌≡◌ {A = Result (Work T) Stop} (Err s) (Err bad_path) = found_badly request asks (Err s) (finding language a.given.file request (Err s) h) in
+        let is : bad_path ≡ stop = cc in ap (λ e. (ending_of e).status) e ∙ ap status_of (sym is)
+
+  pub if_usage : IsLawful language → IfUsage language words call
+  if_usage lawful (inl none) = said_status (λ s. s ≡ statuses.Usage) (usage_says none)
+  if_usage lawful (inr bad) = said_status (λ s. s ≡ statuses.Usage) (badly_says lawful bad)
 
   pub tells_write_fault : TellsWriteFault call
   tells_write_fault = record { out = out_told a.ends; err = err_told a.ends } where
@@ -381,16 +408,35 @@ module _ {D T : Type 0} (language : Language D T) (words : List (List ℕ)) (cal
       put (inl (line, same)) = absurd (risen _ _ line.cause.kept less)
 
   -- where a stage stops the run, that is its status
-  stop_status : (all : Replies) (found : Result T Stop) (type : Result (Work T) Stop) (prepared : Result (Task T) Stop) (request : Request) (s : Stop)
-      → found ≡ Err s → MatchResult found (λ x. type ≡ Ok (checks x)) (λ stop. type ≡ Err stop)
+  stop_status : (all : Replies) (found : Result T Stop) (saying : Saying) (type : Result (Work T) Stop) (prepared : Result (Task T) Stop) (request : Request) (s : Stop)
+      → found ≡ Err s → MatchResult found (λ x. type ≡ Ok (tells saying x)) (λ stop. type ≡ Err stop)
       → MatchResult type (λ x. prepared ≡ Ok (record { work = x; limit = limit_of request })) (λ stop. prepared ≡ Err stop)
       → MatchResult prepared (λ task. ValuesReply language task a.given.input all) (λ stop. all ≡ stopped stop)
       → (ending_of all).status ≡ status_of s
-  stop_status all (Ok x) type prepared request s e f g h = absurd (cc e)
-  stop_status all (Err s1) (Ok x) prepared request s e f g h = absurd (cc f)
-  stop_status all (Err s1) (Err s2) (Ok task) request s e f g h = absurd (cc g)
-  stop_status all (Err s1) (Err s2) (Err s3) request s e f g h =
+  stop_status all (Ok x) saying type prepared request s e f g h = absurd (cc e)
+  stop_status all (Err s1) saying (Ok x) prepared request s e f g h = absurd (cc f)
+  stop_status all (Err s1) saying (Err s2) (Ok task) request s e f g h = absurd (cc g)
+  stop_status all (Err s1) saying (Err s2) (Err s3) request s e f g h =
       let told : s3 ≡ s = cc in ap (λ e. (ending_of e).status) h ∙ ap status_of told
+
+  -- where FILE is asked for, the status is what comes of it
+  module _ (lawful : IsLawful language) (status : Status) (some : ((name type : List ℕ) → AsksFor language words name type → ⊥) → ⊥)
+      (at : (f t : List ℕ) → AsksFor language words f t → (all : Replies) (text : Result (List ℕ) Stop) → ReadsFile f (a.given.file f) text
+      → ((s : Stop) → text ≡ Err s → (ending_of all).status ≡ status_of s) → (ending_of all).status ≡ status) where
+    found_says : (all : Replies) (prepared : Result (Task T) Stop) (request : Request) → Asks words request → (found : Result (Work T) Stop)
+        → MatchResult found (λ x. prepared ≡ Ok (record { work = x; limit = limit_of request })) (λ stop. prepared ≡ Err stop)
+        → MatchResult prepared (λ task. ValuesReply language task a.given.input all) (λ stop. all ≡ stopped stop)
+        → Finding language a.given.file request found → (ending_of all).status ≡ status
+    found_says all prepared request asks found rest said (inl (none, e)) =
+        absurd (some (λ name type is. for_or_badly language lawful words name type is (record { request = request; asks = asks; no_path = none })))
+    found_says all prepared request asks found rest said (inr (has, inr (none, work, e))) = absurd (some (λ name type is. unnamed language words request asks none name type is))
+    found_says all prepared request asks found rest said (inr (has, inl (f, t, saying, typed, (type, (text, r, more), e)))) =
+        at f t (record { request = request; asks = asks; has_path = has; typed = typed }) all text r
+        (λ s same. stop_status all type saying found prepared request s (rw same at more) e rest said)
+
+    file_says : (all : Replies) → RunReplies language words a.given all → (ending_of all).status ≡ status
+    file_says all (prepared, (Err stop, none, rest), said) = absurd (some (λ name type is. none.0 is.request is.asks))
+    file_says all (prepared, (Ok request, asks, (found, h, rest)), said) = found_says all prepared request asks found rest said (finding language a.given.file request found h)
 
   module _ (f : List ℕ) (fetched : Fetched call.files f (a.given.file f)) (all : Replies) where
     -- a fetch that failed is told
@@ -422,22 +468,19 @@ module _ {D T : Type 0} (language : Language D T) (words : List (List ℕ)) (cal
           let h : fault_of at_fault ≡ Some s = subst (λ u. fault_of u ≡ Some s) e r in
           let stop : read_fault ≡ s = cc in told s refl ∙ ap status_of (sym stop)
 
-  opening_says : call.files.before.open_faults < call.files.after.open_faults → (all : Replies) → RunReplies language words a.given all → (ending_of all).status ≡ statuses.OpenFault
-  opening_says less all (prepared, (Err stop, none, rest), said) = absurd (risen _ _ (ap (λ f. f.open_faults) (a.files.unasked (λ request asks. absurd (none.0 request asks)))) less)
-  opening_says less all (prepared, (Ok (compare most), asks, more), said) = absurd (risen _ _ (ap (λ f. f.open_faults) (a.files.unasked (no_file words most asks))) less)
-  opening_says less all (prepared, (Ok (check f t most), asks, (type, (found, (text, r, more), e), rest)), said) =
-      opening_at f (a.files.asked (check f t most) asks) all less (a.given.file f) refl text r
-      (λ s same. stop_status all found type prepared (check f t most) s (rw same at more) e rest said)
+  module _ (lawful : IsLawful language) where
+    opening_says : call.files.before.open_faults < call.files.after.open_faults → (all : Replies) → RunReplies language words a.given all → (ending_of all).status ≡ statuses.OpenFault
+    opening_says less =
+        file_says lawful statuses.OpenFault (λ none. risen _ _ (ap (λ f. f.open_faults) (a.files.unasked none)) less)
+        (λ f t is all text r told. opening_at f (a.files.asked f t is) all less (a.given.file f) refl text r told)
 
-  reading_says : call.files.before.read_faults < call.files.after.read_faults → (all : Replies) → RunReplies language words a.given all → (ending_of all).status ≡ statuses.ReadFault
-  reading_says less all (prepared, (Err stop, none, rest), said) = absurd (risen _ _ (ap (λ f. f.read_faults) (a.files.unasked (λ request asks. absurd (none.0 request asks)))) less)
-  reading_says less all (prepared, (Ok (compare most), asks, more), said) = absurd (risen _ _ (ap (λ f. f.read_faults) (a.files.unasked (no_file words most asks))) less)
-  reading_says less all (prepared, (Ok (check f t most), asks, (type, (found, (text, r, more), e), rest)), said) =
-      reading_at f (a.files.asked (check f t most) asks) all less (a.given.file f) refl text r
-      (λ s same. stop_status all found type prepared (check f t most) s (rw same at more) e rest said)
+    reading_says : call.files.before.read_faults < call.files.after.read_faults → (all : Replies) → RunReplies language words a.given all → (ending_of all).status ≡ statuses.ReadFault
+    reading_says less =
+        file_says lawful statuses.ReadFault (λ none. risen _ _ (ap (λ f. f.read_faults) (a.files.unasked none)) less)
+        (λ f t is all text r told. reading_at f (a.files.asked f t is) all less (a.given.file f) refl text r told)
 
-  pub tells_open_fault : TellsOpenFault call
-  tells_open_fault less = said_status (λ s. s ≡ statuses.OpenFault) (opening_says less)
+    pub tells_open_fault : TellsOpenFault call
+    tells_open_fault less = said_status (λ s. s ≡ statuses.OpenFault) (opening_says less)
 
   -- a take of the input that failed is told
   module _ (lawful : IsLawful language) where
@@ -464,7 +507,7 @@ module _ {D T : Type 0} (language : Language D T) (words : List (List ℕ)) (cal
     pub tells_read_fault : TellsReadFault call
     tells_read_fault = record {
       input = λ less. said_status (λ s. s ≡ statuses.ReadFault) (input_says less a.given.input.until refl);
-      file = λ less. said_status (λ s. s ≡ statuses.ReadFault) (reading_says less);
+      file = λ less. said_status (λ s. s ≡ statuses.ReadFault) (reading_says lawful less);
     }
 
   -- what is found of the name, where the map has it
@@ -473,7 +516,7 @@ module _ {D T : Type 0} (language : Language D T) (words : List (List ℕ)) (cal
   contents_are (Some all) bytes (rest, t) = ap (λ b. Some b) (t.front ∙ (ap (λ r. bytes ++ r) (t.ends refl) ∙ append-nil bytes))
 
   types_of : Why language words call a.given statuses.Types
-      → (name type text : List ℕ) × AsksFor words name type × IfSome call.files.before.map (λ all. contents_of all name ≡ Some text) × IsRefusedType language text type
+      → (name type text : List ℕ) × AsksFor language words name type × IfSome call.files.before.map (λ all. contents_of all name ≡ Some text) × IsRefusedType language text type
   types_of (no_types name type text is found why) =
       let f = subst (λ o. Fetched call.files name o) found (file_fetched name (type, is)) in
       (name, type, text, is, IfSome_then call.files.before.map f.map (λ all h. contents_are (contents_of all name) text h), why)
@@ -517,7 +560,7 @@ module _ {D T : Type 0} (language : Language D T) (words : List (List ℕ)) (cal
     whole_input = input_of call.input.before.bytes a.input.told
 
   value_of : Why language words call a.given statuses.Value
-      → (file : List ℕ → Found) × FetchesFor words call.files file × (task : Task T) × Prepares language words file (Ok task)
+      → (file : List ℕ → Found) × FetchesFor language words call.files file × (task : Task T) × Prepares language words file (Ok task)
       × (input : List ℕ) × IfSome call.input.before.bytes (λ bytes. bytes ≡ input) × HoldBadValue language task input
   value_of (no_value task p v) =
       let i = whole_input (HoldBadValue language task) v.bad (λ bytes rest t. bad_of bytes rest t task v) in
@@ -533,13 +576,16 @@ module _ {D T : Type 0} (language : Language D T) (words : List (List ℕ)) (cal
     go (inr (fewer, none, e)) = record { trees = n.trees; rest = n.rest; spelled = n.spelled; why = inr (fewer, none) }
 
   usage_of : Why language words call a.given statuses.Usage
-      → IsUsage words ⊎ ((limit : ℕ) × Asks words (compare limit) × (input : List ℕ) × IfSome call.input.before.bytes (λ bytes. bytes ≡ input) × AreNotTwo limit input)
+      → IsUsage words
+      ⊎ (AsksBadly language words
+      ⊎ ((limit : ℕ) × Asks words (compare limit) × (input : List ℕ) × IfSome call.input.before.bytes (λ bytes. bytes ≡ input) × AreNotTwo limit input))
   usage_of (not_plain none) = inl none
+  usage_of (badly_asked bad) = inr (inl bad)
   usage_of (not_two task p n) =
       let i = whole_input (AreNotTwo task.limit) (taken_not_two task n) (λ bytes rest t. not_two_of bytes rest t task n) in
-      inr (task.limit, compare_asked language words call a.given task p n.is, i.0, i.1, i.2)
+      inr (inr (task.limit, compare_asked language words call a.given task p n.is, i.0, i.1, i.2))
 
-  pub only_usage : OnlyUsage words call
+  pub only_usage : OnlyUsage language words call
   only_usage e = usage_of (subst (λ s. Why language words call a.given s) e account_why)
 
   -- where the map does not have FILE, it cannot be opened
@@ -558,17 +604,13 @@ module _ {D T : Type 0} (language : Language D T) (words : List (List ℕ)) (cal
   missing_at f fetched none all unfetched same (Ok bytes) r told = absurd (cc r)
   missing_at f fetched none all unfetched same (Err s) r told = absurd r
 
-  missing_says : (name : List ℕ) → AsksForFile words name → IsSomeAnd call.files.before.map (λ all. contents_of all name ≡ None)
-      → (all : Replies) → RunReplies language words a.given all → (ending_of all).status ≡ statuses.OpenFault
-  missing_says name (type, (request, other, typed)) none all (prepared, (Err stop, h, rest), said) = absurd (h.0 request other)
-  missing_says name (type, (compare most', other, typed)) none all (prepared, (Ok request, asks, more), said) = absurd (cc typed)
-  missing_says name (type, (check g u most', other, typed)) none all (prepared, (Ok (compare most), asks, more), said) = absurd (check_or_compare words g u most' most other asks)
-  missing_says name (type, (check g u most', other, typed)) none all (prepared, (Ok (check f t most), asks, (found_type, (found, (text, r, more), e), rest)), said) =
-      let same = (same_check words g u most' f t most other asks).0 in
-      let pair : ◌≡◌ {A = List ℕ × List ℕ} (g, u) (name, type) = cc in
-      let file : name ≡ f = sym (ap (λ p. p.0) pair) ∙ same in
-      missing_at f (a.files.asked (check f t most) asks) (subst (λ n. IsSomeAnd call.files.before.map (λ all. contents_of all n ≡ None)) file none) all
-      (a.given.file f) refl text r (λ s same. stop_status all found found_type prepared (check f t most) s (rw same at more) e rest said)
+  module _ (lawful : IsLawful language) (name : List ℕ) (is : AsksForFile language words name) (none : IsSomeAnd call.files.before.map (λ all. contents_of all name ≡ None)) where
+    missing_says : (all : Replies) → RunReplies language words a.given all → (ending_of all).status ≡ statuses.OpenFault
+    missing_says =
+        file_says lawful statuses.OpenFault (λ never. never name is.0 is.1)
+        (λ f t its all text r told.
+        let same = (one_typed language words name is.0 f t is.1 its).0 in
+        missing_at f (a.files.asked f t its) (subst (λ n. IsSomeAnd call.files.before.map (λ all. contents_of all n ≡ None)) same none) all (a.given.file f) refl text r told)
 
-  pub if_missing : IfMissing words call
-  if_missing name is none = said_status (λ s. s ≡ statuses.OpenFault) (missing_says name is none)
+  pub if_missing : IsLawful language → IfMissing language words call
+  if_missing lawful name is none = said_status (λ s. s ≡ statuses.OpenFault) (missing_says lawful name is none)

@@ -1,21 +1,21 @@
 -- Where all is well, a run ends well.
-use Rattle.std.proofs.Common.{◌≡◌, ◌≢◌, ◌⊎◌, ℕ, zero, suc, get_or, ◌+◌, ◌*◌, Bool, true, false, List, [], ◌∷◌, ◌++◌, length, replicate, None, Result, Ok, Err, inl, inr, refl, sym, ap, ◌∙◌, subst, length-append, arith}
-use Rattle.std.specs.Prelude.{codes, flat_map, MatchResult, ◌&&◌, if◌then◌else◌}
+use Rattle.std.proofs.Common.{◌≡◌, ◌≢◌, ◌⊎◌, ℕ, suc, Bool, true, List, [], ◌∷◌, length, None, Result, Ok, Err, inl, inr, refl, sym, ap, ◌∙◌, subst}
+use Rattle.std.specs.Prelude.{Some, MatchResult, ◌&&◌, if◌then◌else◌}
 use Rattle.om_session.proofs.ValueLemmas.{silent, comparison-well, all_well-snoc}
 use Rattle.om_model.specs.declared.status.Status.{Status}
 use Rattle.om_model.specs.declared.status.Status.TheVariants as statuses
 use Rattle.om_model.specs.Bytes.{AreBytes}
 use Rattle.om_format.specs.Laws.{HasOneJudgement}
-use Rattle.om_format.specs.Tree.{Tree, root, objects_of}
+use Rattle.om_format.specs.Tree.{Tree}
 use Rattle.om_format.specs.Stream.{End, SpellAll, IsTail}
-use Rattle.om_outcome.specs.Outcome.{whole, at_end, Found, opened, Stop, fault_of, stopped, check, compare, Work, checks, compares, Task, Language, ReadsFile, ReadsTypeOf, Prepares, Said, nothing_said, says, comparison, Reply, Replies, replies, stops, all_well, ending_of, AllSay, StopsAt, ValuesReply, Finishes, Closes, limit_of, found_of}
+use Rattle.om_outcome.specs.Outcome.{whole, at_end, Found, opened, Stop, fault_of, stopped, Saying, the_verdict, the_text, the_part, Request, check, show, get, dump, compare, Work, tells, dumps, compares, Task, Language, ReadsFile, ReadsTypeOf, TellsAt, FindsWork, Prepares, Said, nothing_said, says, comparison, Reply, Replies, replies, stops, all_well, ending_of, AllSay, StopsAt, ValuesReply, Finishes, Closes, limit_of, found_of}
 use Rattle.om_edge.specs.Files.{File, contents_of}
 use Rattle.om_session.specs.Call.{Call}
 use Rattle.om_session.specs.Given.{TellsBytes}
-use Rattle.om_session.specs.Run.{Account, AreAllWell, IsAllWell, IsComplete, HasOutcome}
+use Rattle.om_session.specs.Run.{HasPath, HasNoPath, AsksFor, AsksBadly, Account, AreAllWell, IsAllWell, IsComplete, HasOutcome}
 use Rattle.om_session.proofs.HeadlineLemmas.{headline}
 use Rattle.om_session.proofs.StreamLemmas.{stream_once, spell_once}
-use Rattle.om_session.proofs.WordLemmas.{check_or_compare, same_check, same_compare}
+use Rattle.om_command_line.proofs.RequestLemmas.{one_request}
 
 -- some text is read as this type, over declarations that some text is read as
 abbrev pub IsGiven : {D T : Type 0} → Language D T → T → Type 0
@@ -23,7 +23,8 @@ IsGiven {D} language t = (text type : List ℕ) × (d : D) × language.ReadsDecl
 
 -- so is the type of the work
 abbrev pub IsGivenWork : {D T : Type 0} → Language D T → Work T → Type 0
-IsGivenWork language (checks t) = IsGiven language t
+IsGivenWork language (tells saying t) = IsGiven language t
+IsGivenWork language dumps = Unit {0}
 IsGivenWork language compares = Unit {0}
 
 -- a text is read in one way, and a value has one line at a type that was read
@@ -34,7 +35,24 @@ pub record IsLawful {D T : Type 0} (language : Language D T) : Type 0 where
   pub type_once : (d : D) (text : List ℕ) (t : T) (refusal : List ℕ) → language.ReadsType d text (Ok t) → language.ReadsType d text (Err refusal) → ⊥
   pub same_type : (d : D) (text : List ℕ) (t u : T) → language.ReadsType d text (Ok t) → language.ReadsType d text (Ok u) → t ≡ u
   pub same_type_refusal : (d : D) (text refusal other : List ℕ) → language.ReadsType d text (Err refusal) → language.ReadsType d text (Err other) → refusal ≡ other
-  pub line_once : (t : T) → IsGiven language t → (tree : Tree) (line other : List ℕ) (one two : Bool) → language.LineOf t tree line one → language.LineOf t tree other two → (line ≡ other) × (one ≡ two)
+  pub path_once : (text path : List ℕ) → language.ReadsPath text (Some path) → language.ReadsPath text None → ⊥
+  pub same_path : (text path other : List ℕ) → language.ReadsPath text (Some path) → language.ReadsPath text (Some other) → path ≡ other
+  pub line_once : (saying : Saying) (t : T) → IsGiven language t → (tree : Tree) (line other : List ℕ) (one two : Bool) → language.LineOf saying t tree line one → language.LineOf saying t tree other two → (line ≡ other) × (one ≡ two)
+
+-- ---- PATH
+
+module _ {D T : Type 0} (language : Language D T) (lawful : IsLawful language) where
+  pub path_or_not : (request : Request) → HasPath language request → HasNoPath language request → ⊥
+  path_or_not (check f t most) has none = none
+  path_or_not (show f t most) has none = none
+  path_or_not (get f t text most) has none = lawful.path_once text has.0 has.1 none
+  path_or_not (dump most) has none = none
+  path_or_not (compare most) has none = none
+
+  -- where FILE is fetched, PATH is a path
+  pub for_or_badly : (words : List (List ℕ)) (name type : List ℕ) → AsksFor language words name type → AsksBadly language words → ⊥
+  for_or_badly words name type is bad =
+      path_or_not is.request is.has_path (subst (λ q. HasNoPath language q) (one_request words bad.request is.request bad.asks is.asks) bad.no_path)
 
 -- ---- the stages
 
@@ -56,70 +74,65 @@ module _ {D T : Type 0} (language : Language D T) (lawful : IsLawful language) (
       let same : d ≡ e = lawful.same_declarations bytes d e (subst (λ b. language.ReadsDeclarations b (Ok d)) (ap (λ t. t.bytes) all) g) g' in
       ap (λ t. Ok t) (lawful.same_type e u t v (subst (λ d. language.ReadsType d u (Ok t)) same is) is')
 
+  -- what is told at a type
+  tells_once : (f u : List ℕ) (saying : Saying) (work : Work T) (r : Result (Work T) Stop) → TellsAt language file (f, u) saying (Ok work) → TellsAt language file (f, u) saying r → Ok work ≡ r
+  tells_once f u saying work r (Err s, reads, same) other = absurd (cc same)
+  tells_once f u saying work r (Ok t, reads, told) (found, reads', told') = from found (types_once f u t found reads reads') told' where
+    from : (found : Result T Stop) → Ok t ≡ found → MatchResult found (λ type. r ≡ Ok (tells saying type)) (λ stop. r ≡ Err stop) → Ok work ≡ r
+    from (Err s) e k = absurd (cc e)
+    from (Ok x) e k = let both : t ≡ x = cc in told ∙ (ap (λ t. Ok (tells saying t)) both ∙ sym k)
+
+  work_once : (request : Request) (work : Work T) (r : Result (Work T) Stop) → FindsWork language file request (Ok work) → FindsWork language file request r → Ok work ≡ r
+  work_once (check f u most) work r h g = tells_once f u the_verdict work r h g
+  work_once (show f u most) work r h g = tells_once f u the_text work r h g
+  work_once (get f u text most) work r (Err s, reads, same) g = absurd (cc same)
+  work_once (get f u text most) work r (Ok path, reads, h) (Err s, (none, e), same) = absurd (lawful.path_once text path reads none)
+  work_once (get f u text most) work r (Ok path, reads, h) (Ok other, reads', g) =
+      tells_once f u (the_part path) work r h (subst (λ p. TellsAt language file (f, u) (the_part p) r) (lawful.same_path text other path reads' reads) g)
+  work_once (dump most) work r h g = h ∙ sym g
+  work_once (compare most) work r h g = h ∙ sym g
+
   pub prepares_once : (words : List (List ℕ)) (task : Task T) (r : Result (Task T) Stop) → Prepares language words file (Ok task) → Prepares language words file r → Ok task ≡ r
   prepares_once words task r (Err s, h, same) other = absurd (cc same)
-  prepares_once words task r (Ok (check f u most), asks, (Err s, h, same)) other = absurd (cc same)
-  prepares_once words task r (Ok (check f u most), asks, (Ok work, h, same)) (Err s, (none, e), told) = absurd (none (check f u most) asks)
-  prepares_once words task r (Ok (check f u most), asks, (Ok work, h, told)) (Ok (compare most'), other, more) = absurd (check_or_compare words f u most most' asks other)
-  prepares_once words task r (Ok (compare most), asks, (Err s, h, same)) other = absurd (cc same)
-  prepares_once words task r (Ok (compare most), asks, (Ok work, h, same)) (Err s, (none, e), told) = absurd (none (compare most) asks)
-  prepares_once words task r (Ok (compare most), asks, (Ok work, h, same)) (Ok (check g v most'), other, more) = absurd (check_or_compare words g v most' most other asks)
-  prepares_once words task r (Ok (compare most), asks, (Ok work, h, same)) (Ok (compare most'), other, (found, h', told)) = compare_task found h' told where
-    limits : most ≡ most'
-    limits = same_compare words most most' asks other
+  prepares_once words task r (Ok request, asks, (Err s, h, same)) other = absurd (cc same)
+  prepares_once words task r (Ok request, asks, (Ok work, h, told)) (Err s, (none, e), same) = absurd (none request asks)
+  prepares_once words task r (Ok request, asks, (Ok work, h, told)) (Ok other, asks', (found, h', told')) =
+      from found (work_once request work found h (subst (λ q. FindsWork language file q found) same h')) told' where
+        same : other ≡ request
+        same = one_request words other request asks' asks
 
-    compare_task : (found : Result (Work T) Stop) → found ≡ Ok compares → MatchResult found (λ x. r ≡ Ok (record { work = x; limit = most' })) (λ stop. r ≡ Err stop) → Ok task ≡ r
-    compare_task (Err s) h' k = absurd (cc h')
-    compare_task (Ok x) h' k =
-        let is : task ≡ record { work = work; limit = most } = cc in
-        let ours : work ≡ compares = cc in
-        let theirs : x ≡ compares = cc in
-        ap (λ t. Ok t) is ∙ (ap (λ w. Ok (record { work = w; limit = most })) (ours ∙ sym theirs) ∙ (ap (λ n. Ok (record { work = x; limit = n })) limits ∙ sym k))
-  prepares_once words task r (Ok (check f u most), asks, (Ok work, (Err s, reads, same), told)) (Ok (check g v most'), other, (found, (r3, reads', same'), told')) = absurd (cc same)
-  prepares_once words task r (Ok (check f u most), asks, (Ok work, (Ok t, reads, same), told)) (Ok (check g v most'), other, (found, (r3, reads', same'), told')) =
-      let alike = same_check words f u most g v most' asks other in
-      let names : g ≡ f = sym alike.0 in
-      let types : v ≡ u = sym alike.1 in
-      let moved : ReadsTypeOf language file (f, u) r3 = subst (λ u. ReadsTypeOf language file (f, u) r3) types (subst (λ f. ReadsTypeOf language file (f, v) r3) names reads') in
-      let once : Ok t ≡ r3 = types_once f u t r3 reads moved in
-      same_task found r3 once same' told' where
-        limits : most ≡ most'
-        limits = (same_check words f u most g v most' asks other).2
-
-        same_task : (found : Result (Work T) Stop) (r3 : Result T Stop) → Ok t ≡ r3
-            → MatchResult r3 (λ x. found ≡ Ok (checks x)) (λ stop. found ≡ Err stop)
-            → MatchResult found (λ x. r ≡ Ok (record { work = x; limit = most' })) (λ stop. r ≡ Err stop) → Ok task ≡ r
-        same_task found (Err s) e h k = absurd (cc e)
-        same_task (Err s) (Ok x) e h k = absurd (cc h)
-        same_task (Ok y) (Ok x) e h k =
-            let is : task ≡ record { work = work; limit = most } = cc in
-            let ours : work ≡ checks t = cc in
-            let theirs : y ≡ checks x = cc in
-            let both : t ≡ x = cc in
-            ap (λ t. Ok t) is ∙ (ap (λ w. Ok (record { work = w; limit = most })) (ours ∙ (ap (λ t. checks t) both ∙ sym theirs)) ∙ (ap (λ n. Ok (record { work = y; limit = n })) limits ∙ sym k))
+        from : (found : Result (Work T) Stop) → Ok work ≡ found
+            → MatchResult found (λ x. r ≡ Ok (record { work = x; limit = limit_of other })) (λ stop. r ≡ Err stop) → Ok task ≡ r
+        from (Err s) e k = absurd (cc e)
+        from (Ok x) e k =
+            let both : work ≡ x = cc in
+            told ∙ (ap (λ w. Ok (record { work = w; limit = limit_of request })) both ∙ (ap (λ q. Ok (record { work = x; limit = limit_of q })) (sym same) ∙ sym k))
 
   -- the type of the work was read
+  type_given : (f u : List ℕ) (t : T) → ReadsTypeOf language file (f, u) (Ok t) → IsGiven language t
+  type_given f u t (Err s, h, other) = absurd (cc other)
+  type_given f u t (Ok text, h, (Err s, g, other)) = absurd (cc other)
+  type_given f u t (Ok text, h, (Ok d, g, given)) = (text, u, d, g, given)
+
+  tells_given : (f u : List ℕ) (saying : Saying) (work : Work T) → TellsAt language file (f, u) saying (Ok work) → IsGivenWork language work
+  tells_given f u saying work (Err s, reads, same) = absurd (cc same)
+  tells_given f u saying work (Ok t, reads, told) =
+      let is : work ≡ tells saying t = cc in subst (IsGivenWork language) (sym is) (type_given f u t reads)
+
+  work_given : (request : Request) (work : Work T) → FindsWork language file request (Ok work) → IsGivenWork language work
+  work_given (check f u most) work h = tells_given f u the_verdict work h
+  work_given (show f u most) work h = tells_given f u the_text work h
+  work_given (get f u text most) work (Err s, reads, same) = absurd (cc same)
+  work_given (get f u text most) work (Ok path, reads, h) = tells_given f u (the_part path) work h
+  work_given (dump most) work h = let is : work ≡ dumps = cc in subst (IsGivenWork language) (sym is) tt
+  work_given (compare most) work h = let is : work ≡ compares = cc in subst (IsGivenWork language) (sym is) tt
+
   pub prepares_given : (words : List (List ℕ)) (task : Task T) → Prepares language words file (Ok task) → IsGivenWork language task.work
   prepares_given words task (Err s, h, same) = absurd (cc same)
-  prepares_given words task (Ok (compare most), asks, (Err s, h, same)) = absurd (cc same)
-  prepares_given words task (Ok (compare most), asks, (Ok work, h, told)) =
-      let one : task ≡ record { work = work; limit = limit_of (compare most) } = cc in
-      let two : work ≡ compares = cc in
-      let is : task.work ≡ compares = ap (λ t. t.work) one ∙ two in
-      subst (IsGivenWork language) (sym is) tt
-  prepares_given words task (Ok (check f u most), asks, (Err s, h, same)) = absurd (cc same)
-  prepares_given words task (Ok (check f u most), asks, (Ok work, (Err s, reads, same), told)) = absurd (cc same)
-  prepares_given words task (Ok (check f u most), asks, (Ok work, (Ok t, reads, same), told)) = type_given reads where
-    is : task.work ≡ checks t
-    is =
-        let one : task ≡ record { work = work; limit = limit_of (check f u most) } = cc in
-        let two : work ≡ checks t = cc in
-        ap (λ t. t.work) one ∙ two
-
-    type_given : ReadsTypeOf language file (f, u) (Ok t) → IsGivenWork language task.work
-    type_given (Err s, h, other) = absurd (cc other)
-    type_given (Ok text, h, (Err s, g, other)) = absurd (cc other)
-    type_given (Ok text, h, (Ok d, g, given)) = subst (IsGivenWork language) (sym is) (text, u, d, g, given)
+  prepares_given words task (Ok request, asks, (Err s, h, same)) = absurd (cc same)
+  prepares_given words task (Ok request, asks, (Ok work, h, told)) =
+      let is : task ≡ record { work = work; limit = limit_of request } = cc in
+      subst (IsGivenWork language) (sym (ap (λ t. t.work) is)) (work_given request work h)
 
 -- ---- the values
 
@@ -139,12 +152,16 @@ is_memory statuses.TooLong = inr (λ e. cc e)
 module _ {D T : Type 0} (language : Language D T) (lawful : IsLawful language) where
   says_well : (work : Work T) → IsGivenWork language work → (k : ℕ) (trees : List Tree) (said : List Said) → AreAllWell language work trees → AllSay language work k trees said → all_well said ≡ true
   says_well compares given k trees said all h = silent language k trees said h
-  says_well (checks type) given k [] [] all h = refl
-  says_well (checks type) given k [] (first ∷ said) all h = absurd h
-  says_well (checks type) given k (tree ∷ trees) [] all h = absurd h
-  says_well (checks type) given k (tree ∷ trees) (first ∷ said) all h =
-      let here : true ≡ first.well = (lawful.line_once type given tree all.0.0 h.0.0 true first.well all.0.1 h.0.1).1 in
-      ap (λ well. well && all_well said) (sym here) ∙ says_well (checks type) given (suc k) trees said all.1 h.1
+  says_well dumps given k [] [] all h = refl
+  says_well dumps given k [] (first ∷ said) all h = absurd h
+  says_well dumps given k (tree ∷ trees) [] all h = absurd h
+  says_well dumps given k (tree ∷ trees) (first ∷ said) all h = ap (λ well. well && all_well said) h.0.1 ∙ says_well dumps given (suc k) trees said all h.1
+  says_well (tells saying type) given k [] [] all h = refl
+  says_well (tells saying type) given k [] (first ∷ said) all h = absurd h
+  says_well (tells saying type) given k (tree ∷ trees) [] all h = absurd h
+  says_well (tells saying type) given k (tree ∷ trees) (first ∷ said) all h =
+      let here : true ≡ first.well = (lawful.line_once saying type given tree all.0.0 h.0.0 true first.well all.0.1 h.0.1).1 in
+      ap (λ well. well && all_well said) (sym here) ∙ says_well (tells saying type) given (suc k) trees said all.1 h.1
 
   -- the run ends well with a last reply in which nothing is wrong
   last_well : (said : List Said) (last : Reply) (final : Said) → all_well said ≡ true → final.well ≡ true → last ≡ says final → (ending_of (replies said last)).status ≡ statuses.Well
@@ -153,7 +170,8 @@ module _ {D T : Type 0} (language : Language D T) (lawful : IsLawful language) w
       ∙ ap (λ w. if w then statuses.Well else statuses.No) (all_well-snoc said final ∙ (ap (λ w. w && final.well) well ∙ fine))
 
   finishes_well : (work : Work T) (trees : List Tree) (said : List Said) (last : Reply) → AreAllWell language work trees → all_well said ≡ true → Finishes language work trees last → (ending_of (replies said last)).status ≡ statuses.Well
-  finishes_well (checks type) trees said last all well h = last_well said last nothing_said well refl h
+  finishes_well (tells saying type) trees said last all well h = last_well said last nothing_said well refl h
+  finishes_well dumps trees said last all well h = last_well said last nothing_said well refl h
   finishes_well compares [] said last all well h = absurd all
   finishes_well compares (t ∷ []) said last all well h = absurd all
   finishes_well compares (t ∷ u ∷ v ∷ trees) said last all well h = absurd all
@@ -162,7 +180,8 @@ module _ {D T : Type 0} (language : Language D T) (lawful : IsLawful language) w
   -- nothing stops a run over such values
   never_stops : (work : Work T) (limit : ℕ) (trees others : List Tree) (rest : List ℕ) (stop : Stop) → AreAllWell language work trees → (length trees ≡ length others → rest ≡ [])
       → StopsAt language work limit others rest stop → ⊥
-  never_stops (checks type) limit trees others rest stop all whole at = at
+  never_stops (tells saying type) limit trees others rest stop all whole at = at
+  never_stops dumps limit trees others rest stop all whole at = at
   never_stops compares limit [] others rest stop all whole at = all
   never_stops compares limit (t ∷ []) others rest stop all whole at = all
   never_stops compares limit (t ∷ u ∷ v ∷ trees) others rest stop all whole at = all
@@ -194,9 +213,9 @@ module _ {D T : Type 0} (language : Language D T) (lawful : IsLawful language) (
         values_well input are_bytes all.task (prepares_given language lawful (λ name. found_of (contents_of files name)) words all.task all.prepared) all.trees all.spelled all.well o.all (subst (λ task. ValuesReply language task (whole input) o.all) same h)
 
   pub complete : TellsBytes call.input → Account language words call → IsComplete language words call
-  complete tells a input files honest all = decide (is_memory call.status) where
+  complete told a input files honest all = decide (is_memory call.status) where
     are_bytes : AreBytes input
-    are_bytes = rw honest.well_read.input_told at tells
+    are_bytes = rw honest.well_read.input_told at told
 
     decide : (call.status ≡ statuses.Memory) ⊎ (call.status ≢ statuses.Memory) → (call.status ≡ statuses.Well) ⊎ (call.status ≡ statuses.Memory)
     decide (inl memory) = inr memory

@@ -1,18 +1,18 @@
 -- Words, files and an input have one outcome.
 use Rattle.std.proofs.Common.{◌≡◌, ◌⊎◌, ℕ, suc, ◌+◌, ◌≤◌, Bool, true, false, List, [], ◌∷◌, ◌++◌, length, length-append, arith, None, Result, Ok, Err, inl, inr, refl, sym, ap, ◌∙◌, subst}
-use Rattle.std.specs.Prelude.{MatchResult, ◌&&◌, ◌↔◌, IsTrue, if◌then◌else◌}
+use Rattle.std.specs.Prelude.{MatchResult, ◌↔◌, IsTrue}
 use Rattle.om_session.proofs.ValueLemmas.{few_said}
 use Rattle.om_model.specs.Bytes.{AreBytes}
 use Rattle.om_format.specs.Laws.{HasOneJudgement}
 use Rattle.om_format.specs.Tree.{Tree}
 use Rattle.om_format.specs.Stream.{SpellAll, End, clean, refused, cut, IsTail, Stream}
-use Rattle.om_outcome.specs.Outcome.{IsUsage, whole, at_end, Found, opened, missing, failed, unfetched, Stop, fault_of, usage, declarations, requested_type, stopped, Request, check, compare, Asks, Then, OrRefusal, Work, checks, compares, Task, Language, ReadsFile, ReadsTypeOf, Prepares, Said, nothing_said, says, not_two_values, comparison, AreSame, stops, Reply, Replies, replies, line, ending_of, Says, AllSay, StopsAt, ValuesReply, Finishes, Closes, limit_of, found_of, Outcome}
+use Rattle.om_outcome.specs.Outcome.{IsUsage, whole, at_end, Found, opened, missing, failed, unfetched, Stop, fault_of, usage, bad_path, declarations, requested_type, stopped, Saying, the_verdict, the_text, the_part, Request, check, show, get, dump, compare, Asks, Then, OrRefusal, Work, tells, dumps, compares, Task, Language, ReadsFile, ReadsTypeOf, TellsAt, FindsWork, Prepares, Said, says, comparison, AreSame, stops, Reply, Replies, replies, line, ending_of, Says, AllSay, StopsAt, ValuesReply, Finishes, Closes, found_of, Outcome}
 use Rattle.om_edge.specs.Files.{File, contents_of}
 use Rattle.om_session.specs.Call.{Call}
 use Rattle.om_session.specs.Given.{TellsBytes}
 use Rattle.om_session.specs.Run.{Account, IsDecided}
 use Rattle.om_session.proofs.HeadlineLemmas.{headline}
-use Rattle.om_session.proofs.WordLemmas.{same_check}
+use Rattle.om_command_line.proofs.RequestLemmas.{one_request}
 use Rattle.om_session.proofs.CompleteLemmas.{IsGivenWork, IsLawful, prepares_once, prepares_given}
 use Rattle.om_session.proofs.StreamLemmas.{streams_once, spell_once, spell_append, spell_bytes, stream_of}
 
@@ -53,39 +53,54 @@ module _ {D T : Type 0} (language : Language D T) (lawful : IsLawful language) (
       let all : whole text ≡ whole text' = cc in
       unread_once u text' s s' (subst (λ b. Unread u b s) (ap (λ t. t.bytes) all) rest) rest'
 
+  -- why there is no work
+  type_stop : (f u : List ℕ) (saying : Saying) (s : Stop) → TellsAt language file (f, u) saying (Err s) → ReadsTypeOf language file (f, u) (Err s)
+  type_stop f u saying s (Ok t, reads, told) = absurd (cc told)
+  type_stop f u saying s (Err a, reads, told) = let is : a ≡ s = cc in subst (λ a. ReadsTypeOf language file (f, u) (Err a)) is reads
+
+  tells_stop_once : (f u : List ℕ) (saying : Saying) (s s' : Stop) → TellsAt language file (f, u) saying (Err s) → TellsAt language file (f, u) saying (Err s') → s ≡ s'
+  tells_stop_once f u saying s s' h g = type_stop_once f u s s' (type_stop f u saying s h) (type_stop f u saying s' g)
+
+  work_stop_once : (request : Request) (s s' : Stop) → FindsWork language file request (Err s) → FindsWork language file request (Err s') → s ≡ s'
+  work_stop_once (check f u most) s s' h g = tells_stop_once f u the_verdict s s' h g
+  work_stop_once (show f u most) s s' h g = tells_stop_once f u the_text s s' h g
+  work_stop_once (get f u text most) s s' (Err a, (none, e), same) (Err b, (none', e'), same') =
+      let one : s ≡ bad_path = cc in let other : s' ≡ bad_path = cc in one ∙ sym other
+  work_stop_once (get f u text most) s s' (Err a, (none, e), same) (Ok path, reads, g) = absurd (lawful.path_once text path reads none)
+  work_stop_once (get f u text most) s s' (Ok path, reads, h) (Err b, (none, e), same) = absurd (lawful.path_once text path reads none)
+  work_stop_once (get f u text most) s s' (Ok path, reads, h) (Ok other, reads', g) =
+      tells_stop_once f u (the_part path) s s' h (subst (λ p. TellsAt language file (f, u) (the_part p) (Err s')) (lawful.same_path text other path reads' reads) g)
+  work_stop_once (dump most) s s' h g = absurd (cc h)
+  work_stop_once (compare most) s s' h g = absurd (cc h)
+
   -- why there is no task
   abbrev Unprepared : List (List ℕ) → Stop → Type 0
   Unprepared words s = (IsUsage words × (s ≡ usage))
-      ⊎ ((f : List ℕ) × (u : List ℕ) × (most : ℕ) × Asks words (check f u most) × ReadsTypeOf language file (f, u) (Err s))
+      ⊎ ((request : Request) × Asks words request × FindsWork language file request (Err s))
 
   unprepared : (words : List (List ℕ)) (s : Stop) → Prepares language words file (Err s) → Unprepared words s
   unprepared words s (Err a, (none, e), same) = inl (none, (let one : s ≡ a = cc in one ∙ e))
-  unprepared words s (Ok (compare most), asks, (Ok x, told, same)) = absurd (cc same)
-  unprepared words s (Ok (compare most), asks, (Err b, told, same)) = absurd (cc told)
-  unprepared words s (Ok (check f u most), asks, (found, (r, reads, told), same)) = inr (f, u, most, asks, type_stop found r reads told same) where
-    type_stop : (found : Result (Work T) Stop) (r : Result T Stop) → ReadsTypeOf language file (f, u) r
-        → MatchResult r (λ x. found ≡ Ok (checks x)) (λ stop. found ≡ Err stop)
-        → MatchResult found (λ x. ◌≡◌ {A = Result (Task T) Stop} (Err s) (Ok (record { work = x; limit = limit_of (check f u most) }))) (λ stop. ◌≡◌ {A = Result (Task T) Stop} (Err s) (Err stop)) → ReadsTypeOf language file (f, u) (Err s)
-    type_stop (Ok x) r reads told same = absurd (cc same)
-    type_stop (Err b) (Ok t) reads told same = absurd (cc told)
-    type_stop (Err b) (Err c) reads told same = let is : c ≡ s = cc in subst (λ c. ReadsTypeOf language file (f, u) (Err c)) is reads
+  unprepared words s (Ok request, asks, (Ok x, told, same)) = absurd (cc same)
+  unprepared words s (Ok request, asks, (Err b, told, same)) =
+      let is : b ≡ s = cc in inr (request, asks, subst (λ b. FindsWork language file request (Err b)) is told)
 
   stop_once : (words : List (List ℕ)) (s s' : Stop) → Unprepared words s → Unprepared words s' → s ≡ s'
   stop_once words s s' (inl (none, e)) (inl (none', e')) = e ∙ sym e'
-  stop_once words s s' (inl (none, e)) (inr (f, u, most, asks, reads)) = absurd (none (check f u most) asks)
-  stop_once words s s' (inr (f, u, most, asks, reads)) (inl (none, e)) = absurd (none (check f u most) asks)
-  stop_once words s s' (inr (f, u, most, asks, reads)) (inr (g, v, most', asks', reads')) =
-      let alike = same_check words f u most g v most' asks asks' in
-      let names : g ≡ f = sym alike.0 in
-      let types : v ≡ u = sym alike.1 in
-      type_stop_once f u s s' reads (subst (λ u. ReadsTypeOf language file (f, u) (Err s')) types (subst (λ f. ReadsTypeOf language file (f, v) (Err s')) names reads'))
+  stop_once words s s' (inl (none, e)) (inr (request, asks, found)) = absurd (none request asks)
+  stop_once words s s' (inr (request, asks, found)) (inl (none, e)) = absurd (none request asks)
+  stop_once words s s' (inr (request, asks, found)) (inr (other, asks', found')) =
+      work_stop_once request s s' found (subst (λ q. FindsWork language file q (Err s')) (one_request words other request asks' asks) found')
 
 -- ---- the values
 
 module _ {D T : Type 0} (language : Language D T) (lawful : IsLawful language) where
   pub one_said : (work : Work T) → IsGivenWork language work → (k : ℕ) (tree : Tree) (said other : Said) → Says language work k tree said → Says language work k tree other → said ≡ other
-  one_said (checks t) given k tree said other h g =
-      let once = lawful.line_once t given tree h.0 g.0 said.well other.well h.1 g.1 in
+  one_said dumps given k tree said other h g =
+      let text : said.text ≡ other.text = h.0 ∙ sym g.0 in
+      let well : said.well ≡ other.well = h.1 ∙ sym g.1 in
+      ap (λ w. let s : Said = record { text = said.text; well = w } in s) well ∙ ap (λ x. let s : Said = record { text = x; well = other.well } in s) text
+  one_said (tells saying t) given k tree said other h g =
+      let once = lawful.line_once saying t given tree h.0 g.0 said.well other.well h.1 g.1 in
       let text : said.text ≡ other.text = h.2 ∙ (ap line once.0 ∙ sym g.2) in
       ap (λ w. let s : Said = record { text = said.text; well = w } in s) once.1 ∙ ap (λ x. let s : Said = record { text = x; well = other.well } in s) text
   one_said compares given k tree said other h g = h.1 ∙ sym g.1
@@ -106,7 +121,8 @@ module _ {D T : Type 0} (language : Language D T) (lawful : IsLawful language) w
   one_answer false false P is other = refl
 
   finishes_once : (work : Work T) (trees : List Tree) (last other : Reply) → Finishes language work trees last → Finishes language work trees other → last ≡ other
-  finishes_once (checks t) trees last other h g = h ∙ sym g
+  finishes_once (tells saying t) trees last other h g = h ∙ sym g
+  finishes_once dumps trees last other h g = h ∙ sym g
   finishes_once compares [] last other h g = h ∙ sym g
   finishes_once compares (t ∷ []) last other h g = h ∙ sym g
   finishes_once compares (t ∷ u ∷ v ∷ trees) last other h g = h ∙ sym g
@@ -120,11 +136,13 @@ module _ {D T : Type 0} (language : Language D T) (lawful : IsLawful language) w
 
   -- a stop is one
   same_stop : (work : Work T) (limit : ℕ) (trees trees' : List Tree) (rest rest' : List ℕ) (stop stop' : Stop) → StopsAt language work limit trees rest stop → StopsAt language work limit trees' rest' stop' → stop ≡ stop'
-  same_stop (checks t) limit trees trees' rest rest' stop stop' at at' = absurd at
+  same_stop (tells saying t) limit trees trees' rest rest' stop stop' at at' = absurd at
+  same_stop dumps limit trees trees' rest rest' stop stop' at at' = absurd at
   same_stop compares limit trees trees' rest rest' stop stop' at at' = at.2 ∙ sym at'.2
 
   two_values : (work : Work T) (limit : ℕ) (trees trees' : List Tree) (rest rest' : List ℕ) (stop stop' : Stop) → StopsAt language work limit trees rest stop → StopsAt language work limit trees' rest' stop' → length trees ≡ length trees'
-  two_values (checks t) limit trees trees' rest rest' stop stop' at at' = absurd at
+  two_values (tells saying t) limit trees trees' rest rest' stop stop' at at' = absurd at
+  two_values dumps limit trees trees' rest rest' stop stop' at at' = absurd at
   two_values compares limit trees trees' rest rest' stop stop' at at' = at.0 ∙ sym at'.0
 
   pub few_of : (work : Work T) (trees : List Tree) (said : List Said) → AllSay language work 0 trees said → work ≡ compares → length trees ≤ 2
@@ -134,7 +152,8 @@ module _ {D T : Type 0} (language : Language D T) (lawful : IsLawful language) w
   pub stop_or_end : (law : HasOneJudgement) (work : Work T) (limit : ℕ) (input : List ℕ) → AreBytes input → (trees trees' : List Tree) (rest rest' : List ℕ) (end : End) (stop : Stop)
       → SpellAll limit input trees rest → StopsAt language work limit trees rest stop → SpellAll limit input trees' rest' → (work ≡ compares → length trees' ≤ 2) → IsTail limit rest' end
       → ((stop : Stop) → StopsAt language work limit trees' rest' stop → ⊥) → ⊥
-  stop_or_end law (checks t) limit input are_bytes trees trees' rest rest' end stop spelled at spelled' few tail none = at
+  stop_or_end law (tells saying t) limit input are_bytes trees trees' rest rest' end stop spelled at spelled' few tail none = at
+  stop_or_end law dumps limit input are_bytes trees trees' rest rest' end stop spelled at spelled' few tail none = at
   stop_or_end law compares limit input are_bytes trees trees' rest rest' end stop spelled at spelled' few tail none =
       let more = stream_of law limit rest (spell_bytes limit input rest trees spelled are_bytes) in
       let all : Stream input limit (trees ++ more.0) more.1 = (more.2.0, spell_append limit input rest more.2.0 trees more.0 spelled more.2.1, more.2.2) in
@@ -196,7 +215,7 @@ module _ {D T : Type 0} (language : Language D T) (lawful : IsLawful language) (
         values_once language lawful law task (prepares_given language lawful file words task p) input are_bytes e e' m (subst (λ task. ValuesReply language task (whole input) e') same m')
 
   pub decided : (call : Call) → TellsBytes call.input → Account language words call → IsDecided language words call
-  decided call tells a input files honest some all outcome =
-      let are_bytes : AreBytes input = rw honest.well_read.input_told at tells in
+  decided call told a input files honest some all outcome =
+      let are_bytes : AreBytes input = rw honest.well_read.input_told at told in
       let o = headline language words call a input files honest some in
       o.status ∙ ap (λ e. (ending_of e).status) (one_outcome files input are_bytes o.all all o.outcome outcome)

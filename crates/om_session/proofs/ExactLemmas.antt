@@ -1,9 +1,9 @@
 -- Where a status has to come, from the account of a call.
-use Rattle.std.proofs.Common.{◌≡◌, ◌⊎◌, ℕ, ◌+◌, ◌-◌, ◌^◌, ◌<◌, ◌≤◌, List, [], ◌∷◌, ◌++◌, length, take, drop, take_all, Option, Some, None, IfSome, Result, Ok, Err, inl, inr, refl, sym, ap, ◌∙◌, subst, arith}
+use Rattle.std.proofs.Common.{◌≡◌, ◌⊎◌, ℕ, ◌+◌, ◌-◌, ◌^◌, ◌<◌, ◌≤◌, List, [], ◌∷◌, ◌++◌, length, take, drop, take_all, Option, Some, None, IfSome, Ok, Err, inl, inr, refl, sym, ap, ◌∙◌, subst, arith}
 use Rattle.std.proofs.lemmas.List.{take-append-drop, take-append-le}
 use Rattle.std.proofs.lemmas.List.Elements.{All-take}
 use Rattle.std.proofs.Math.Seq.{take-append_seam, take-append-add}
-use Rattle.std.specs.Prelude.{IsSomeAnd, MatchResult, ◌↔◌, ◌≢◌}
+use Rattle.std.specs.Prelude.{IsSomeAnd, ◌↔◌, ◌≢◌}
 use Rattle.om_model.specs.declared.status.Status.{Status}
 use Rattle.om_model.specs.declared.status.Status.TheVariants as statuses
 use Rattle.om_model.specs.Bytes.{AreBytes}
@@ -11,46 +11,37 @@ use Rattle.om_model.specs.declared.refusal.ReadRefusal.{ReadRefusal}
 use Rattle.om_format.specs.Laws.{HasOneJudgement}
 use Rattle.om_format.specs.Stream.{SpellAll, IsTail, End, clean, refused as refused_end, cut, Stream}
 use Rattle.om_format.specs.Tree.{Tree}
-use Rattle.om_outcome.specs.Outcome.{IsUsage, Taken, InputEnd, at_end, at_fault, at_length, unasked, whole, Found, opened, missing, failed, unfetched, Stop, not_two_values, Request, check, compare, Asks, limit_of, Said, Work, checks, compares, StopsAt, Task, Language, ReadsTypeOf, Prepares, found_of}
+use Rattle.om_outcome.specs.Outcome.{IsUsage, Taken, InputEnd, at_end, at_fault, at_length, unasked, whole, Found, opened, missing, failed, unfetched, not_two_values, Request, compare, Asks, limit_of, Said, Work, compares, StopsAt, Task, Language, ReadsTypeOf, Prepares, found_of}
 use Rattle.om_edge.specs.Files.{File, contents_of}
 use Rattle.om_edge.specs.State.{FilesState, Change}
 use Rattle.om_session.specs.Call.{Call}
 use Rattle.om_session.specs.Given.{TellsBytes, IsFoundOf, TakesFrom, Fetched, IsMeasured}
-use Rattle.om_session.specs.Run.{HoldNoStop, Account, AsksForFile, AsksFor, IsRefusedType, IsOutside, TellsFile, AreShort, AreNotTwo, HoldBadValue, IfTypes, IfNotTwo, IfTooLong, IfValue}
+use Rattle.om_session.specs.Run.{HasNoPath, AsksBadly, HoldNoStop, Account, AsksForFile, AsksFor, IsRefusedType, IsOutside, TellsFile, AreShort, AreNotTwo, HoldBadValue, IfTypes, IfNotTwo, IfTooLong, IfValue}
 use Rattle.om_session.proofs.DecidedLemmas.{few_of, stop_or_end}
 use Rattle.om_session.proofs.HeadlineLemmas.{all_taken, front_none}
 use Rattle.om_session.proofs.ValueLemmas.{spell_after}
-use Rattle.om_session.proofs.WordLemmas.{check_or_compare, no_file, same_check, same_compare}
-use Rattle.om_session.proofs.CompleteLemmas.{IsLawful}
+use Rattle.om_command_line.proofs.RequestLemmas.{one_request}
+use Rattle.om_session.proofs.WordLemmas.{one_typed, unnamed}
+use Rattle.om_session.proofs.FindingLemmas.{Finding, finding, is_compared, asks_comparison, Suits, compared_is}
+use Rattle.om_session.proofs.CompleteLemmas.{IsLawful, path_or_not, for_or_badly}
 use Rattle.om_session.proofs.StreamLemmas.{streams_once, spell_once}
-use Rattle.om_session.proofs.CauseLemmas.{Suits, NoValue, NoRefusal, NotTwo, refused_after, bad_after, task_asks, IsReady, Why, all_well, some_no, not_plain, not_two, not_there, not_opened, no_types, file_fault, file_long, no_value, input_fault, input_long, memory, out_fault, err_fault, account_why, file_fetched, contents_are, longer, all_of, bad_of, not_two_of}
-
--- ---- plain words have one FILE and one TYPE
-
-pub one_typed : (words : List (List ℕ)) (name type other type' : List ℕ) → AsksFor words name type → AsksFor words other type' → (name ≡ other) × (type ≡ type')
-one_typed words name type other type' (compare most, asks, is) h = absurd (cc is)
-one_typed words name type other type' (check f t most, asks, is) (compare most', asks', is') = absurd (cc is')
-one_typed words name type other type' (check f t most, asks, is) (check g u most', asks', is') =
-    let same = same_check words f t most g u most' asks asks' in
-    let pair : ◌≡◌ {A = List ℕ × List ℕ} (f, t) (name, type) = cc in
-    let pair' : ◌≡◌ {A = List ℕ × List ℕ} (g, u) (other, type') = cc in
-    (sym (ap (λ p. p.0) pair) ∙ (same.0 ∙ ap (λ p. p.0) pair'), sym (ap (λ p. p.1) pair) ∙ (same.1 ∙ ap (λ p. p.1) pair'))
-
--- those of `same` have none
-pub unnamed : (words : List (List ℕ)) (most : ℕ) → Asks words (compare most) → (name type : List ℕ) → AsksFor words name type → ⊥
-unnamed words most asks name type (request, other, is) = let none = no_file words most asks request other in cc (sym none ∙ is)
+use Rattle.om_session.proofs.CauseLemmas.{NoValue, NoRefusal, NotTwo, refused_after, bad_after, task_asks, IsReady, Why, all_well, some_no, not_plain, badly_asked, not_two, not_there, not_opened, no_types, file_fault, file_long, no_value, input_fault, input_long, memory, out_fault, err_fault, account_why, file_fetched, contents_are, longer, all_of, bad_of, not_two_of}
 
 -- words have one kind of work, and one limit
 kinds : {T : Type 0} (words : List (List ℕ)) (request other : Request) → Asks words request → Asks words other → (work its : Work T) → Suits request work → Suits other its
     → (work ≡ compares ↔ its ≡ compares) × (limit_of request ≡ limit_of other)
-kinds words (check f t most) (check g u most') asks asks' (checks a) (checks b) h h' = (((λ e. absurd (cc e)), (λ e. absurd (cc e))), (same_check words f t most g u most' asks asks').2)
-kinds words (check f t most) (check g u most') asks asks' compares its h h' = absurd h
-kinds words (check f t most) (check g u most') asks asks' (checks a) compares h h' = absurd h'
-kinds words (check f t most) (compare most') asks asks' work its h h' = absurd (check_or_compare words f t most most' asks asks')
-kinds words (compare most) (check g u most') asks asks' work its h h' = absurd (check_or_compare words g u most' most asks' asks)
-kinds words (compare most) (compare most') asks asks' compares compares h h' = (((λ e. refl), (λ e. refl)), same_compare words most most' asks asks')
-kinds words (compare most) (compare most') asks asks' (checks a) its h h' = absurd h
-kinds words (compare most) (compare most') asks asks' compares (checks b) h h' = absurd h'
+kinds words request other asks asks' work its suits suits' = (
+  (
+    (λ e. compared_is its (sym alike ∙ ap is_compared e)),
+    (λ e. compared_is work (alike ∙ ap is_compared e)),
+  ),
+  ap limit_of same,
+) where
+  same : request ≡ other
+  same = one_request words request other asks asks'
+
+  alike : is_compared work ≡ is_compared its
+  alike = suits ∙ (ap asks_comparison same ∙ sym suits')
 
 -- ---- what is accepted
 
@@ -76,22 +67,28 @@ module _ {D T : Type 0} (language : Language D T) where
   reads_accepted file f u t (Ok text, h, (Err s, read, same)) = absurd (cc same)
   reads_accepted file f u t (Ok text, h, (Ok decls, read, typed)) = record { text = text; found = h; accepted = (decls, t, read, typed) }
 
-  type_found : (file : List ℕ → Found) (f u : List ℕ) (task : Task T) (request : Request) (result : Result (Work T) Stop) (r : Result T Stop) → ReadsTypeOf language file (f, u) r
-      → MatchResult r (λ x. result ≡ Ok (checks x)) (λ stop. result ≡ Err stop)
-      → MatchResult result (λ x. ◌≡◌ {A = Result (Task T) Stop} (Ok task) (Ok (record { work = x; limit = limit_of request }))) (λ stop. ◌≡◌ {A = Result (Task T) Stop} (Ok task) (Err stop))
-      → AcceptsFile file f u
-  type_found file f u task request result (Ok t) reads found same = reads_accepted file f u t reads
-  type_found file f u task request (Ok x) (Err s) reads found same = absurd (cc found)
-  type_found file f u task request (Err s') (Err s) reads found same = absurd (cc same)
-
   pub prepared_accepts : (words : List (List ℕ)) (file : List ℕ → Found) (task : Task T) → Prepares language words file (Ok task)
-      → (name type : List ℕ) → AsksFor words name type → AcceptsFile file name type
+      → (name type : List ℕ) → AsksFor language words name type → AcceptsFile file name type
   prepared_accepts words file task (Err s, h, same) name type is = absurd (cc same)
-  prepared_accepts words file task (Ok (compare most), asks, more) name type is = absurd (unnamed words most asks name type is)
-  prepared_accepts words file task (Ok (check f u most), asks, (result, (r, reads, found), same)) name type is =
-      let once = one_typed words f u name type (check f u most, asks, refl) is in
-      let here : AcceptsFile file f u = type_found file f u task (check f u most) result r reads found same in
-      subst (λ n. AcceptsFile file n type) once.0 (subst (λ t. AcceptsFile file f t) once.1 here)
+  prepared_accepts words file task (Ok request, asks, (Err s, h, same)) name type is = absurd (cc same)
+  prepared_accepts words file task (Ok request, asks, (Ok work, h, same)) name type is = found (finding language file request (Ok work) h) where
+    found : Finding language file request (Ok work) → AcceptsFile file name type
+    found (inl (none, e)) = absurd (cc e)
+    found (inr (has, inr (none, other, e))) = absurd (unnamed language words request asks none name type is)
+    found (inr (has, inl (f, u, saying, typed, (Err s, reads, e)))) = absurd (cc e)
+    found (inr (has, inl (f, u, saying, typed, (Ok t, reads, e)))) =
+        let once = one_typed language words f u name type (record { request = request; asks = asks; has_path = has; typed = typed }) is in
+        subst (λ n. AcceptsFile file n type) once.0 (subst (λ t. AcceptsFile file f t) once.1 (reads_accepted file f u t reads))
+
+  -- where there is a task, PATH is a path
+  prepared_well : IsLawful language → (words : List (List ℕ)) (file : List ℕ → Found) (task : Task T) → Prepares language words file (Ok task) → AsksBadly language words → ⊥
+  prepared_well lawful words file task (Err s, h, same) bad = cc same
+  prepared_well lawful words file task (Ok request, asks, (Err s, h, same)) bad = cc same
+  prepared_well lawful words file task (Ok request, asks, (Ok work, h, same)) bad = found (finding language file request (Ok work) h) where
+    found : Finding language file request (Ok work) → ⊥
+    found (inl (none, e)) = cc e
+    found (inr (has, rest)) =
+        path_or_not language lawful request has (subst (λ q. HasNoPath language q) (one_request words bad.request request bad.asks asks) bad.no_path)
 
 -- ---- what was taken of bytes that are told
 
@@ -162,17 +159,18 @@ module _ {D T : Type 0} (language : Language D T) (lawful : IsLawful language) (
   IsTask task = Prepares language words a.given.file (Ok task)
 
   -- a cause that is none of the outside's is that of this status
-  module _ (target : Status) (plain : ¬ IsUsage words)
+  module _ (target : Status) (plain : ¬ IsUsage words) (path : AsksBadly language words → statuses.Usage ≡ target)
       (unended : (task : Task T) → IsTask task → a.given.input.until ≡ at_end → NoRefusal language task a.given.input → ⊥)
       (two : (task : Task T) → IsTask task → NotTwo task a.given.input → statuses.Usage ≡ target)
-      (types : (name type text : List ℕ) → AsksFor words name type → a.given.file name ≡ opened (whole text) → IsRefusedType language text type → statuses.Types ≡ target)
+      (types : (name type text : List ℕ) → AsksFor language words name type → a.given.file name ≡ opened (whole text) → IsRefusedType language text type → statuses.Types ≡ target)
       (value : (task : Task T) → IsTask task → NoValue language task a.given.input → statuses.Value ≡ target)
-      (file : (name : List ℕ) (taken : Taken) → AsksForFile words name → a.given.file name ≡ opened taken → taken.until ≡ at_length → statuses.TooLong ≡ target)
+      (file : (name : List ℕ) (taken : Taken) → AsksForFile language words name → a.given.file name ≡ opened taken → taken.until ≡ at_length → statuses.TooLong ≡ target)
       (input : (task : Task T) → IsTask task → a.given.input.until ≡ at_length → NoRefusal language task a.given.input → statuses.TooLong ≡ target) where
     cause_or_outside : (s : Status) → Cause s → (s ≡ target) ⊎ IsOutside s
     cause_or_outside s (all_well task p e held) = absurd (unended task p e held)
     cause_or_outside s (some_no task p e held) = absurd (unended task p e held)
     cause_or_outside s (not_plain none) = absurd (plain none)
+    cause_or_outside s (badly_asked bad) = inl (path bad)
     cause_or_outside s (not_two task p n) = inl (two task p n)
     cause_or_outside s (not_there n f e) = inr (inr (inl refl))
     cause_or_outside s (not_opened n f e) = inr (inr (inl refl))
@@ -187,7 +185,7 @@ module _ {D T : Type 0} (language : Language D T) (lawful : IsLawful language) (
     cause_or_outside s (err_fault unput) = inr (inr (inr (inr refl)))
 
   -- what an accepted FILE that is told holds
-  ready_text : IsReady language words a.given → (name type text : List ℕ) → AsksFor words name type → TellsFile call.files name text
+  ready_text : IsReady language words a.given → (name type text : List ℕ) → AsksFor language words name type → TellsFile call.files name text
       → (length text < 2 ^ 48) × IsAccepted language text type
   ready_text (task, p) name type text is told =
       let here : AcceptsFile language a.given.file name type = prepared_accepts language words a.given.file task p name type is in
@@ -196,11 +194,11 @@ module _ {D T : Type 0} (language : Language D T) (lawful : IsLawful language) (
       let same : whole here.text ≡ whole text = told_whole call.files name text told (whole here.text) fetched refl in
       (told_short call.files name text told (whole here.text) fetched refl, subst (λ t. IsAccepted language t type) (ap (λ t. t.bytes) same) here.accepted)
 
-  module _ (name type text : List ℕ) (is : AsksFor words name type) (told : TellsFile call.files name text) where
+  module _ (name type text : List ℕ) (is : AsksFor language words name type) (told : TellsFile call.files name text) where
     -- FILE of the words is the one that was found
-    fetched_as : (other : List ℕ) → AsksForFile words other → (o : Found) → a.given.file other ≡ o → Fetched call.files name o
+    fetched_as : (other : List ℕ) → AsksForFile language words other → (o : Found) → a.given.file other ≡ o → Fetched call.files name o
     fetched_as other is' o e =
-        let once = one_typed words other is'.0 name type is'.1 is in
+        let once = one_typed language words other is'.0 name type is'.1 is in
         subst (λ n. Fetched call.files n o) once.0 (subst (λ o. Fetched call.files other o) e (file_fetched language words call a other is'))
 
     module _ (short : length text < 2 ^ 48) (refused : IsRefusedType language text type) where
@@ -209,7 +207,7 @@ module _ {D T : Type 0} (language : Language D T) (lawful : IsLawful language) (
 
       types_cause : (s : Status) → Cause s → (s ≡ statuses.Types) ⊎ IsOutside s
       types_cause =
-          cause_or_outside statuses.Types (λ none. none is.0 is.1) (λ task p e held. not_ready (task, p)) (λ task p n. absurd (not_ready (task, p))) (λ n t x typed e why. refl)
+          cause_or_outside statuses.Types (λ none. none is.request is.asks) (λ bad. absurd (for_or_badly language lawful words name type is bad)) (λ task p e held. not_ready (task, p)) (λ task p n. absurd (not_ready (task, p))) (λ n t x typed e why. refl)
           (λ task p v. absurd (not_ready (task, p)))
           (λ n taken f e u. let long = told_long call.files name text told taken (fetched_as n f (opened taken) e) u in absurd (omega arith))
           (λ task p e held. absurd (not_ready (task, p)))
@@ -220,7 +218,7 @@ module _ {D T : Type 0} (language : Language D T) (lawful : IsLawful language) (
 
       file_cause : (s : Status) → Cause s → (s ≡ statuses.TooLong) ⊎ IsOutside s
       file_cause =
-          cause_or_outside statuses.TooLong (λ none. none is.0 is.1) (λ task p e held. unread (task, p)) (λ task p n. absurd (unread (task, p)))
+          cause_or_outside statuses.TooLong (λ none. none is.request is.asks) (λ bad. absurd (for_or_badly language lawful words name type is bad)) (λ task p e held. unread (task, p)) (λ task p n. absurd (unread (task, p)))
           (λ n t x typed e why.
           let short = told_short call.files name text told (whole x) (fetched_as n (t, typed) (opened (whole x)) e) refl in absurd (omega arith))
           (λ task p v. absurd (unread (task, p))) (λ n taken f e u. refl) (λ task p e held. refl)
@@ -282,11 +280,10 @@ module _ {D T : Type 0} (language : Language D T) (lawful : IsLawful language) (
 
       -- the task is to compare
       compares_task : (task : Task T) → IsTask task → (task.work ≡ compares) × (task.limit ≡ most)
-      compares_task task p = let asked = task_asks language words call a.given task p in at asked.0 asked.1 asked.2 task.work refl asked.3 where
-        at : (request : Request) → Asks words request → task.limit ≡ limit_of request → (work : Work T) → task.work ≡ work → Suits request work → (task.work ≡ compares) × (task.limit ≡ most)
-        at (check f t most') other limit work same h = absurd (check_or_compare words f t most' most other asks)
-        at (compare most') other limit (checks t) same h = absurd h
-        at (compare most') other limit compares same h = (same, limit ∙ same_compare words most' most other asks)
+      compares_task task p =
+          let asked = task_asks language words call a.given task p in
+          let same = one_request words asked.0 (compare most) asked.1 asks in
+          (compared_is task.work (asked.3 ∙ ap asks_comparison same), asked.2 ∙ ap limit_of same)
 
       not_two_task : (task : Task T) → IsTask task → AreNotTwo task.limit bytes
       not_two_task task p = subst (λ limit. AreNotTwo limit bytes) (sym (compares_task task p).1) not_two_in_all
@@ -330,10 +327,10 @@ module _ {D T : Type 0} (language : Language D T) (lawful : IsLawful language) (
 
       two_cause : (s : Status) → Cause s → (s ≡ statuses.Usage) ⊎ IsOutside s
       two_cause =
-          cause_or_outside statuses.Usage (λ none. none (compare most) asks) (λ task p e held. not_compared task p e held) (λ task p n. refl)
-          (λ n t x typed e why. absurd (unnamed words most asks n t typed))
+          cause_or_outside statuses.Usage (λ none. none (compare most) asks) (λ bad. refl) (λ task p e held. not_compared task p e held) (λ task p n. refl)
+          (λ n t x typed e why. absurd (unnamed language words (compare most) asks refl n t typed))
           (λ task p v. absurd (bad_or_not_two task (compares_task task p).0 (bad_of language words call a bytes taken_front.0 taken_front.1 task v) (not_two_task task p)))
-          (λ n taken f e u. absurd (unnamed words most asks n f.0 f.1)) (λ task p e held. absurd (not_too_many task p e held))
+          (λ n taken f e u. absurd (unnamed language words (compare most) asks refl n f.0 f.1)) (λ task p e held. absurd (not_too_many task p e held))
 
     module _ (files : List File) (task : Task T) (map : call.files.before.map ≡ Some files) (prepared : Prepares language words (λ name. found_of (contents_of files name)) (Ok task)) where
       abbrev asked : (request : Request) × Asks words request × (task.limit ≡ limit_of request) × Suits request task.work
@@ -341,6 +338,9 @@ module _ {D T : Type 0} (language : Language D T) (lawful : IsLawful language) (
 
       plain : ¬ IsUsage words
       plain none = none asked.0 asked.1
+
+      well_asked : AsksBadly language words → ⊥
+      well_asked bad = prepared_well language lawful words (λ name. found_of (contents_of files name)) task prepared bad
 
       -- the task that was found is like this one
       alike : (other : Task T) → IsTask other → (task.work ≡ compares ↔ other.work ≡ compares) × (other.limit ≡ task.limit)
@@ -350,7 +350,7 @@ module _ {D T : Type 0} (language : Language D T) (lawful : IsLawful language) (
           (one.0, its.2 ∙ (sym one.1 ∙ sym asked.2))
 
       -- a FILE that the map has as it was found is not refused
-      map_accepts : (name type text : List ℕ) → AsksFor words name type → a.given.file name ≡ opened (whole text) → IsAccepted language text type
+      map_accepts : (name type text : List ℕ) → AsksFor language words name type → a.given.file name ≡ opened (whole text) → IsAccepted language text type
       map_accepts name type text is found =
           let here : AcceptsFile language (λ name. found_of (contents_of files name)) name type = prepared_accepts language words (λ name. found_of (contents_of files name)) task prepared name type is in
           let fetched : Fetched call.files name (opened (whole text)) = subst (λ o. Fetched call.files name o) found (file_fetched language words call a name (type, is)) in
@@ -360,7 +360,7 @@ module _ {D T : Type 0} (language : Language D T) (lawful : IsLawful language) (
           let texts : here.text ≡ text = sym (ap text_in same) in
           subst (λ t. IsAccepted language t type) texts here.accepted
 
-      not_refused : (name type text : List ℕ) → AsksFor words name type → a.given.file name ≡ opened (whole text) → IsRefusedType language text type → ⊥
+      not_refused : (name type text : List ℕ) → AsksFor language words name type → a.given.file name ≡ opened (whole text) → IsRefusedType language text type → ⊥
       not_refused name type text is found why = accepted_or_refused language lawful text type (map_accepts name type text is found) why
 
       -- ---- too many bytes
@@ -418,7 +418,7 @@ module _ {D T : Type 0} (language : Language D T) (lawful : IsLawful language) (
 
         input_cause : (s : Status) → Cause s → (s ≡ statuses.TooLong) ⊎ IsOutside s
         input_cause =
-            cause_or_outside statuses.TooLong plain (λ other p e held. not_at_end e) (λ other p n. absurd (not_more other p n)) (λ n t x typed e why. absurd (not_refused n t x typed e why))
+            cause_or_outside statuses.TooLong plain (λ bad. absurd (well_asked bad)) (λ other p e held. not_at_end e) (λ other p n. absurd (not_more other p n)) (λ n t x typed e why. absurd (not_refused n t x typed e why))
             (λ other p v. absurd (not_stopped other p v)) (λ n taken f e u. refl) (λ other p e held. refl)
 
       -- ---- a bad value
@@ -456,7 +456,7 @@ module _ {D T : Type 0} (language : Language D T) (lawful : IsLawful language) (
               held.unrefused refusal (ends_once task.limit a.given.input.bytes taken_front.0 taken_front.1.front held.trees bad.trees held.end (refused_end refusal) stream all)
 
         -- FILE is not too long
-        file_short : (name : List ℕ) (taken : Taken) → AsksForFile words name → a.given.file name ≡ opened taken → taken.until ≡ at_length → ⊥
+        file_short : (name : List ℕ) (taken : Taken) → AsksForFile language words name → a.given.file name ≡ opened taken → taken.until ≡ at_length → ⊥
         file_short name taken is found e =
             let here : AcceptsFile language (λ name. found_of (contents_of files name)) name is.0 = prepared_accepts language words (λ name. found_of (contents_of files name)) task prepared name is.0 is.1 in
             let contents : contents_of files name ≡ Some here.text = found_text (contents_of files name) here.text here.found in
@@ -473,7 +473,7 @@ module _ {D T : Type 0} (language : Language D T) (lawful : IsLawful language) (
 
         value_cause : (s : Status) → Cause s → (s ≡ statuses.Value) ⊎ IsOutside s
         value_cause =
-            cause_or_outside statuses.Value plain (λ other p e held. ended other p e held) (λ other p n. absurd (only_one other p n)) (λ n t x typed e why. absurd (not_refused n t x typed e why))
+            cause_or_outside statuses.Value plain (λ bad. absurd (well_asked bad)) (λ other p e held. ended other p e held) (λ other p n. absurd (only_one other p n)) (λ n t x typed e why. absurd (not_refused n t x typed e why))
             (λ other p v. refl) (λ n taken f e u. absurd (file_short n taken f e u)) (λ other p e held. absurd (too_many other p e held))
 
   pub if_not_two : HasOneJudgement → TellsBytes call.input → IfNotTwo words call

@@ -6,7 +6,7 @@ use Rattle.om_model.specs.Bytes.{AreBytes}
 use Rattle.om_format.specs.Laws.{HasOneJudgement}
 use Rattle.om_format.specs.Tree.{Tree}
 use Rattle.om_format.specs.Stream.{End, IsTail}
-use Rattle.om_outcome.specs.Outcome.{at_end, whole, Found, Stop, out_of_memory, stop_text, err_line, Said, Reply, says, stops, Replies, replies, all_said, texts_of, stopped, Work, checks, compares, Task, StopsAt, fault_of, Language, Prepares, RunReplies, ValuesReply, SayFirst, AllSay, SaysOfFirst, Closes, found_of, Outcome}
+use Rattle.om_outcome.specs.Outcome.{at_end, whole, Found, Stop, out_of_memory, stop_text, err_line, Said, Reply, says, stops, Replies, replies, all_said, texts_of, stopped, Work, tells, dumps, compares, Task, StopsAt, fault_of, Language, Prepares, RunReplies, ValuesReply, SayFirst, AllSay, SaysOfFirst, Closes, found_of, Outcome}
 use Rattle.om_edge.specs.Files.{File, contents_of}
 use Rattle.om_format.proofs.JudgementLaws.{one_judgement_lem}
 use Rattle.om_edge.specs.Sink.{Puts}
@@ -54,7 +54,8 @@ module _ {D T : Type 0} (language : Language D T) (lawful : IsLawful language) w
     values_first : (all : Replies) (v : ValuesReply language task (whole input) all) → (more : List Tree) × (v.trees ≡ trees ++ more)
     values_first all v = at v.last where
       two_at_most : (work : Work T) (stop : Stop) → StopsAt language work task.limit v.trees v.rest stop → AllSay language work 0 trees said → length trees ≤ length v.trees
-      two_at_most (checks t) stop at spoken = absurd at
+      two_at_most (tells saying t) stop at spoken = absurd at
+      two_at_most dumps stop at spoken = absurd at
       two_at_most compares stop at spoken =
           let few = few_said language 0 trees said (omega arith) spoken in
           let two = at.0 in omega (arith, few, two)
@@ -131,18 +132,18 @@ module _ {D T : Type 0} (language : Language D T) (lawful : IsLawful language) (
 
 module _ {D T : Type 0} (language : Language D T) (lawful : IsLawful language) (law : HasOneJudgement) (words : List (List ℕ)) (call : Call) (a : Account language words call) where
   pub if_memory : TellsBytes call.input → IfMemory language words call
-  if_memory tells input files h e = at (subst (Why language words call a.given) e (account_why language words call a)) where
+  if_memory told input files h e = at (subst (Why language words call a.given) e (account_why language words call a)) where
     are_bytes : AreBytes input
-    are_bytes = rw h.input_told at tells
+    are_bytes = rw h.input_told at told
 
     at : Why language words call a.given statuses.Memory
         → (said : List Said) × IsFrontOfOutcome language words input files said × Puts call.out (texts_of said) × Puts call.err (err_line (stop_text out_of_memory))
     at (memory (said, first, out, err)) = (said, first_front language lawful law words call a input files h are_bytes said first, out, err)
 
   pub if_write_fault : TellsBytes call.input → IfWriteFault language words call
-  if_write_fault tells input files h e = at (subst (Why language words call a.given) e (account_why language words call a)) where
+  if_write_fault told input files h e = at (subst (Why language words call a.given) e (account_why language words call a)) where
     are_bytes : AreBytes input
-    are_bytes = rw h.input_told at tells
+    are_bytes = rw h.input_told at told
 
     at : Why language words call a.given statuses.WriteFault → OutBreaks language words call input files ⊎ ErrBreaks language words call input files
     at (out_fault said first breaks) = inl (said, breaks.next, next_front language lawful law words call a input files h are_bytes said breaks.next breaks.is_next, breaks.out, breaks.err)

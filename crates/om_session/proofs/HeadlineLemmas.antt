@@ -7,7 +7,7 @@ use Rattle.om_model.specs.declared.refusal.ReadRefusal.{ReadRefusal}
 use Rattle.om_format.specs.Front.{IsRefused}
 use Rattle.om_format.specs.Stream.{End, clean, refused, cut, IsTail}
 use Rattle.om_format.specs.Tree.{Tree}
-use Rattle.om_outcome.specs.Outcome.{Taken, InputEnd, at_end, at_fault, at_length, unasked, whole, Found, opened, missing, failed, unfetched, Stop, ending_of, Replies, replies, stops, stopped, out_of_memory, check, compare, Work, checks, compares, Task, Language, ReadsFile, ReadsTypeOf, Prepares, RunReplies, ValuesReply, StopsAt, Closes, found_of, Outcome, fault_of}
+use Rattle.om_outcome.specs.Outcome.{Taken, InputEnd, at_end, at_fault, at_length, unasked, whole, Found, opened, missing, failed, unfetched, Stop, ending_of, Replies, replies, stops, stopped, out_of_memory, Saying, the_verdict, the_text, the_part, Request, check, show, get, dump, compare, Asks, Work, tells, dumps, compares, Task, Language, ReadsFile, ReadsTypeOf, TellsAt, FindsWork, Prepares, RunReplies, ValuesReply, StopsAt, Closes, found_of, Outcome, fault_of}
 use Rattle.om_edge.specs.Faults.{RoseOrLast}
 use Rattle.om_edge.specs.Files.{File, contents_of}
 use Rattle.om_edge.specs.State.{ByteState, FilesState, Change}
@@ -68,7 +68,7 @@ module _ (files : Change FilesState) (all : List File) (told : files.before.map 
 module _ {D T : Type 0} (language : Language D T) (words : List (List ℕ)) (files : Change FilesState) (all : List File) (told : files.before.map ≡ Some all)
     (short : (name bytes : List ℕ) → contents_of all name ≡ Some bytes → length bytes < 2 ^ 48)
     (opens : ¬ RoseOrLast files.before.open_faults files.after.open_faults) (reads : ¬ RoseOrLast files.before.read_faults files.after.read_faults)
-    (file : List ℕ → Found) (fetches : FetchesFor words files file) where
+    (file : List ℕ → Found) (fetches : FetchesFor language words files file) where
   abbrev in_map : List ℕ → Found
   in_map name = found_of (contents_of all name)
 
@@ -76,11 +76,26 @@ module _ {D T : Type 0} (language : Language D T) (words : List (List ℕ)) (fil
   reads_same f t fetched result (text, r, more) =
       (text, subst (λ found. ReadsFile f found text) (found_same files all told short opens reads f (file f) text fetched r) r, more)
 
+  tells_same : (f t : List ℕ) (saying : Saying) → Fetched files f (file f) → (result : Result (Work T) Stop) → TellsAt language file (f, t) saying result → TellsAt language in_map (f, t) saying result
+  tells_same f t saying fetched result (type, r, same) = (type, reads_same f t fetched type r, same)
+
+  finds_same : (request : Request) → Asks words request → (result : Result (Work T) Stop) → FindsWork language file request result → FindsWork language in_map request result
+  finds_same (check f t most) asks result h =
+      tells_same f t the_verdict (fetches.asked f t (record { request = check f t most; asks = asks; has_path = tt; typed = refl })) result h
+  finds_same (show f t most) asks result h =
+      tells_same f t the_text (fetches.asked f t (record { request = show f t most; asks = asks; has_path = tt; typed = refl })) result h
+  finds_same (get f t text most) asks result (Err s, none, same) = (Err s, none, same)
+  finds_same (get f t text most) asks result (Ok path, is_path, h) = (
+    Ok path,
+    is_path,
+    tells_same f t (the_part path) (fetches.asked f t (record { request = get f t text most; asks = asks; has_path = (path, is_path); typed = refl })) result h,
+  )
+  finds_same (dump most) asks result h = h
+  finds_same (compare most) asks result h = h
+
   pub prepares_same : (prepared : Result (Task T) Stop) → Prepares language words file prepared → Prepares language words in_map prepared
   prepares_same prepared (Err stop, none, rest) = (Err stop, none, rest)
-  prepares_same prepared (Ok (check f t most), asks, (found, (type, r, same), rest)) =
-      (Ok (check f t most), asks, (found, (type, reads_same f t (fetches.asked (check f t most) asks) type r, same), rest))
-  prepares_same prepared (Ok (compare most), asks, more) = (Ok (compare most), asks, more)
+  prepares_same prepared (Ok request, asks, (found, h, rest)) = (Ok request, asks, (found, finds_same request asks found h, rest))
 
 -- what is refused in the first bytes is refused in all
 pub tail_after : (limit : ℕ) (tail more : List ℕ) (refusal : ReadRefusal) → IsTail limit tail (refused refusal) → IsTail limit (tail ++ more) (refused refusal)
@@ -100,13 +115,15 @@ front_none (x ∷ xs) ys e = absurd (cc e)
 -- a stop stays one where more bytes come
 pub stops_more : {D T : Type 0} (language : Language D T) (work : Work T) (limit : ℕ) (trees : List Tree) (rest more : List ℕ) (stop : Stop)
     → StopsAt language work limit trees rest stop → StopsAt language work limit trees (rest ++ more) stop
-stops_more language (checks type) limit trees rest more stop at = at
+stops_more language (tells saying type) limit trees rest more stop at = at
+stops_more language dumps limit trees rest more stop at = at
 stops_more language compares limit trees rest more stop (two, some, is) = (two, λ none. some (front_none rest more none), is)
 
 -- and none comes of more after some bytes
 pub goes_on_more : {D T : Type 0} (language : Language D T) (work : Work T) (limit : ℕ) (trees : List Tree) (rest more : List ℕ) → 0 < length rest
     → ((stop : Stop) → StopsAt language work limit trees rest stop → ⊥) → (stop : Stop) → StopsAt language work limit trees (rest ++ more) stop → ⊥
-goes_on_more language (checks type) limit trees rest more some none stop at = at
+goes_on_more language (tells saying type) limit trees rest more some none stop at = at
+goes_on_more language dumps limit trees rest more some none stop at = at
 goes_on_more language compares limit trees rest more some none stop (two, left, is) =
     none stop (two, (λ e. let zero : length rest ≡ 0 = ap length e in omega (arith, zero, some)), is)
 

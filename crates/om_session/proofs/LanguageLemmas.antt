@@ -1,5 +1,5 @@
 -- What is read of a text is one thing, and a value has one line at a type that is read.
-use Rattle.std.proofs.Common.{◌≡◌, ◌≢◌, ◌⊎◌, ℕ, Bool, true, false, List, [], Result, Ok, Err, inl, inr, refl, sym, ap, ◌∙◌, subst}
+use Rattle.std.proofs.Common.{◌≡◌, ℕ, Bool, false, List, Some, None, Result, Ok, Err, inl, inr, sym, ap, ◌∙◌, subst}
 use Rattle.om_model.specs.declared.value.Val.{Val}
 use Rattle.om_model.specs.declared.value.Obj.{Obj}
 use Rattle.om_types.specs.declared.decl.Decl.{Decl}
@@ -7,7 +7,6 @@ use Rattle.om_types.specs.Ty.{Ty}
 use Rattle.om_types.specs.Accepted.{AreWellFormed, IsSoundType}
 use Rattle.om_types.specs.Equal.{declared_shapes}
 use Rattle.om_types.specs.TypeText.{type_text}
-use Rattle.om_types.specs.VerdictText.{IsNoLine}
 use Rattle.om_typing.proofs.OnceLemmas.{no_line_once}
 use Rattle.om_table.specs.TableDecides.{NeverBoth}
 use Rattle.om_table.proofs.FewLemmas.{few_not_many}
@@ -15,7 +14,7 @@ use Rattle.om_format.specs.Tree.{Tree, root, objects_of}
 use Rattle.om_types.specs.Scope.{Rule, KeepsAll, BreaksInFile, BreaksInType}
 use Rattle.om_sites.specs.InFile.{file_places}
 use Rattle.om_sites.specs.InText.{in_texpr}
-use Rattle.om_grammar.specs.Grammar.{Kinds, FileTree, Texpr, file_kinds, texpr}
+use Rattle.om_grammar.specs.Grammar.{Kinds, file_kinds, texpr}
 use Rattle.om_grammar.specs.Depths.{file_ends, texpr_ends}
 use Rattle.om_grammar.specs.Refusals.{IsText, text_read, syntax_at, too_deep_at}
 use Rattle.om_parse.specs.Parsed.{kinds_of}
@@ -24,7 +23,10 @@ use Rattle.om_decl.specs.Told.{FilesAreWellFormed, TypesAreSound}
 use Rattle.om_decl.specs.Answer.{Answer, accepted, no_lexemes, no_text, too_deep, broken, IsAnswer, IsFileAnswer, IsTypeAnswer, HasOneAnswer}
 use Rattle.om_decl.specs.Read.{IsDeclared, IsTypeOf}
 use Rattle.om_decl.specs.Text.{answer_text}
-use Rattle.om_session.specs.Language.{TypeOver, declared_types, IsRefusal, ReachesFew, IsTooMuch, IsAccepted, IsTypeLine, ReadsDeclarations, ReadsType}
+use Rattle.om_path.specs.Answer as paths
+use Rattle.om_path.specs.declared.fault.PathFault.{PathFault}
+use Rattle.om_outcome.specs.Outcome.{Saying}
+use Rattle.om_session.specs.Language.{TypeOver, declared_types, ReadsPath, IsRefusal, ReachesFew, IsTooMuch, IsAccepted, IsTypeLine, ReadsType}
 use Rattle.om_session.proofs.CompleteLemmas.{IsGiven, IsLawful}
 
 -- ---- answers
@@ -69,10 +71,22 @@ module _ {Tree : Type 0} (spelled : Tree → Kinds) (ends : Tree → List ℕ) (
     keeps = subst (λ t. KeepsAll (Breaks t)) same keeps;
   }
 
+-- ---- paths
+
+module _ (once : (text : List ℕ) → paths.HasOneAnswer text) (text path : List ℕ) (is : ReadsPath text (Some path)) where
+  same_answer : (other : Result (List ℕ) PathFault) → paths.IsAnswer text other → other ≡ Ok path
+  same_answer other its = (once text).2 other its ∙ sym ((once text).2 (Ok path) is)
+
+  one_path : (other : List ℕ) → ReadsPath text (Some other) → path ≡ other
+  one_path other its = let same : ◌≡◌ {A = Result (List ℕ) PathFault} (Ok other) (Ok path) = same_answer (Ok other) its in cc same
+
+  no_fault : ReadsPath text None → ⊥
+  no_fault none = let same : ◌≡◌ {A = Result (List ℕ) PathFault} (Err none.0) (Ok path) = same_answer (Err none.0) none.2 in cc same
+
 -- ---- the language
 
 module _ (files_once : HasOneAnswer IsFileAnswer) (types_once : (decls : List Decl) → HasOneAnswer (IsTypeAnswer decls))
-    (files_well : FilesAreWellFormed) (types_sound : TypesAreSound) (never_both : NeverBoth) where
+    (paths_once : (text : List ℕ) → paths.HasOneAnswer text) (files_well : FilesAreWellFormed) (types_sound : TypesAreSound) (never_both : NeverBoth) where
   same_decls : (text : List ℕ) (decls others : List Decl) → IsDeclared text decls → IsDeclared text others → decls ≡ others
   same_decls text decls others d e =
       d.stand ∙ (ap declarations_of (trees_once IsFileAnswer files_once text d.tree e.tree d.answer e.answer) ∙ sym e.stand)
@@ -109,19 +123,19 @@ module _ (files_once : HasOneAnswer IsFileAnswer) (types_once : (decls : List De
 
   -- a value has the type or a fault, and not both
   module _ (t : TypeOver) (well : AreWellFormed t.decls) (sound : IsSoundType t.decls t.type) (few : ReachesFew t.decls t.type) (graph : List Obj) (v : Val) where
-    lines_once : (line other : List ℕ) (one two : Bool) → IsTypeLine t graph v line one → IsTypeLine t graph v other two → (line ≡ other) × (one ≡ two)
-    lines_once line other true true has its = (has.1 ∙ sym its.1, refl)
-    lines_once line other false false its is = (no_line_once (declared_shapes t.decls) graph v t.type type_text line other its is, refl)
-    lines_once line other true false has is = absurd (never_both t.decls t.type few.types well sound few.reached graph v is.fault is.least.is_fault has.0)
-    lines_once line other false true is has = absurd (never_both t.decls t.type few.types well sound few.reached graph v is.fault is.least.is_fault has.0)
+    lines_once : (saying : Saying) (line other : List ℕ) (one two : Bool) → IsTypeLine saying t graph v line one → IsTypeLine saying t graph v other two → (line ≡ other) × (one ≡ two)
+    lines_once saying line other one two (inl has) (inl its) = (has.spelled ∙ sym its.spelled, has.is_well ∙ sym its.is_well)
+    lines_once saying line other one two (inr is) (inr its) = (no_line_once (declared_shapes t.decls) graph v t.type type_text line other is.why its.why, is.is_well ∙ sym its.is_well)
+    lines_once saying line other one two (inl has) (inr is) = absurd (never_both t.decls t.type few.types well sound few.reached graph v is.why.fault is.why.least.is_fault has.has)
+    lines_once saying line other one two (inr is) (inl has) = absurd (never_both t.decls t.type few.types well sound few.reached graph v is.why.fault is.why.least.is_fault has.has)
 
-  given_once : (t : TypeOver) → IsGiven declared_types t → (tree : Tree) (line other : List ℕ) (one two : Bool)
-      → IsTypeLine t (objects_of tree 0) (root tree 0) line one → IsTypeLine t (objects_of tree 0) (root tree 0) other two → (line ≡ other) × (one ≡ two)
-  given_once t (text, type, decls, declared, is) tree =
+  given_once : (saying : Saying) (t : TypeOver) → IsGiven declared_types t → (tree : Tree) (line other : List ℕ) (one two : Bool)
+      → IsTypeLine saying t (objects_of tree 0) (root tree 0) line one → IsTypeLine saying t (objects_of tree 0) (root tree 0) other two → (line ≡ other) × (one ≡ two)
+  given_once saying t (text, type, decls, declared, is) tree =
       let well : AreWellFormed t.decls = subst AreWellFormed (sym is.over) (decls_well text decls declared) in
       let written : IsTypeOf t.decls type t.type = subst (λ d. IsTypeOf d type t.type) (sym is.over) is.written in
       let few : ReachesFew t.decls t.type = subst (λ d. ReachesFew d t.type) (sym is.over) is.few in
-      lines_once t well (type_sound t.decls type t.type well written) few (objects_of tree 0) (root tree 0)
+      lines_once t well (type_sound t.decls type t.type well written) few (objects_of tree 0) (root tree 0) saying
 
   pub declared_lawful : IsLawful declared_types
   declared_lawful = record {
@@ -134,5 +148,7 @@ module _ (files_once : HasOneAnswer IsFileAnswer) (types_once : (decls : List De
         ap (λ d. let t : TypeOver = record { decls = d; type = t.type } in t) (one.over ∙ sym other.over)
         ∙ ap (λ x. let t : TypeOver = record { decls = u.decls; type = x } in t) types;
     same_type_refusal = type_refusals;
+    path_once = λ text path is none. no_fault paths_once text path is none;
+    same_path = λ text path other is its. one_path paths_once text path is other its;
     line_once = given_once;
   }

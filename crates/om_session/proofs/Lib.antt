@@ -5,6 +5,8 @@ pub mod VerdictLemmas
 pub mod ValueLemmas
 pub mod ReadLemmas
 pub mod WordLemmas
+pub mod FindingLemmas
+pub mod TypedLemmas
 pub mod EndLemmas
 pub mod LoopLemmas
 pub mod CloseLemmas

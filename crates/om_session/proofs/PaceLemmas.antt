@@ -4,7 +4,7 @@ use Rattle.std.proofs.Common.{◌≡◌, ◌⊎◌, ℕ, Bool, true, false, List
 use Rattle.std.specs.Prelude.{if◌then◌else◌}
 use Rattle.om_model.specs.declared.status.Status.{Status}
 use Rattle.om_model.specs.declared.status.Status.TheVariants as statuses
-use Rattle.om_outcome.specs.Outcome.{InputEnd, Taken, at_end, unasked, nothing, opened, Stop, usage, not_two_values, cannot_open, declarations, requested_type, value, read_fault, too_long, out_of_memory, status_of, stop_text, err_line, says, stops, Reply, replies, texts_of, all_well, ending_of, Language, fault_of}
+use Rattle.om_outcome.specs.Outcome.{InputEnd, Taken, at_end, unasked, nothing, opened, Stop, usage, bad_path, not_two_values, cannot_open, declarations, requested_type, value, read_fault, too_long, out_of_memory, status_of, stop_text, err_line, says, stops, Reply, replies, texts_of, all_well, ending_of, Language, fault_of}
 use Rattle.om_edge.specs.Sink.{Puts}
 use Rattle.om_session.specs.Call.{Call}
 use Rattle.om_session.specs.Given.{Gathers, Fetched}
@@ -18,6 +18,7 @@ use Rattle.om_session.proofs.ExactLemmas.{AcceptsFile, prepared_accepts}
 read_fault_is : (stop : Stop) → status_of stop ≡ statuses.ReadFault → stop ≡ read_fault
 read_fault_is read_fault e = refl
 read_fault_is usage e = absurd (cc e)
+read_fault_is bad_path e = absurd (cc e)
 read_fault_is not_two_values e = absurd (cc e)
 read_fault_is (cannot_open name) e = absurd (cc e)
 read_fault_is (declarations refusal) e = absurd (cc e)
@@ -29,6 +30,7 @@ read_fault_is out_of_memory e = absurd (cc e)
 too_long_is : (stop : Stop) → status_of stop ≡ statuses.TooLong → stop ≡ too_long
 too_long_is too_long e = refl
 too_long_is usage e = absurd (cc e)
+too_long_is bad_path e = absurd (cc e)
 too_long_is not_two_values e = absurd (cc e)
 too_long_is (cannot_open name) e = absurd (cc e)
 too_long_is (declarations refusal) e = absurd (cc e)
@@ -87,7 +89,7 @@ module _ {D T : Type 0} (language : Language D T) (lawful : IsLawful language) (
             }
 
       -- FILE did, before a byte of the input was taken
-      module _ (name : List ℕ) (taken : Taken) (is_file : AsksForFile words name) (found : a.given.file name ≡ opened taken) (is : fault_of taken.until ≡ Some stop) where
+      module _ (name : List ℕ) (taken : Taken) (is_file : AsksForFile language words name) (found : a.given.file name ≡ opened taken) (is : fault_of taken.until ≡ Some stop) where
         not_ready : IsReady language words a.given → ⊥
         not_ready (task, p) =
             let here : AcceptsFile language a.given.file name is_file.0 = prepared_accepts language words a.given.file task p name is_file.0 is_file.1 in
@@ -99,7 +101,7 @@ module _ {D T : Type 0} (language : Language D T) (lawful : IsLawful language) (
         untaken (inl none) = none
         untaken (inr (task, p, paced)) = absurd (not_ready (task, p))
 
-        by_file : FailsByFile words call
+        by_file : FailsByFile language words call
         by_file =
             let none = untaken a.first in
             record {
@@ -112,13 +114,13 @@ module _ {D T : Type 0} (language : Language D T) (lawful : IsLawful language) (
               out = subst (λ said. Puts call.out (texts_of said)) none.1 (is_put a.ends).0;
             }
 
-  fault_fails : call.status ≡ statuses.ReadFault → Why language words call a.given statuses.ReadFault → FailsByInput language words call ⊎ FailsByFile words call
+  fault_fails : call.status ≡ statuses.ReadFault → Why language words call a.given statuses.ReadFault → FailsByInput language words call ⊎ FailsByFile language words call
   fault_fails same (input_fault e) =
       inl (by_input statuses.ReadFault read_fault same read_fault_is (λ e. cc e) (λ e. cc e) (λ e. cc e) refl (ap fault_of e) a.first)
   fault_fails same (file_fault name taken is found e) =
       inr (by_file statuses.ReadFault read_fault same read_fault_is (λ e. cc e) (λ e. cc e) (λ e. cc e) refl name taken is found (ap fault_of e))
 
-  length_fails : call.status ≡ statuses.TooLong → Why language words call a.given statuses.TooLong → FailsByInput language words call ⊎ FailsByFile words call
+  length_fails : call.status ≡ statuses.TooLong → Why language words call a.given statuses.TooLong → FailsByInput language words call ⊎ FailsByFile language words call
   length_fails same (input_long task p e held) =
       inl (by_input statuses.TooLong too_long same too_long_is (λ e. cc e) (λ e. cc e) (λ e. cc e) refl (ap fault_of e) a.first)
   length_fails same (file_long name taken is found e) =

@@ -22,7 +22,7 @@ module _ {D T : Type 0} (language : Language D T) (lawful : IsLawful language) (
     complete = complete language lawful law words call tells a;
     decided = decided language lawful law words call tells a;
     usage_only = only_usage language words call a;
-    usage_if = if_usage language words call a;
+    usage_if = if_usage language words call a lawful;
     not_two_if = if_not_two language lawful words call a law tells;
     types_only = only_types language words call a;
     types_if = if_types language lawful words call a;
@@ -31,13 +31,13 @@ module _ {D T : Type 0} (language : Language D T) (lawful : IsLawful language) (
     read_fault_only = only_read_fault language words call a;
     write_fault_only = only_write_fault language words call a;
     open_fault_only = only_open_fault language words call a;
-    missing_if = if_missing language words call a;
+    missing_if = if_missing language words call a lawful;
     too_long_only = only_too_long language words call a;
     too_long_if = if_too_long language lawful words call a law tells;
     input_fails_if = if_input_fails language lawful words call a;
     memory_if = if_memory language lawful law words call a tells;
     write_fault_if = if_write_fault language lawful law words call a tells;
     tells_read_fault = tells_read_fault language words call a lawful;
-    tells_open_fault = tells_open_fault language words call a;
+    tells_open_fault = tells_open_fault language words call a lawful;
     tells_write_fault = tells_write_fault language words call a;
   }

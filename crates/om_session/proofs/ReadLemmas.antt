@@ -4,7 +4,6 @@ use Rattle.std.proofs.lemmas.List.{length-take-le, take-append-drop}
 use Rattle.std.specs.Prelude.{◌&&◌, ◌↔◌, ◌≢◌, IsTrue, IsErrAnd, Vec}
 use Rattle.std.specs.List.{AllZip, AllByRecursion}
 use Rattle.std.proofs.lemmas.List.Elements.{All-from_recursion}
-use Rattle.std.specs.Borrow.{Bor}
 use Rattle.std.specs.declared.alloc.Global.{Global}
 use Rattle.om_edge.specs.Sink.{Puts, PutsPart}
 use Rattle.om_edge.specs.State.{ByteState, Change, change}
@@ -25,12 +24,14 @@ use Rattle.om_format.specs.Stream.{SpellAll}
 use Rattle.om_session.proofs.LengthLemmas.{spelled_some}
 use Rattle.om_outcome.specs.RefusalText.{truncated_text}
 use Rattle.om_outcome.specs.Outcome as outcome
-use Rattle.om_outcome.specs.Outcome.{Said, Says, SayFirst, StopsAt, Finishes as FinishesRun, nothing_said, says, not_two_values, comparison, all_well, checks, compares}
-use Rattle.om_session.specs.declared.types.Requested.{Requested}
+use Rattle.om_outcome.specs.Outcome.{Said, Says, SayFirst, StopsAt, Finishes as FinishesRun, nothing_said, says, not_two_values, comparison, all_well, compares}
+use Rattle.om_session.specs.declared.verdict.Speech.{Speech}
+use Rattle.om_session.specs.declared.verdict.Speech.TheVariants as speeches
 use Rattle.om_session.specs.declared.values.Values.{Values}
 use Rattle.om_session.specs.declared.values.Halt.TheVariants as halts
 use Rattle.om_session.specs.declared.stop.Stop.TheVariants as stops
-use Rattle.om_session.specs.Language.{TypeOver, declared_types, SaysLine}
+use Rattle.om_session.specs.Language.{declared_types}
+use Rattle.om_session.specs.Verdict.{work_by, IsSaidOf}
 use Rattle.om_session.specs.Run.{HoldNoStop}
 use Rattle.om_session.specs.declared.stop.Stop.{Stop}
 use Rattle.om_format.specs.Front.{IsRefused}
@@ -44,12 +45,14 @@ use Rattle.om_session.proofs.ValueLemmas.{not_whole, nothing_front, first_more, 
 
 -- where one more value may come, any bytes may
 pub may_go_on : (w : Work) (limit : ℕ) (trees : List Tree) (rest : List ℕ) (stop : outcome.Stop) → MayTake w (length trees) → StopsAt declared_types (work_of w) limit trees rest stop → ⊥
-may_go_on (works.Check t most) limit trees rest stop may at = at
+may_go_on (works.Say (speeches.Tell r saying) most) limit trees rest stop may at = at
+may_go_on (works.Say speeches.Dump most) limit trees rest stop may at = at
 may_go_on (works.Compare most) limit trees rest stop may at = let two = at.0 in omega (arith, may, two)
 
 -- and where none come, nothing stops the run
 pub none_goes_on : (w : Work) (limit : ℕ) (trees : List Tree) (stop : outcome.Stop) → StopsAt declared_types (work_of w) limit trees [] stop → ⊥
-none_goes_on (works.Check t most) limit trees stop at = at
+none_goes_on (works.Say (speeches.Tell r saying) most) limit trees stop at = at
+none_goes_on (works.Say speeches.Dump most) limit trees stop at = at
 none_goes_on (works.Compare most) limit trees stop at = at.1 refl
 
 -- what was taken holds no stop
@@ -115,10 +118,15 @@ module _ (w : Work) (taken : List ℕ) (said : List Said) (values : Values) (h :
     none,
   )
 
--- checked values are done with
-pub ends_checked : (t : Bor Requested) (most : ℕ) (taken : List ℕ) (said : List Said) (values : Values) (h : HasRead (works.Check t most) taken said values) → EndsInput {U = Unit {0}} most h.front (Ok tt) → (o : ByteState)
-    → EndsAt (works.Check t most) taken said (change o o) (Ok values.has_type)
-ends_checked t most taken said values h e o = (h.trees, ended (works.Check t most) taken said values h e, nothing_said, refl, h.has_type ∙ sym (and_true (all_well said)), puts_nothing o)
+-- values of which something was said are done with
+said_finishes : (speech : Speech) (trees : List Tree) → FinishesRun declared_types (work_by speech) trees (says nothing_said)
+said_finishes (speeches.Tell r saying) trees = refl
+said_finishes speeches.Dump trees = refl
+
+pub ends_said : (speech : Speech) (most : ℕ) (taken : List ℕ) (said : List Said) (values : Values) (h : HasRead (works.Say speech most) taken said values) → EndsInput {U = Unit {0}} most h.front (Ok tt) → (o : ByteState)
+    → EndsAt (works.Say speech most) taken said (change o o) (Ok values.well)
+ends_said speech most taken said values h e o =
+    (h.trees, ended (works.Say speech most) taken said values h e, nothing_said, said_finishes speech h.trees, h.well ∙ sym (and_true (all_well said)), puts_nothing o)
 
 -- values that are kept are compared
 pub ends_compared : (most : ℕ) (taken : List ℕ) (said : List Said) (values : Values) (h : HasRead (works.Compare most) taken said values) → EndsInput {U = Unit {0}} most h.front (Ok tt) → (out : Change ByteState)
@@ -130,10 +138,10 @@ ends_compared most taken said values h e out (Err halts.WriteFault) (final, fini
 
 -- the same, where the work is known by an equation
 module _ (w : Work) (taken : List ℕ) (said : List Said) (values : Values) (h : HasRead w taken said values) where
-  pub ends_as_checked : (t : Bor Requested) (most : ℕ) → w ≡ works.Check t most → EndsInput {U = Unit {0}} (word_limit w) h.front (Ok tt) → (o : ByteState) → EndsAt w taken said (change o o) (Ok values.has_type)
-  ends_as_checked t most is e o =
-      let P : Work → Type 0 = λ w. (h : HasRead w taken said values) → EndsInput {U = Unit {0}} (word_limit w) h.front (Ok tt) → EndsAt w taken said (change o o) (Ok values.has_type) in
-      subst P (sym is) (λ h e. ends_checked t most taken said values h e o) h e
+  pub ends_as_said : (speech : Speech) (most : ℕ) → w ≡ works.Say speech most → EndsInput {U = Unit {0}} (word_limit w) h.front (Ok tt) → (o : ByteState) → EndsAt w taken said (change o o) (Ok values.well)
+  ends_as_said speech most is e o =
+      let P : Work → Type 0 = λ w. (h : HasRead w taken said values) → EndsInput {U = Unit {0}} (word_limit w) h.front (Ok tt) → EndsAt w taken said (change o o) (Ok values.well) in
+      subst P (sym is) (λ h e. ends_said speech most taken said values h e o) h e
 
   pub ends_as_compared : (most : ℕ) → w ≡ works.Compare most → EndsInput {U = Unit {0}} (word_limit w) h.front (Ok tt) → (out : Change ByteState) (result : Result Bool Halt) → Compares values.kept.items out result
       → EndsAt w taken said out result
@@ -146,11 +154,14 @@ module _ (w : Work) (taken : List ℕ) (said : List Said) (values : Values) (h :
       let P : Work → Type 0 = λ w. HasRead w taken said values → AreValues values.kept.items in
       subst P (sym is) (λ h. kept_values values.kept.items h.trees h.kept.0) h
 
--- the line of a value that was read whole
-pub says_read : (t : TypeOver) (k : ℕ) (value : Value) (tree : Tree) (text : List ℕ) (well : Bool) → IsValueOf value tree → SaysLine t value.heap value.root text well
-    → Says declared_types (checks t) k tree (record { text = text; well = well })
-says_read t k value tree text well is_value it_says =
-    subst (λ v. SaysLine t (objects_of tree 0) v text well) is_value.root (subst (λ h. SaysLine t h value.root text well) is_value.heap it_says)
+-- what is said of a value that was read whole
+pub says_read : (speech : Speech) (k : ℕ) (value : Value) (tree : Tree) (text : List ℕ) (well : Bool) → IsValueOf value tree → IsSaidOf speech value.heap value.root text well
+    → Says declared_types (work_by speech) k tree (record { text = text; well = well })
+says_read speech k value tree text well is_value it_says =
+    of_tree speech (subst (λ v. IsSaidOf speech (objects_of tree 0) v text well) is_value.root (subst (λ h. IsSaidOf speech h value.root text well) is_value.heap it_says)) where
+      of_tree : (speech : Speech) → IsSaidOf speech (objects_of tree 0) (root tree 0) text well → Says declared_types (work_by speech) k tree (record { text = text; well = well })
+      of_tree (speeches.Tell r saying) h = h
+      of_tree speeches.Dump h = h
 
 -- ---- bytes in hand
 
@@ -170,7 +181,7 @@ module _ (w : Work) (taken : List ℕ) (said : List Said) (values : Values) (h :
     leads = f.leads;
     done = (f.done done).0;
     counted = h.counted;
-    has_type = h.has_type;
+    well = h.well;
     kept = h.kept;
   }
 
@@ -204,7 +215,7 @@ module _ (w : Work) (taken : List ℕ) (said : List Said) (values : Values) (h :
         goes_on = λ stop at. may_go_on w (word_limit w) h.trees (h.front ++ take fed.taken rest) stop may at;
         leads = f.leads;
         counted = h.counted;
-        has_type = h.has_type;
+        well = h.well;
         kept = h.kept;
       })
 
@@ -216,10 +227,10 @@ value_said w taken said values v tree spelled next it_says =
 
 -- the reader waits for the next one
 pub value_put : (w : Work) (taken : List ℕ) (said : List Said) (values : Values) (v : IsValueRead w taken said values) (tree : Tree) → SpelledUnder (word_limit w) v.whole tree
-    → (next : Said) → Says declared_types (work_of w) (length v.trees) tree next → (reader : Reader) → Leads (word_limit w) [] reader → (has_type : Bool) → has_type ≡ (values.has_type && next.well)
+    → (next : Said) → Says declared_types (work_of w) (length v.trees) tree next → (reader : Reader) → Leads (word_limit w) [] reader → (well : Bool) → well ≡ (values.well && next.well)
     → (kept : Vec Value Global) → IsKept w (v.trees ++ tree ∷ []) kept.items
-    → HasRead w taken (said ++ next ∷ []) (record { reader = reader; has_type = has_type; count = values.count + 1; kept = kept })
-value_put w taken said values v tree spelled next it_says reader leads has_type well kept are = record {
+    → HasRead w taken (said ++ next ∷ []) (record { reader = reader; well = well; count = values.count + 1; kept = kept })
+value_put w taken said values v tree spelled next it_says reader leads well is_well kept are = record {
   ready = v.ready;
   trees = v.trees ++ tree ∷ [];
   front = [];
@@ -228,7 +239,7 @@ value_put w taken said values v tree spelled next it_says reader leads has_type 
   goes_on = λ stop at. none_goes_on w (word_limit w) (v.trees ++ tree ∷ []) stop at;
   leads = leads;
   counted = ap (λ n. n + 1) v.counted ∙ sym (length-append v.trees (tree ∷ []));
-  has_type = well ∙ (ap (λ w. w && next.well) v.has_type ∙ sym (all_well-snoc said next));
+  well = is_well ∙ (ap (λ w. w && next.well) v.well ∙ sym (all_well-snoc said next));
   kept = are;
 }
 
@@ -241,9 +252,9 @@ zip_push (v ∷ kept) (t ∷ trees) value tree are is = (are.0, zip_push kept tr
 -- it is kept
 pub value_kept : (most : ℕ) (taken : List ℕ) (said : List Said) (values : Values) (v : IsValueRead (works.Compare most) taken said values) (value : Value) (f : Finishes most v.whole value)
     → (kept : Vec Value Global) → kept.items ≡ values.kept.items ++ value ∷ [] → (reader : Reader) → Leads most [] reader
-    → HasRead (works.Compare most) taken (said ++ nothing_said ∷ []) (record { reader = reader; has_type = values.has_type; count = values.count + 1; kept = kept })
+    → HasRead (works.Compare most) taken (said ++ nothing_said ∷ []) (record { reader = reader; well = values.well; count = values.count + 1; kept = kept })
 value_kept most taken said values v value f kept same reader leads =
-    value_put (works.Compare most) taken said values v f.tree f.spelled nothing_said (v.may, refl) reader leads values.has_type (sym (and_true values.has_type)) kept
+    value_put (works.Compare most) taken said values v f.tree f.spelled nothing_said (v.may, refl) reader leads values.well (sym (and_true values.well)) kept
     (let few = v.may in
     let size = length-append v.trees (f.tree ∷ []) in
     (subst (λ k. AllZip IsValueOf k (v.trees ++ f.tree ∷ [])) (sym same) (zip_push values.kept.items v.trees value f.tree v.kept.0 f.is_value), omega (arith, few, size)))
@@ -290,7 +301,7 @@ stops_in w trees rest refusal stop may r (inr (some, is)) =
 
 -- any byte after two values does
 pub full_stops : (w : Work) (trees : List Tree) (front rest : List ℕ) → IsFull w (length trees) → 0 < length rest → StopsIn w trees (front ++ rest) stops.NotTwoValues
-full_stops (works.Check t most) trees front rest full some = absurd full
+full_stops (works.Say speech most) trees front rest full some = absurd full
 full_stops (works.Compare most) trees front rest full some =
     inr (inr (full, λ none. let e : length (front ++ rest) ≡ 0 = ap length none in let size = length-append front rest in absurd (omega (arith, e, size, some)), refl))
 

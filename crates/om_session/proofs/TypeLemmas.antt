@@ -1,6 +1,6 @@
 -- What a FILE and a TYPE are read as.
 use Rattle.std.proofs.Common.{◌≡◌, ◌≤◌, ℕ, List, length, Some, None, Option, Result, Ok, Err, inl, inr, refl, ap, ◌∙◌, arith}
-use Rattle.std.specs.Prelude.{◌≢◌, ◌⊎◌, MatchOption, codes}
+use Rattle.std.specs.Prelude.{◌≢◌, MatchOption, codes}
 use Rattle.std.proofs.lemmas.List.{length-map}
 use Rattle.om_types.specs.Nodes.{type_at}
 use Rattle.om_types.specs.declared.decl.Decl.{Decl}
@@ -20,7 +20,10 @@ use Rattle.om_outcome.specs.Outcome.{at_end, Taken, Found, opened, missing, fail
 use Rattle.om_session.specs.declared.stop.Stop as codes_of
 use Rattle.om_session.specs.declared.stop.Stop.TheVariants as stops
 use Rattle.om_session.specs.declared.types.Requested.{Requested}
-use Rattle.om_session.specs.Language.{IsRefusal}
+use Rattle.om_path.specs.Answer.{IsAnswer, UnlessMemory}
+use Rattle.om_path.specs.declared.fault.PathFault.{PathFault}
+use Rattle.om_path.specs.declared.fault.PathFault.TheVariants as path_faults
+use Rattle.om_session.specs.Language.{IsRefusal, ReadsPath}
 use Rattle.om_session.specs.Stops.{stop_of, declared_text}
 use Rattle.om_session.specs.Types.{StopsBy, IsDeclarationsStop, IsTypeStop, GivesDeclarations, GivesRequested, GivesType}
 
@@ -167,3 +170,11 @@ module _ (file type : List ℕ) where
     reads_type e decls declared (Ok r) gives = ((Ok taken.bytes, same e, (Ok decls, declared.0, gives.0)), gives.1)
     reads_type e decls declared (Err stop) (inl (refusal, refuses, is)) = inl (Ok taken.bytes, same e, (Ok decls, declared.0, (refusal, refuses, is)))
     reads_type e decls declared (Err stop) (inr memory) = inr memory
+
+-- ---- PATH
+
+-- a fault but for out of memory is that of a text that is no path
+pub path_refused : (text : List ℕ) (fault : PathFault) → fault ≢ path_faults.Memory → UnlessMemory (λ f. IsAnswer text (Err f)) fault → ReadsPath text None
+path_refused text path_faults.Lex some is = (path_faults.Lex, some, is)
+path_refused text (path_faults.Syntax place) some is = (path_faults.Syntax place, some, is)
+path_refused text path_faults.Memory some is = absurd (some refl)

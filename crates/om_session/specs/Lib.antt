@@ -7,6 +7,7 @@ pub mod Given
 pub mod Language
 pub mod Run
 pub mod Stops
+pub mod Telling
 pub mod Types
 pub mod Values
 pub mod StreamLaws

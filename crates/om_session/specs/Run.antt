@@ -7,7 +7,7 @@ use Rattle.std.specs.List.{AllByRecursion}
 use Rattle.om_format.specs.Tree.{Tree}
 use Rattle.om_format.specs.Stream.{SpellAll, End, clean, cut, IsTail}
 use Rattle.om_format.specs.Front.{IsFront}
-use Rattle.om_outcome.specs.Outcome.{InputEnd, Taken, unasked, nothing, Found, opened, fault_of, status_of, Given, Stop, Request, Language, Ending, ending_of, Said, says, stops, Reply, Replies, replies, all_said, texts_of, Work, checks, compares, Task, compare, Asks, IsUsage, typed_by, Prepares, StopsAt, AreSame, SayFirst, found_of, RunReplies, SaysOfFirst, Outcome, out_of_memory, stop_text, err_line}
+use Rattle.om_outcome.specs.Outcome.{InputEnd, Taken, unasked, nothing, Found, opened, fault_of, status_of, Given, Stop, Request, Language, Ending, ending_of, Said, says, stops, Reply, Replies, replies, all_said, texts_of, Work, tells, dumps, compares, Task, compare, Asks, IsUsage, typed_by, path_of, Prepares, StopsAt, AreSame, SayFirst, found_of, RunReplies, SaysOfFirst, Outcome, out_of_memory, stop_text, err_line}
 use Rattle.om_edge.specs.Faults.{RoseOrLast}
 use Rattle.om_edge.specs.Files.{File, contents_of}
 use Rattle.om_edge.specs.Sink.{Puts, PutsPart}
@@ -15,12 +15,39 @@ use Rattle.om_edge.specs.State.{ByteState, FilesState, Change, change}
 use Rattle.om_session.specs.Call.{Call}
 use Rattle.om_session.specs.Given.{Gathers, Fetched}
 
+-- ---- the words
+
+-- PATH, where the words have one, is a path
+abbrev pub HasPath : {D T : Type 0} → Language D T → Request → Type 0
+HasPath language request = IfSome (path_of request) (λ text. (path : List ℕ) × language.ReadsPath text (Some path))
+
+-- PATH is there, and is no path
+abbrev pub HasNoPath : {D T : Type 0} → Language D T → Request → Type 0
+HasNoPath language request = IsSomeAnd (path_of request) (λ text. language.ReadsPath text None)
+
+-- FILE and TYPE of the words, where PATH is a path
+pub record AsksFor {D T : Type 0} (language : Language D T) (words : List (List ℕ)) (name type : List ℕ) : Type 0 where
+  pub request : Request
+  pub asks : Asks words request
+  pub has_path : HasPath language request
+  pub typed : typed_by request ≡ Some (name, type)
+
+-- FILE alone
+abbrev pub AsksForFile : {D T : Type 0} → Language D T → List (List ℕ) → List ℕ → Type 0
+AsksForFile language words name = (type : List ℕ) × AsksFor language words name type
+
+-- the words ask for something, and PATH is no path
+pub record AsksBadly {D T : Type 0} (language : Language D T) (words : List (List ℕ)) : Type 0 where
+  pub request : Request
+  pub asks : Asks words request
+  pub no_path : HasNoPath language request
+
 -- ---- the account of a call
 
--- FILE is fetched where the words ask for one, and nothing else is
-pub record FetchesFor (words : List (List ℕ)) (files : Change FilesState) (file : List ℕ → Found) : Type 0 where
-  pub asked : (request : Request) → Asks words request → IfSome (typed_by request) (λ typed. Fetched files typed.0 (file typed.0))
-  pub unasked : ((request : Request) → Asks words request → typed_by request ≡ None) → files.after ≡ files.before
+-- FILE is fetched where the words ask for one and PATH, if there, is a path; and nothing else is
+pub record FetchesFor {D T : Type 0} (language : Language D T) (words : List (List ℕ)) (files : Change FilesState) (file : List ℕ → Found) : Type 0 where
+  pub asked : (name type : List ℕ) → AsksFor language words name type → Fetched files name (file name)
+  pub unasked : ((name type : List ℕ) → AsksFor language words name type → ⊥) → files.after ≡ files.before
 
 -- Nothing in the bytes stops the run: they are values of which this is said, and a front of one more. Of a value after a
 -- stop nothing can be said, so there is no stop between the values either.
@@ -78,7 +105,7 @@ pub record Breaks {D T : Type 0} (language : Language D T) (words : List (List �
 pub record Account {D T : Type 0} (language : Language D T) (words : List (List ℕ)) (call : Call) : Type 0 where
   pub given : Given
   pub input : Gathers call.input given.input
-  pub files : FetchesFor words call.files given.file
+  pub files : FetchesFor language words call.files given.file
   pub said : List Said
   pub first : IsSaidFirst language words given said
   pub ends : Completes language words given said call ⊎ Breaks language words given said call
@@ -131,14 +158,16 @@ pub record AreNotTwo (limit : ℕ) (bytes : List ℕ) : Type 0 where
   pub spelled : SpellAll limit bytes trees rest
   pub why : ((length trees ≡ 2) × (rest ≢ [])) ⊎ ((length trees < 2) × (rest ≡ []))
 
--- 2: only where the words ask for nothing, or `same` finds other than two values in the whole input
-abbrev pub OnlyUsage : List (List ℕ) → Call → Type 0
-OnlyUsage words call = call.status ≡ Usage
-    → IsUsage words ⊎ ((limit : ℕ) × Asks words (compare limit) × (input : List ℕ) × IfSome call.input.before.bytes (λ bytes. bytes ≡ input) × AreNotTwo limit input)
+-- 2: only where the words ask for nothing, PATH is no path, or `same` finds other than two values in the whole input
+abbrev pub OnlyUsage : {D T : Type 0} → Language D T → List (List ℕ) → Call → Type 0
+OnlyUsage language words call = call.status ≡ Usage
+    → IsUsage words
+    ⊎ (AsksBadly language words
+    ⊎ ((limit : ℕ) × Asks words (compare limit) × (input : List ℕ) × IfSome call.input.before.bytes (λ bytes. bytes ≡ input) × AreNotTwo limit input))
 
--- and where they ask for nothing, unless it could not be said
-abbrev pub IfUsage : List (List ℕ) → Call → Type 0
-IfUsage words call = IsUsage words → (call.status ≡ Usage) ⊎ IsUnsaid call.status
+-- and where they ask for nothing, or PATH is no path, unless it could not be said
+abbrev pub IfUsage : {D T : Type 0} → Language D T → List (List ℕ) → Call → Type 0
+IfUsage language words call = IsUsage words ⊎ AsksBadly language words → (call.status ≡ Usage) ⊎ IsUnsaid call.status
 
 -- 6 to 9: what comes of a call that failed, or of out of memory, comes in the place of all else
 abbrev pub IsOutside : Status → Type 0
@@ -154,10 +183,6 @@ IfNotTwo words call =
 abbrev pub TellsFile : Change FilesState → List ℕ → List ℕ → Type 0
 TellsFile files name bytes = IsSomeAnd files.before.map (λ all. contents_of all name ≡ Some bytes)
 
--- FILE and TYPE of the words
-abbrev pub AsksFor : List (List ℕ) → List ℕ → List ℕ → Type 0
-AsksFor words name type = (request : Request) × Asks words request × (typed_by request ≡ Some (name, type))
-
 -- the declarations are refused, or the type
 abbrev pub IsRefusedType : {D T : Type 0} → Language D T → List ℕ → List ℕ → Type 0
 IsRefusedType {D} language text type =
@@ -167,12 +192,12 @@ IsRefusedType {D} language text type =
 -- 3: only where what FILE holds is refused, or TYPE
 abbrev pub OnlyTypes : {D T : Type 0} → Language D T → List (List ℕ) → Call → Type 0
 OnlyTypes language words call = call.status ≡ Types
-    → (name type text : List ℕ) × AsksFor words name type × IfSome call.files.before.map (λ all. contents_of all name ≡ Some text) × IsRefusedType language text type
+    → (name type text : List ℕ) × AsksFor language words name type × IfSome call.files.before.map (λ all. contents_of all name ≡ Some text) × IsRefusedType language text type
 
 -- and where FILE is told, and is short enough, and it is refused, or TYPE
 abbrev pub IfTypes : {D T : Type 0} → Language D T → List (List ℕ) → Call → Type 0
 IfTypes language words call =
-    (name type text : List ℕ) → AsksFor words name type → TellsFile call.files name text → length text < 2 ^ 48 → IsRefusedType language text type
+    (name type text : List ℕ) → AsksFor language words name type → TellsFile call.files name text → length text < 2 ^ 48 → IsRefusedType language text type
     → (call.status ≡ Types) ⊎ IsOutside call.status
 
 -- after values of which this is said bytes come that are not one more: they are refused, or end within it; and nothing stops
@@ -190,7 +215,7 @@ pub record HoldBadValue {D T : Type 0} (language : Language D T) (task : Task T)
 -- 4: only where the words, FILE and TYPE are accepted, and the whole input holds a bad value
 abbrev pub OnlyValue : {D T : Type 0} → Language D T → List (List ℕ) → Call → Type 0
 OnlyValue {D} {T} language words call = call.status ≡ Value
-    → (file : List ℕ → Found) × FetchesFor words call.files file × (task : Task T) × Prepares language words file (Ok task)
+    → (file : List ℕ → Found) × FetchesFor language words call.files file × (task : Task T) × Prepares language words file (Ok task)
     × (input : List ℕ) × IfSome call.input.before.bytes (λ bytes. bytes ≡ input) × HoldBadValue language task input
 
 -- and where they are, FILE is short enough, and the first 2^48 bytes of the input, which is told, hold one, in all where it
@@ -218,28 +243,24 @@ CannotOpen files name =
     (RoseOrLast files.before.open_faults files.after.open_faults × (files.after.last_open_fault ≡ Some name))
     ⊎ IsSomeAnd files.before.map (λ all. contents_of all name ≡ None)
 
--- FILE of plain words
-abbrev pub AsksForFile : List (List ℕ) → List ℕ → Type 0
-AsksForFile words name = (type : List ℕ) × AsksFor words name type
-
 -- 8: only where FILE could not be opened; and where the map is told and does not have FILE
-abbrev pub OnlyOpenFault : List (List ℕ) → Call → Type 0
-OnlyOpenFault words call = call.status ≡ OpenFault → (name : List ℕ) × AsksForFile words name × CannotOpen call.files name
+abbrev pub OnlyOpenFault : {D T : Type 0} → Language D T → List (List ℕ) → Call → Type 0
+OnlyOpenFault language words call = call.status ≡ OpenFault → (name : List ℕ) × AsksForFile language words name × CannotOpen call.files name
 
-abbrev pub IfMissing : List (List ℕ) → Call → Type 0
-IfMissing words call = (name : List ℕ) → AsksForFile words name → IsSomeAnd call.files.before.map (λ all. contents_of all name ≡ None)
+abbrev pub IfMissing : {D T : Type 0} → Language D T → List (List ℕ) → Call → Type 0
+IfMissing language words call = (name : List ℕ) → AsksForFile language words name → IsSomeAnd call.files.before.map (λ all. contents_of all name ≡ None)
     → (call.status ≡ OpenFault) ⊎ IsUnsaid call.status
 
 -- 10: only where the input or FILE has 2^48 bytes or more, where they are told
-abbrev pub OnlyTooLong : List (List ℕ) → Call → Type 0
-OnlyTooLong words call = call.status ≡ TooLong
+abbrev pub OnlyTooLong : {D T : Type 0} → Language D T → List (List ℕ) → Call → Type 0
+OnlyTooLong language words call = call.status ≡ TooLong
     → IfSome call.input.before.bytes (λ bytes. 2 ^ 48 ≤ length bytes)
-    ⊎ ((name : List ℕ) × AsksForFile words name × IfSome call.files.before.map (λ all. IsSomeAnd (contents_of all name) (λ bytes. 2 ^ 48 ≤ length bytes)))
+    ⊎ ((name : List ℕ) × AsksForFile language words name × IfSome call.files.before.map (λ all. IsSomeAnd (contents_of all name) (λ bytes. 2 ^ 48 ≤ length bytes)))
 
 -- and where FILE is told and has so many; or the words, FILE and TYPE are accepted, and the input is told and has so many,
 -- with no stop in those that are taken of it at most
 pub record IfTooLong {D T : Type 0} (language : Language D T) (words : List (List ℕ)) (call : Call) : Type 0 where
-  pub file : (name bytes : List ℕ) → AsksForFile words name → TellsFile call.files name bytes → 2 ^ 48 ≤ length bytes → (call.status ≡ TooLong) ⊎ IsOutside call.status
+  pub file : (name bytes : List ℕ) → AsksForFile language words name → TellsFile call.files name bytes → 2 ^ 48 ≤ length bytes → (call.status ≡ TooLong) ⊎ IsOutside call.status
   pub input : (files : List File) (task : Task T) (bytes : List ℕ) (said : List Said) → call.files.before.map ≡ Some files → Prepares language words (λ name. found_of (contents_of files name)) (Ok task)
       → call.input.before.bytes ≡ Some bytes → 2 ^ 48 ≤ length bytes → HoldNoStop language task (take (2 ^ 48 + 4095) bytes) said → (call.status ≡ TooLong) ⊎ IsOutside call.status
 
@@ -270,7 +291,7 @@ pub record FailsByInput {D T : Type 0} (language : Language D T) (words : List (
   pub gathers : Gathers call.input taken
   pub fails : TellsFault taken.until call
   pub file : List ℕ → Found
-  pub files : FetchesFor words call.files file
+  pub files : FetchesFor language words call.files file
   pub task : Task T
   pub prepared : Prepares language words file (Ok task)
   pub said : List Said
@@ -278,9 +299,9 @@ pub record FailsByInput {D T : Type 0} (language : Language D T) (words : List (
   pub out : Puts call.out (texts_of said)
 
 -- by FILE: nothing was taken of the input, and out has nothing
-pub record FailsByFile (words : List (List ℕ)) (call : Call) : Type 0 where
+pub record FailsByFile {D T : Type 0} (language : Language D T) (words : List (List ℕ)) (call : Call) : Type 0 where
   pub name : List ℕ
-  pub is_file : AsksForFile words name
+  pub is_file : AsksForFile language words name
   pub taken : Taken
   pub fetched : Fetched call.files name (opened taken)
   pub fails : TellsFault taken.until call
@@ -290,7 +311,7 @@ pub record FailsByFile (words : List (List ℕ)) (call : Call) : Type 0 where
 -- 6 or 10: the input caused it, or FILE
 abbrev pub IfInputFails : {D T : Type 0} → Language D T → List (List ℕ) → Call → Type 0
 IfInputFails language words call = (call.status ≡ ReadFault) ⊎ (call.status ≡ TooLong)
-    → FailsByInput language words call ⊎ FailsByFile words call
+    → FailsByInput language words call ⊎ FailsByFile language words call
 
 -- ---- where memory ran out, or out or err failed
 
@@ -327,7 +348,8 @@ IfWriteFault language words call =
 
 -- nothing is wrong with the values
 abbrev pub AreAllWell : {D T : Type 0} → Language D T → Work T → List Tree → Type 0
-AreAllWell language (checks type) trees = AllByRecursion (λ tree. (line : List ℕ) × language.LineOf type tree line true) trees
+AreAllWell language (tells saying type) trees = AllByRecursion (λ tree. (line : List ℕ) × language.LineOf saying type tree line true) trees
+AreAllWell language dumps trees = Unit {0}
 AreAllWell language compares (first ∷ second ∷ []) = AreSame first second
 AreAllWell language compares trees = ⊥
 
@@ -365,9 +387,9 @@ pub record Promises {D T : Type 0} (language : Language D T) (words : List (List
   pub complete : IsComplete language words call
   -- unless memory runs out, an honest call has the status of each outcome: each comes exactly where an outcome has it
   pub decided : IsDecided language words call
-  -- 2: the words are not plain, or `same` finds other than two values
-  pub usage_only : OnlyUsage words call
-  pub usage_if : IfUsage words call
+  -- 2: the words ask for nothing, PATH is no path, or `same` finds other than two values
+  pub usage_only : OnlyUsage language words call
+  pub usage_if : IfUsage language words call
   pub not_two_if : IfNotTwo words call
   -- 3: what FILE holds is refused, or TYPE
   pub types_only : OnlyTypes language words call
@@ -380,10 +402,10 @@ pub record Promises {D T : Type 0} (language : Language D T) (words : List (List
   -- 7: a call on out or err failed
   pub write_fault_only : OnlyWriteFault call
   -- 8: FILE could not be opened, or it is not there
-  pub open_fault_only : OnlyOpenFault words call
-  pub missing_if : IfMissing words call
+  pub open_fault_only : OnlyOpenFault language words call
+  pub missing_if : IfMissing language words call
   -- 10: the input or FILE has 2^48 bytes or more
-  pub too_long_only : OnlyTooLong words call
+  pub too_long_only : OnlyTooLong language words call
   pub too_long_if : IfTooLong language words call
   -- 6 or 10: by the input, where what was taken holds no earlier stop and out has what is said of its values; or by FILE
   pub input_fails_if : IfInputFails language words call

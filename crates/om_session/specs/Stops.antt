@@ -24,6 +24,7 @@ declared_text fault = text_if (told {Tree = FileTree} fault)
 
 abbrev pub stop_of : Stop → outcome.Stop
 stop_of stops.Usage = outcome.usage
+stop_of stops.BadPath = outcome.bad_path
 stop_of stops.NotTwoValues = outcome.not_two_values
 stop_of (stops.CannotOpen name) = outcome.cannot_open name.now
 stop_of (stops.Declarations fault) = outcome.declarations (declared_text fault)

@@ -1,5 +1,5 @@
 -- The type that a FILE and a TYPE give.
-use Rattle.std.specs.Prelude.{ℕ, ◌≡◌, ◌⊎◌, List, Result, Ok, Err, MatchOption}
+use Rattle.std.specs.Prelude.{ℕ, ◌≡◌, ◌≢◌, ◌⊎◌, List, Result, Ok, Err, MatchOption}
 use Rattle.om_types.specs.declared.decl.Decl.{Decl}
 use Rattle.om_types.specs.Accepted.{AreWellFormed, IsSoundType}
 use Rattle.om_type_table.specs.Made.{IsTypeTable}
@@ -7,9 +7,11 @@ use Rattle.om_grammar.specs.Grammar.{FileTree, Texpr}
 use Rattle.om_decl.specs.declared.fault.DeclFault.{DeclFault}
 use Rattle.om_decl.specs.Fault.{told}
 use Rattle.om_decl.specs.Text.{answer_text}
-use Rattle.om_outcome.specs.Outcome.{Found, ReadsTypeOf, declarations, requested_type, out_of_memory}
+use Rattle.om_outcome.specs.Outcome.{Found, ReadsTypeOf, bad_path, declarations, requested_type, out_of_memory}
 use Rattle.om_outcome.specs.Outcome as outcome
 use Rattle.om_edge.specs.State.{FilesState, Change}
+use Rattle.om_path.specs.declared.fault.PathFault.{PathFault}
+use Rattle.om_path.specs.declared.fault.PathFault.TheVariants as path_faults
 use Rattle.om_session.specs.declared.stop.Stop.{Stop}
 use Rattle.om_session.specs.declared.types.Requested.{Requested}
 use Rattle.om_session.specs.Given.{Fetched}
@@ -41,6 +43,11 @@ IsDeclarationsStop fault stop =
 abbrev pub IsTypeStop : DeclFault → Stop → Type 0
 IsTypeStop fault stop =
     MatchOption (told {Tree = Texpr} fault) (stop_of stop ≡ out_of_memory) (λ answer. stop_of stop ≡ requested_type (answer_text answer))
+
+-- memory ran out, or the text is no path
+abbrev pub IsPathStop : PathFault → Stop → Type 0
+IsPathStop fault stop =
+    ((fault ≡ path_faults.Memory) × (stop_of stop ≡ out_of_memory)) ⊎ ((fault ≢ path_faults.Memory) × (stop_of stop ≡ bad_path))
 
 -- ---- what is given
 

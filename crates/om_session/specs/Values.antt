@@ -1,5 +1,5 @@
 -- What is said of the values of the input, as their bytes come.
-use Rattle.std.specs.Prelude.{ℕ, ◌^◌, ◌<◌, ◌≤◌, ◌≡◌, ◌≢◌, ◌⊎◌, ◌&&◌, Bool, List, [], ◌∷◌, ◌++◌, length, take, Result, Ok, Err, All}
+use Rattle.std.specs.Prelude.{ℕ, ◌<◌, ◌≤◌, ◌≡◌, ◌≢◌, ◌⊎◌, ◌&&◌, Bool, List, [], ◌∷◌, ◌++◌, length, take, Result, Ok, Err, All}
 use Rattle.std.specs.List.{AllZip}
 use Rattle.om_model.specs.declared.out_of_memory.Memory.{Memory}
 use Rattle.om_model.specs.declared.refusal.ReadRefusal.{ReadRefusal}
@@ -12,7 +12,7 @@ use Rattle.om_read.specs.declared.value.Value.{Value}
 use Rattle.om_read.specs.Reading.{IsValueOf}
 use Rattle.om_read.specs.Reader.{Leads, IsDone}
 use Rattle.om_outcome.specs.RefusalText.{refusal_text, truncated_text}
-use Rattle.om_outcome.specs.Outcome.{Taken, value, not_two_values, out_of_memory, Said, nothing_said, says, replies, texts_of, all_well, checks, compares, Task, task, SayFirst, StopsAt, Finishes, comparison, ValuesReply}
+use Rattle.om_outcome.specs.Outcome.{Taken, value, not_two_values, out_of_memory, Said, nothing_said, says, replies, texts_of, all_well, compares, Task, task, SayFirst, StopsAt, Finishes, comparison, ValuesReply}
 use Rattle.om_outcome.specs.Outcome as outcome
 use Rattle.om_edge.specs.Sink.{Puts, PutsPart}
 use Rattle.om_edge.specs.State.{ByteState, Change, change}
@@ -26,20 +26,20 @@ use Rattle.om_session.specs.Given.{Gathers}
 use Rattle.om_session.specs.Language.{TypeOver, declared_types}
 use Rattle.om_session.specs.Run.{HoldNoStop, IsPaced, PutsPartAfter}
 use Rattle.om_session.specs.Stops.{stop_of}
-use Rattle.om_session.specs.Types.{type_over, IsReady}
+use Rattle.om_session.specs.Verdict.{work_by, IsReadySpeech}
 
 -- the limit of words on 64 bits in a value
 abbrev pub word_limit : Work → ℕ
-word_limit (works.Check r limit) = limit
+word_limit (works.Say speech limit) = limit
 word_limit (works.Compare limit) = limit
 
 abbrev pub work_of : Work → outcome.Work TypeOver
-work_of (works.Check r limit) = checks (type_over r.now)
+work_of (works.Say speech limit) = work_by speech
 work_of (works.Compare limit) = compares
 
--- the table that values are checked by is the type's
+-- the table that values are checked by, if they are, is the type's
 abbrev pub IsReadyWork : Work → Type 0
-IsReadyWork (works.Check r limit) = IsReady r.now
+IsReadyWork (works.Say speech limit) = IsReadySpeech speech
 IsReadyWork (works.Compare limit) = Unit {0}
 
 -- the work with the values
@@ -50,20 +50,20 @@ task_of w = task (work_of w) (word_limit w)
 
 -- after n values any more byte stops the run
 abbrev pub IsFull : Work → ℕ → Type 0
-IsFull (works.Check t limit) n = ⊥
+IsFull (works.Say speech limit) n = ⊥
 IsFull (works.Compare limit) n = n ≡ 2
 
 -- after n values one more may come
 abbrev pub MayTake : Work → ℕ → Type 0
-MayTake (works.Check t limit) n = Unit {0}
+MayTake (works.Say speech limit) n = Unit {0}
 MayTake (works.Compare limit) n = n < 2
 
 abbrev pub AreValues : List Value → Type 0
 AreValues kept = All (λ v. IsValue (length v.heap) v.root) kept
 
--- the values of the trees are kept; those that are checked are not
+-- the values of the trees are kept, where they are compared
 abbrev pub IsKept : Work → List Tree → List Value → Type 0
-IsKept (works.Check t limit) trees kept = Unit {0}
+IsKept (works.Say speech limit) trees kept = Unit {0}
 IsKept (works.Compare limit) trees kept = AllZip IsValueOf kept trees × (length trees ≤ 2)
 
 -- Of these bytes the reader has taken what comes after the values, a front of the next one, and nothing stops the run; this
@@ -77,7 +77,7 @@ pub record HasRead (w : Work) (taken : List ℕ) (said : List Said) (values : Va
   pub goes_on : (stop : outcome.Stop) → StopsAt declared_types (work_of w) (word_limit w) trees front stop → ⊥
   pub leads : Leads (word_limit w) front values.reader
   pub counted : values.count ≡ length trees
-  pub has_type : values.has_type ≡ all_well said
+  pub well : values.well ≡ all_well said
   pub kept : IsKept w trees values.kept.items
 
 -- The same where the reader has taken all of the next one.
@@ -91,7 +91,7 @@ pub record IsValueRead (w : Work) (taken : List ℕ) (said : List Said) (values 
   pub leads : Leads (word_limit w) whole values.reader
   pub done : IsDone values.reader
   pub counted : values.count ≡ length trees
-  pub has_type : values.has_type ≡ all_well said
+  pub well : values.well ≡ all_well said
   pub kept : IsKept w trees values.kept.items
 
 -- this is said of the first values of the bytes

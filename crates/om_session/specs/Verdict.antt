@@ -1,23 +1,44 @@
--- The line of a verdict.
-use Rattle.std.specs.Prelude.{ℕ, ◌≡◌, Bool, true, false, List, ◌++◌}
+-- What is said of a value.
+use Rattle.std.specs.Prelude.{ℕ, ◌≡◌, Bool, true, List, ◌++◌}
 use Rattle.om_model.specs.declared.value.Val.{Val}
 use Rattle.om_model.specs.declared.value.Obj.{Obj}
 use Rattle.om_type_table.specs.Made.{table_of}
 use Rattle.om_check.specs.Verdict.{IsVerdict}
 use Rattle.om_check.specs.declared.verdict.Verdict.{Verdict}
-use Rattle.om_check.specs.declared.verdict.Verdict.TheVariants.{Yes, No}
+use Rattle.om_outcome.specs.Outcome as outcome
+use Rattle.om_show.specs.Dumped.{dump_text}
 use Rattle.om_session.specs.declared.types.Requested.{Requested}
-use Rattle.om_session.specs.Language.{TypeOver, IsTypeLine}
+use Rattle.om_session.specs.declared.verdict.Saying.{Saying}
+use Rattle.om_session.specs.declared.verdict.Saying.TheVariants as sayings
+use Rattle.om_session.specs.declared.verdict.Speech.{Speech}
+use Rattle.om_session.specs.declared.verdict.Speech.TheVariants as speeches
+use Rattle.om_session.specs.Language.{TypeOver, IsTypeLine, SaysLine}
+use Rattle.om_session.specs.Types.{type_over, IsReady}
+
+abbrev pub saying_of : Saying → outcome.Saying
+saying_of sayings.Verdict = outcome.the_verdict
+saying_of sayings.Text = outcome.the_text
+saying_of (sayings.Part path) = outcome.the_part path.now
+
+-- the work that says so of each value
+abbrev pub work_by : Speech → outcome.Work TypeOver
+work_by (speeches.Tell r saying) = outcome.tells (saying_of saying) (type_over r.now)
+work_by speeches.Dump = outcome.dumps
+
+-- the table that values are checked by is the type's
+abbrev pub IsReadySpeech : Speech → Type 0
+IsReadySpeech (speeches.Tell r saying) = IsReady r.now
+IsReadySpeech speeches.Dump = Unit {0}
 
 -- the verdict is on the value at the first type of the table
 abbrev pub IsVerdictOf : Requested → List Obj → Val → Verdict → Type 0
 IsVerdictOf r graph root verdict = IsVerdict (table_of r.table) graph root verdict
 
-abbrev pub is_yes : Verdict → Bool
-is_yes (Yes typing) = true
-is_yes (No fault) = false
+-- this is said of a value, and whether nothing is wrong with it
+abbrev pub IsSaidOf : Speech → List Obj → Val → List ℕ → Bool → Type 0
+IsSaidOf (speeches.Tell r saying) graph v text well = SaysLine (saying_of saying) (type_over r.now) graph v text well
+IsSaidOf speeches.Dump graph v text well = (text ≡ dump_text graph v) × (well ≡ true)
 
--- a text is put after another: the line of the verdict
-abbrev pub PutsVerdict : TypeOver → List Obj → Val → Verdict → List ℕ → List ℕ → Type 0
-PutsVerdict t graph root verdict old new =
-    (line : List ℕ) × IsTypeLine t graph root line (is_yes verdict) × (new ≡ old ++ line)
+-- the line is put after another text, and the answer is whether nothing is wrong with the value
+abbrev pub PutsLine : outcome.Saying → TypeOver → List Obj → Val → List ℕ → List ℕ → Bool → Type 0
+PutsLine saying t graph root old new well = (line : List ℕ) × IsTypeLine saying t graph root line well × (new ≡ old ++ line)

@@ -21,6 +21,7 @@ use std::alloc::{AllocError, Global};
 #[derive(Drop)]
 pub enum Stop<'a> {
     Usage,
+    BadPath,
     NotTwoValues,
     CannotOpen(&'a str),
     Declarations(DeclFault),
@@ -37,7 +38,7 @@ fn status(stop: &Stop) -> Status
     ensures { result ≡ status_of (stop_of stop.now) }
 {
     match stop {
-        Stop::Usage | Stop::NotTwoValues => Status::Usage,
+        Stop::Usage | Stop::BadPath | Stop::NotTwoValues => Status::Usage,
         Stop::CannotOpen(_) => Status::OpenFault,
         Stop::Declarations(_) | Stop::RequestedType(_) | Stop::TooManyTypes => Status::Types,
         Stop::Refused(..) | Stop::Cut(..) => Status::Value,
@@ -115,6 +116,7 @@ fn put_text(line: &mut Vec<u8>, alloc: Global, stop: &Stop) -> Result<(), Memory
 {
     match stop {
         Stop::Usage => put(line, b"usage"),
+        Stop::BadPath => put(line, b"bad path"),
         Stop::NotTwoValues => put(line, b"not two values"),
         Stop::CannotOpen(name) => put_name(line, name),
         Stop::Declarations(fault) => put_fault(line, alloc, b"types: ", fault),

@@ -1,24 +1,28 @@
 //! The top call.
 
 ghost use Rattle.std.specs.Prelude.{List, ℕ};
-ghost use Rattle.om_outcome.specs.Outcome.{Asks, check as check_of};
+ghost use Rattle.om_outcome.specs.Outcome.{Asks, get as get_of};
 ghost use Rattle.om_edge.specs.State.{change};
 ghost use Rattle.om_session.specs.Call.{call};
 ghost use Rattle.om_session.specs.Ends.{TakesValues};
 ghost use Rattle.om_session.specs.Language.{declared_types};
 ghost use Rattle.om_session.specs.Run.{Account, Promises};
+ghost use Rattle.om_session.specs.Telling.{AsksToTell};
 ghost use Rattle.om_session.specs.Values.{IsReadyWork};
-ghost use Rattle.om_command_line.specs.Requests.{texts};
+ghost use Rattle.om_session.specs.Verdict.{saying_of};
+ghost use Rattle.om_command_line.specs.Requests.{texts, request_of};
 
 use crate::stop::{Stop, report_stop};
-use crate::types::find_type;
+use crate::types::{find_type, path_stop};
 use crate::values::{Halt, Work, put_values};
+use crate::verdict::{Saying, Speech};
 use om_command_line::{Request, Unread, read_words};
 use om_decl::laws::one_answer;
 use om_decl::told::{files_are_well_formed, types_are_sound};
 use om_edge::{Opener, Sink, Source};
 use om_format::laws::one_judgement;
 use om_model::status::Status;
+use om_path::{one_answer as one_path, read_path};
 use om_table::type_or_fault;
 use std::alloc::Global;
 
@@ -41,24 +45,118 @@ fn take_values<S: Source, K: Sink, E: Sink>(
     }
 }
 
-// `check` with a FILE and a TYPE.
-fn check<S: Source, O: Opener, K: Sink, E: Sink>(
+// Tells something of the values, at a FILE and a TYPE.
+fn tell<S: Source, O: Opener, K: Sink, E: Sink>(
     alloc: Global,
     file: &str,
     type_text: &str,
+    saying: Saying<'_>,
     limit: u64,
     input: &mut S,
     files: &mut O,
     out: &mut K,
     err: &mut E,
 ) -> Status
-    ensures { (words : List (List ℕ)) → Asks words (check_of file.now type_text.now limit) → Account declared_types words
+    ensures { (words : List (List ℕ)) → AsksToTell words file.now type_text.now (saying_of saying.entry) limit → Account declared_types words
         (call (change (S.state input.old) (S.state input.new)) (change (O.state files.old) (O.state files.new))
         (change (K.state out.old) (K.state out.new)) (change (E.state err.old) (E.state err.new)) result) }
 {
     match find_type(alloc, files, file, type_text) {
-        Ok(requested) => take_values(alloc, Work::Check(&requested, limit), input, out, err),
+        Ok(requested) => {
+            let work = Work::Say(Speech::Tell(&requested, saying), limit);
+            take_values(alloc, work, input, out, err)
+        }
         Err(stop) => report_stop(alloc, err, &stop),
+    }
+}
+
+// `get`: reads PATH, and then FILE and TYPE.
+fn get<S: Source, O: Opener, K: Sink, E: Sink>(
+    alloc: Global,
+    file: &str,
+    type_text: &str,
+    path_text: &str,
+    limit: u64,
+    input: &mut S,
+    files: &mut O,
+    out: &mut K,
+    err: &mut E,
+) -> Status
+    ensures { (words : List (List ℕ)) → Asks words (get_of file.now type_text.now path_text.now limit) → Account declared_types words
+        (call (change (S.state input.old) (S.state input.new)) (change (O.state files.old) (O.state files.new))
+        (change (K.state out.old) (K.state out.new)) (change (E.state err.old) (E.state err.new)) result) }
+{
+    match read_path(alloc, path_text.as_bytes()) {
+        Ok(path) => {
+            let saying = Saying::Part(&path);
+            tell(
+                alloc, file, type_text, saying, limit, input, files, out, err,
+            )
+        }
+        Err(fault) => report_stop(alloc, err, &path_stop(fault)),
+    }
+}
+
+// Does what is asked for.
+fn run_request<S: Source, O: Opener, K: Sink, E: Sink>(
+    alloc: Global,
+    request: Request<'_>,
+    input: &mut S,
+    files: &mut O,
+    out: &mut K,
+    err: &mut E,
+) -> Status
+    ensures { (words : List (List ℕ)) → Asks words (request_of request.entry) → Account declared_types words
+        (call (change (S.state input.old) (S.state input.new)) (change (O.state files.old) (O.state files.new))
+        (change (K.state out.old) (K.state out.new)) (change (E.state err.old) (E.state err.new)) result) }
+{
+    match request {
+        Request::Check {
+            file,
+            type_text,
+            limit,
+        } => tell(
+            alloc,
+            file,
+            type_text,
+            Saying::Verdict,
+            limit,
+            input,
+            files,
+            out,
+            err,
+        ),
+        Request::Show {
+            file,
+            type_text,
+            limit,
+        } => tell(
+            alloc,
+            file,
+            type_text,
+            Saying::Text,
+            limit,
+            input,
+            files,
+            out,
+            err,
+        ),
+        Request::Get {
+            file,
+            type_text,
+            path_text,
+            limit,
+        } => get(
+            alloc, file, type_text, path_text, limit, input, files, out, err,
+        ),
+        Request::Dump { limit } => take_values(
+            alloc,
+            Work::Say(Speech::Dump, limit),
+            input,
+            out,
+            err,
+        ),
+        Request::Same { limit } => take_values(alloc, Work::Compare(limit), input, out, err),
     }
 }
 
@@ -76,14 +174,7 @@ fn run_command<S: Source, O: Opener, K: Sink, E: Sink>(
         (change (K.state out.old) (K.state out.new)) (change (E.state err.old) (E.state err.new)) result) }
 {
     match read_words(alloc, words) {
-        Ok(
-            Request::Check {
-                file,
-                type_text,
-                limit,
-            },
-        ) => check(alloc, file, type_text, limit, input, files, out, err),
-        Ok(Request::Same { limit }) => take_values(alloc, Work::Compare(limit), input, out, err),
+        Ok(request) => run_request(alloc, request, input, files, out, err),
         Err(Unread::Usage) => report_stop(alloc, err, &Stop::Usage),
         Err(Unread::Memory) => report_stop(alloc, err, &Stop::Memory),
     }
@@ -106,6 +197,7 @@ pub fn run<S: Source, O: Opener, K: Sink, E: Sink>(
     input.tells_bytes();
     one_judgement();
     one_answer();
+    one_path();
     files_are_well_formed();
     types_are_sound();
     type_or_fault();

@@ -1,11 +1,11 @@
-//! The type that a run asks for: its FILE, and its TYPE.
+//! The type that a run asks for: its FILE, and its TYPE; and the stops of texts that are refused.
 
 ghost use Rattle.std.specs.Prelude.{ℕ, List as Seq};
 ghost use Rattle.om_types.specs.Accepted.{AreWellFormed};
 ghost use Rattle.om_outcome.specs.Outcome.{opened};
 ghost use Rattle.om_edge.specs.State.{change};
 ghost use Rattle.om_session.specs.Gathered.{taken_of};
-ghost use Rattle.om_session.specs.Types.{IsDeclarationsStop, IsTypeStop, GivesDeclarations, GivesRequested, GivesType, FindsTypeIn};
+ghost use Rattle.om_session.specs.Types.{IsDeclarationsStop, IsTypeStop, IsPathStop, GivesDeclarations, GivesRequested, GivesType, FindsTypeIn};
 
 use crate::fetch::{Fetch, fetch_file};
 use crate::gather::{Gathered, InputEnd};
@@ -13,6 +13,7 @@ use crate::stop::Stop;
 use om_decl::{DeclFault, read_decls, read_type};
 use om_edge::Opener;
 use om_model::list::List;
+use om_path::PathFault;
 use om_type_table::TypeTable;
 use om_typeintern::{TypeFault, build};
 use om_types::decl::Decl;
@@ -44,6 +45,16 @@ fn type_stop<'a>(fault: DeclFault) -> Stop<'a>
     match fault {
         DeclFault::Memory => Stop::Memory,
         _ => Stop::RequestedType(fault),
+    }
+}
+
+/// The stop of a PATH that is no path.
+pub fn path_stop(fault: PathFault) -> Stop<'static>
+    ensures { IsPathStop fault result }
+{
+    match fault {
+        PathFault::Memory => Stop::Memory,
+        _ => Stop::BadPath,
     }
 }
 

@@ -10,8 +10,7 @@ ghost use Rattle.om_session.specs.Values.{IsReadyWork, IsStopOf, AreValues, IsFu
 
 use crate::gather::LENGTH_LIMIT;
 use crate::stop::Stop;
-use crate::types::Requested;
-use crate::verdict::verdict_line;
+use crate::verdict::{Speech, line_of};
 use om_edge::{Failed, Sink, Source, put_all};
 use om_iso::same;
 use om_model::Memory;
@@ -24,11 +23,11 @@ use std::mem;
 /// So many bytes a call on the input is asked for.
 const PIECE: usize = 4096;
 
-/// What is done with the values: each is checked at a type, or the two are compared. The number is the limit of words on
+/// What is done with the values: something is said of each, or the two are compared. The number is the limit of words on
 /// 64 bits in a value.
 #[derive(Clone, Copy)]
 pub enum Work<'a> {
-    Check(&'a Requested, u64),
+    Say(Speech<'a>, u64),
     Compare(u64),
 }
 
@@ -37,7 +36,7 @@ impl Work<'_> {
         ensures { result ≡ word_limit self.entry }
     {
         match self {
-            Work::Check(_, limit) => limit,
+            Work::Say(_, limit) => limit,
             Work::Compare(limit) => limit,
         }
     }
@@ -115,7 +114,7 @@ fn compare<K: Sink>(alloc: Global, kept: &[Value], out: &mut K) -> Result<bool, 
 #[derive(Drop)]
 struct Values {
     reader: Reader,
-    has_type: bool,
+    well: bool,
     count: u64,
     kept: Vec<Value>,
 }
@@ -127,7 +126,7 @@ impl Values {
     {
         Values {
             reader: Reader::new(alloc, limit),
-            has_type: true,
+            well: true,
             count: 0,
             kept: Vec::new(alloc),
         }
@@ -139,29 +138,29 @@ impl Values {
         ensures { MatchBool result (IsFull work.entry self.now.count) (MayTake work.entry self.now.count) }
     {
         match work {
-            Work::Check(..) => false,
+            Work::Say(..) => false,
             Work::Compare(_) => self.count == 2,
         }
     }
 
-    /// Puts the line of the value that the reader has whole. A new reader waits for the next one, in the memory of this one.
+    /// Puts what is said of the value that the reader has whole. A new reader waits for the next one, in the memory of this one.
     fn put_line<K: Sink>(
         &mut self,
         alloc: Global,
-        requested: &Requested,
+        speech: Speech<'_>,
         limit: u64,
         out: &mut K,
     ) -> Result<(), Halt>
-        requires { (taken : List ℕ) × (said : List Said) × IsValueRead (works.Check requested limit) taken said self.old × (length taken < 2 ^ 64) }
-        ensures { (taken : List ℕ) (said : List Said) → IsValueRead (works.Check requested.entry limit) taken said self.old →
-            PutsNext (works.Check requested.entry limit) taken said (change (K.state out.old) (K.state out.new)) self.new result }
+        requires { (taken : List ℕ) × (said : List Said) × IsValueRead (works.Say speech limit) taken said self.old × (length taken < 2 ^ 64) }
+        ensures { (taken : List ℕ) (said : List Said) → IsValueRead (works.Say speech.entry limit) taken said self.old →
+            PutsNext (works.Say speech.entry limit) taken said (change (K.state out.old) (K.state out.new)) self.new result }
     {
         let reader = mem::replace(&mut self.reader, Reader::new(alloc, limit));
         let value = reader.finish();
-        let line = verdict_line(alloc, &value.heap, value.root, requested)?;
+        let line = line_of(alloc, &value.heap, value.root, speech)?;
         put_all(out, line.text.as_slice())?;
         self.reader = Reader::over(alloc, limit, value.heap);
-        self.has_type &= line.has_type;
+        self.well &= line.well;
         self.count += 1;
         Ok(())
     }
@@ -184,7 +183,7 @@ impl Values {
             PutsNext work.entry taken said (change (K.state out.old) (K.state out.new)) self.new result }
     {
         match work {
-            Work::Check(requested, limit) => self.put_line(alloc, requested, limit, out),
+            Work::Say(speech, limit) => self.put_line(alloc, speech, limit, out),
             Work::Compare(limit) => Ok(self.keep_value(alloc, limit)?),
         }
     }
@@ -246,7 +245,7 @@ impl Values {
     {
         match self.reader.at_end() {
             Ok(()) => match work {
-                Work::Check(..) => Ok(self.has_type),
+                Work::Say(..) => Ok(self.well),
                 Work::Compare(_) => compare(alloc, self.kept.as_slice(), out),
             },
             Err(Truncated { taken }) => Err(Halt::Stop(Stop::Cut(self.count, taken))),

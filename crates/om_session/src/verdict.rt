@@ -1,51 +1,100 @@
-//! The line of a verdict.
+//! What is said of a value.
 
 ghost use Rattle.std.specs.Prelude.{◌≡◌, ◌++◌, length, OnOk, IfOk};
 ghost use Rattle.om_model.specs.Graph.{IsValue};
-ghost use Rattle.om_session.specs.Language.{SaysLine};
+ghost use Rattle.om_types.specs.Typing.{HasType};
+ghost use Rattle.om_types.specs.Table.{table_shapes};
+ghost use Rattle.om_type_table.specs.Made.{table_of};
 ghost use Rattle.om_session.specs.Types.{type_over, IsReady};
-ghost use Rattle.om_session.specs.Verdict.{IsVerdictOf, PutsVerdict, is_yes};
+ghost use Rattle.om_session.specs.Verdict.{IsReadySpeech, IsVerdictOf, IsSaidOf, PutsLine, saying_of};
+ghost use Rattle.om_session.specs.declared.verdict.Speech.TheVariants as speeches;
+ghost use Rattle.om_check.specs.declared.verdict.Verdict.TheVariants.{No};
+ghost use Rattle.om_outcome.specs.Outcome.{Saying as AnySaying, the_part};
 
 use crate::put::put;
 use crate::types::Requested;
 use om_check::{Steps, Verdict, check};
 use om_equal::table::tables_have_the_faults;
-use om_fault::fault_text;
 use om_fault::laws::texts_are_of_types;
+use om_fault::{fault_text, walk};
 use om_heap::Heap;
 use om_model::Memory;
 use om_model::list::List;
+use om_model::path::Path;
 use om_model::value::Val;
+use om_print::{put_dump, put_shown_at};
+use om_show::laws::roots_show_alike;
 use om_table::tables_decide;
 use om_type_table::laws::tables_are_lawful;
+use om_types::fault::Fault;
 use std::alloc::Global;
 
-/// The line of a verdict with its line feed, and whether the value has the type.
+/// What is told of a value that has a type: that it has it, its text, or the text of the part at a path.
+#[derive(Clone, Copy)]
+pub enum Saying<'a> {
+    Verdict,
+    Text,
+    Part(&'a Path),
+}
+
+/// What is said of a value: something at a type, or its lines as it is.
+#[derive(Clone, Copy)]
+pub enum Speech<'a> {
+    Tell(&'a Requested, Saying<'a>),
+    Dump,
+}
+
+/// What is said with its line feeds, and whether nothing is wrong with the value.
 #[derive(Drop)]
 pub struct Line {
     pub text: List<u8>,
-    pub has_type: bool,
+    pub well: bool,
+}
+
+/// What is said of a value.
+pub fn line_of(alloc: Global, heap: &Heap, root: Val, speech: Speech<'_>) -> Result<Line, Memory>
+    requires value { IsValue (length heap.now) root }
+    requires ready { IsReadySpeech speech }
+    ensures { IfOk result (λ line. IsSaidOf speech.entry heap.now root line.text line.well) }
+{
+    match speech {
+        Speech::Tell(requested, saying) => told_line(alloc, heap, root, requested, saying),
+        Speech::Dump => dumped_lines(alloc, heap, root),
+    }
+}
+
+/// The lines of a value as it is.
+fn dumped_lines(alloc: Global, heap: &Heap, root: Val) -> Result<Line, Memory>
+    requires value { IsValue (length heap.now) root }
+    ensures { IfOk result (λ line. IsSaidOf speeches.Dump heap.now root line.text line.well) }
+{
+    let mut text = Vec::new(alloc);
+    put_dump(&mut text, heap, root)?;
+    Ok(Line {
+        text: List::of(text),
+        well: true,
+    })
 }
 
 /// Checks a value against a type, and says what comes of that.
-pub fn verdict_line(
+fn told_line(
     alloc: Global,
     heap: &Heap,
     root: Val,
     requested: &Requested,
+    saying: Saying<'_>,
 ) -> Result<Line, Memory>
     requires value { IsValue (length heap.now) root }
     requires ready { IsReady requested.now }
-    ensures { IfOk result (λ line. SaysLine (type_over requested.now) heap.now root line.text line.has_type) }
+    ensures { IfOk result (λ line. IsSaidOf (speeches.Tell requested.entry saying.entry) heap.now root line.text line.well) }
 {
     let verdict = find_verdict(alloc, heap, root, requested)?;
     let mut text = Vec::new(alloc);
-    put_verdict(&mut text, alloc, heap, root, requested, &verdict)?;
+    let well = put_line(&mut text, alloc, heap, root, requested, saying, &verdict)?;
     put(&mut text, b"\n")?;
-    let has_type = matches!(verdict, Verdict::Yes(_));
     Ok(Line {
         text: List::of(text),
-        has_type,
+        well,
     })
 }
 
@@ -65,30 +114,107 @@ fn find_verdict(
     check(alloc, heap, root, &requested.table, &mut steps)
 }
 
-/// Puts the line of a verdict at the end: `yes`, or `no` and the fault.
-fn put_verdict(
+/// Puts what is told of a value of this verdict at the end, and answers whether nothing is wrong with it: `no` and the
+/// fault where it has not the type.
+fn put_line(
     text: &mut Vec<u8>,
     alloc: Global,
     heap: &Heap,
     root: Val,
     requested: &Requested,
+    saying: Saying<'_>,
     verdict: &Verdict,
-) -> Result<(), Memory>
+) -> Result<bool, Memory>
     requires value { IsValue (length heap.now) root }
     requires ready { IsReady requested.now }
     requires verdict { IsVerdictOf requested.now heap.now root verdict.now }
-    ensures { OnOk result (PutsVerdict (type_over requested.now) heap.now root verdict.now text.old.items text.new.items) }
+    ensures { IfOk result (PutsLine (saying_of saying.entry) (type_over requested.now) heap.now root text.old.items text.new.items) }
+{
+    match verdict {
+        Verdict::Yes(_) => put_told(text, alloc, heap, root, requested, saying),
+        Verdict::No(fault) => put_no(text, alloc, heap, root, requested, fault),
+    }
+}
+
+/// Puts `no` and the least fault at the end.
+fn put_no(
+    text: &mut Vec<u8>,
+    alloc: Global,
+    heap: &Heap,
+    root: Val,
+    requested: &Requested,
+    fault: &Fault,
+) -> Result<bool, Memory>
+    requires value { IsValue (length heap.now) root }
+    requires ready { IsReady requested.now }
+    requires least { IsVerdictOf requested.now heap.now root (No fault.now) }
+    ensures { (saying : AnySaying) → IfOk result (PutsLine saying (type_over requested.now) heap.now root text.old.items text.new.items) }
 {
     tables_are_lawful();
     tables_decide();
     tables_have_the_faults();
     texts_are_of_types();
-    match verdict {
-        Verdict::Yes(_) => put(text, b"yes"),
-        Verdict::No(fault) => {
-            let why = fault_text(alloc, heap, root, &requested.table, fault)?;
-            put(text, b"no ")?;
-            put(text, why.as_slice())
+    let why = fault_text(alloc, heap, root, &requested.table, fault)?;
+    put(text, b"no ")?;
+    put(text, why.as_slice())?;
+    Ok(false)
+}
+
+/// Puts what is told of a value that has the type at the end, and answers whether nothing is wrong with it.
+fn put_told(
+    text: &mut Vec<u8>,
+    alloc: Global,
+    heap: &Heap,
+    root: Val,
+    requested: &Requested,
+    saying: Saying<'_>,
+) -> Result<bool, Memory>
+    requires value { IsValue (length heap.now) root }
+    requires ready { IsReady requested.now }
+    requires typed { HasType (table_shapes (table_of requested.now.table)) heap.now root 0 }
+    ensures { IfOk result (PutsLine (saying_of saying.entry) (type_over requested.now) heap.now root text.old.items text.new.items) }
+{
+    tables_decide();
+    tables_are_lawful();
+    roots_show_alike();
+    match saying {
+        Saying::Verdict => {
+            put(text, b"yes")?;
+            Ok(true)
+        }
+        Saying::Text => {
+            put_shown_at(text, alloc, heap, root, &requested.table, 0)?;
+            Ok(true)
+        }
+        Saying::Part(path) => put_part(text, alloc, heap, root, requested, path),
+    }
+}
+
+/// Puts the text of the part at a path at the end, or `none` where it leads nowhere; and answers whether it leads anywhere.
+fn put_part(
+    text: &mut Vec<u8>,
+    alloc: Global,
+    heap: &Heap,
+    root: Val,
+    requested: &Requested,
+    path: &Path,
+) -> Result<bool, Memory>
+    requires value { IsValue (length heap.now) root }
+    requires ready { IsReady requested.now }
+    requires typed { HasType (table_shapes (table_of requested.now.table)) heap.now root 0 }
+    ensures { IfOk result (PutsLine (the_part path.now) (type_over requested.now) heap.now root text.old.items text.new.items) }
+{
+    tables_decide();
+    tables_are_lawful();
+    roots_show_alike();
+    match walk(heap, root, &requested.table, path) {
+        Some((value, at)) => {
+            put_shown_at(text, alloc, heap, value, &requested.table, at)?;
+            Ok(true)
+        }
+        None => {
+            put(text, b"none")?;
+            Ok(false)
         }
     }
 }

@@ -1,6 +1,6 @@
 use Rattle.om_edge.specs.State.{change}
 use Rattle.om_command_line.specs.Requests.{texts}
-use Rattle.om_session.proofs.AccountLemmas.{usage_account, unread_account, compare_account}
+use Rattle.om_session.proofs.AccountLemmas.{usage_account, unread_account}
 use Rattle.om_session.proofs.top.run_command.Goals as goal
 
 pub returns-in-Err-Usage : goal.returns-in-Err-Usage
@@ -16,10 +16,3 @@ returns-in-Err-Memory g c =
     (g.K.Sink.state c.args.out.now)
     (g.O.Opener.state c.args.files.now)
     (change (g.E.Sink.state c.args.err.now) (g.E.Sink.state c.report_stop-in-Err-Memory.new.err)) c.report_stop-in-Err-Memory.result c.report_stop-in-Err-Memory.ensures
-
-pub returns-in-Ok-Same : goal.returns-in-Ok-Same
-returns-in-Ok-Same g c =
-    compare_account (texts c.args.words.now) c.in-Ok-Same.limit (rw c.in-Ok-Same.field-0-is at c.in-Ok-Same.ensures) (g.O.Opener.state c.args.files.now)
-    (change (g.S.Source.state c.args.input.now) (g.S.Source.state c.take_values.new.input))
-    (change (g.K.Sink.state c.args.out.now) (g.K.Sink.state c.take_values.new.out))
-    (change (g.E.Sink.state c.args.err.now) (g.E.Sink.state c.take_values.new.err)) c.take_values.result c.take_values.ensures

@@ -1,14 +1,14 @@
 use Rattle.std.specs.Borrow.{Bor}
 use Rattle.om_edge.specs.State.{change}
 use Rattle.om_session.specs.declared.types.Requested.{Requested}
-use Rattle.om_session.proofs.AccountLemmas.{type_account, check_account}
-use Rattle.om_session.proofs.top.check.Goals as goal
+use Rattle.om_session.proofs.AccountLemmas.{type_account, told_account}
+use Rattle.om_session.proofs.top.tell.Goals as goal
 
 pub returns-in-Ok : goal.returns-in-Ok
 returns-in-Ok g c = λ words asks.
     let found = c.in-Ok.ensures in
     let lent : Bor Requested = record { ref_ptr = (0, 0); now = c.in-Ok.requested } in
-    check_account words c.args.file.now c.args.type_text.now c.args.limit asks
+    told_account words c.args.file.now c.args.type_text.now c.args.saying c.args.limit asks
     (change (g.O.Opener.state c.args.files.now) (g.O.Opener.state c.find_type.new.files))
     found.0 found.1 lent found.2
     (change (g.S.Source.state c.args.input.now) (g.S.Source.state c.take_values.new.input))
@@ -18,7 +18,7 @@ returns-in-Ok g c = λ words asks.
 pub returns-in-Err : goal.returns-in-Err
 returns-in-Err g c = λ words asks.
     let found = c.in-Err.ensures in
-    type_account words c.args.file.now c.args.type_text.now c.args.limit asks
+    type_account words c.args.file.now c.args.type_text.now c.args.saying c.args.limit asks
     (change (g.O.Opener.state c.args.files.now) (g.O.Opener.state c.find_type.new.files))
     found.0 found.1 c.in-Err.stop found.2
     (g.S.Source.state c.args.input.now) (g.K.Sink.state c.args.out.now)

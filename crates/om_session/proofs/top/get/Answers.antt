@@ -1,0 +1,25 @@
+use Rattle.std.proofs.Common.{Ok, Err, refl, subst}
+use Rattle.om_outcome.specs.Outcome.{get}
+use Rattle.om_edge.specs.State.{change}
+use Rattle.om_path.specs.Answer.{IsAnswer, UnlessMemory}
+use Rattle.om_session.proofs.AccountLemmas.{path_account}
+use Rattle.om_session.proofs.top.get.Goals as goal
+
+pub returns-in-Ok : goal.returns-in-Ok
+returns-in-Ok g c = λ words asks.
+    let reads = subst (λ text. IsAnswer text (Ok c.in-Ok.path)) c.as_bytes.ensures.value c.in-Ok.ensures.path in
+    c.tell.ensures words (record {
+      request = get c.args.file.now c.args.type_text.now c.args.path_text.now c.args.limit;
+      asks = asks;
+      typed = refl;
+      limited = refl;
+      has_path = (c.in-Ok.path, reads);
+      finds = λ file result h. (Ok c.in-Ok.path, reads, h);
+    })
+
+pub returns-in-Err : goal.returns-in-Err
+returns-in-Err g c = λ words asks.
+    path_account words c.args.file.now c.args.type_text.now c.args.path_text.now c.args.limit asks c.in-Err.fault
+    (subst (λ text. UnlessMemory (λ f. IsAnswer text (Err f)) c.in-Err.fault) c.as_bytes.ensures.value c.in-Err.ensures.fault) c.path_stop.result c.path_stop.ensures
+    (g.S.Source.state c.args.input.now) (g.K.Sink.state c.args.out.now) (g.O.Opener.state c.args.files.now)
+    (change (g.E.Sink.state c.args.err.now) (g.E.Sink.state c.report_stop.new.err)) c.report_stop.result c.report_stop.ensures
