@@ -1,0 +1,6 @@
+pub mod LiteralFronts
+pub mod LiteralGoes
+pub mod LiteralTable
+pub mod FollowCode
+pub mod ReadLemmas
+pub mod RangeLemmas

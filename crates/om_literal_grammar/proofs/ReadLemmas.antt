@@ -1,0 +1,151 @@
+-- What the code has reached at a lexeme, and what follows at the end.
+use Rattle.std.proofs.Common.{ℕ, zero, suc, ◌^◌, ◌≡◌, ◌∙◌, ◌<◌, List, [], ◌∷◌, ◌++◌, length, take, get_or, Option, Some, None, refl, sym, ap, subst, ⊎_elim, arith, append_assoc, append-nil}
+use Rattle.std.specs.Prelude.{Bool, true, false, if◌then◌else◌, Result, Ok, Err, IfOk, IfErr, IfSome, option_map, option_and_then}
+use Rattle.om_lex.specs.declared.lexeme.Lexeme.{Lexeme}
+use Rattle.om_grammar.specs.Grammar.{Kinds}
+use Rattle.om_grammar.specs.Refusals.{IsSyntax}
+use Rattle.om_grammar.specs.Machine.{run}
+use Rattle.om_grammar.proofs.TableLemmas.{taken, take_whole, run_more, is_syntax_at, syntax_end, text_is_read, one_text}
+use Rattle.om_grammar.proofs.LawLemmas.{text_or_syntax, no_syntax}
+use Rattle.om_literal_grammar.specs.declared.node.Node.{Node}
+use Rattle.om_literal_grammar.specs.declared.node.TreeFault.{TreeFault}
+use Rattle.om_literal_grammar.specs.declared.node.TreeFault.TheVariants as faults
+use Rattle.om_literal_grammar.specs.declared.open.Open.{Open}
+use Rattle.om_literal_grammar.specs.declared.open.Stage.{Stage}
+use Rattle.om_literal_grammar.specs.declared.open.Stage.TheVariants as stages
+use Rattle.om_literal_grammar.specs.Literal.{Literal, literal_kinds}
+use Rattle.om_literal_grammar.specs.Machine.{due, hash_read, number_read, plain_due, bracket_read, head_read, field_due, name_read, whole, State, at, start, step, accepted, front}
+use Rattle.om_literal_grammar.specs.Nodes.{kinds_of, literal_nodes, IsTreeOf, IsTreeFault, GivesTree, GivesSyntax}
+use Rattle.om_literal_grammar.specs.Code.{Code, code, step_code, end_code, Steps}
+use Rattle.om_literal_grammar.proofs.LiteralFronts.{step_fronts}
+use Rattle.om_literal_grammar.proofs.LiteralTable.{literal_table}
+use Rattle.om_literal_grammar.proofs.FollowCode.{code_of, coded, step_follows}
+
+kinds_length : (lexemes : List Lexeme) → length (kinds_of lexemes) ≡ length lexemes
+kinds_length [] = refl
+kinds_length (l ∷ rest) = ap suc (kinds_length rest)
+
+kinds_next : (lexemes : List Lexeme) (place : ℕ) (l : Lexeme) → place < length lexemes → l ≡ get_or lexemes place l →
+    take (suc place) (kinds_of lexemes) ≡ take place (kinds_of lexemes) ++ l.kind ∷ []
+kinds_next [] place l h e = absurd (omega arith)
+kinds_next (m ∷ rest) zero l h e = ap (λ (x : Lexeme). x.kind ∷ []) (sym e)
+kinds_next (m ∷ rest) (suc place) l h e = ap (λ ks. m.kind ∷ ks) (kinds_next rest place l (omega arith) e)
+
+run_front : (xs : Kinds) (s t : State) → run step s xs ≡ Some t → front t ≡ front s ++ xs
+run_front [] s t h = let e : s ≡ t = cc in ap front (sym e) ∙ sym (append-nil (front s))
+run_front (kind ∷ rest) s t h = onward (step s kind) (step_fronts s kind) (λ n. run_front rest n t) h
+  where
+    onward : (next : Option State) → IfSome next (λ n. front n ≡ front s ++ kind ∷ []) → ((n : State) → run step n rest ≡ Some t → front t ≡ front n ++ rest) →
+        option_and_then (λ n. run step n rest) next ≡ Some t → front t ≡ front s ++ kind ∷ rest
+    onward None a f e = absurd (cc)
+    onward (Some n) a f e = f n e ∙ ap (λ xs. xs ++ rest) a ∙ append_assoc (front s) (kind ∷ []) rest
+
+from_map : {X Y : Type 0} (f : X → Y) (o : Option X) (y : Y) → option_map f o ≡ Some y → (x : X) × (o ≡ Some x) × (f x ≡ y)
+from_map f None y h = absurd (cc)
+from_map f (Some x) y h = let e : f x ≡ y = cc in (x, refl, e)
+
+none_map : {X Y : Type 0} (f : X → Y) (o : Option X) → option_map f o ≡ None → o ≡ None
+none_map f None h = refl
+none_map f (Some x) h = absurd (cc)
+
+-- the lexemes up to a place lead to a state of which the code has the nodes, the brackets and the stage
+abbrev pub Reached : List Lexeme → ℕ → List Node → List Open → Stage → Type 0
+Reached lexemes place ns os stage = (s : State) × (run step start (take place (kinds_of lexemes)) ≡ Some s) × (code_of s ≡ code ns os stage)
+
+pub begins : (lexemes : List Lexeme) (ns : List Node) (os : List Open) → ns ≡ [] → os ≡ [] → Reached lexemes 0 ns os stages.Due
+begins lexemes ns os h i = (start, refl, ap (λ x. code x [] stages.Due) (sym h) ∙ ap (λ x. code ns x stages.Due) (sym i))
+
+abbrev end_of : Code → Option (List Node)
+end_of (code ns os stage) = end_code ns os stage
+
+end_follows : (s : State) → end_of (code_of s) ≡ option_map (literal_nodes 0) (accepted s)
+end_follows (at [] due) = refl
+end_follows (at [] hash_read) = refl
+end_follows (at [] (number_read n)) = refl
+end_follows (at [] (plain_due n)) = refl
+end_follows (at [] (bracket_read l)) = refl
+end_follows (at [] (head_read l h)) = refl
+end_follows (at [] (field_due l o rs)) = refl
+end_follows (at [] (name_read l o rs x)) = refl
+end_follows (at [] (whole v)) = refl
+end_follows (at (f ∷ fs) phase) = refl
+
+module _ (lexemes : List Lexeme) (place : ℕ) (ns : List Node) (os : List Open) (stage : Stage) (reached : Reached lexemes place ns os stage) where
+  module _ (l : Lexeme) (within : place < length lexemes) (size : length lexemes < 2 ^ 64) (is : l ≡ get_or lexemes place l) where
+    place_is : length (front reached.0) ≡ place
+    place_is = ap length (run_front (take place (kinds_of lexemes)) start reached.0 reached.1)
+        ∙ taken (kinds_of lexemes) place (omega (arith, kinds_length lexemes))
+
+    follows : step_code ns os stage place l.kind ≡ option_map code_of (step reached.0 l.kind)
+    follows =
+        ap (λ c. coded c place l.kind) (sym reached.2) ∙ ap (λ n. coded (code_of reached.0) n l.kind) (sym place_is)
+        ∙ step_follows reached.0 l.kind (omega (arith, place_is))
+
+    reads_on : (ms : List Node) (ps : List Open) (next : Stage) → step_code ns os stage place l.kind ≡ Some (code ms ps next) → Reached lexemes (suc place) ms ps next
+    reads_on ms ps next h =
+        let n = from_map code_of (step reached.0 l.kind) (code ms ps next) (sym follows ∙ h) in (
+          n.0,
+          ap (run step start) (kinds_next lexemes place l within is)
+              ∙ run_more step (take place (kinds_of lexemes)) start reached.0 (Some n.0) l.kind reached.1 n.1,
+          n.2,
+        )
+
+    stops : step_code ns os stage place l.kind ≡ None → IsSyntax literal_kinds (kinds_of lexemes) place
+    stops h =
+        is_syntax_at literal_table (kinds_of lexemes) place l.kind reached.0 (omega (arith, kinds_length lexemes))
+        (kinds_next lexemes place l within is) reached.1 (none_map code_of (step reached.0 l.kind) (sym follows ∙ h))
+
+    pub goes_at : (ms : List Node) (ps : List Open) (o : Option Stage) (next : Stage) → Steps (Ok o) ms ps (step_code ns os stage place l.kind) → o ≡ Some next → Reached lexemes (suc place) ms ps next
+    goes_at ms ps None next h e = absurd (cc)
+    goes_at ms ps (Some other) next h e = reads_on ms ps next (let same : other ≡ next = cc in h ∙ ap (λ (k : Stage). Some (code ms ps k)) same)
+
+    pub stops_at : (ms : List Node) (ps : List Open) (o : Option Stage) → Steps (Ok o) ms ps (step_code ns os stage place l.kind) → o ≡ None → IsSyntax literal_kinds (kinds_of lexemes) place
+    stops_at ms ps None h e = stops h
+    stops_at ms ps (Some other) h e = absurd (cc)
+
+  module _ (all : place ≡ length lexemes) where
+    run_whole : run step start (kinds_of lexemes) ≡ Some reached.0
+    run_whole =
+        let here : place ≡ length (kinds_of lexemes) = all ∙ sym (kinds_length lexemes) in
+        let everything : take place (kinds_of lexemes) ≡ kinds_of lexemes = ap (λ n. take n (kinds_of lexemes)) here ∙ take_whole (kinds_of lexemes) in
+        sym (ap (run step start) everything) ∙ reached.1
+
+    ending : end_code ns os stage ≡ option_map (literal_nodes 0) (accepted reached.0)
+    ending = ap end_of (sym reached.2) ∙ end_follows reached.0
+
+    is_tree : (ms : List Node) → end_code ns os stage ≡ Some ms → IsTreeOf lexemes ms
+    is_tree ms h =
+        let v = from_map (literal_nodes 0) (accepted reached.0) ms (sym ending ∙ h) in
+        (v.0, text_is_read literal_table v.0 reached.0 (kinds_of lexemes) run_whole v.1, sym v.2)
+
+    ends_early : end_code ns os stage ≡ None → IsSyntax literal_kinds (kinds_of lexemes) (length lexemes)
+    ends_early h =
+        subst (IsSyntax literal_kinds (kinds_of lexemes)) (kinds_length lexemes)
+        (syntax_end literal_table (kinds_of lexemes) reached.0 run_whole (none_map (literal_nodes 0) (accepted reached.0) (sym ending ∙ h)))
+
+    pub is_tree_where : (ends : Bool) (ms result : List Node) → end_code ns os stage ≡ (if ends then Some ms else None) → ends ≡ true → result ≡ ms → IsTreeOf lexemes result
+    is_tree_where ends ms result h e same = is_tree result (h ∙ ap (λ b. if b then Some ms else None) e ∙ ap Some (sym same))
+
+    pub ends_early_where : (ends : Bool) (ms : List Node) → end_code ns os stage ≡ (if ends then Some ms else None) → ends ≡ false → IsSyntax literal_kinds (kinds_of lexemes) (length lexemes)
+    ends_early_where ends ms h e = ends_early (h ∙ ap (λ b. if b then Some ms else None) e)
+
+-- ---- one answer
+
+module _ (lexemes : List Lexeme) where
+  pub gives_tree : (result : Result (List Node) TreeFault) → IfOk result (IsTreeOf lexemes) → IfErr result (IsTreeFault lexemes) →
+      (v : Literal) → literal_kinds v ≡ kinds_of lexemes → GivesTree (literal_nodes 0 v) result
+  gives_tree (Ok all) p f v e = p.2 ∙ ap (literal_nodes 0) (one_text literal_table p.0 v (p.1 ∙ sym e))
+  gives_tree (Err (faults.Syntax k)) p f v e = no_syntax literal_table v k (subst (λ all. IsSyntax literal_kinds all k) (sym e) f)
+  gives_tree (Err faults.Memory) p f v e = tt
+
+  one_place : (j k : ℕ) → IsSyntax literal_kinds (kinds_of lexemes) j → IsSyntax literal_kinds (kinds_of lexemes) k → j ≡ k
+  one_place j k a b = ⊎_elim
+      (λ (v, e). absurd (no_syntax literal_table v j (subst (λ all. IsSyntax literal_kinds all j) (sym e) a)))
+      (λ (n, s, alone). alone j a ∙ sym (alone k b))
+      (text_or_syntax literal_table (kinds_of lexemes))
+
+  pub gives_syntax : (result : Result (List Node) TreeFault) → IfOk result (IsTreeOf lexemes) → IfErr result (IsTreeFault lexemes) →
+      (k : ℕ) → IsSyntax literal_kinds (kinds_of lexemes) k → GivesSyntax k result
+  gives_syntax (Ok all) p f k s = no_syntax literal_table p.0 k (subst (λ all. IsSyntax literal_kinds all k) (sym p.1) s)
+  gives_syntax (Err (faults.Syntax j)) p f k s = one_place j k f s
+  gives_syntax (Err faults.Memory) p f k s = tt

@@ -1,0 +1,15 @@
+//! The grammar of literals, that is of values as texts, and a table that reads it one lexeme at a time.
+#![tactic(auto)]
+
+mod laws;
+mod node;
+mod open;
+mod read;
+mod step;
+
+pub use laws::{firsts_in_range, literal_or_syntax, one_literal, worked_literals};
+pub use node::{Form, Node, Tree, TreeFault};
+pub use read::read_literal_tree;
+
+#[cfg(test)]
+mod tests;

@@ -1,0 +1,83 @@
+//! A literal as a row of nodes, and why lexemes are none.
+
+ghost use Rattle.std.specs.Prelude.{◌≡◌};
+ghost use Rattle.om_literal_grammar.specs.declared.node.TreeFault.TheVariants as faults;
+
+use om_model::Memory;
+use std::marker::Model;
+
+/// What a node is. Its own lexemes say with which value.
+#[derive(Clone, Copy, Debug, PartialEq, Eq)]
+pub enum Form {
+    Integer,
+    Character,
+    Text,
+    Double,
+    Truth,
+    Unit,
+    /// A name, alone or with arguments.
+    Named,
+    /// Fields, with a name in front or without one.
+    Fields,
+    Tuple,
+    Array,
+    /// The use of a label.
+    Again,
+}
+
+/// A node: its form, its label or the one that it uses, the number of its first lexeme, and how many parts it has.
+#[derive(Clone, Copy, Debug, PartialEq, Eq)]
+pub struct Node {
+    pub form: Form,
+    pub label: Option<u64>,
+    pub first: usize,
+    pub parts: usize,
+}
+
+/// The nodes of a literal, each before its parts.
+#[derive(Drop)]
+pub struct Tree {
+    nodes: Vec<Node>,
+}
+
+impl Model for Tree {
+    ghost use Rattle.std.specs.Prelude.{List};
+    ghost use Rattle.om_literal_grammar.specs.declared.node.Node.{Node};
+
+    ghost Value = { List Node };
+
+    ghost view = { λ t. t.nodes.items };
+}
+
+impl Tree {
+    /// The tree of these nodes.
+    pub(crate) fn of(nodes: Vec<Node>) -> Tree
+        ensures { result ≡ nodes.items }
+    {
+        Tree { nodes }
+    }
+
+    /// The nodes, lent.
+    pub fn as_slice(&self) -> &[Node]
+        ensures { result.now ≡ self.now }
+    {
+        self.nodes.as_slice()
+    }
+}
+
+/// Why lexemes are no literal.
+#[derive(Clone, Copy, Debug, PartialEq, Eq)]
+pub enum TreeFault {
+    /// The number of the first lexeme at which no literal goes on, or how many there are.
+    Syntax(usize),
+    /// Out of memory.
+    Memory,
+}
+
+impl From<Memory> for TreeFault {
+    ghost from_gives = { λ _ e. e ≡ faults.Memory };
+
+    fn from(_e: Memory) -> TreeFault {
+        TreeFault::Memory
+    }
+}

@@ -1,0 +1,546 @@
+//! What a lexeme does to a literal that is being read. The answer is what was read then, or none where no literal goes on.
+
+ghost use Rattle.std.specs.Prelude.{◌≡◌, ◌++◌, ◌∷◌, [], List, length, Option, Some, None, slice_set, if◌then◌else◌, IfOk};
+ghost use Rattle.om_literal_grammar.specs.declared.node.Node.{Node};
+ghost use Rattle.om_literal_grammar.specs.declared.node.Form.TheVariants as forms;
+ghost use Rattle.om_literal_grammar.specs.Machine.{number_of};
+ghost use Rattle.om_literal_grammar.specs.Code.{bare_node, next_number, with_part, with_form, word_form, form_of, head_stage, entered, begin_plain_code, is_unit, is_empty_array, close_unit_code, close_empty_code, begin_code, next_code, shut_code, shut_tuple_code, close_arguments_code, close_parens_code, close_array_code, close_fields_code, close_code, take_number_code, after_number_code, after_bracket_code, after_head_code, take_name_code, take_equals_code, step_code, end_code, Steps, code};
+
+use crate::node::{Form, Node};
+use crate::open::{Bracket, Open, Opens, Stage};
+use om_lex::lexeme::{Integer, LexemeKind, Suffix, Symbol};
+use om_model::Memory;
+
+/// The number that a lexeme is, where it has no sign and no suffix.
+fn number_of(kind: &LexemeKind) -> Option<u64>
+    ensures { result ≡ number_of kind.now }
+{
+    let LexemeKind::Integer(integer) = kind else {
+        return None;
+    };
+    let Integer {
+        minus,
+        value,
+        suffix,
+    } = *integer;
+    match suffix {
+        Suffix::Absent => {
+            if minus || value < 0 {
+                None
+            } else {
+                Some(value as u64)
+            }
+        }
+        _ => None,
+    }
+}
+
+/// The form that a word begins.
+fn word_form(word: &[u8]) -> Option<Form>
+    ensures { result ≡ word_form word.now }
+{
+    if word == b"true".as_slice() {
+        Some(Form::Truth)
+    } else if word == b"false".as_slice() {
+        Some(Form::Truth)
+    } else if word == b"ref".as_slice() {
+        Some(Form::Named)
+    } else {
+        None
+    }
+}
+
+/// The form that a lexeme begins.
+fn form_of(kind: &LexemeKind) -> Option<Form>
+    ensures { result ≡ form_of kind.now }
+{
+    match kind {
+        LexemeKind::Integer(_) => Some(Form::Integer),
+        LexemeKind::Character(_) => Some(Form::Character),
+        LexemeKind::Text(_) => Some(Form::Text),
+        LexemeKind::Double(_) => Some(Form::Double),
+        LexemeKind::Lower(word) => word_form(word.as_slice()),
+        LexemeKind::Upper(_) => Some(Form::Named),
+        LexemeKind::Tag(_) => Some(Form::Named),
+        LexemeKind::Symbol(Symbol::DoubleColon) => Some(Form::Named),
+        LexemeKind::Symbol(Symbol::OpenBracket) => Some(Form::Named),
+        LexemeKind::Symbol(Symbol::OpenParen) => Some(Form::Unit),
+        LexemeKind::Symbol(Symbol::OpenArray) => Some(Form::Array),
+        LexemeKind::Symbol(Symbol::OpenBrace) => Some(Form::Fields),
+        _ => None,
+    }
+}
+
+/// Adds a node, and answers its number.
+fn add(nodes: &mut Vec<Node>, node: Node) -> Result<usize, Memory>
+    ensures number { IfOk result (λ n. n ≡ length nodes.old.items) }
+    ensures added { IfOk result (λ _. nodes.new.items ≡ nodes.old.items ++ node ∷ []) }
+{
+    let number = nodes.len();
+    nodes.push(node)?;
+    Ok(number)
+}
+
+/// One more, up to the greatest number.
+fn next_number(n: usize) -> usize
+    ensures { result ≡ next_number n }
+{
+    if n < usize::MAX { n + 1 } else { n }
+}
+
+/// The node with one part more.
+fn with_part(node: Node) -> Node
+    ensures { result ≡ with_part node }
+{
+    Node {
+        form: node.form,
+        label: node.label,
+        first: node.first,
+        parts: next_number(node.parts),
+    }
+}
+
+/// The node in another form.
+fn with_form(form: Form, node: Node) -> Node
+    ensures { result ≡ with_form form node }
+{
+    Node {
+        form,
+        label: node.label,
+        first: node.first,
+        parts: node.parts,
+    }
+}
+
+/// Puts a node in place of another.
+fn set(nodes: &mut Vec<Node>, index: usize, node: Node)
+    ensures { nodes.new.items ≡ slice_set nodes.old.items index node }
+{
+    if index < nodes.len() {
+        nodes[index] = node;
+    }
+}
+
+/// What comes after a name's first lexeme.
+fn head_stage(kind: &LexemeKind, index: usize, node: Node) -> Stage
+    ensures { result ≡ head_stage kind.now index node }
+{
+    match kind {
+        LexemeKind::Symbol(Symbol::OpenBracket) => Stage::Bracket(index, node),
+        _ => Stage::Head(index, node),
+    }
+}
+
+/// Opens what the last node begins.
+fn enter(
+    opens: &mut Opens,
+    kind: &LexemeKind,
+    index: usize,
+    node: Node,
+    form: Form,
+) -> Result<Stage, Memory>
+    ensures { IfOk result (λ stage. (ns : List Node) → code ns opens.new stage ≡ entered ns opens.old kind.now index node form) }
+{
+    match form {
+        Form::Named => Ok(head_stage(kind, index, node)),
+        Form::Unit => {
+            opens.push(Open {
+                bracket: Bracket::Parens,
+                index,
+                node,
+            })?;
+            Ok(Stage::Due)
+        }
+        Form::Array => {
+            opens.push(Open {
+                bracket: Bracket::Array,
+                index,
+                node,
+            })?;
+            Ok(Stage::Due)
+        }
+        Form::Fields => Ok(Stage::FieldDue(index, node)),
+        _ => Ok(Stage::Whole),
+    }
+}
+
+/// Begins a literal behind its label, if it has one.
+fn begin_plain(
+    nodes: &mut Vec<Node>,
+    opens: &mut Opens,
+    first: usize,
+    label: Option<u64>,
+    kind: &LexemeKind,
+) -> Result<Option<Stage>, Memory>
+    ensures { Steps result nodes.new.items opens.new (begin_plain_code nodes.old.items opens.old first label kind.now) }
+{
+    let Some(form) = form_of(kind) else {
+        return Ok(None);
+    };
+    let node = Node {
+        form,
+        label,
+        first,
+        parts: 0,
+    };
+    let index = add(nodes, node)?;
+    let stage = enter(opens, kind, index, node, form)?;
+    Ok(Some(stage))
+}
+
+fn is_unit(bracket: Bracket, parts: usize) -> bool
+    ensures { result ≡ is_unit bracket parts }
+{
+    match bracket {
+        Bracket::Parens => parts == 0,
+        _ => false,
+    }
+}
+
+fn is_empty_array(bracket: Bracket, parts: usize) -> bool
+    ensures { result ≡ is_empty_array bracket parts }
+{
+    match bracket {
+        Bracket::Array => parts == 0,
+        _ => false,
+    }
+}
+
+/// Parentheses that close without a part.
+fn close_unit(nodes: &mut Vec<Node>, opens: &mut Opens) -> Result<Option<Stage>, Memory>
+    ensures { Steps result nodes.new.items opens.new (close_unit_code nodes.old.items opens.old) }
+{
+    match opens.pop() {
+        None => Ok(None),
+        Some(outer) => {
+            if is_unit(outer.bracket, outer.node.parts) {
+                Ok(Some(Stage::Whole))
+            } else {
+                Ok(None)
+            }
+        }
+    }
+}
+
+/// An array that closes without a part.
+fn close_empty(nodes: &mut Vec<Node>, opens: &mut Opens) -> Result<Option<Stage>, Memory>
+    ensures { Steps result nodes.new.items opens.new (close_empty_code nodes.old.items opens.old) }
+{
+    match opens.pop() {
+        None => Ok(None),
+        Some(outer) => {
+            if is_empty_array(outer.bracket, outer.node.parts) {
+                Ok(Some(Stage::Whole))
+            } else {
+                Ok(None)
+            }
+        }
+    }
+}
+
+/// Begins a literal at lexeme `place`.
+fn begin(
+    nodes: &mut Vec<Node>,
+    opens: &mut Opens,
+    place: usize,
+    kind: &LexemeKind,
+) -> Result<Option<Stage>, Memory>
+    ensures { Steps result nodes.new.items opens.new (begin_code nodes.old.items opens.old place kind.now) }
+{
+    match kind {
+        LexemeKind::Symbol(Symbol::Hash) => Ok(Some(Stage::Hash(place))),
+        LexemeKind::Symbol(Symbol::CloseParen) => close_unit(nodes, opens),
+        LexemeKind::Symbol(Symbol::CloseArray) => close_empty(nodes, opens),
+        _ => begin_plain(nodes, opens, place, None, kind),
+    }
+}
+
+/// A part more is due.
+fn next(nodes: &mut Vec<Node>, opens: &mut Opens, outer: Open) -> Result<Option<Stage>, Memory>
+    ensures { Steps result nodes.new.items opens.new (next_code nodes.old.items opens.old outer) }
+{
+    opens.push(Open {
+        bracket: outer.bracket,
+        index: outer.index,
+        node: with_part(outer.node),
+    })?;
+    Ok(Some(Stage::Due))
+}
+
+/// The last part was read.
+fn shut(nodes: &mut Vec<Node>, opens: &mut Opens, outer: Open) -> Result<Option<Stage>, Memory>
+    ensures { Steps result nodes.new.items opens.new (shut_code nodes.old.items opens.old outer) }
+{
+    set(nodes, outer.index, with_part(outer.node));
+    Ok(Some(Stage::Whole))
+}
+
+/// The last part of a tuple was read.
+fn shut_tuple(
+    nodes: &mut Vec<Node>,
+    opens: &mut Opens,
+    outer: Open,
+) -> Result<Option<Stage>, Memory>
+    ensures { Steps result nodes.new.items opens.new (shut_tuple_code nodes.old.items opens.old outer) }
+{
+    if outer.node.parts == 0 {
+        return Ok(None);
+    }
+    set(
+        nodes,
+        outer.index,
+        with_form(Form::Tuple, with_part(outer.node)),
+    );
+    Ok(Some(Stage::Whole))
+}
+
+fn close_arguments(
+    nodes: &mut Vec<Node>,
+    opens: &mut Opens,
+    outer: Open,
+    kind: &LexemeKind,
+) -> Result<Option<Stage>, Memory>
+    ensures { Steps result nodes.new.items opens.new (close_arguments_code nodes.old.items opens.old outer kind.now) }
+{
+    match kind {
+        LexemeKind::Symbol(Symbol::Comma) => next(nodes, opens, outer),
+        LexemeKind::Symbol(Symbol::CloseParen) => shut(nodes, opens, outer),
+        _ => Ok(None),
+    }
+}
+
+fn close_parens(
+    nodes: &mut Vec<Node>,
+    opens: &mut Opens,
+    outer: Open,
+    kind: &LexemeKind,
+) -> Result<Option<Stage>, Memory>
+    ensures { Steps result nodes.new.items opens.new (close_parens_code nodes.old.items opens.old outer kind.now) }
+{
+    match kind {
+        LexemeKind::Symbol(Symbol::Comma) => next(nodes, opens, outer),
+        LexemeKind::Symbol(Symbol::CloseParen) => shut_tuple(nodes, opens, outer),
+        _ => Ok(None),
+    }
+}
+
+fn close_array(
+    nodes: &mut Vec<Node>,
+    opens: &mut Opens,
+    outer: Open,
+    kind: &LexemeKind,
+) -> Result<Option<Stage>, Memory>
+    ensures { Steps result nodes.new.items opens.new (close_array_code nodes.old.items opens.old outer kind.now) }
+{
+    match kind {
+        LexemeKind::Symbol(Symbol::Semicolon) => next(nodes, opens, outer),
+        LexemeKind::Symbol(Symbol::CloseArray) => shut(nodes, opens, outer),
+        _ => Ok(None),
+    }
+}
+
+fn close_fields(
+    nodes: &mut Vec<Node>,
+    opens: &mut Opens,
+    outer: Open,
+    kind: &LexemeKind,
+) -> Result<Option<Stage>, Memory>
+    ensures { Steps result nodes.new.items opens.new (close_fields_code nodes.old.items opens.old outer kind.now) }
+{
+    match kind {
+        LexemeKind::Symbol(Symbol::Semicolon) => Ok(Some(Stage::FieldDue(
+            outer.index,
+            with_part(outer.node),
+        ))),
+        LexemeKind::Symbol(Symbol::CloseBrace) => shut(nodes, opens, outer),
+        _ => Ok(None),
+    }
+}
+
+/// What comes after a whole literal.
+fn close(
+    nodes: &mut Vec<Node>,
+    opens: &mut Opens,
+    kind: &LexemeKind,
+) -> Result<Option<Stage>, Memory>
+    ensures { Steps result nodes.new.items opens.new (close_code nodes.old.items opens.old kind.now) }
+{
+    match opens.pop() {
+        None => Ok(None),
+        Some(outer) => match outer.bracket {
+            Bracket::Arguments => close_arguments(nodes, opens, outer, kind),
+            Bracket::Parens => close_parens(nodes, opens, outer, kind),
+            Bracket::Array => close_array(nodes, opens, outer, kind),
+            Bracket::Fields => close_fields(nodes, opens, outer, kind),
+        },
+    }
+}
+
+/// What comes after `#` and a number.
+fn after_number(
+    nodes: &mut Vec<Node>,
+    opens: &mut Opens,
+    first: usize,
+    number: u64,
+    kind: &LexemeKind,
+) -> Result<Option<Stage>, Memory>
+    ensures { Steps result nodes.new.items opens.new (after_number_code nodes.old.items opens.old first number kind.now) }
+{
+    match kind {
+        LexemeKind::Symbol(Symbol::Equals) => Ok(Some(Stage::PlainDue(first, number))),
+        _ => {
+            add(nodes, again(first, number))?;
+            close(nodes, opens, kind)
+        }
+    }
+}
+
+/// The use of a label.
+fn again(first: usize, number: u64) -> Node
+    ensures { result ≡ bare_node forms.Again (Some number) first }
+{
+    Node {
+        form: Form::Again,
+        label: Some(number),
+        first,
+        parts: 0,
+    }
+}
+
+/// What comes after a name.
+fn after_head(
+    nodes: &mut Vec<Node>,
+    opens: &mut Opens,
+    index: usize,
+    node: Node,
+    kind: &LexemeKind,
+) -> Result<Option<Stage>, Memory>
+    ensures { Steps result nodes.new.items opens.new (after_head_code nodes.old.items opens.old index node kind.now) }
+{
+    match kind {
+        LexemeKind::Symbol(Symbol::OpenParen) => {
+            opens.push(Open {
+                bracket: Bracket::Arguments,
+                index,
+                node,
+            })?;
+            Ok(Some(Stage::Due))
+        }
+        LexemeKind::Symbol(Symbol::OpenBrace) => Ok(Some(Stage::FieldDue(
+            index,
+            with_form(Form::Fields, node),
+        ))),
+        _ => close(nodes, opens, kind),
+    }
+}
+
+/// What comes after a field's name.
+fn take_equals(
+    nodes: &mut Vec<Node>,
+    opens: &mut Opens,
+    index: usize,
+    node: Node,
+    kind: &LexemeKind,
+) -> Result<Option<Stage>, Memory>
+    ensures { Steps result nodes.new.items opens.new (take_equals_code nodes.old.items opens.old index node kind.now) }
+{
+    match kind {
+        LexemeKind::Symbol(Symbol::Equals) => {
+            opens.push(Open {
+                bracket: Bracket::Fields,
+                index,
+                node,
+            })?;
+            Ok(Some(Stage::Due))
+        }
+        _ => Ok(None),
+    }
+}
+
+/// What comes after `#`.
+fn take_number(
+    nodes: &mut Vec<Node>,
+    opens: &mut Opens,
+    first: usize,
+    kind: &LexemeKind,
+) -> Result<Option<Stage>, Memory>
+    ensures { Steps result nodes.new.items opens.new (take_number_code nodes.old.items opens.old first kind.now) }
+{
+    match number_of(kind) {
+        None => Ok(None),
+        Some(number) => Ok(Some(Stage::Number(first, number))),
+    }
+}
+
+/// What comes after `[`.
+fn after_bracket(
+    nodes: &mut Vec<Node>,
+    opens: &mut Opens,
+    index: usize,
+    node: Node,
+    kind: &LexemeKind,
+) -> Result<Option<Stage>, Memory>
+    ensures { Steps result nodes.new.items opens.new (after_bracket_code nodes.old.items opens.old index node kind.now) }
+{
+    match kind {
+        LexemeKind::Symbol(Symbol::CloseBracket) => Ok(Some(Stage::Head(index, node))),
+        _ => Ok(None),
+    }
+}
+
+/// What comes before a field's name.
+fn take_name(
+    nodes: &mut Vec<Node>,
+    opens: &mut Opens,
+    index: usize,
+    node: Node,
+    kind: &LexemeKind,
+) -> Result<Option<Stage>, Memory>
+    ensures { Steps result nodes.new.items opens.new (take_name_code nodes.old.items opens.old index node kind.now) }
+{
+    match kind {
+        LexemeKind::Lower(_) => Ok(Some(Stage::NameRead(index, node))),
+        _ => Ok(None),
+    }
+}
+
+/// Lexeme number `place`.
+pub fn step(
+    nodes: &mut Vec<Node>,
+    opens: &mut Opens,
+    stage: Stage,
+    place: usize,
+    kind: &LexemeKind,
+) -> Result<Option<Stage>, Memory>
+    ensures { Steps result nodes.new.items opens.new (step_code nodes.old.items opens.old stage place kind.now) }
+{
+    match stage {
+        Stage::Due => begin(nodes, opens, place, kind),
+        Stage::Hash(first) => take_number(nodes, opens, first, kind),
+        Stage::Number(first, number) => after_number(nodes, opens, first, number, kind),
+        Stage::PlainDue(first, number) => begin_plain(nodes, opens, first, Some(number), kind),
+        Stage::Bracket(index, node) => after_bracket(nodes, opens, index, node, kind),
+        Stage::Head(index, node) => after_head(nodes, opens, index, node, kind),
+        Stage::FieldDue(index, node) => take_name(nodes, opens, index, node, kind),
+        Stage::NameRead(index, node) => take_equals(nodes, opens, index, node, kind),
+        Stage::Whole => close(nodes, opens, kind),
+    }
+}
+
+/// Whether a literal ends here; its nodes are whole then.
+pub fn end(nodes: &mut Vec<Node>, opens: &mut Opens, stage: Stage) -> Result<bool, Memory>
+    ensures { IfOk result (λ ends. end_code nodes.old.items opens.old stage ≡ (if ends then Some nodes.new.items else None)) }
+{
+    match opens.pop() {
+        Some(_) => Ok(false),
+        None => match stage {
+            Stage::Whole => Ok(true),
+            Stage::Head(_, _) => Ok(true),
+            Stage::Number(first, number) => {
+                add(nodes, again(first, number))?;
+                Ok(true)
+            }
+            _ => Ok(false),
+        },
+    }
+}
