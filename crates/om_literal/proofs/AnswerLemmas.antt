@@ -1,0 +1,130 @@
+-- Lexemes have one answer at a type: what is said of their literal, or their place of Syntax.
+use Rattle.std.proofs.Common.{refl, sym, ap, ◌∙◌, subst, ⊎_elim}
+use Rattle.std.specs.Prelude.{ℕ, suc, ◌+◌, ◌≡◌, Bool, true, false, if◌then◌else◌, Option, Some, None, Result, Ok, Err, List, [], ◌∷◌, ◌++◌, length, slice_get}
+use Rattle.om_model.specs.declared.value.Val.{Val}
+use Rattle.om_model.specs.declared.value.Obj.{Obj}
+use Rattle.om_lex.specs.declared.lexeme.Lexeme.{Lexeme}
+use Rattle.om_type_table.specs.declared.table.TypeTable.{TypeTable}
+use Rattle.om_types.specs.declared.names.Names.{Names}
+use Rattle.om_types.specs.declared.shape.ShapeOf.{ShapeOf}
+use Rattle.om_grammar.specs.Refusals.{IsSyntax}
+use Rattle.om_grammar.proofs.LawLemmas.{one_tree, text_or_syntax, no_syntax}
+use Rattle.om_literal_grammar.specs.Literal.{Literal, labelled, again, label_kinds, literal_kinds}
+use Rattle.om_literal_grammar.specs.Nodes.{kinds_of}
+use Rattle.om_literal_grammar.proofs.LiteralTable.{literal_table}
+use Rattle.om_literal.specs.declared.fault.LiteralFault.{LiteralFault}
+use Rattle.om_literal.specs.declared.fault.LiteralFault.TheVariants as faults
+use Rattle.om_literal.specs.Starts.{Start, misfit, out_of_range, small, whole, block, start_at}
+use Rattle.om_literal.specs.Reading.{Reading, Refusal, misfit_at, int_range_at, label_at, reading, is_next, again_read, small_read, block_read, begun, literal_read, inside}
+use Rattle.om_literal.specs.Answers.{byte_of, in_bytes, fault_of, shape_in, names_in, IsValue, IsMisread, IsAnswer, HasOneAnswer}
+
+-- ---- a literal is one value
+
+abbrev pub HasOneValue : {T : Type 0} → Result Reading (Refusal T) → Type 0
+HasOneValue (Err refusal) = Unit {0}
+HasOneValue (Ok r) = (v : Val) × (r.values ≡ v ∷ [])
+
+again_one : (T : Type 0) (k : ℕ) (labels : List ℕ) (o : Option ℕ) → HasOneValue (again_read {T = T} k labels o)
+again_one T k labels None = tt
+again_one T k labels (Some o) = (_, refl)
+
+small_one : (T : Type 0) (k : ℕ) (labels : List ℕ) (v : Val) (l : Option ℕ) → HasOneValue (small_read {T = T} k labels v l)
+small_one T k labels v None = (v, refl)
+small_one T k labels v (Some n) = tt
+
+block_one : (T : Type 0) (c tag : ℕ) (front : List Val) (parts : Result Reading (Refusal T)) → HasOneValue (block_read c tag front parts)
+block_one T c tag front (Err refusal) = tt
+block_one T c tag front (Ok parts) = (_, refl)
+
+begun_one :
+    (T : Type 0) (k p c : ℕ) (labels : List ℕ) (l : Option ℕ) (t : T) (parts : List ℕ → (ℕ → T) → Result Reading (Refusal T)) (start : Start T)
+    → HasOneValue (begun k p c labels l t parts start)
+begun_one T k p c labels l t parts misfit = tt
+begun_one T k p c labels l t parts out_of_range = tt
+begun_one T k p c labels l t parts (small v) = small_one T k labels v l
+begun_one T k p c labels l t parts (whole object) = (_, refl)
+begun_one T k p c labels l t parts (block tag front types) = block_one T c tag front _
+
+if_one : (T : Type 0) (b : Bool) (k : ℕ) (all : Result Reading (Refusal T)) → HasOneValue all → HasOneValue (if b then all else Err (label_at k))
+if_one T true k all one = one
+if_one T false k all one = tt
+
+module _ {T : Type 0} (shape : T → ShapeOf T) (names : T → Names) where
+  literal_one : (k : ℕ) (v : Literal) (c : ℕ) (labels : List ℕ) (t : T) → HasOneValue (literal_read shape names k v c labels t)
+  literal_one k (again n) c labels t = again_one T k labels (slice_get labels n)
+  literal_one k (labelled l p) c labels t = if_one T (is_next labels l) k _
+      (begun_one T k (k + length (label_kinds l)) c labels l t (inside shape names (k + length (label_kinds l)) p (suc c)) (start_at t (shape t) (names t) p))
+
+-- ---- what is said of a literal
+
+abbrev pub with_objects : List Obj → List Obj → List Val → Result (List Obj × Val) LiteralFault
+with_objects old objects [] = Err faults.Memory
+with_objects old objects (v ∷ vs) = Ok (old ++ objects, v)
+
+abbrev pub said : List Lexeme → ℕ → List Obj → Result Reading (Refusal ℕ) → Result (List Obj × Val) LiteralFault
+said lexemes end old (Err refusal) = Err (fault_of (in_bytes lexemes end refusal))
+said lexemes end old (Ok r) = with_objects old r.objects r.values
+
+module _ (table : TypeTable) (at : ℕ) (lexemes : List Lexeme) (end : ℕ) (old : List Obj) where
+  abbrev pub reading_of : Literal → Result Reading (Refusal ℕ)
+  reading_of v = literal_read (shape_in table) (names_in table) 0 v (length old) [] at
+
+  -- a fault that is misread is an answer
+  is_fault : (v : Literal) (refusal : Refusal ℕ) → literal_kinds v ≡ kinds_of lexemes → reading_of v ≡ Err refusal
+      → IsAnswer table at lexemes end old (Err (fault_of (in_bytes lexemes end refusal)))
+  is_fault v (misfit_at k t) spelled e = record { literal = v; refusal = misfit_at k t; spelled = spelled; refused = e; is = refl }
+  is_fault v (int_range_at k) spelled e = record { literal = v; refusal = int_range_at k; spelled = spelled; refused = e; is = refl }
+  is_fault v (label_at k) spelled e = record { literal = v; refusal = label_at k; spelled = spelled; refused = e; is = refl }
+
+  said_answers : (v : Literal) → literal_kinds v ≡ kinds_of lexemes → (r : Result Reading (Refusal ℕ)) → reading_of v ≡ r → HasOneValue r
+      → IsAnswer table at lexemes end old (said lexemes end old r)
+  said_answers v spelled (Err refusal) e one = is_fault v refusal spelled e
+  said_answers v spelled (Ok r) e (value, single) =
+      subst (λ all. IsAnswer table at lexemes end old (with_objects old r.objects all)) (sym single)
+      (record {
+        literal = v;
+        objects = r.objects;
+        spelled = spelled;
+        read = record { labels = r.labels; read = e ∙ ap (λ all. Ok (reading all r.objects r.labels)) single };
+        behind = refl;
+      })
+
+  -- trees of the same lexemes are one
+  misread_said : (v : Literal) (fault : LiteralFault) → literal_kinds v ≡ kinds_of lexemes → IsMisread table at lexemes end (length old) fault
+      → Err fault ≡ said lexemes end old (reading_of v)
+  misread_said v fault spelled m =
+      ap Err m.is ∙ ap (said lexemes end old) (sym (subst (λ u. reading_of u ≡ Err m.refusal) (one_tree literal_table m.literal v (m.spelled ∙ sym spelled)) m.refused))
+
+  value_said : (v : Literal) (new : List Obj) (value : Val) → literal_kinds v ≡ kinds_of lexemes → IsValue table at lexemes old new value
+      → Ok (new, value) ≡ said lexemes end old (reading_of v)
+  value_said v new value spelled i =
+      ap (λ all. Ok (all, value)) i.behind
+      ∙ ap (said lexemes end old) (sym (subst (λ u. reading_of u ≡ Ok (reading (value ∷ []) i.objects i.read.labels)) (one_tree literal_table i.literal v (i.spelled ∙ sym spelled)) i.read.read))
+
+  no_literal : (v : Literal) (k : ℕ) → literal_kinds v ≡ kinds_of lexemes → IsSyntax literal_kinds (kinds_of lexemes) k → ⊥
+  no_literal v k spelled s = no_syntax literal_table v k (subst (λ all. IsSyntax literal_kinds all k) (sym spelled) s)
+
+  other_said : (v : Literal) → literal_kinds v ≡ kinds_of lexemes → (other : Result (List Obj × Val) LiteralFault)
+      → IsAnswer table at lexemes end old other → other ≡ said lexemes end old (reading_of v)
+  other_said v spelled (Ok (new, value)) a = value_said v new value spelled a
+  other_said v spelled (Err (faults.Syntax place)) a = absurd (no_literal v a.lexeme spelled a.syntax)
+  other_said v spelled (Err (faults.Misfit place t)) a = misread_said v _ spelled a
+  other_said v spelled (Err (faults.IntRange place)) a = misread_said v _ spelled a
+  other_said v spelled (Err (faults.Label place)) a = misread_said v _ spelled a
+  other_said v spelled (Err faults.Memory) a = absurd a
+
+  -- at a place of Syntax
+  other_syntax : (k : ℕ) → ((j : ℕ) → IsSyntax literal_kinds (kinds_of lexemes) j → j ≡ k) → IsSyntax literal_kinds (kinds_of lexemes) k
+      → (other : Result (List Obj × Val) LiteralFault) → IsAnswer table at lexemes end old other → other ≡ Err (faults.Syntax (byte_of lexemes end k))
+  other_syntax k same s (Ok (new, value)) a = absurd (no_literal a.literal k a.spelled s)
+  other_syntax k same s (Err (faults.Syntax place)) a = ap (λ p. Err (faults.Syntax p)) (a.is ∙ ap (byte_of lexemes end) (same a.lexeme a.syntax))
+  other_syntax k same s (Err (faults.Misfit place t)) a = absurd (no_literal a.literal k a.spelled s)
+  other_syntax k same s (Err (faults.IntRange place)) a = absurd (no_literal a.literal k a.spelled s)
+  other_syntax k same s (Err (faults.Label place)) a = absurd (no_literal a.literal k a.spelled s)
+  other_syntax k same s (Err faults.Memory) a = absurd a
+
+  pub one_answer : HasOneAnswer table at lexemes end old
+  one_answer = ⊎_elim
+      (λ (v, spelled). (said lexemes end old (reading_of v), said_answers v spelled (reading_of v) refl (literal_one (shape_in table) (names_in table) 0 v (length old) [] at), other_said v spelled))
+      (λ (k, s, same). (Err (faults.Syntax (byte_of lexemes end k)), record { lexeme = k; syntax = s; is = refl }, other_syntax k same s))
+      (text_or_syntax literal_table (kinds_of lexemes))

@@ -1,0 +1,78 @@
+-- What is answered about lexemes at a type of a table, with places in bytes.
+use Rattle.std.specs.Prelude.{ℕ, ◌≡◌, option_map, unwrap_or, Result, Ok, Err, List, ◌++◌, length, slice_get}
+use Rattle.om_model.specs.declared.value.Val.{Val}
+use Rattle.om_model.specs.declared.value.Obj.{Obj}
+use Rattle.om_lex.specs.declared.lexeme.Lexeme.{Lexeme}
+use Rattle.om_literal.specs.declared.fault.LiteralFault.{LiteralFault}
+use Rattle.om_literal.specs.declared.fault.LiteralFault.TheVariants as faults
+use Rattle.om_types.specs.declared.names.Names.{Names}
+use Rattle.om_types.specs.declared.shape.ShapeOf.{ShapeOf}
+use Rattle.om_types.specs.Names.{no_names}
+use Rattle.om_types.specs.Table.{node_or_none}
+use Rattle.om_type_table.specs.declared.table.TypeTable.{TypeTable}
+use Rattle.om_grammar.specs.Refusals.{IsSyntax}
+use Rattle.om_literal_grammar.specs.Literal.{Literal, literal_kinds}
+use Rattle.om_literal_grammar.specs.Nodes.{kinds_of}
+use Rattle.om_literal.specs.Reading.{Refusal, misfit_at, int_range_at, label_at, IsRead, IsRefused}
+
+-- where a lexeme begins, or the end
+abbrev pub byte_of : List Lexeme → ℕ → ℕ → ℕ
+byte_of lexemes end k = unwrap_or (option_map (λ (lexeme : Lexeme). lexeme.span.first) (slice_get lexemes k)) end
+
+-- a refusal at bytes in place of lexemes
+abbrev pub in_bytes : {T : Type 0} → List Lexeme → ℕ → Refusal T → Refusal T
+in_bytes lexemes end (misfit_at k t) = misfit_at (byte_of lexemes end k) t
+in_bytes lexemes end (int_range_at k) = int_range_at (byte_of lexemes end k)
+in_bytes lexemes end (label_at k) = label_at (byte_of lexemes end k)
+
+abbrev pub fault_of : Refusal ℕ → LiteralFault
+fault_of (misfit_at place t) = faults.Misfit place t
+fault_of (int_range_at place) = faults.IntRange place
+fault_of (label_at place) = faults.Label place
+
+-- ---- the shapes and the names of a table, by its numbers
+
+abbrev pub shape_in : TypeTable → ℕ → ShapeOf ℕ
+shape_in table i = node_or_none (slice_get table.nodes i)
+
+abbrev pub names_in : TypeTable → ℕ → Names
+names_in table i = unwrap_or (slice_get table.names i) no_names
+
+-- ---- what is answered
+
+-- the lexemes are a literal of this value at the type, and the new objects stand behind the old ones
+pub record IsValue (table : TypeTable) (at : ℕ) (lexemes : List Lexeme) (old new : List Obj) (value : Val) : Type 0 where
+  pub literal : Literal
+  pub objects : List Obj
+  pub spelled : literal_kinds literal ≡ kinds_of lexemes
+  pub read : IsRead (shape_in table) (names_in table) literal at (length old) value objects
+  pub behind : new ≡ old ++ objects
+
+-- the lexemes are a literal that has this fault at the type
+pub record IsMisread (table : TypeTable) (at : ℕ) (lexemes : List Lexeme) (end : ℕ) (count : ℕ) (fault : LiteralFault) : Type 0 where
+  pub literal : Literal
+  pub refusal : Refusal ℕ
+  pub spelled : literal_kinds literal ≡ kinds_of lexemes
+  pub refused : IsRefused (shape_in table) (names_in table) literal at count refusal
+  pub is : fault ≡ fault_of (in_bytes lexemes end refusal)
+
+-- the lexemes are no literal, first at this byte
+pub record IsNoLiteral (lexemes : List Lexeme) (end place : ℕ) : Type 0 where
+  pub lexeme : ℕ
+  pub syntax : IsSyntax literal_kinds (kinds_of lexemes) lexeme
+  pub is : place ≡ byte_of lexemes end lexeme
+
+-- the objects of the heap and a value, or a fault: what the lexemes are at a type over a heap; never out of memory
+abbrev pub IsAnswer : TypeTable → ℕ → List Lexeme → ℕ → List Obj → Result (List Obj × Val) LiteralFault → Type 0
+IsAnswer table at lexemes end old (Ok answer) = IsValue table at lexemes old answer.0 answer.1
+IsAnswer table at lexemes end old (Err (faults.Syntax place)) = IsNoLiteral lexemes end place
+IsAnswer table at lexemes end old (Err (faults.Misfit place t)) = IsMisread table at lexemes end (length old) (faults.Misfit place t)
+IsAnswer table at lexemes end old (Err (faults.IntRange place)) = IsMisread table at lexemes end (length old) (faults.IntRange place)
+IsAnswer table at lexemes end old (Err (faults.Label place)) = IsMisread table at lexemes end (length old) (faults.Label place)
+IsAnswer table at lexemes end old (Err faults.Memory) = ⊥
+
+-- there is one answer, and no other
+abbrev pub HasOneAnswer : TypeTable → ℕ → List Lexeme → ℕ → List Obj → Type 0
+HasOneAnswer table at lexemes end old =
+    (answer : Result (List Obj × Val) LiteralFault) × IsAnswer table at lexemes end old answer
+    × ((other : Result (List Obj × Val) LiteralFault) → IsAnswer table at lexemes end old other → other ≡ answer)

@@ -1,0 +1,4 @@
+pub mod Starts
+pub mod Reading
+pub mod Answers
+pub mod Rows
