@@ -99,6 +99,7 @@ let write file shape count =
   | "graph" -> put (graph count)
   | "doubling" -> put (doubling count)
   | "shared" -> put (shared count)
+  | "references" -> put (Array.make count (ref 0))
   | "values" ->
       for k = 1 to count do
         put (k, string_of_int k)

@@ -2,7 +2,7 @@
 
     python3 benchmark.py FOLDER [PART ..]
 
-PART is `reading`, `checking` or `types`; with none it is each of them. Time is the median of the processor time (user and
+PART is `reading`, `checking`, `showing` or `types`; with none it is each of them. Time is the median of the processor time (user and
 system) of some runs of the whole process; memory is the greatest resident set. The system counts to a process what this
 script held when it started it: smaller amounts than that are not told apart. Instructions are those of user code for each
 object of a value, by valgrind's callgrind: the difference of two sizes.
@@ -19,7 +19,7 @@ import sys
 
 RUNS = int(os.environ.get("RUNS", "7"))
 LIMIT = int(os.environ.get("LIMIT", "20"))
-PARTS = ("reading", "checking", "types")
+PARTS = ("reading", "checking", "showing", "types")
 folder = sys.argv[1]
 parts = sys.argv[2:] or PARTS
 if not set(parts) <= set(PARTS):
@@ -40,9 +40,9 @@ SHAPES = {
 }
 
 
-def ours(ty, declarations="benchmark.types"):
-    """The words that check at a type."""
-    return ["./omarshal", "check", declarations, ty]
+def ours(ty, declarations="benchmark.types", command="check"):
+    """The words that check at a type, or show at it."""
+    return ["./omarshal", command, declarations, ty]
 
 
 def file_of(shape, count):
@@ -78,7 +78,7 @@ def run(words, name):
         _, status, used = os.wait4(started.pid, 0)
         started.returncode = os.waitstatus_to_exitcode(status)
     with open(said, encoding="ascii") as it:
-        line = it.readline().strip()
+        line = it.readline(60).strip()
     return used.ru_utime + used.ru_stime, used.ru_maxrss / 1024, started.returncode, line
 
 
@@ -192,6 +192,37 @@ def checking():
         alone(f"{shape}_{count} at `{SHAPES[shape][1]}`", words, file_of(shape, count))
 
 
+def timed(words, path):
+    """The median seconds of some runs, the greatest memory, and the bytes that are put."""
+    done = [run(words, path) for _ in range(RUNS)]
+    put = os.path.getsize(os.path.join(folder, "said"))
+    return statistics.median(it[0] for it in done), max(it[1] for it in done), put
+
+
+def showing():
+    """As text, beside reading and checking, and as objects."""
+    print()
+    print("As text, in turn with reading (`check` at `int`), `check`, and `dump`:")
+    print()
+    print("| file | read s | check s | show s | of reading | of checking | text bytes | show MB | dump s | dump bytes | dump MB |")
+    print("|---|---|---|---|---|---|---|---|---|---|---|")
+    for shape, (count, ty) in SHAPES.items():
+        path = file_of(shape, count)
+        read, checked = timed(ours("int"), path)[0], timed(ours(ty), path)[0]
+        shown, peak, put = timed(ours(ty, command="show"), path)
+        dumped, dump_peak, dump_put = timed(["./omarshal", "dump"], path)
+        print(
+            f"| {shape}_{count} | {read:.3f} | {checked:.3f} | {shown:.3f} | {shown / read:.2f} | {shown / checked:.2f} | {put} | {memory(peak)} "
+            f"| {dumped:.3f} | {dump_put} | {memory(dump_peak)} |",
+            flush=True,
+        )
+    alone_heading("With a stack of 128 kB, and an array that names one reference 10^6 times:")
+    for shape, count in (("nested", 1_000_000), ("list", 1_000_000), ("mixed", 1_000_000)):
+        words = [*SMALL_STACK, *ours(SHAPES[shape][1], command="show")]
+        alone(f"show {shape}_{count} at `{SHAPES[shape][1]}`", words, file_of(shape, count))
+    alone("show references_1000000 at `int ref array`", ours("int ref array", command="show"), file_of("references", 1_000_000))
+
+
 # Declarations of each size, and a type over them.
 
 
@@ -257,6 +288,12 @@ def included(size):
     return ["type t0 = [ `A ]", *(f"type t{k} = [ t{k - 1} | t{k - 1} ]" for k in range(1, size + 1))], f"t{size}"
 
 
+def differing(size):
+    """Polymorphic variants that include the one before at two arguments, which differ."""
+    two = "[ ('a * int) t{0} | ('a * string) t{0} ]"
+    return ["type 'a t0 = [ `A ]", *(f"type 'a t{k} = {two.format(k - 1)}" for k in range(1, size + 1))], f"int t{size}"
+
+
 def kilobytes(size):
     """So many kilobytes of records of some thirty fields."""
     fields = "; ".join(f"field_number_{k} : {'(int * string) list' if k % 2 else 'float option'}" for k in range(27))
@@ -278,6 +315,7 @@ TYPES = [
     ("N pairs of the one before", pairs, (10, 20, 30, 40)),
     ("N abbreviations of the one before, applied twice", applied, (10, 20, 30, 40)),
     ("N polymorphic variants that include the one before twice", included, (10, 20, 30, 40)),
+    ("N polymorphic variants that include the one before at two arguments", differing, (10, 20, 30, 40)),
     ("N kilobytes of records", kilobytes, (125, 250, 500, 1_000)),
     ("N declarations", declarations, (1_250, 2_500, 5_000, 10_000)),
 ]
@@ -314,4 +352,4 @@ def types():
 
 
 for part in parts:
-    {"reading": reading, "checking": checking, "types": types}[part]()
+    {"reading": reading, "checking": checking, "showing": showing, "types": types}[part]()

@@ -1,0 +1,60 @@
+#!/bin/sh
+# Reads what `omarshal show` prints back by OCaml: values of every kind are written by OCaml and shown, each text is turned
+# into an expression of OCaml (shown_to_ocaml.py), whose value OCaml writes again, and `omarshal same` says that both are the
+# same, with all that they share. The argument is the program; with none it is the one that `./omarshal` built.
+set -eu
+export LC_ALL=C
+for needed in ocaml ocamlc python3; do
+    if ! command -v "$needed" > /dev/null 2>&1; then
+        echo "skipped: no $needed"
+        exit 0
+    fi
+done
+here=$(cd "$(dirname "$0")" && pwd)
+program=${1:-$here/../crates/omarshal/out/omarshal}
+if [ ! -x "$program" ]; then
+    echo "there is no program $program: ./omarshal builds it"
+    exit 2
+fi
+program=$(cd "$(dirname "$program")" && pwd)/$(basename "$program")
+work=$(mktemp -d)
+trap 'rm -rf "$work"' EXIT
+cp "$here/expected/shown.types" "$work/shown.ml"
+cp "$here/expected/shown_values.ml" "$work"
+cd "$work"
+ocamlc -w -a -c shown.ml
+ocamlc -w -a -o write_values shown.cmo shown_values.ml
+mkdir values
+./write_values values > values.tsv
+
+# one program binds all values again
+{
+    echo "open Shown"
+    echo "let write name value = let file = open_out_bin name in Marshal.to_channel file value []; close_out file"
+} > again.ml
+failures=0
+while IFS='	' read -r file type; do
+    if ! "$program" show shown.ml "$type" < "values/$file" > text 2> told; then
+        echo "FAILED: show $file at $type: $(head -c 200 text) $(cat told)"
+        failures=$((failures + 1))
+        continue
+    fi
+    {
+        printf 'let () = write "again_%s" (' "$file"
+        python3 "$here/shown_to_ocaml.py" < text
+        printf ' : %s)\n' "$type"
+    } >> again.ml
+done < values.tsv
+ocamlc -w -a -o again shown.cmo again.ml
+./again
+passed=0
+while IFS='	' read -r file type; do
+    if [ -f "again_$file" ] && [ "$(cat "values/$file" "again_$file" | "$program" same)" = same ]; then
+        passed=$((passed + 1))
+    else
+        echo "FAILED: $file at $type is another value when it is read back"
+        failures=$((failures + 1))
+    fi
+done < values.tsv
+echo "$passed passed, $failures failed"
+[ "$failures" -eq 0 ]
