@@ -4,7 +4,7 @@ use Rattle.std.specs.List.{range_with_len}
 use Rattle.std.proofs.Math.Seq.{take-set-lt}
 use Rattle.std.proofs.lemmas.Bool.{cases_lt, cases_eq}
 use Rattle.std.proofs.lemmas.Nat.{le_bytes_8}
-use Rattle.std.proofs.lemmas.List.{length-replicate, get_or-replicate, get_or_past, get_or_append_left, get_or_push, set-append_left, take-set-le, drop-set-lt, drop-set-add, drop-append-le, take-append-le, drop-replicate, replicate_more, take-replicate, set_at, ext_get_or, get_or-set_same, get_or-set_other}
+use Rattle.std.proofs.lemmas.List.{length-replicate, get_or-replicate, get_or_past, get_or_append_left, get_or_push, set-append_left, take-set-le, drop-set-lt, drop-set-add, drop-append-le, take-append-le, drop-replicate, take-replicate, ext_get_or, get_or-set_same, get_or-set_other}
 use Rattle.std.proofs.lemmas.List.Elements.{All-append, All-replicate, All-cons, All-nil, All-take, All-drop}
 use Rattle.std.proofs.lemmas.List.FromFn.{length-map-range_with_len, get_or-map-range_with_len, map-range_with_len_more, fill_by_all}
 use Rattle.om_model.specs.Bytes.{AreBytes}
@@ -143,19 +143,6 @@ module _ (bytes : List ℕ) (i b : ℕ) (inside : i < length bytes) where
             ∙ ap word_of_bytes (other_word j other)
             ∙ sym (get_or-set_other (string_words bytes) (i / 8) j word 0 other ∙ get_or-string_words bytes j few)
       ])
-
--- the bytes of the last word, as they are put together
-pub last_array : (rest : List ℕ) (n zeros : ℕ) → n ≡ length rest → length rest < 8 → set (take n rest ++ replicate (8 - n) 0) 7 zeros ≡ rest ++ (replicate (7 - length rest) 0 ++ zeros ∷ [])
-last_array rest n zeros whole few =
-    let front : List ℕ = rest ++ replicate (7 - length rest) 0 in
-    let many : 8 - length rest ≡ 7 - length rest + 1 = omega arith in
-    let made : take n rest ++ replicate (8 - n) 0 ≡ front ++ 0 ∷ [] =
-    ap (λ (k : ℕ). take k rest ++ replicate (8 - k) 0) whole
-    ∙ ap₂ (λ xs ys. xs ++ ys) (take_all (length rest) rest (omega arith)) (ap (λ (k : ℕ). replicate k 0) many ∙ sym (replicate_more (7 - length rest) 0))
-    ∙ sym (append_assoc rest (replicate (7 - length rest) 0) (0 ∷ [])) in
-    ap (λ (xs : List ℕ). set xs 7 zeros) made
-    ∙ set_at front 0 [] zeros 7 (omega (arith, length-append rest (replicate (7 - length rest) 0), length-replicate {A = ℕ} (7 - length rest) 0))
-    ∙ append_assoc rest (replicate (7 - length rest) 0) (zeros ∷ [])
 
 zero_word : word_of_bytes (replicate 8 0) ≡ 0
 unfolding word_of_bytes

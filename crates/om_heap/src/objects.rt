@@ -45,8 +45,9 @@ pub fn append_fields(region: &mut Region, size: usize)
     requires { size ≤ region.old.spare }
     ensures { region.new.words ≡ region.old.words ++ replicate size 1 }
 {
-    // Few fields need no loop.
+    // The first few need no loop.
     match size {
+        0 => {}
         1 => region.append_reserved(1),
         2 => {
             region.append_reserved(1);
@@ -57,7 +58,13 @@ pub fn append_fields(region: &mut Region, size: usize)
             region.append_reserved(1);
             region.append_reserved(1);
         }
-        _ => region.append_run(size, 1),
+        _ => {
+            region.append_reserved(1);
+            region.append_reserved(1);
+            region.append_reserved(1);
+            region.append_reserved(1);
+            region.append_run(size - 4, 1);
+        }
     }
 }
 

@@ -7,6 +7,7 @@ ghost use Rattle.om_heap.specs.Words.{word_of_bytes, bytes_of_word, string_words
 use om_words::region::Region;
 
 /// Appends the words of a string.
+#[inline(always)]
 pub fn append_string(region: &mut Region, content: &[u8])
     requires { length content.now / 8 + 1 ≤ region.old.spare }
     ensures { region.new.words ≡ region.old.words ++ string_words content.now }
@@ -38,17 +39,26 @@ fn whole_word(content: &[u8], j: usize) -> u64
     u64::from_le_bytes(bytes)
 }
 
-/// The last word, of the bytes that are left.
+/// The last word, of the bytes that are left. Each number of them has code of its own, since a loop would be compiled to a
+/// call that copies memory.
+#[tactic(auto, unfolding(crate::specs::Words::word_of_bytes))]
+#[inline(always)]
 fn last_word(rest: &[u8]) -> u64
     requires { length rest.now < 8 }
     ensures { result ≡ word_of_bytes (rest.now ++ (replicate (7 - length rest.now) 0 ++ (7 - length rest.now) ∷ [])) }
 {
-    let mut bytes = [0u8; 8];
-    for i in 0..rest.len() {
-        bytes[i] = rest[i];
+    match rest.len() {
+        0 => u64::from_le_bytes([0, 0, 0, 0, 0, 0, 0, 7]),
+        1 => u64::from_le_bytes([rest[0], 0, 0, 0, 0, 0, 0, 6]),
+        2 => u64::from_le_bytes([rest[0], rest[1], 0, 0, 0, 0, 0, 5]),
+        3 => u64::from_le_bytes([rest[0], rest[1], rest[2], 0, 0, 0, 0, 4]),
+        4 => u64::from_le_bytes([rest[0], rest[1], rest[2], rest[3], 0, 0, 0, 3]),
+        5 => u64::from_le_bytes([rest[0], rest[1], rest[2], rest[3], rest[4], 0, 0, 2]),
+        6 => u64::from_le_bytes([rest[0], rest[1], rest[2], rest[3], rest[4], rest[5], 0, 1]),
+        _ => u64::from_le_bytes([
+            rest[0], rest[1], rest[2], rest[3], rest[4], rest[5], rest[6], 0,
+        ]),
     }
-    bytes[7] = 7 - rest.len() as u8;
-    u64::from_le_bytes(bytes)
 }
 
 /// How many bytes the string of these words has.
