@@ -46,10 +46,10 @@ impl Cells {
         requires { place < length self.now }
         ensures { result ≡ slice_index self.now place }
     {
+        // One test tells the common row.
         match &self.row {
             Row::Bytes(row) => u64::from(row[place]),
-            Row::Shorts(row) => u64::from(row[place]),
-            Row::Longs(row) => row[place],
+            row => number_at(row, place),
         }
     }
 
@@ -82,9 +82,35 @@ fn zeros(alloc: Global, places: usize, most: usize) -> Result<Row, Memory>
     Ok(Row::Longs(row))
 }
 
-/// Puts a number at a place. One that is larger than any that was to come finds no room.
+/// The number at a place of any row.
+#[inline(never)]
+fn number_at(row: &Row, place: usize) -> u64
+    requires { place < length (numbers_in row.now) }
+    ensures { result ≡ slice_index (numbers_in row.now) place }
+{
+    match row {
+        Row::Bytes(row) => u64::from(row[place]),
+        Row::Shorts(row) => u64::from(row[place]),
+        Row::Longs(row) => row[place],
+    }
+}
+
+/// Puts a number at a place.
 #[inline(always)]
 fn put(row: &mut Row, place: usize, number: u64) -> Result<(), Memory>
+    requires { place < length (numbers_in row.old) }
+    ensures { OnOk result (numbers_in row.new ≡ slice_set (numbers_in row.old) place number) }
+{
+    match row {
+        Row::Bytes(row) if number < 1 << 8 => row[place] = number as u8,
+        row => put_in_any(row, place, number)?,
+    }
+    Ok(())
+}
+
+/// Puts a number at a place of any row. One that is larger than any that was to come finds no room.
+#[inline(never)]
+fn put_in_any(row: &mut Row, place: usize, number: u64) -> Result<(), Memory>
     requires { place < length (numbers_in row.old) }
     ensures { OnOk result (numbers_in row.new ≡ slice_set (numbers_in row.old) place number) }
 {

@@ -16,7 +16,7 @@ ghost use Rattle.om_check.specs.Search.{FitAll, TestsNeed, TestsVisit, Searches,
 
 use crate::rows::rows_of;
 use crate::steps::Steps;
-use crate::visits::{Visit, Visits};
+use crate::visits::{Visit, Visits, is_at};
 use om_fits::{Needs, Row, known_needs, needs_of, surely_fits};
 use om_heap::Heap;
 use om_model::Memory;
@@ -72,7 +72,7 @@ fn search_by(
     ensures steps { steps.new + 1 ≤ steps.old + most_steps (table_of table.now) heap.now }
 {
     let mut n = 0;
-    while n < visits.len() {
+    while visits.has(n) {
         if let Some(step) = test_visit(heap, table, rows, visits, n, steps)? {
             return Ok(Some((n, step)));
         }
@@ -204,13 +204,14 @@ fn test_need(
     }
     let object = number_near(heap, *next, word);
     *next = object.wrapping_add(1);
-    if visits.is_first_at(object, need.ty) {
+    let first = visits.first_at(object);
+    if is_at(first, need.ty) {
         return Ok(true);
     }
     if !fits_type(heap, table, rows, need.ty, word) {
         return Ok(false);
     }
-    visits.enter(table, object, need.ty, need.parent, need.step)?;
+    visits.enter(table, object, need.ty, need.parent, need.step, first)?;
     Ok(true)
 }
 

@@ -60,6 +60,17 @@ impl Trail {
         self.tinies.len() + self.rest.len()
     }
 
+    /// Whether there are more than k.
+    #[inline(always)]
+    pub fn has(&self, k: usize) -> bool
+        ensures has { IsTrue result ↔ (k < length self.now) }
+        ensures small { length self.now < 2 ^ 64 }
+    {
+        // Mostly all are tiny.
+        let tinies = self.tinies.len();
+        k < tinies || k - tinies < self.rest.len()
+    }
+
     /// Visit k.
     #[inline(always)]
     pub fn get(&self, k: usize) -> Visit
@@ -93,19 +104,38 @@ fn put(tinies: &mut Vec<Tiny>, rest: &mut Rest, visit: Visit) -> Result<(), Memo
     if rest.len() == 0 && is_tiny(visit) {
         return append(tinies, shrink(visit));
     }
-    put_in_rest(tinies, rest, visit)
+    put_in_rest(
+        tinies,
+        rest,
+        visit.object,
+        visit.ty,
+        visit.parent,
+        visit.step,
+    )
 }
 
-/// Puts a visit behind the tiny ones.
+/// Puts a visit behind the tiny ones. It comes in parts, so that no tiny one is stored for this call.
 #[inline(never)]
-fn put_in_rest(tinies: &Vec<Tiny>, rest: &mut Rest, visit: Visit) -> Result<(), Memory>
-    ensures put { OnOk result (rest.new ≡ rest.old ++ visit ∷ []) }
+fn put_in_rest(
+    tinies: &Vec<Tiny>,
+    rest: &mut Rest,
+    object: u64,
+    ty: usize,
+    parent: usize,
+    step: u64,
+) -> Result<(), Memory>
+    ensures put { OnOk result (rest.new ≡ rest.old ++ record { object = object; ty = ty; parent = parent; step = step } ∷ []) }
     ensures few { vec_len tinies.now + length rest.old < 2 ^ 64 → vec_len tinies.now + length rest.new < 2 ^ 64 }
 {
     if rest.len() >= 1 << 62 || tinies.len() >= 1 << 63 {
         return Err(Memory);
     }
-    rest.push(visit)
+    rest.push(Visit {
+        object,
+        ty,
+        parent,
+        step,
+    })
 }
 
 /// Appends a visit. Memory is asked for only where no room is left.

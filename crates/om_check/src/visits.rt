@@ -1,6 +1,6 @@
 //! The objects that a check has met, each at a type, in the order in which it meets them.
 
-ghost use Rattle.std.specs.Prelude.{ℕ, suc, ◌≡◌, ◌<◌, ◌↔◌, ◌∷◌, ◌++◌, [], length, All, Some, slice_get, slice_index, IfOk, OnOk, IsTrue};
+ghost use Rattle.std.specs.Prelude.{ℕ, suc, ◌≡◌, ◌<◌, ◌^◌, ◌↔◌, ◌∷◌, ◌++◌, [], length, All, Some, slice_get, slice_index, IfOk, OnOk, IsTrue};
 ghost use Rattle.std.specs.Bool.{OnTrue};
 ghost use Rattle.om_type_table.specs.Made.{table_of};
 ghost use Rattle.om_check.specs.Visits.{listed, AreLinked, IsMet, IsAppended, Enters};
@@ -31,6 +31,14 @@ pub struct Visits {
     pub later: BTreeSet<(u64, usize)>,
 }
 
+/// Whether a first visit, of which this is noted, is at this type.
+#[inline(always)]
+pub fn is_at(first: u64, ty: usize) -> bool
+    ensures { OnTrue result (first ≡ suc ty) }
+{
+    first > 0 && first as usize - 1 == ty
+}
+
 impl Visits {
     /// The visit of the root alone.
     pub fn new(alloc: Global, objects: u64, table: &TypeTable, root: u64) -> Result<Visits, Memory>
@@ -44,7 +52,8 @@ impl Visits {
             first: Cells::new(alloc, objects as usize, table.classes.len())?,
             later: BTreeSet::new(alloc),
         };
-        visits.enter(table, root, 0, 0, 0)?;
+        let first = visits.first_at(root);
+        visits.enter(table, root, 0, 0, 0, first)?;
         Ok(visits)
     }
 
@@ -67,6 +76,15 @@ impl Visits {
         self.all.len()
     }
 
+    /// Whether there are more than k.
+    #[inline(always)]
+    pub fn has(&self, k: usize) -> bool
+        ensures has { IsTrue result ↔ (k < length (listed self.now)) }
+        ensures small { length (listed self.now) < 2 ^ 64 }
+    {
+        self.all.has(k)
+    }
+
     /// Visit k.
     #[inline(always)]
     pub fn get(&self, k: usize) -> Visit
@@ -76,17 +94,16 @@ impl Visits {
         self.all.get(k)
     }
 
-    /// Whether the first visit of an object is at this type.
+    /// One more than the type of an object's first visit, or 0.
     #[inline(always)]
-    pub fn is_first_at(&self, object: u64, ty: usize) -> bool
+    pub fn first_at(&self, object: u64) -> u64
         requires { object < length self.now.first }
-        ensures { OnTrue result (slice_get self.now.first object ≡ Some (suc ty)) }
+        ensures { result ≡ slice_index self.now.first object }
     {
-        let first = self.first.get(object as usize);
-        first > 0 && first as usize - 1 == ty
+        self.first.get(object as usize)
     }
 
-    /// Enters an object at a type, unless it was met at an equal one.
+    /// Enters an object, of whose first visit this is noted, at a type, unless it was met at an equal one.
     #[inline(always)]
     pub fn enter(
         &mut self,
@@ -95,15 +112,16 @@ impl Visits {
         ty: usize,
         parent: usize,
         step: u64,
+        first: u64,
     ) -> Result<(), Memory>
         requires object { object < length self.old.first }
         requires ty { ty < length table.now.classes }
         requires types { All (λ visit. visit.ty < length table.now.classes) (listed self.old) }
         requires linked { AreLinked (table_of table.now) (length self.old.first) self.old }
+        requires noted { first ≡ slice_index self.old.first object }
         ensures linked { OnOk result (AreLinked (table_of table.now) (length self.old.first) self.new) }
         ensures enters { OnOk result (Enters (table_of table.now) (listed self.old) (listed self.new) object ty parent step) }
     {
-        let first = self.first.get(object as usize);
         if first == 0 {
             let Some(cell) = (ty as u64).checked_add(1) else {
                 return Err(Memory);

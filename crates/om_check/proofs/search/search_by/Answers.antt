@@ -1,4 +1,4 @@
-use Rattle.std.proofs.Common.{◌<◌, length, subst, arith}
+use Rattle.std.proofs.Common.{◌<◌, length, subst}
 use Rattle.om_type_table.specs.Made.{table_of}
 use Rattle.om_check.specs.Search.{TestsVisit}
 use Rattle.om_check.specs.Visits.{listed}
@@ -7,20 +7,20 @@ use Rattle.om_check.proofs.search.search_by.Goals as goal
 
 pub returns-in_err-step-clause-steps : goal.returns-in_err-step-clause-steps
 returns-in_err-step-clause-steps c =
-    let inside : c.loop-n.n < length (listed c.loop-n.visits) = omega (arith, c.len.ensures, c.loop-n-test.true) in
-    search_few (table_of c.args.table.now) c.args.heap.now (listed c.loop-n.visits) c.loop-n.n c.args.steps.now c.loop-n.steps c.test_visit.new.steps c.requires.lawful c.loop-n.invariant.explored inside c.loop-n.invariant.few c.test_visit.ensures.steps
+    let inside : c.loop-visits.n < length (listed c.loop-visits.visits) = c.has.ensures.has.0 c.loop-visits-test.true in
+    search_few (table_of c.args.table.now) c.args.heap.now (listed c.loop-visits.visits) c.loop-visits.n c.args.steps.now c.loop-visits.steps c.test_visit.new.steps c.requires.lawful c.loop-visits.invariant.explored inside c.loop-visits.invariant.few c.test_visit.ensures.steps
 
 pub returns-in-Some-clause-steps : goal.returns-in-Some-clause-steps
 returns-in-Some-clause-steps c =
-    let inside : c.loop-n.n < length (listed c.loop-n.visits) = omega (arith, c.len.ensures, c.loop-n-test.true) in
-    search_few (table_of c.args.table.now) c.args.heap.now (listed c.loop-n.visits) c.loop-n.n c.args.steps.now c.loop-n.steps c.test_visit.new.steps c.requires.lawful c.loop-n.invariant.explored inside c.loop-n.invariant.few c.test_visit.ensures.steps
+    let inside : c.loop-visits.n < length (listed c.loop-visits.visits) = c.has.ensures.has.0 c.loop-visits-test.true in
+    search_few (table_of c.args.table.now) c.args.heap.now (listed c.loop-visits.visits) c.loop-visits.n c.args.steps.now c.loop-visits.steps c.test_visit.new.steps c.requires.lawful c.loop-visits.invariant.explored inside c.loop-visits.invariant.few c.test_visit.ensures.steps
 
-pub loop-n-preserved : goal.loop-n-preserved
-loop-n-preserved c =
-    let inside : c.loop-n.n < length (listed c.loop-n.visits) = omega (arith, c.len.ensures, c.loop-n-test.true) in
-    searching_more (table_of c.args.table.now) c.args.heap.now c.args.visits.now c.loop-n.visits c.test_visit.new.visits c.loop-n.n c.args.steps.now c.loop-n.steps c.test_visit.new.steps c.loop-n.invariant inside
-    c.in_ok-step.ensures.linked (subst (TestsVisit (table_of c.args.table.now) c.args.heap.now (listed c.loop-n.visits) (listed c.test_visit.new.visits) c.loop-n.n) c.in_default.is c.in_ok-step.ensures.tests) c.test_visit.ensures.steps
+pub loop-visits-preserved : goal.loop-visits-preserved
+loop-visits-preserved c =
+    let inside : c.loop-visits.n < length (listed c.loop-visits.visits) = c.has.ensures.has.0 c.loop-visits-test.true in
+    searching_more (table_of c.args.table.now) c.args.heap.now c.args.visits.now c.loop-visits.visits c.test_visit.new.visits c.loop-visits.n c.args.steps.now c.loop-visits.steps c.test_visit.new.steps c.loop-visits.invariant inside
+    c.in_ok-step.ensures.linked (subst (TestsVisit (table_of c.args.table.now) c.args.heap.now (listed c.loop-visits.visits) (listed c.test_visit.new.visits) c.loop-visits.n) c.in_default.is c.in_ok-step.ensures.tests) c.test_visit.ensures.steps
 
 pub returns-clause-steps : goal.returns-clause-steps
 returns-clause-steps c =
-    searched_few (table_of c.args.table.now) c.args.heap.now (listed c.loop-n.visits) c.loop-n.n c.args.steps.now c.loop-n.steps c.requires.lawful c.loop-n.invariant.explored c.loop-n.invariant.few
+    searched_few (table_of c.args.table.now) c.args.heap.now (listed c.loop-visits.visits) c.loop-visits.n c.args.steps.now c.loop-visits.steps c.requires.lawful c.loop-visits.invariant.explored c.loop-visits.invariant.few

@@ -3,9 +3,9 @@ use Rattle.om_type_table.specs.Made.{table_of}
 use Rattle.om_check.specs.Search.{IsSearching}
 use Rattle.om_check.proofs.search.search_by.Given as goal
 
-abbrev pub invariant-loop-n : goal.invariant-loop-n
-invariant-loop-n l = IsSearching (table_of l.table) l.heap l.fn.visits l.visits l.n l.fn.steps l.steps
+abbrev pub invariant-loop-visits : goal.invariant-loop-visits
+invariant-loop-visits l = IsSearching (table_of l.table) l.heap l.fn.visits l.visits l.n l.fn.steps l.steps
 
 -- no list is longer
-abbrev pub decreases-loop-n : goal.decreases-loop-n
-decreases-loop-n l = 2 ^ 64 - l.n
+abbrev pub decreases-loop-visits : goal.decreases-loop-visits
+decreases-loop-visits l = 2 ^ 64 - l.n

@@ -1,5 +1,4 @@
-use Rattle.std.proofs.Common.{◌≡◌, ◌∙◌, suc, Some, inl, refl, sym, subst}
-use Rattle.std.specs.Prelude.{slice_get}
+use Rattle.std.proofs.Common.{◌≡◌, ◌<◌, ◌∙◌, suc, Some, inl, refl, sym, ap, subst}
 use Rattle.std.specs.Bool.{OnTrue}
 use Rattle.std.proofs.lemmas.Bool.{false≢true}
 use Rattle.om_type_table.specs.Made.{table_of}
@@ -7,12 +6,13 @@ use Rattle.om_heap.specs.Heap.{field_at}
 use Rattle.om_heap.proofs.ReadLemmas.{word_of-inj}
 use Rattle.om_model.specs.declared.value.Val.TheVariants as vals
 use Rattle.om_check.specs.Visits.{listed}
+use Rattle.om_check.proofs.PlaceLemmas.{read_at}
 use Rattle.om_check.proofs.NotedLemmas.{met_first, later_in}
 use Rattle.om_check.proofs.RowsLemmas.{field_there, field_valid, first_fits, tests_true, tests_false, enters_named}
 use Rattle.om_check.proofs.search.test_need.Goals as goal
 
-pub returns-then-is_first_at-clause-tests : goal.returns-then-is_first_at-clause-tests
-returns-then-is_first_at-clause-tests c =
+pub returns-then-is_at-clause-tests : goal.returns-then-is_at-clause-tests
+returns-then-is_at-clause-tests c =
     let t = table_of c.args.table.now in
     let graph = c.args.heap.now in
     let all = listed c.args.visits.now in
@@ -22,7 +22,9 @@ returns-then-is_first_at-clause-tests c =
     let valid = field_valid graph need.object need.step c.requires.object c.requires.field c.requires.graph in
     let same : v ≡ vals.Ref o = word_of-inj graph v (vals.Ref o) c.requires.graph valid c.number_near-object.ensures.in_range
     (sym c.requires.word ∙ c.number_near-object.ensures.named) in
-    let met = subst (λ test. OnTrue test (slice_get c.args.visits.now.first o ≡ Some (suc need.ty))) c.if-is_first_at.true c.is_first_at.ensures in
+    let at_o = read_at c.args.visits.now.first o c.first_at-first.result (subst (λ n. o < n) (sym c.requires.linked.many) c.number_near-object.ensures.in_range) c.first_at-first.ensures in
+    let first_is : c.first_at-first.result ≡ suc need.ty = subst (λ test. OnTrue test (c.first_at-first.result ≡ suc need.ty)) c.if-is_at.true c.is_at.ensures in
+    let met = at_o ∙ ap (λ m. Some m) first_is in
     tests_true t graph all all need v valid (field_there graph need.object need.step c.requires.object c.requires.field)
     (first_fits t graph c.args.visits.now need.ty v o same c.requires.linked c.requires.fit met)
     (enters_named t all all need v o same
