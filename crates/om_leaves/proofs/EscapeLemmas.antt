@@ -31,3 +31,13 @@ module _ (f : ℕ → List ℕ) (xs old text : List ℕ) (start i : ℕ) (less :
       ∙ is_all
       ∙ ap (λ t. t ++ f (get_or xs i 0)) (is_led ∙ put)
       ∙ next
+
+-- bytes that stand for themselves, and one more
+pub plain_more : (f : ℕ → List ℕ) (xs : List ℕ) (i : ℕ) → i < length xs → flat_map f (take i xs) ≡ take i xs → f (get_or xs i 0) ≡ get_or xs i 0 ∷ []
+    → flat_map f (take (i + 1) xs) ≡ take (i + 1) xs
+plain_more f xs i less plain one =
+    ap (flat_map f) (take_more xs i 0 less)
+    ∙ sym (flat_map_more f [] (take i xs) (get_or xs i 0))
+    ∙ ap (λ t. t ++ f (get_or xs i 0)) plain
+    ∙ ap (λ t. take i xs ++ t) one
+    ∙ sym (take_more xs i 0 less)

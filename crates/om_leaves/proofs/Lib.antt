@@ -4,3 +4,4 @@ pub mod ReadBackLemmas
 pub mod RowLemmas
 pub mod StringLemmas
 mod FrameLemmas
+mod NumberLemmas

@@ -19,6 +19,7 @@ use om_types::names::Names;
 use om_types::shape::ShapeOf;
 
 /// Puts an integer that fits the shape.
+#[inline(always)]
 pub fn put_int_at(
     text: &mut Vec<u8>,
     z: i64,
@@ -67,6 +68,7 @@ fn put_tag(text: &mut Vec<u8>, hash: i64, names: &Names) -> Result<(), Memory>
 }
 
 /// Puts an object without parts, and nothing for a block.
+#[inline(always)]
 pub fn put_object_at(
     text: &mut Vec<u8>,
     heap: &Heap,

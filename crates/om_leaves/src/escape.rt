@@ -22,6 +22,7 @@ fn letter_of(byte: u8) -> Option<u8>
 }
 
 /// Puts one byte between quotes of this kind.
+#[inline(never)]
 fn put_byte(text: &mut Vec<u8>, quote: u8, byte: u8) -> Result<(), Memory>
     ensures { OnOk result (text.new.items ≡ text.old.items ++ escaped quote byte) }
 {
@@ -66,6 +67,51 @@ pub fn put_escaped(text: &mut Vec<u8>, quote: u8, bytes: &[u8]) -> Result<(), Me
         start = i + 1;
     }
     put(text, &bytes[start..])
+}
+
+/// Whether each of these bytes stands for itself between quotes of this kind.
+#[inline(always)]
+fn are_plain(quote: u8, bytes: &[u8]) -> bool
+    ensures { OnTrue result (flat_map (escaped quote) bytes.now ≡ bytes.now) }
+{
+    for i in 0..bytes.len() {
+        if !is_plain(quote, bytes[i]) {
+            return false;
+        }
+    }
+    true
+}
+
+/// Puts the bytes of a word as they stand between quotes of this kind: at once, if each stands for itself.
+#[inline(always)]
+pub fn put_word(text: &mut Vec<u8>, quote: u8, bytes: &[u8]) -> Result<(), Memory>
+    ensures { OnOk result (text.new.items ≡ text.old.items ++ flat_map (escaped quote) bytes.now) }
+{
+    if are_plain(quote, bytes) {
+        return put(text, bytes);
+    }
+    put_escaped(text, quote, bytes)
+}
+
+/// Puts a few bytes as they stand between quotes of this kind, one by one.
+pub fn put_few(text: &mut Vec<u8>, quote: u8, bytes: &[u8]) -> Result<(), Memory>
+    ensures { OnOk result (text.new.items ≡ text.old.items ++ flat_map (escaped quote) bytes.now) }
+{
+    for i in 0..bytes.len() {
+        put_one(text, quote, bytes[i])?;
+    }
+    Ok(())
+}
+
+/// Puts one byte between quotes of this kind, which is likely to stand for itself.
+#[inline(always)]
+fn put_one(text: &mut Vec<u8>, quote: u8, byte: u8) -> Result<(), Memory>
+    ensures { OnOk result (text.new.items ≡ text.old.items ++ escaped quote byte) }
+{
+    if is_plain(quote, byte) {
+        return Ok(text.push(byte)?);
+    }
+    put_byte(text, quote, byte)
 }
 
 /// Puts a character.

@@ -27,6 +27,7 @@ pub enum Frame<'a> {
 
 impl<'a> Frame<'a> {
     /// Puts what stands before the parts.
+    #[inline(always)]
     pub fn put_opening(&self, text: &mut Vec<u8>) -> Result<(), Memory>
         ensures { OnOk result (text.new.items ≡ text.old.items ++ (frame_in self.now).opening) }
     {
@@ -44,6 +45,7 @@ impl<'a> Frame<'a> {
     }
 
     /// Puts what stands before part i: what stands between parts, and a label.
+    #[inline(always)]
     #[tactic(auto, using(crate::proofs::FrameLemmas::before_is))]
     pub fn put_before(&self, text: &mut Vec<u8>, i: u64) -> Result<(), Memory>
         ensures { OnOk result (text.new.items ≡ text.old.items ++ before_part (frame_in self.now) i) }
@@ -56,15 +58,12 @@ impl<'a> Frame<'a> {
     }
 
     /// Puts what stands after the parts.
+    #[inline(always)]
     pub fn put_closing(&self, text: &mut Vec<u8>) -> Result<(), Memory>
         ensures { OnOk result (text.new.items ≡ text.old.items ++ (frame_in self.now).closing) }
     {
         match *self {
-            Frame::Named(_, fields) => put_ended(
-                text,
-                b"",
-                if fields.is_empty() { b')' } else { b'}' },
-            ),
+            Frame::Named(_, fields) => Ok(text.push(if fields.is_empty() { b')' } else { b'}' })?),
             Frame::Tagged(_) => put(text, b")"),
             Frame::Array => put(text, b"|]"),
         }
@@ -72,15 +71,12 @@ impl<'a> Frame<'a> {
 }
 
 /// Puts a name and one byte after it.
+#[inline(always)]
 fn put_ended(text: &mut Vec<u8>, name: &[u8], end: u8) -> Result<(), Memory>
     ensures { OnOk result (text.new.items ≡ text.old.items ++ (name.now ++ end ∷ [])) }
 {
-    text.reserve(name.len() + 1)?;
-    if !name.is_empty() {
-        text.extend_from_slice(name)?;
-    }
-    text.push_reserved(end);
-    Ok(())
+    put_name(text, name)?;
+    Ok(text.push(end)?)
 }
 
 /// Puts what stands between two parts, before part i.
@@ -94,6 +90,7 @@ fn put_between(text: &mut Vec<u8>, between: &[u8], i: u64) -> Result<(), Memory>
 }
 
 /// Puts what stands before field i, if these are the names of the fields.
+#[inline(always)]
 #[tactic(auto, using(crate::proofs::FrameLemmas::before_is))]
 fn put_before_field(text: &mut Vec<u8>, fields: &[List<u8>], i: u64) -> Result<(), Memory>
     ensures { (name : List ℕ) → OnOk result (text.new.items ≡ text.old.items ++ before_part (named_frame name fields.now) i) }
@@ -105,18 +102,28 @@ fn put_before_field(text: &mut Vec<u8>, fields: &[List<u8>], i: u64) -> Result<(
 }
 
 /// Puts the name of field i, after what stands between two fields.
+#[inline(always)]
 fn put_field_name(text: &mut Vec<u8>, name: &[u8], i: u64) -> Result<(), Memory>
     ensures { OnOk result (text.new.items ≡ text.old.items ++ ((if i == 0 then [] else codes "; ") ++ (name.now ++ codes " = "))) }
 {
-    text.reserve(name.len() + 5)?;
     if i > 0 {
-        text.push_reserved(b';');
-        text.push_reserved(b' ');
+        put(text, b"; ")?;
     }
-    text.extend_from_slice(name)?;
-    text.push_reserved(b' ');
-    text.push_reserved(b'=');
-    text.push_reserved(b' ');
+    put_name(text, name)?;
+    put(text, b" = ")
+}
+
+/// Puts a name: a short one byte by byte, for which nothing is called.
+#[inline(always)]
+fn put_name(text: &mut Vec<u8>, name: &[u8]) -> Result<(), Memory>
+    ensures { OnOk result (text.new.items ≡ text.old.items ++ name.now) }
+{
+    if name.len() > 8 {
+        return put(text, name);
+    }
+    for i in 0..name.len() {
+        text.push(name[i])?;
+    }
     Ok(())
 }
 

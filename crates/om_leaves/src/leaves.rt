@@ -10,7 +10,20 @@ use itoa::Buffer;
 use om_model::Memory;
 
 /// Puts an integer.
+#[inline(always)]
+#[tactic(auto, using(crate::proofs::NumberLemmas::signed_digit))]
 pub fn put_int(text: &mut Vec<u8>, n: i64) -> Result<(), Memory>
+    ensures { OnOk result (text.new.items ≡ text.old.items ++ signed_decimal n) }
+{
+    if 0 <= n && n < 10 {
+        return Ok(text.push(b'0' + n as u8)?);
+    }
+    put_long_int(text, n)
+}
+
+/// Puts an integer of any number of digits.
+#[inline(never)]
+fn put_long_int(text: &mut Vec<u8>, n: i64) -> Result<(), Memory>
     ensures { OnOk result (text.new.items ≡ text.old.items ++ signed_decimal n) }
 {
     put(text, Buffer::new().format(n).as_bytes())

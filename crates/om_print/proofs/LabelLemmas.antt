@@ -1,18 +1,19 @@
 -- Labels: which objects have one, and their numbers.
-use Rattle.std.proofs.Common.{ℕ, suc, ◌≡◌, ◌+◌, ◌<◌, ◌≤◌, ◌==◌, ◌∙◌, ◌⊎◌, ⊎_elim, inl, inr, Bool, true, false, cond, List, [], ◌∷◌, ◌++◌, length, drop, get_or, refl, sym, ap, subst, arith, append-nil}
+use Rattle.std.proofs.Common.{ℕ, suc, ◌≡◌, ◌+◌, ◌<◌, ◌≤◌, ◌==◌, ◌∙◌, ◌⊎◌, ⊎_elim, inl, inr, Bool, true, false, cond, List, [], ◌∷◌, ◌++◌, length, drop, replicate, get_or, refl, sym, ap, subst, arith, append-nil, Some, None}
 use Rattle.std.specs.Prelude.{◌||◌, filter, codes}
 use Rattle.std.proofs.lemmas.Bool.Decides.{eqb_tells}
-use Rattle.std.proofs.lemmas.List.{length-append, length-set}
+use Rattle.std.proofs.lemmas.List.{length-append, length-replicate, length-set}
 use Rattle.std.proofs.lemmas.List.Folds.{list_any-append}
+use Rattle.om_model.specs.declared.value.Val.{Val}
 use Rattle.om_model.specs.declared.value.Obj.{Obj}
 use Rattle.om_type_table.specs.declared.table.TypeTable.{TypeTable}
 use Rattle.om_show.specs.Pieces.{Piece, Text, First, Again, has, firsts, agains, labelled, number_in, label_text, piece_text}
 use Rattle.om_print.specs.declared.walk.Step.{Step}
 use Rattle.om_print.specs.declared.walk.Step.TheVariants as steps
 use Rattle.om_print.specs.declared.walk.Walk.{Walk}
-use Rattle.om_print.specs.Labels.{agains_of, marks_after, IsMarkable}
-use Rattle.om_print.specs.Walking.{pieces_left, step_pieces, IsStep, IsWalk, Goes}
-use Rattle.om_print.proofs.MarkLemmas.{mark_set}
+use Rattle.om_print.specs.Labels.{agains_of, marks_after, IsMarkable, AreCounted}
+use Rattle.om_print.specs.Walking.{pieces_left, left_of, step_pieces, IsStep, IsWalk, Goes}
+use Rattle.om_print.proofs.MarkLemmas.{mark_set, no_marks}
 
 -- ---- numbers
 
@@ -131,15 +132,8 @@ module _ (table : TypeTable) (graph : List Obj) where
 
   -- ---- which objects are met again
 
-  -- marks and meetings so far, and those in the pieces that are left, are those in all pieces
-  pub record AreCounted (all : List Piece) (walk : Walk) (again : List Bool) : Type 0 where
-    pub is_walk : IsWalk table graph walk
-    pub many : length again ≡ length graph
-    pub met_again : (x : ℕ) → has (agains all) x ≡ (get_or again x false || has (agains (pieces_left table graph walk)) x)
-    pub met_first : firsts all ≡ walk.order.items ++ firsts (pieces_left table graph walk)
-
-  pub counted_more : (all : List Piece) (walk new : Walk) (again : List Bool) (step : Step) → AreCounted all walk again → Goes table graph (pieces_left table graph walk) walk.order.items step new
-      → AreCounted all new (marks_after step again)
+  pub counted_more : (all : List Piece) (walk new : Walk) (again : List Bool) (step : Step) → AreCounted table graph all walk again → Goes table graph (pieces_left table graph walk) walk.order.items step new
+      → AreCounted table graph all new (marks_after step again)
   counted_more all walk new again step are goes =
       let now = step_pieces table graph step in
       let later = pieces_left table graph new in
@@ -158,8 +152,32 @@ module _ (table : TypeTable) (graph : List Obj) where
             ∙ sym (append_associative walk.order.items (firsts now) (firsts later)) ∙ ap (λ os. os ++ firsts later) (sym goes.order);
       }
 
+  -- ---- at the start
+
+  pub first_left : (walk : Walk) (v : Val) (t : ℕ) → walk.value ≡ Some (v, t) → walk.stack.items ≡ [] → walk.order.items ≡ []
+      → pieces_left table graph walk ≡ left_of table graph [] (Some (v, t)) []
+  first_left walk v t value blocks order =
+      ap (λ bs. left_of table graph bs walk.value walk.order.items) blocks ∙ ap (λ x. left_of table graph [] x walk.order.items) value
+      ∙ ap (λ os. left_of table graph [] (Some (v, t)) os) order
+
+  pub counted_none : (walk : Walk) (v : Val) (t : ℕ) (again : List Bool) → IsWalk table graph walk → walk.value ≡ Some (v, t) → walk.stack.items ≡ [] → walk.order.items ≡ []
+      → again ≡ replicate (length graph) false → AreCounted table graph (left_of table graph [] (Some (v, t)) []) walk again
+  counted_none walk v t again is value blocks order marks =
+      let left = first_left walk v t value blocks order in record {
+        is_walk = is;
+        many = ap length marks ∙ length-replicate (length graph) false;
+        met_again = λ x.
+            ap (λ ps. has (agains ps) x) (sym left)
+            ∙ ap (λ b. b || has (agains (pieces_left table graph walk)) x) (sym (ap (λ ms. get_or ms x false) marks ∙ no_marks (length graph) x));
+        met_first = ap firsts (sym left) ∙ ap (λ os. os ++ firsts (pieces_left table graph walk)) (sym order);
+      }
+
+  -- where no value comes next, that is what is left
+  pub none_next : (walk : Walk) → walk.value ≡ None → left_of table graph walk.stack.items None walk.order.items ≡ pieces_left table graph walk
+  none_next walk none = ap (λ value. left_of table graph walk.stack.items value walk.order.items) (sym none)
+
   -- at the end they are those of the pieces with labels
-  pub counted_all : (all : List Piece) (walk : Walk) (again : List Bool) (order : List ℕ) → AreCounted all walk again → pieces_left table graph walk ≡ [] → order ≡ walk.order.items
+  pub counted_all : (all : List Piece) (walk : Walk) (again : List Bool) (order : List ℕ) → AreCounted table graph all walk again → pieces_left table graph walk ≡ [] → order ≡ walk.order.items
       → filter (λ o. get_or again o false) order ≡ labelled all
   counted_all all walk again order are none is =
       let first : firsts all ≡ order = are.met_first ∙ ap (λ ps. walk.order.items ++ firsts ps) none ∙ append-nil walk.order.items ∙ sym is in

@@ -1,9 +1,13 @@
 -- Numbers of labels, by the objects' numbers.
-use Rattle.std.specs.Prelude.{ℕ, ◌<◌, ◌≡◌, Bool, true, List, [], ◌∷◌, length, slice_index, slice_set}
-use Rattle.om_show.specs.Pieces.{number_in}
+use Rattle.std.specs.Prelude.{ℕ, ◌<◌, ◌≡◌, ◌||◌, Bool, true, false, List, [], ◌∷◌, ◌++◌, length, slice_index, slice_index_or, slice_set}
+use Rattle.om_model.specs.declared.value.Obj.{Obj}
+use Rattle.om_type_table.specs.declared.table.TypeTable.{TypeTable}
+use Rattle.om_show.specs.Pieces.{Piece, has, firsts, agains, number_in}
+use Rattle.om_print.specs.Walking.{IsWalk, pieces_left}
 use Rattle.om_print.specs.declared.walk.Step.{Step}
 use Rattle.om_print.specs.declared.walk.Step.TheVariants as steps
 use Rattle.om_print.specs.declared.labels.Labels.{Labels}
+use Rattle.om_print.specs.declared.walk.Walk.{Walk}
 
 -- the number of each object among these
 abbrev pub AreNumbers : List ℕ → List ℕ → Type 0
@@ -26,3 +30,10 @@ marks_after step marks = marks
 abbrev pub IsMarkable : ℕ → Step → Type 0
 IsMarkable n (steps.Again o) = o < n
 IsMarkable n step = Unit {0}
+
+-- marks and meetings so far, and those in the pieces that are left, are those in all pieces
+pub record AreCounted (table : TypeTable) (graph : List Obj) (all : List Piece) (walk : Walk) (again : List Bool) : Type 0 where
+  pub is_walk : IsWalk table graph walk
+  pub many : length again ≡ length graph
+  pub met_again : (x : ℕ) → has (agains all) x ≡ (slice_index_or again x false || has (agains (pieces_left table graph walk)) x)
+  pub met_first : firsts all ≡ walk.order.items ++ firsts (pieces_left table graph walk)

@@ -120,3 +120,8 @@ module _ (table : TypeTable) (graph : List Obj) where
   abbrev pub Gives : List Piece → List ℕ → Walk → Option Step → Type 0
   Gives left met_before new None = (left ≡ []) × (new.order.items ≡ met_before)
   Gives left met_before new (Some step) = Goes left met_before step new
+
+  -- the step of a value that comes next, if one does
+  abbrev pub GivesValue : Walk → Walk → Option Step → Type 0
+  GivesValue old new None = new ≡ old
+  GivesValue old new (Some step) = Goes (pieces_left old) old.order.items step new

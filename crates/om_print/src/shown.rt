@@ -1,17 +1,17 @@
 //! The text of a value at a type.
 
-ghost use Rattle.std.specs.Prelude.{◌≡◌, ◌<◌, ◌++◌, [], length, true, All, IfSome, IfOk, OnOk, flat_map, vec_len};
+ghost use Rattle.std.specs.Prelude.{◌≡◌, ◌<◌, ◌≤◌, ◌++◌, List, None, [], length, true, All, IfSome, IfOk, OnOk, flat_map, vec_len};
 ghost use Rattle.om_model.specs.Graph.{IsValue};
 ghost use Rattle.om_types.specs.Table.{table_shapes};
 ghost use Rattle.om_types.specs.Typing.{HasType};
 ghost use Rattle.om_type_table.specs.Made.{table_of, IsLawful};
-ghost use Rattle.om_show.specs.Pieces.{piece_text};
+ghost use Rattle.om_show.specs.Pieces.{Piece, piece_text};
 ghost use Rattle.om_show.specs.Shown.{shown_text, pieces_of};
 ghost use Rattle.om_show.specs.Tables.{shape_in, names_in};
 ghost use Rattle.om_print.specs.Typed.{IsTypedAt};
-ghost use Rattle.om_print.specs.Labels.{AreLabels};
+ghost use Rattle.om_print.specs.Labels.{AreLabels, AreCounted};
 ghost use Rattle.om_print.specs.Put.{IsGrown, IsPut};
-ghost use Rattle.om_print.specs.Walking.{IsStep, step_pieces};
+ghost use Rattle.om_print.specs.Walking.{IsStep, IsWalk, pieces_left, step_pieces};
 
 use crate::labels::{Labels, mark_again, objects_again, put_label};
 use crate::walk::{Step, Walk};
@@ -66,16 +66,46 @@ fn put_without_labels(
 {
     let mut again = vec![in alloc; false; heap.count() as usize]?;
     let mut walk = Walk::new(alloc, heap, v, table, at)?;
-    let mut whole = true;
-    while let Some(step) = walk.next(heap, table)? {
+    let mut whole = put_value(true, text, &mut again, &mut walk, heap, table)?;
+    while let Some(step) = walk.go_on(heap, table) {
         mark_again(&mut again, step);
         whole = put_while(whole, text, heap, table, step)?;
+        whole = put_value(whole, text, &mut again, &mut walk, heap, table)?;
     }
     let objects = objects_again(alloc, walk.order(), &again)?;
     if whole && objects.is_empty() {
         return Ok(None);
     }
     Ok(Some(objects))
+}
+
+// Marks and puts, as the loop does, what the value that comes next begins with, if one does.
+#[inline(always)]
+fn put_value<'a>(
+    whole: bool,
+    text: &mut Vec<u8>,
+    again: &mut Vec<bool>,
+    walk: &mut Walk<'a>,
+    heap: &'a Heap,
+    table: &'a TypeTable,
+) -> Result<bool, Memory>
+    requires walk { IsWalk table.now heap.now walk.old }
+    requires lawful { IsLawful (table_of table.now) }
+    requires named { length table.now.names ≡ length table.now.nodes }
+    requires many { vec_len again.old ≡ length heap.now }
+    ensures none { IfOk result (λ _. walk.new.value ≡ None) }
+    ensures counted { (all : List Piece) → AreCounted table.now heap.now all walk.old again.old.items → IfOk result (λ _. AreCounted table.now heap.now all walk.new again.new.items) }
+    ensures fewer { IfOk result (λ _. length (pieces_left table.now heap.now walk.new) ≤ length (pieces_left table.now heap.now walk.old)) }
+    ensures grown { IfOk result (λ _. IsGrown text.old.items text.new.items) }
+    ensures text { IfOk result (λ still. still ≡ true → (whole ≡ true)
+        × (text.new.items ++ flat_map (piece_text []) (pieces_left table.now heap.now walk.new) ≡ text.old.items ++ flat_map (piece_text []) (pieces_left table.now heap.now walk.old))) }
+{
+    let Some(step) = walk.next_value(heap, table)? else {
+        return Ok(whole);
+    };
+    mark_again(again, step);
+    let still = put_while(whole, text, heap, table, step)?;
+    Ok(still)
 }
 
 // Puts the pieces of a step while no object is met again, and tells whether it did.

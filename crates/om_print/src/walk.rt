@@ -12,7 +12,7 @@ ghost use Rattle.om_leaves.specs.FrameView.{frame_in};
 ghost use Rattle.om_show.specs.Tables.{shape_in, names_in};
 ghost use Rattle.om_type_table.specs.Made.{table_of, IsLawful};
 ghost use Rattle.om_print.specs.Typed.{IsTypedAt};
-ghost use Rattle.om_print.specs.Walking.{left_of, pieces_left, IsOpen, IsWalk, Goes, Gives};
+ghost use Rattle.om_print.specs.Walking.{left_of, pieces_left, IsOpen, IsWalk, Goes, Gives, GivesValue};
 
 use crate::block::OpenBlock;
 use om_fits::{Needs, known_needs};
@@ -93,6 +93,26 @@ impl<'a> Walk<'a> {
         Ok(Some(self.meet(heap, table, v, at)?))
     }
 
+    /// The step of the value that comes next, if one does.
+    #[inline(always)]
+    pub fn next_value(
+        &mut self,
+        heap: &'a Heap,
+        table: &'a TypeTable,
+    ) -> Result<Option<Step<'a>>, Memory>
+        requires walk { IsWalk table.now heap.now self.old }
+        requires lawful { IsLawful (table_of table.now) }
+        requires named { length table.now.names ≡ length table.now.nodes }
+        ensures none { IfOk result (λ _. self.new.value ≡ None) }
+        ensures gives { IfOk result (GivesValue table.now heap.now self.old self.new) }
+    {
+        let Some((v, at)) = self.value else {
+            return Ok(None);
+        };
+        self.value = None;
+        Ok(Some(self.meet(heap, table, v, at)?))
+    }
+
     /// The objects that were met, in the order of first meetings.
     pub fn order(&self) -> &[u64]
         ensures { result.now ≡ self.now.order.items }
@@ -115,7 +135,8 @@ impl<'a> Walk<'a> {
         requires typed { IsTypedAt (table_of table.now) heap.now v at }
         requires lawful { IsLawful (table_of table.now) }
         requires named { length table.now.names ≡ length table.now.nodes }
-        ensures { IfOk result (λ step. Goes table.now heap.now (left_of table.now heap.now self.old.stack.items (Some (v, at)) self.old.order.items) self.old.order.items step self.new) }
+        ensures none { IfOk result (λ _. self.new.value ≡ None) }
+        ensures goes { IfOk result (λ step. Goes table.now heap.now (left_of table.now heap.now self.old.stack.items (Some (v, at)) self.old.order.items) self.old.order.items step self.new) }
     {
         match v {
             Val::Int(z) => Ok(Step::Integer(z, at)),
@@ -141,7 +162,8 @@ impl<'a> Walk<'a> {
         requires typed { IsTypedAt (table_of table.now) heap.now (vals.Ref o) at }
         requires lawful { IsLawful (table_of table.now) }
         requires named { length table.now.names ≡ length table.now.nodes }
-        ensures { IfOk result (λ step. Goes table.now heap.now (left_of table.now heap.now self.old.stack.items (Some (vals.Ref o, at)) self.old.order.items) self.old.order.items step self.new) }
+        ensures none { IfOk result (λ _. self.new.value ≡ None) }
+        ensures goes { IfOk result (λ step. Goes table.now heap.now (left_of table.now heap.now self.old.stack.items (Some (vals.Ref o, at)) self.old.order.items) self.old.order.items step self.new) }
     {
         self.marks[o as usize] = true;
         self.order.push(o)?;
@@ -155,7 +177,7 @@ impl<'a> Walk<'a> {
 
     // The step where no value comes next: before the next part of the innermost block, or after its last one.
     #[inline(always)]
-    fn go_on(&mut self, heap: &Heap, table: &TypeTable) -> Option<Step<'a>>
+    pub fn go_on(&mut self, heap: &Heap, table: &TypeTable) -> Option<Step<'a>>
         requires walk { IsWalk table.now heap.now self.old }
         requires none { self.old.value ≡ None }
         ensures { Gives table.now heap.now (left_of table.now heap.now self.old.stack.items None self.old.order.items) self.old.order.items self.new result }
@@ -188,6 +210,7 @@ fn value_at(heap: &Heap, fields: &[u64], i: u64) -> Val
 }
 
 // A block before its first part.
+#[inline(always)]
 fn open_block<'a>(heap: &'a Heap, table: &'a TypeTable, o: u64, tag: u8, at: usize) -> OpenBlock<'a>
     requires graph { IsGraph heap.now }
     requires block { object_at heap.now o ≡ objects.Block tag (fields_of (object_at heap.now o)) }

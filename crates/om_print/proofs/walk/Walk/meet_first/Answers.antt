@@ -4,14 +4,14 @@ use Rattle.om_heap.specs.Heap.{kind_of}
 use Rattle.om_print.proofs.WalkLemmas.{leaf_goes, opening_goes}
 use Rattle.om_print.proofs.walk.Walk.meet_first.Goals as goal
 
-pub returns-in_default : goal.returns-in_default
-returns-in_default c =
+pub returns-in_default-clause-goes : goal.returns-in_default-clause-goes
+returns-in_default-clause-goes c =
     leaf_goes c.args.table.now c.args.heap.now c.args.self.now _ c.args.o c.args.at c.requires.walk c.requires.inside c.requires.typed.number c.requires.unmet
     (record { value = c.requires.none; blocks = refl; marks = refl; order = c.in_ok-push.ensures.items })
     (λ tag values is. c.in_default.not-Block tag (length values) (c.kind.ensures.kind ∙ ap kind_of is))
 
-pub returns : goal.returns
-returns c =
+pub returns-clause-goes : goal.returns-clause-goes
+returns-clause-goes c =
     let block = c.open_block-block in
     opening_goes c.args.table.now c.args.heap.now c.args.self.now
     (record { value = c.args.self.now.value; stack = c.args.self.now.stack; marks = with_item c.args.self.now.marks c.args.o true; order = c.push.new.self })
