@@ -50,7 +50,7 @@ if_one T true k all one = one
 if_one T false k all one = tt
 
 module _ {T : Type 0} (shape : T → ShapeOf T) (names : T → Names) where
-  literal_one : (k : ℕ) (v : Literal) (c : ℕ) (labels : List ℕ) (t : T) → HasOneValue (literal_read shape names k v c labels t)
+  pub literal_one : (k : ℕ) (v : Literal) (c : ℕ) (labels : List ℕ) (t : T) → HasOneValue (literal_read shape names k v c labels t)
   literal_one k (again n) c labels t = again_one T k labels (slice_get labels n)
   literal_one k (labelled l p) c labels t = if_one T (is_next labels l) k _
       (begun_one T k (k + length (label_kinds l)) c labels l t (inside shape names (k + length (label_kinds l)) p (suc c)) (start_at t (shape t) (names t) p))

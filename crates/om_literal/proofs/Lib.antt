@@ -1,1 +1,15 @@
 pub mod AnswerLemmas
+pub mod PendingLemmas
+pub mod NodesLemmas
+pub mod NameLemmas
+pub mod StandingLemmas
+pub mod EndsLemmas
+pub mod BitsLemmas
+pub mod FieldNameLemmas
+pub mod OpenLemmas
+pub mod PartLemmas
+pub mod RootLemmas
+pub mod PlacedLemmas
+pub mod StartLemmas
+pub mod ReadLemmas
+pub mod GoLemmas

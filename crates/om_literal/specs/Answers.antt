@@ -1,5 +1,5 @@
 -- What is answered about lexemes at a type of a table, with places in bytes.
-use Rattle.std.specs.Prelude.{ℕ, ◌≡◌, option_map, unwrap_or, Result, Ok, Err, List, ◌++◌, length, slice_get}
+use Rattle.std.specs.Prelude.{ℕ, ◌≡◌, option_map, unwrap_or, Result, Ok, Err, List, ◌++◌, length, slice_get, ⊤}
 use Rattle.om_model.specs.declared.value.Val.{Val}
 use Rattle.om_model.specs.declared.value.Obj.{Obj}
 use Rattle.om_lex.specs.declared.lexeme.Lexeme.{Lexeme}
@@ -70,6 +70,20 @@ IsAnswer table at lexemes end old (Err (faults.Misfit place t)) = IsMisread tabl
 IsAnswer table at lexemes end old (Err (faults.IntRange place)) = IsMisread table at lexemes end (length old) (faults.IntRange place)
 IsAnswer table at lexemes end old (Err (faults.Label place)) = IsMisread table at lexemes end (length old) (faults.Label place)
 IsAnswer table at lexemes end old (Err faults.Memory) = ⊥
+
+-- ---- what a call gives
+
+-- the answer with the heap that is left; out of memory, and at a fault, it is as it was
+abbrev pub IsAnswered : TypeTable → ℕ → List Lexeme → ℕ → List Obj → List Obj → Result Val LiteralFault → Type 0
+IsAnswered table at lexemes end old new (Ok value) = IsAnswer table at lexemes end old (Ok (new, value))
+IsAnswered table at lexemes end old new (Err faults.Memory) = new ≡ old
+IsAnswered table at lexemes end old new (Err fault) = (new ≡ old) × IsAnswer table at lexemes end old (Err fault)
+
+-- a call gives this answer, unless memory runs out
+abbrev pub Gives : Result (List Obj × Val) LiteralFault → List Obj → Result Val LiteralFault → Type 0
+Gives answer new (Ok value) = answer ≡ Ok (new, value)
+Gives answer new (Err faults.Memory) = ⊤
+Gives answer new (Err fault) = answer ≡ Err fault
 
 -- there is one answer, and no other
 abbrev pub HasOneAnswer : TypeTable → ℕ → List Lexeme → ℕ → List Obj → Type 0

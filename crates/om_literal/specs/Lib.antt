@@ -2,3 +2,13 @@ pub mod Starts
 pub mod Reading
 pub mod Answers
 pub mod Rows
+pub mod Pending
+pub mod NodesOf
+pub mod Leaves
+pub mod Openings
+pub mod Standing
+pub mod Ends
+pub mod Bits
+pub mod FieldNames
+pub mod Started
+pub mod Underway

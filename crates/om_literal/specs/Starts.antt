@@ -177,10 +177,10 @@ module _ {T : Type 0} where
   constant_start constants None = misfit
   constant_start constants (Some i) = if_fits (nat_lt i constants) (small (vals.Int (pos i)))
 
-  -- the constructor of a tag, where it has so many fields
+  -- the constructor of a tag, where it has so many fields; no block has a tag above 243
   abbrev pub constr_start : T → ℕ → ℕ → Option (Constr T) → Start T
   constr_start t size tag None = misfit
-  constr_start t size tag (Some constr) = if_fits (length constr.fields == size) (block tag [] (type_in constr.fields t))
+  constr_start t size tag (Some constr) = if_fits (nat_lt tag 244 && length constr.fields == size) (block tag [] (type_in constr.fields t))
 
   abbrev pub carrying_start : T → List (Constr T) → ℕ → Option ℕ → Start T
   carrying_start t blocks size None = misfit
@@ -200,14 +200,14 @@ module _ {T : Type 0} where
       option_and_then (λ (tag : TagName). tag_with tags tag.hash)
       (option_and_then (λ name. find (λ (tag : TagName). bytes_eq tag.name name) names.tags) (name_of_tag head))
 
-  -- by its hash and the type of its argument
+  -- by its hash and the type of its argument; no value has an integer of more than 63 bits
   abbrev pub bare_tag : ℤ → Option T → Start T
-  bare_tag hash None = small (vals.Int hash)
+  bare_tag hash None = if_fits (is_in_bits 62 hash) (small (vals.Int hash))
   bare_tag hash (Some u) = misfit
 
   abbrev pub carrying_tag : ℤ → Option T → Start T
   carrying_tag hash None = misfit
-  carrying_tag hash (Some u) = block 0 (vals.Int hash ∷ []) (λ i. u)
+  carrying_tag hash (Some u) = if_fits (is_in_bits 62 hash) (block 0 (vals.Int hash ∷ []) (λ i. u))
 
   abbrev pub if_tag : (ℤ → Option T → Start T) → Option (PolyTag T) → Start T
   if_tag start None = misfit

@@ -1,0 +1,161 @@
+-- One step of the reader, by what a part begins with.
+use Rattle.std.proofs.Common.{arith, refl, sym, ap, ◌∙◌, subst, get_or}
+use Rattle.std.specs.Prelude.{ℕ, ◌+◌, ◌<◌, ◌≡◌, Option, Some, None, Result, Ok, List, [], ◌∷◌, length, All, slice_index}
+use Rattle.om_model.specs.declared.value.Obj.{Obj}
+use Rattle.om_model.specs.Graph.{IsValue}
+use Rattle.om_heap.specs.Heap.{set_field}
+use Rattle.om_literal_grammar.specs.declared.node.Form.TheVariants as forms
+use Rattle.om_literal_grammar.specs.declared.node.Node.{Node}
+use Rattle.om_literal_grammar.specs.Literal.{Literal, labelled, again, Plain, integer, character, string, double, truth, unit, constant, applied, fields, tuple, empty_array, array, label_kinds, literal_kinds}
+use Rattle.om_literal_grammar.specs.Nodes.{kinds_of, literal_nodes}
+use Rattle.om_literal.specs.declared.fault.LiteralFault.{LiteralFault}
+use Rattle.om_literal.specs.declared.fault.LiteralFault.TheVariants as faults
+use Rattle.om_literal.specs.declared.stack.Opened.{Opened}
+use Rattle.om_literal.specs.declared.text.Text.{Text}
+use Rattle.om_literal.specs.declared.part.Begun.{Begun}
+use Rattle.om_literal.specs.NodesOf.{form_of}
+use Rattle.om_literal.specs.Pending.{finished}
+use Rattle.om_literal.specs.Reading.{Reading, Refusal, literal_read}
+use Rattle.om_literal.specs.Answers.{shape_in, names_in}
+use Rattle.om_literal.specs.Openings.{types_in}
+use Rattle.om_literal.specs.Standing.{IsAt, Stands, own_node}
+use Rattle.om_literal.specs.Underway.{PartList, Popped, opens_with, AreOpen, IsAdvanced, if_open, IsText, HasPart, IsGiven, IsBegun, IsUnderway, CanGoOn, MayRefuse, IsRefusedAs}
+use Rattle.om_literal.proofs.StandingLemmas.{at_same, first_is, own_and_parts, lead_in}
+use Rattle.om_literal.proofs.EndsLemmas.{place_in, own_length}
+use Rattle.om_literal.proofs.PartLemmas.{IsNext, next_part, part_stands, part_refused, after_whole, after_inner}
+
+-- ---- the node of a literal
+
+pub own_at : (nodes : List Node) (j k : ℕ) (v : Literal) (d : Node) → IsAt nodes j (literal_nodes k v) → get_or nodes j d ≡ own_node k v
+own_at nodes j k v d h = first_is nodes j _ _ d (at_same nodes j _ _ (own_and_parts k v) h)
+
+no_again : (p : Plain) → form_of p ≡ forms.Again → ⊥
+no_again (integer i) e = absurd (cc)
+no_again (character c) e = absurd (cc)
+no_again (string s) e = absurd (cc)
+no_again (double d) e = absurd (cc)
+no_again (truth b) e = absurd (cc)
+no_again unit e = absurd (cc)
+no_again (constant h) e = absurd (cc)
+no_again (applied h ps v) e = absurd (cc)
+no_again (fields o rs x v) e = absurd (cc)
+no_again (tuple ps u v) e = absurd (cc)
+no_again empty_array e = absurd (cc)
+no_again (array ps v) e = absurd (cc)
+
+-- by its form a literal is the use of a label, or none
+pub again_only : (P : Literal → Type 0) (k : ℕ) → ((n : ℕ) → P (again n)) → (v : Literal) → (own_node k v).form ≡ forms.Again → P v
+again_only P k f (again n) e = f n
+again_only P k f (labelled l p) e = absurd (no_again p e)
+
+pub plain_only : (P : Literal → Type 0) (k : ℕ) → ((l : Option ℕ) (p : Plain) → P (labelled l p)) → (v : Literal) → ((own_node k v).form ≡ forms.Again → ⊥) → P v
+plain_only P k f (again n) other = absurd (other refl)
+plain_only P k f (labelled l p) other = f l p
+
+-- ---- what can go on
+
+pub has_part : (text : Text) (block : Opened) (stack : List Opened) (j : ℕ) (graph : List Obj) (labels : List ℕ) → CanGoOn text (block ∷ stack) j graph labels → HasPart text j
+has_part text block stack j graph labels (old, outcome, u) =
+    let n = next_part text old outcome block stack j graph labels u in (n.part.0, n.part.1, part_stands text old outcome block stack j graph labels n)
+
+pub part_inside : (text : Text) (j : ℕ) → HasPart text j → j < length text.nodes.now
+part_inside text j (k, v, stands) = place_in text.nodes.now j k v stands.nodes_at
+
+pub end_is : (text : Text) (j k : ℕ) (v : Literal) → IsText text → Stands text.nodes.now text.lexemes.now j k v → slice_index text.ends.now j ≡ j + length (literal_nodes k v)
+end_is text j k v good stands = good.ends j k v stands.nodes_at
+
+pub end_behind : (text : Text) (j : ℕ) → IsText text → HasPart text j → j < slice_index text.ends.now j
+end_behind text j good (k, v, stands) = omega (arith, end_is text j k v good stands, own_length k v)
+
+-- a plain literal has a lexeme behind its label
+pub first_within :
+    (text : Text) (j : ℕ) (d : Node) → HasPart text j → ((get_or text.nodes.now j d).form ≡ forms.Again → ⊥)
+    → (get_or text.nodes.now j d).first + length (label_kinds (get_or text.nodes.now j d).label) < length text.lexemes.now
+first_within text j d (k, v, stands) other =
+    let own = own_at text.nodes.now j k v d stands.nodes_at in
+    plain_only (λ u. IsAt (kinds_of text.lexemes.now) k (literal_kinds u) → get_or text.nodes.now j d ≡ own_node k u
+    → (get_or text.nodes.now j d).first + length (label_kinds (get_or text.nodes.now j d).label) < length text.lexemes.now) k
+    (λ l p there is. omega (arith, lead_in text.lexemes.now k l p there, ap (λ (n : Node). n.first + length (label_kinds n.label)) is)) v
+    (λ e. other (ap (λ (n : Node). n.form) own ∙ e)) stands.kinds_at own
+
+-- ---- no part more
+
+pub popped_none : (old new : List Opened) (r : Option Opened) → Popped old new r → ((b : Opened) → r ≡ Some b → ⊥) → old ≡ []
+popped_none old new None p other = p.0
+popped_none old new (Some b) p other = absurd (other b refl)
+
+nothing_open :
+    (text : Text) (old : List Obj) (outcome : Result (List Obj) (Refusal ℕ)) (graph : List Obj) (labels : List ℕ) (all : List PartList) → AreOpen old graph (kinds_of text.lexemes.now) [] all
+    → finished (shape_in text.table.now) (names_in text.table.now) (opens_with [] all) graph labels ≡ outcome → outcome ≡ Ok graph
+nothing_open text old outcome graph labels [] o same = sym same
+nothing_open text old outcome graph labels (p ∷ all) o same = absurd o
+
+pub all_finished :
+    (text : Text) (old : List Obj) (outcome : Result (List Obj) (Refusal ℕ)) (stack : List Opened) (j : ℕ) (graph : List Obj) (labels : List ℕ) → stack ≡ []
+    → IsUnderway text old outcome stack j graph labels → outcome ≡ Ok graph
+all_finished text old outcome stack j graph labels empty u =
+    let v = subst (λ (blocks : List Opened). IsUnderway text old outcome blocks j graph labels) empty u in nothing_open text old outcome graph labels v.parts v.open_blocks v.same
+
+-- ---- one part more
+
+module _ (text : Text) (block : Opened) (stack : List Opened) (j : ℕ) (graph : List Obj) (labels : List ℕ) (t : ℕ) (type_is : t ≡ types_in block.at block.types block.part) where
+  -- what is said of the part that begins here
+  abbrev Here : (ℕ → Literal → Type 0) → Type 0
+  Here P = (k : ℕ) (v : Literal) → Stands text.nodes.now text.lexemes.now j k v → All (λ o. o < length graph) labels → P k v
+
+  abbrev read : ℕ → ℕ → Literal → Result Reading (Refusal ℕ)
+  read at k v = literal_read (shape_in text.table.now) (names_in text.table.now) k v (length graph) labels at
+
+  refused_as :
+      (old : List Obj) (outcome : Result (List Obj) (Refusal ℕ)) (n : IsNext text old outcome block stack j graph labels) (fault : LiteralFault)
+      → IsRefusedAs text.lexemes.now text.end (read t n.part.0 n.part.1) fault → IsRefusedAs text.lexemes.now text.end outcome fault
+  refused_as old outcome n fault r = record {
+    refusal = r.refusal;
+    is = part_refused text old outcome block stack j graph labels n r.refusal (ap (λ at. read at n.part.0 n.part.1) (sym type_is) ∙ r.is);
+    place = r.place;
+  }
+
+  pub part_fault :
+      (fault : LiteralFault) → Here (λ k v. MayRefuse text.lexemes.now text.end (read t k v) fault)
+      → (old : List Obj) (outcome : Result (List Obj) (Refusal ℕ)) → IsUnderway text old outcome (block ∷ stack) j graph labels → MayRefuse text.lexemes.now text.end outcome fault
+  part_fault faults.Memory here old outcome u = tt
+  part_fault (faults.Syntax place) here old outcome u =
+      let n = next_part text old outcome block stack j graph labels u in
+      refused_as old outcome n (faults.Syntax place) (here n.part.0 n.part.1 (part_stands text old outcome block stack j graph labels n) n.labels_in)
+  part_fault (faults.Misfit place at) here old outcome u =
+      let n = next_part text old outcome block stack j graph labels u in
+      refused_as old outcome n (faults.Misfit place at) (here n.part.0 n.part.1 (part_stands text old outcome block stack j graph labels n) n.labels_in)
+  part_fault (faults.IntRange place) here old outcome u =
+      let n = next_part text old outcome block stack j graph labels u in
+      refused_as old outcome n (faults.IntRange place) (here n.part.0 n.part.1 (part_stands text old outcome block stack j graph labels n) n.labels_in)
+  part_fault (faults.Label place) here old outcome u =
+      let n = next_part text old outcome block stack j graph labels u in
+      refused_as old outcome n (faults.Label place) (here n.part.0 n.part.1 (part_stands text old outcome block stack j graph labels n) n.labels_in)
+
+  module _ (new : List Obj) (more : List ℕ) (begun : Begun) (here : Here (λ k v. IsGiven text.table.now k v t graph new labels more begun)) where
+    pub part_valid : CanGoOn text (block ∷ stack) j graph labels → IsValue (length new) begun.value
+    part_valid (old, outcome, u) =
+        let n = next_part text old outcome block stack j graph labels u in
+        let g = here n.part.0 n.part.1 (part_stands text old outcome block stack j graph labels n) n.labels_in in g.valid
+
+    module _ (advanced : Opened) (a : IsAdvanced block advanced) (old : List Obj) (outcome : Result (List Obj) (Refusal ℕ)) (u : IsUnderway text old outcome (block ∷ stack) j graph labels) where
+      next : IsNext text old outcome block stack j graph labels
+      next = next_part text old outcome block stack j graph labels u
+
+      given : IsGiven text.table.now next.part.0 next.part.1 t graph new labels more begun
+      given = here next.part.0 next.part.1 (part_stands text old outcome block stack j graph labels next) next.labels_in
+
+      begun_as : (inner : Option Opened) → begun.inner ≡ inner → IsBegun text.table.now next.part.0 next.part.1 (types_in block.at block.types block.part) graph new labels more begun.value inner
+      begun_as inner e =
+          subst (λ at. IsBegun text.table.now next.part.0 next.part.1 at graph new labels more begun.value inner) type_is
+          (subst (λ o. IsBegun text.table.now next.part.0 next.part.1 t graph new labels more begun.value o) e given.begun_is)
+
+      pub gone_in : (inner : Opened) → begun.inner ≡ Some inner → IsUnderway text old outcome (inner ∷ if_open advanced stack) (j + 1) (set_field new block.block block.field begun.value) more
+      gone_in inner e = after_inner text old outcome block stack j graph labels next advanced a new more begun.value given.labels_in inner (begun_as (Some inner) e)
+
+      pub gone_on :
+          begun.inner ≡ None → IsText text → (end : ℕ) → end ≡ slice_index text.ends.now j
+          → IsUnderway text old outcome (if_open advanced stack) end (set_field new block.block block.field begun.value) more
+      gone_on e good end at =
+          after_whole text old outcome block stack j graph labels next advanced a new more begun.value given.labels_in (begun_as None e) end
+          (at ∙ end_is text j next.part.0 next.part.1 good (part_stands text old outcome block stack j graph labels next))

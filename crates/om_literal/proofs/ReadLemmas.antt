@@ -1,0 +1,83 @@
+-- The answer to lexemes, from what was read.
+use Rattle.std.proofs.Common.{sym, ◌∙◌, take}
+use Rattle.std.specs.Prelude.{ℕ, ◌≡◌, true, false, is_err, Result, Ok, Err, List, [], length}
+use Rattle.om_model.specs.declared.value.Val.{Val}
+use Rattle.om_model.specs.declared.value.Obj.{Obj}
+use Rattle.om_lex.specs.declared.lexeme.Lexeme.{Lexeme}
+use Rattle.om_type_table.specs.declared.table.TypeTable.{TypeTable}
+use Rattle.om_literal_grammar.specs.Literal.{Literal, literal_kinds}
+use Rattle.om_literal_grammar.specs.Nodes.{kinds_of, IsTreeOf}
+use Rattle.om_literal.specs.declared.fault.LiteralFault.{LiteralFault}
+use Rattle.om_literal.specs.declared.fault.LiteralFault.TheVariants as faults
+use Rattle.om_literal.specs.declared.text.Text.{Text}
+use Rattle.om_literal.specs.Reading.{Refusal, misfit_at, int_range_at, label_at, literal_read}
+use Rattle.om_literal.specs.Answers.{fault_of, in_bytes, shape_in, names_in, IsMisread, IsAnswer, IsAnswered, Gives}
+use Rattle.om_literal.specs.Underway.{IsRefusedAs, ReadsTree, Reads}
+use Rattle.om_literal.proofs.AnswerLemmas.{one_answer}
+
+-- ---- of a tree
+
+misread :
+    (table : TypeTable) (at : ℕ) (lexemes : List Lexeme) (end : ℕ) (old : List Obj) (v : Literal) (fault : LiteralFault) → literal_kinds v ≡ kinds_of lexemes
+    → IsRefusedAs lexemes end (literal_read (shape_in table) (names_in table) 0 v (length old) [] at) fault → IsMisread table at lexemes end (length old) fault
+misread table at lexemes end old v fault spelled r = record { literal = v; refusal = r.refusal; spelled = spelled; refused = r.is; is = r.place }
+
+no_syntax_refused : (lexemes : List Lexeme) (end place : ℕ) (refusal : Refusal ℕ) → faults.Syntax place ≡ fault_of (in_bytes lexemes end refusal) → ⊥
+no_syntax_refused lexemes end place (misfit_at k t) e = absurd (cc)
+no_syntax_refused lexemes end place (int_range_at k) e = absurd (cc)
+no_syntax_refused lexemes end place (label_at k) e = absurd (cc)
+
+pub tree_answers :
+    (text : Text) (at : ℕ) (old new : List Obj) (result : Result Val LiteralFault) → IsTreeOf text.lexemes.now text.nodes.now → ReadsTree text at old new result
+    → Reads text.table.now at text.lexemes.now text.end old new result
+tree_answers text at old new (Ok value) tree reads =
+    let w = reads.0 tree.0 tree.1 tree.2 in (
+      record {
+        literal = tree.0;
+        objects = w.1.objects;
+        spelled = tree.1;
+        read = record { labels = w.0; read = w.1.read };
+        behind = w.1.behind;
+      },
+      reads.1,
+    )
+tree_answers text at old new (Err faults.Memory) tree reads = reads.1
+tree_answers text at old new (Err (faults.Syntax place)) tree reads =
+    let r = reads.0 tree.0 tree.1 tree.2 in absurd (no_syntax_refused text.lexemes.now text.end place r.refusal r.place)
+tree_answers text at old new (Err (faults.Misfit place t)) tree reads = (reads.1, misread text.table.now at text.lexemes.now text.end old tree.0 _ tree.1 (reads.0 tree.0 tree.1 tree.2))
+tree_answers text at old new (Err (faults.IntRange place)) tree reads = (reads.1, misread text.table.now at text.lexemes.now text.end old tree.0 _ tree.1 (reads.0 tree.0 tree.1 tree.2))
+tree_answers text at old new (Err (faults.Label place)) tree reads = (reads.1, misread text.table.now at text.lexemes.now text.end old tree.0 _ tree.1 (reads.0 tree.0 tree.1 tree.2))
+
+-- ---- with the heap as it was after a fault
+
+module _ (table : TypeTable) (at : ℕ) (lexemes : List Lexeme) (end : ℕ) (old new : List Obj) where
+  fault_answered : (fault : LiteralFault) (final : List Obj) → Reads table at lexemes end old new (Err fault) → final ≡ take (length old) new → IsAnswered table at lexemes end old final (Err fault)
+  fault_answered faults.Memory final r e = e ∙ r
+  fault_answered (faults.Syntax place) final r e = (e ∙ r.0, r.1)
+  fault_answered (faults.Misfit place t) final r e = (e ∙ r.0, r.1)
+  fault_answered (faults.IntRange place) final r e = (e ∙ r.0, r.1)
+  fault_answered (faults.Label place) final r e = (e ∙ r.0, r.1)
+
+  pub answered_back :
+      (result : Result Val LiteralFault) (final : List Obj) → is_err result ≡ true → Reads table at lexemes end old new result → final ≡ take (length old) new
+      → IsAnswered table at lexemes end old final result
+  answered_back (Ok value) final err r e = absurd (cc)
+  answered_back (Err fault) final err r e = fault_answered fault final r e
+
+  pub answered_there : (result : Result Val LiteralFault) → is_err result ≡ false → Reads table at lexemes end old new result → IsAnswered table at lexemes end old new result
+  answered_there (Ok value) err r = r.0
+  answered_there (Err fault) err r = absurd (cc)
+
+  -- there is no other answer
+  same_answer : (one other : Result (List Obj × Val) LiteralFault) → IsAnswer table at lexemes end old one → IsAnswer table at lexemes end old other → one ≡ other
+  same_answer one other a b = let answer = one_answer table at lexemes end old in answer.2 one a ∙ sym (answer.2 other b)
+
+  pub only_answer :
+      (result : Result Val LiteralFault) (answer : Result (List Obj × Val) LiteralFault) → IsAnswered table at lexemes end old new result
+      → IsAnswer table at lexemes end old answer → Gives answer new result
+  only_answer (Ok value) answer i a = same_answer answer (Ok (new, value)) a i
+  only_answer (Err faults.Memory) answer i a = tt
+  only_answer (Err (faults.Syntax place)) answer i a = same_answer answer (Err (faults.Syntax place)) a i.1
+  only_answer (Err (faults.Misfit place t)) answer i a = same_answer answer (Err (faults.Misfit place t)) a i.1
+  only_answer (Err (faults.IntRange place)) answer i a = same_answer answer (Err (faults.IntRange place)) a i.1
+  only_answer (Err (faults.Label place)) answer i a = same_answer answer (Err (faults.Label place)) a i.1

@@ -1,0 +1,13 @@
+use Rattle.std.proofs.Common.{ℕ, ◌-◌, ◌∙◌, List, [], ◌∷◌, Bor, ap, map, arith}
+use Rattle.std.proofs.lemmas.List.{map-append}
+use Rattle.om_literal_grammar.specs.Nodes.{kinds_of}
+use Rattle.om_literal.proofs.FieldNameLemmas.{names_step}
+use Rattle.om_literal.proofs.fields.names_from.Goals as goal
+
+pub loop-left-preserved : goal.loop-left-preserved
+loop-left-preserved c =
+    let now : Bor (List ℕ) → List ℕ = λ name. name.now in
+    names_step c.args.nodes.now c.args.ends.now (kinds_of c.args.lexemes.now) c.loop-left.place c.loop-left.left (c.loop-left.left - 1) c.sibling-place.result _
+    (map now c.loop-left.names.items) (map now c.push.new.self.items) _ c.name_before.result.now (omega (arith, c.loop-left-test.true)) (omega (arith, c.if-place-nodes.false))
+    (ap (λ (all : List (Bor (List ℕ))). map now all) c.in_ok-push.ensures.items ∙ map-append now c.loop-left.names.items (c.name_before.result ∷ []))
+    c.name_before.ensures c.sibling-place.ensures c.loop-left.invariant

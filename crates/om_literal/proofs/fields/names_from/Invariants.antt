@@ -1,0 +1,13 @@
+use Rattle.std.proofs.Common.{◌≡◌, ◌++◌, map}
+use Rattle.om_literal_grammar.specs.Nodes.{kinds_of}
+use Rattle.om_literal.specs.FieldNames as specs
+use Rattle.om_literal.proofs.fields.names_from.Given as goal
+
+-- the names so far, and those of what is left
+abbrev pub invariant-loop-left : goal.invariant-loop-left
+invariant-loop-left l =
+    map (λ name. name.now) l.names.items ++ specs.names_from l.nodes l.ends (kinds_of l.lexemes) l.place l.left
+    ≡ specs.names_from l.nodes l.ends (kinds_of l.lexemes) l.from l.many
+
+abbrev pub decreases-loop-left : goal.decreases-loop-left
+decreases-loop-left l = l.left

@@ -1,0 +1,70 @@
+use Rattle.std.proofs.Common.{arith, rules, sym, ap, ◌∙◌, subst, get_or}
+use Rattle.std.specs.Prelude.{ℕ, ◌<◌, ◌≡◌, true, false, None, List, [], length, All}
+use Rattle.std.proofs.lemmas.List.{append-nil}
+use Rattle.om_literal_grammar.specs.declared.node.Form.TheVariants as forms
+use Rattle.om_literal_grammar.specs.declared.node.Node.{Node}
+use Rattle.om_literal_grammar.specs.Literal.{again}
+use Rattle.om_literal.specs.Answers.{shape_in, names_in}
+use Rattle.om_literal.specs.Reading.{is_next, literal_read}
+use Rattle.om_literal.specs.Standing.{Stands, own_node}
+use Rattle.om_literal.specs.Underway.{IsMade, Begins, MayRefuse}
+use Rattle.om_literal.specs.declared.fault.LiteralFault.TheVariants as faults
+use Rattle.om_literal.proofs.GoLemmas.{own_at, again_only, plain_only, part_inside, first_within}
+use Rattle.om_literal.proofs.PlacedLemmas.{number_refused}
+use Rattle.om_literal.proofs.part.begin.Goals as goal
+
+-- what a node is copied from
+abbrev none : Node
+none = record { form = forms.Integer; label = None; first = 0; parts = 0 }
+
+pub offset_bounds-text-j : goal.offset_bounds-text-j
+offset_bounds-text-j c = let inside : c.args.j < length c.args.text.now.nodes.now = part_inside c.args.text.now c.args.j c.requires.part in search rules
+
+pub bounds-text-j : goal.bounds-text-j
+bounds-text-j c = part_inside c.args.text.now c.args.j c.requires.part
+
+pub returns-in-Again-clause-begins : goal.returns-in-Again-clause-begins
+returns-in-Again-clause-begins c k v stands all =
+    let own = own_at c.args.text.now.nodes.now c.args.j k v none stands.nodes_at in
+    let labels = c.args.labels.now.items in
+    again_only (λ u. get_or c.args.text.now.nodes.now c.args.j none ≡ own_node k u → Begins c.args.text.now k u c.args.t c.args.heap.now c.args.heap.now labels labels c.again.result) k
+    (λ n is. subst (λ ls. All (λ o. o < length c.args.heap.now) ls → Begins c.args.text.now k (again n) c.args.t c.args.heap.now c.args.heap.now ls ls c.again.result) c.deref.ensures.value
+    (λ below. c.again.ensures k n c.args.t c.args.heap.now is below) all) v
+    (sym (ap (λ (n : Node). n.form) own) ∙ c.in-Again.is) own
+
+pub returns-then-not-has_next_number : goal.returns-then-not-has_next_number
+returns-then-not-has_next_number c = record {
+  begins = λ k v stands all.
+      let own = own_at c.args.text.now.nodes.now c.args.j k v none stands.nodes_at in
+      let other : is_next c.args.labels.now.items (get_or c.args.text.now.nodes.now c.args.j none).label ≡ false = sym (ap (λ (ls : List ℕ). is_next ls (get_or c.args.text.now.nodes.now c.args.j none).label) c.deref-2.ensures.value) ∙ sym c.has_next_number.ensures ∙ c.if-not-has_next_number.true in
+      plain_only (λ u. get_or c.args.text.now.nodes.now c.args.j none ≡ own_node k u
+      → MayRefuse c.args.text.now.lexemes.now c.args.text.now.end
+      (literal_read (shape_in c.args.text.now.table.now) (names_in c.args.text.now.table.now) k u (length c.args.heap.now) c.args.labels.now.items c.args.t) (faults.Label c.byte_of.result)) k
+      (λ l p is. number_refused c.args.text.now (get_or c.args.text.now.nodes.now c.args.j none) k c.args.t l p c.args.heap.now c.args.labels.now.items is c.byte_of.result other c.byte_of.ensures) v
+      (λ e. c.in_default.not-Again (ap (λ (n : Node). n.form) own ∙ e)) own;
+  grows = ([], sym (append-nil c.args.heap.now));
+}
+
+pub start_of-requires : goal.start_of-requires
+start_of-requires c = record {
+  text = c.requires.text;
+  node = part_inside c.args.text.now c.args.j c.requires.part;
+  first = first_within c.args.text.now c.args.j none c.requires.part c.in_default.not-Again;
+}
+
+pub placed-requires : goal.placed-requires
+placed-requires c = let first = first_within c.args.text.now c.args.j none c.requires.part c.in_default.not-Again in omega (arith, first)
+
+pub returns : goal.returns
+returns c = record {
+  begins = λ k v stands all.
+      let own = own_at c.args.text.now.nodes.now c.args.j k v none stands.nodes_at in
+      let node = get_or c.args.text.now.nodes.now c.args.j none in
+      let numbered : is_next c.args.labels.now.items (get_or c.args.text.now.nodes.now c.args.j none).label ≡ true = sym (ap (λ (ls : List ℕ). is_next ls (get_or c.args.text.now.nodes.now c.args.j none).label) c.deref-2.ensures.value) ∙ sym c.has_next_number.ensures ∙ c.if-not-has_next_number.false in
+      plain_only (λ u. Stands c.args.text.now.nodes.now c.args.text.now.lexemes.now c.args.j k u → node ≡ own_node k u
+      → Begins c.args.text.now k u c.args.t c.args.heap.now c.make.new.heap c.args.labels.now.items c.placed.new.labels.items c.placed.result) k
+      (λ l p there is. c.placed.ensures k l p c.args.heap.now c.make.new.heap is (sym (ap (λ (n : Node). is_next c.args.labels.now.items n.label) is) ∙ numbered) all
+      (subst (λ start. IsMade node.parts start c.args.heap.now c.make.new.heap c.in_ok-made.made) (c.in_ok-start.ensures.start k l p there is) c.in_ok-made.ensures.made)) v
+      (λ e. c.in_default.not-Again (ap (λ (n : Node). n.form) own ∙ e)) stands own;
+  grows = c.in_ok-made.ensures.grows;
+}

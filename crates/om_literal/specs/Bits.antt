@@ -1,0 +1,30 @@
+-- The doubles of nodes that stand in a row.
+use Rattle.std.specs.Prelude.{ℕ, Option, Some, None, List, slice_get}
+use Rattle.std.specs.List.{fold}
+use Rattle.om_lex.specs.declared.lexeme.LexemeKind.{LexemeKind}
+use Rattle.om_lex.specs.declared.lexeme.LexemeKind.TheVariants as kinds
+use Rattle.om_grammar.specs.Grammar.{Kinds}
+use Rattle.om_literal_grammar.specs.declared.node.Form.{Form}
+use Rattle.om_literal_grammar.specs.declared.node.Form.TheVariants as forms
+use Rattle.om_literal_grammar.specs.declared.node.Node.{Node}
+use Rattle.om_literal_grammar.specs.Literal.{Literal}
+use Rattle.om_literal.specs.Starts.{bits_of, and_bits}
+
+abbrev pub double_in : Option LexemeKind → Option ℕ
+double_in (Some (kinds.Double bits)) = Some bits
+double_in kind = None
+
+-- by the label, the form and the double at the first lexeme
+abbrev pub unlabelled_bits : Option ℕ → Form → Option ℕ → Option ℕ
+unlabelled_bits None forms.Double bits = bits
+unlabelled_bits label form bits = None
+
+abbrev pub bits_of_node : Kinds → Node → Option ℕ
+bits_of_node all n = unlabelled_bits n.label n.form (double_in (slice_get all n.first))
+
+-- those of all, where each is a double without a label
+abbrev pub bits_of_nodes : Kinds → Option (List ℕ) → List Node → Option (List ℕ)
+bits_of_nodes all before nodes = fold (λ bits n. and_bits bits (bits_of_node all n)) before nodes
+
+abbrev pub bits_of_listed : Option (List ℕ) → List (ℕ × Literal) → Option (List ℕ)
+bits_of_listed before parts = fold (λ bits (part : ℕ × Literal). and_bits bits (bits_of part.1)) before parts

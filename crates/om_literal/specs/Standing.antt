@@ -1,0 +1,59 @@
+-- Where a literal stands: in its row of nodes, and in the lexemes.
+use Rattle.std.specs.Prelude.{ℕ, ◌+◌, ◌≡◌, Option, Some, None, List, [], ◌++◌, length, drop}
+use Rattle.std.specs.List.{AllByRecursion}
+use Rattle.om_lex.specs.declared.lexeme.Lexeme.{Lexeme}
+use Rattle.om_lex.specs.declared.lexeme.LexemeKind.{LexemeKind}
+use Rattle.om_lex.specs.declared.lexeme.LexemeKind.TheVariants as kinds
+use Rattle.om_lex.specs.declared.lexeme.Symbol.TheVariants as symbols
+use Rattle.om_grammar.specs.Grammar.{Kinds}
+use Rattle.om_literal_grammar.specs.declared.node.Form.TheVariants as forms
+use Rattle.om_literal_grammar.specs.declared.node.Node.{Node}
+use Rattle.om_literal_grammar.specs.Literal.{Head, Literal, labelled, again, Plain, integer, character, string, double, truth, unit, constant, applied, fields, tuple, empty_array, array, label_kinds, truth_name, literal_kinds}
+use Rattle.om_literal_grammar.specs.Nodes.{kinds_of, node, literal_nodes}
+use Rattle.om_literal.specs.Leaves.{lead_of}
+use Rattle.om_literal.specs.Pending.{parts_of}
+use Rattle.om_literal.specs.NodesOf.{form_of}
+
+-- from number i on, the list goes on with these
+pub record IsAt {T : Type 0} (all : List T) (i : ℕ) (own : List T) : Type 0 where
+  pub rest : List T
+  pub is : drop i all ≡ own ++ rest
+
+-- the literal whose nodes begin at node j, and whose lexemes begin at lexeme k
+pub record Stands (nodes : List Node) (lexemes : List Lexeme) (j k : ℕ) (v : Literal) : Type 0 where
+  pub nodes_at : IsAt nodes j (literal_nodes k v)
+  pub kinds_at : IsAt (kinds_of lexemes) k (literal_kinds v)
+
+-- ---- a literal as its node and its parts
+
+abbrev pub own_node : ℕ → Literal → Node
+own_node k (labelled l p) = node (form_of p) l k (length (parts_of (k + length (label_kinds l)) p))
+own_node k (again n) = node forms.Again (Some n) k 0
+
+abbrev pub inner_parts : ℕ → Literal → List (ℕ × Literal)
+inner_parts k (labelled l p) = parts_of (k + length (label_kinds l)) p
+inner_parts k (again n) = []
+
+-- the lexemes of each part begin at its number
+abbrev pub AreSpelled : Kinds → List (ℕ × Literal) → Type 0
+AreSpelled all parts = AllByRecursion (λ (part : ℕ × Literal). IsAt all part.0 (literal_kinds part.1)) parts
+
+-- ---- the first lexeme of a plain one
+
+abbrev pub lead_of_owner : Option Head → LexemeKind
+lead_of_owner None = kinds.Symbol symbols.OpenBrace
+lead_of_owner (Some h) = lead_of h
+
+abbrev pub lead_of_plain : Plain → LexemeKind
+lead_of_plain (integer i) = kinds.Integer i
+lead_of_plain (character c) = kinds.Character c
+lead_of_plain (string s) = kinds.Text s
+lead_of_plain (double d) = kinds.Double d
+lead_of_plain (truth b) = kinds.Lower (truth_name b)
+lead_of_plain unit = kinds.Symbol symbols.OpenParen
+lead_of_plain (constant h) = lead_of h
+lead_of_plain (applied h ps v) = lead_of h
+lead_of_plain (fields o rs x v) = lead_of_owner o
+lead_of_plain (tuple ps u v) = kinds.Symbol symbols.OpenParen
+lead_of_plain empty_array = kinds.Symbol symbols.OpenArray
+lead_of_plain (array ps v) = kinds.Symbol symbols.OpenArray

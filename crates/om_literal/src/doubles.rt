@@ -1,0 +1,71 @@
+//! The doubles of a literal's parts.
+
+ghost use Rattle.std.specs.Prelude.{ℕ, ◌≡◌, ◌<◌, [], Some, Option, length, slice_get, option_map, IfOk};
+ghost use Rattle.om_grammar.specs.Grammar.{Name};
+ghost use Rattle.om_literal_grammar.specs.Literal.{Literal, labelled, Parts, Rows, array, fields};
+ghost use Rattle.om_literal_grammar.specs.Nodes.{kinds_of};
+ghost use Rattle.om_literal.specs.Bits.{double_in, bits_of_node, bits_of_nodes};
+ghost use Rattle.om_literal.specs.Standing.{Stands};
+ghost use Rattle.om_literal.specs.Starts.{bits_of, and_bits, bits_of_parts, bits_of_rows};
+
+use om_lex::lexeme::{Lexeme, LexemeKind};
+use om_literal_grammar::{Form, Node};
+use om_model::Memory;
+use std::alloc::Global;
+
+/// The bits of the double that is this lexeme.
+fn double_at(lexemes: &[Lexeme], place: usize) -> Option<u64>
+    ensures { result ≡ double_in (slice_get (kinds_of lexemes.now) place) }
+{
+    if place >= lexemes.len() {
+        return None;
+    }
+    match &lexemes[place].kind {
+        LexemeKind::Double(bits) => Some(*bits),
+        _ => None,
+    }
+}
+
+/// The bits of a node that is a double without a label.
+fn node_bits(node: &Node, lexemes: &[Lexeme]) -> Option<u64>
+    ensures { result ≡ bits_of_node (kinds_of lexemes.now) node.now }
+{
+    match (node.label, node.form) {
+        (None, Form::Double) => double_at(lexemes, node.first),
+        _ => None,
+    }
+}
+
+/// The bits of nodes that all are doubles without a label.
+fn all_bits(alloc: Global, nodes: &[Node], lexemes: &[Lexeme]) -> Result<Option<Vec<u64>>, Memory>
+    ensures { IfOk result (λ all. option_map (λ bits. bits.items) all ≡ bits_of_nodes (kinds_of lexemes.now) (Some []) nodes.now) }
+{
+    let mut all = Vec::new(alloc);
+    for node in nodes {
+        let Some(bits) = node_bits(node, lexemes) else {
+            return Ok(None);
+        };
+        all.push(bits)?;
+    }
+    Ok(Some(all))
+}
+
+/// The bits of the parts of a literal that begins at node `at`, where all are doubles without a label.
+pub(crate) fn doubles_of_parts(
+    alloc: Global,
+    nodes: &[Node],
+    at: usize,
+    lexemes: &[Lexeme],
+) -> Result<Option<Vec<u64>>, Memory>
+    requires { at < length nodes.now }
+
+    // Of an array, and of a record without a constructor's name.
+    ensures array { (k : ℕ) (l : Option ℕ) (ps : Parts) (v : Literal) → Stands nodes.now lexemes.now at k (labelled l (array ps v))
+        → IfOk result (λ all. option_map (λ bits. bits.items) all ≡ and_bits (bits_of_parts ps) (bits_of v)) }
+    ensures flat { (k : ℕ) (l : Option ℕ) (rs : Rows) (x : Name) (v : Literal) → Stands nodes.now lexemes.now at k (labelled l (fields None rs x v))
+        → IfOk result (λ all. option_map (λ bits. bits.items) all ≡ and_bits (bits_of_rows rs) (bits_of v)) }
+{
+    let behind = &nodes[at + 1..];
+    let many = nodes[at].parts.min(behind.len());
+    all_bits(alloc, &behind[..many], lexemes)
+}

@@ -1,0 +1,72 @@
+//! The names of a literal's fields.
+
+ghost use Rattle.std.specs.Prelude.{ℕ, ◌≡◌, ◌<◌, ◌++◌, ◌∷◌, [], Option, length, map, IfOk};
+ghost use Rattle.om_grammar.specs.Grammar.{Name};
+ghost use Rattle.om_literal_grammar.specs.Literal.{Head, Literal, labelled, Rows, fields};
+ghost use Rattle.om_literal_grammar.specs.Nodes.{kinds_of};
+ghost use Rattle.om_literal.specs.Ends.{AreEnds};
+ghost use Rattle.om_literal.specs.FieldNames as specs;
+ghost use Rattle.om_literal.specs.Standing.{Stands};
+ghost use Rattle.om_literal.specs.Starts.{names_of_rows};
+
+use crate::siblings::sibling;
+use om_lex::lexeme::{Lexeme, LexemeKind};
+use om_literal_grammar::Node;
+use om_model::Memory;
+use std::alloc::Global;
+
+/// The name of the field whose part begins at this lexeme: it stands before the `=`.
+fn name_before(lexemes: &[Lexeme], first: usize) -> &[u8]
+    ensures { result.now ≡ specs.name_before (kinds_of lexemes.now) first }
+{
+    let place = first.saturating_sub(2);
+    if place >= lexemes.len() {
+        return &[];
+    }
+    match &lexemes[place].kind {
+        LexemeKind::Lower(name) => name.as_slice(),
+        _ => &[],
+    }
+}
+
+/// The names of so many fields, the first of whose parts begins at node `from`.
+fn names_from<'a>(
+    alloc: Global,
+    nodes: &[Node],
+    ends: &[usize],
+    from: usize,
+    many: usize,
+    lexemes: &'a [Lexeme],
+) -> Result<Vec<&'a [u8]>, Memory>
+    ensures { IfOk result (λ names. map (λ name. name.now) names.items ≡ specs.names_from nodes.now ends.now (kinds_of lexemes.now) from many) }
+{
+    let mut names = Vec::new(alloc);
+    let mut place = from;
+    let mut left = many;
+    while left > 0 {
+        if place >= nodes.len() {
+            return Ok(names);
+        }
+        names.push(name_before(lexemes, nodes[place].first))?;
+        place = sibling(ends, place, 1);
+        left -= 1;
+    }
+    Ok(names)
+}
+
+/// The names of the fields of the literal that begins at node `at`.
+pub(crate) fn field_names<'a>(
+    alloc: Global,
+    nodes: &[Node],
+    ends: &[usize],
+    at: usize,
+    lexemes: &'a [Lexeme],
+) -> Result<Vec<&'a [u8]>, Memory>
+    requires at { at < length nodes.now }
+    requires len { length ends.now ≡ length nodes.now }
+    requires ends { AreEnds nodes.now ends.now }
+    ensures { (k : ℕ) (l : Option ℕ) (o : Option Head) (rs : Rows) (x : Name) (v : Literal) → Stands nodes.now lexemes.now at k (labelled l (fields o rs x v))
+        → IfOk result (λ names. map (λ name. name.now) names.items ≡ names_of_rows rs ++ x ∷ []) }
+{
+    names_from(alloc, nodes, ends, at + 1, nodes[at].parts, lexemes)
+}

@@ -1,0 +1,169 @@
+//! What a literal without parts is at a shape.
+
+ghost use Rattle.std.specs.Prelude.{ℕ, ◌≡◌, length, Bool};
+ghost use Rattle.om_lex.specs.declared.lexeme.LexemeKind.TheVariants as kinds;
+ghost use Rattle.om_types.specs.declared.names.Names.{Names};
+ghost use Rattle.om_literal_grammar.specs.Literal.{Plain, Head, constant, integer, character, string, double, truth, truth_name, unit, empty_array};
+ghost use Rattle.om_model.specs.declared.value.Val.TheVariants as vals;
+ghost use Rattle.om_model.specs.declared.value.Obj.TheVariants as objects;
+ghost use Rattle.om_literal.specs.Starts.{start_at, if_in_range, is_in_bits, small, whole};
+ghost use Rattle.om_literal.specs.Leaves.{leaf_in, below_of, lead_of, IsSound};
+ghost use Rattle.om_literal.specs.Pending.{parts_of};
+ghost use Rattle.om_literal.specs.Standing.{lead_of_plain};
+
+use crate::named::constant_leaf;
+use om_lex::lexeme::{Integer, LexemeKind, Suffix, Symbol};
+use om_model::code::Custom;
+use om_model::list::List;
+use om_model::value::Val;
+use om_types::names::Names;
+use om_types::shape::ShapeOf;
+
+/// What it is: none of the shape, out of its range, an integer or an atom, or an object.
+#[derive(Clone, Copy)]
+pub enum Leaf<'a> {
+    Misfit,
+    OutOfRange,
+    Small(Val),
+    Bytes(&'a [u8]),
+    Double(u64),
+    Custom(Custom),
+}
+
+/// An integer of 63 bits.
+fn int_leaf(value: i64) -> Leaf<'static>
+    ensures sound { IsSound result }
+    ensures leaf { leaf_in result ≡ if_in_range (is_in_bits 62 value) (small (vals.Int value)) }
+{
+    if value < -(1 << 62) || value >= 1 << 62 {
+        Leaf::OutOfRange
+    } else {
+        Leaf::Small(Val::Int(value))
+    }
+}
+
+/// An integer of 32 bits.
+fn int32_leaf(value: i64) -> Leaf<'static>
+    ensures sound { IsSound result }
+    ensures leaf { leaf_in result ≡ if_in_range (is_in_bits 31 value) (whole (objects.I32 value)) }
+{
+    if value < -(1 << 31) || value >= 1 << 31 {
+        Leaf::OutOfRange
+    } else {
+        Leaf::Custom(Custom::I32(value as i32))
+    }
+}
+
+/// An integer at a shape.
+fn integer_leaf(shape: &ShapeOf<usize>, i: Integer) -> Leaf<'static>
+    ensures leaf { (t : ℕ) (names : Names) → leaf_in result ≡ start_at t shape.now names (integer i) }
+    ensures sound { IsSound result }
+{
+    match (shape, i.suffix) {
+        (ShapeOf::AnyInt, Suffix::Absent) => int_leaf(i.value),
+        (ShapeOf::Int32, Suffix::Int32) => int32_leaf(i.value),
+        (ShapeOf::Int64, Suffix::Int64) => Leaf::Custom(Custom::I64(i.value)),
+        (ShapeOf::Native, Suffix::Native) => Leaf::Custom(Custom::Native(i.value)),
+        _ => Leaf::Misfit,
+    }
+}
+
+/// An integer below a limit, where the shape has so many.
+fn below_leaf(shape: &ShapeOf<usize>, many: u64, n: u8) -> Leaf<'static>
+    ensures sound { IsSound result }
+    ensures leaf { leaf_in result ≡ below_of shape.now many n }
+{
+    match shape {
+        ShapeOf::Below(limit) if *limit == many => Leaf::Small(Val::Int(i64::from(n))),
+        _ => Leaf::Misfit,
+    }
+}
+
+/// A character at a shape.
+fn character_leaf(shape: &ShapeOf<usize>, c: u8) -> Leaf<'static>
+    ensures leaf { (t : ℕ) (names : Names) → leaf_in result ≡ start_at t shape.now names (character c) }
+    ensures sound { IsSound result }
+{
+    below_leaf(shape, 256, c)
+}
+
+/// `true` or `false` at a shape.
+fn truth_leaf(shape: &ShapeOf<usize>, b: bool) -> Leaf<'static>
+    ensures leaf { (t : ℕ) (names : Names) → leaf_in result ≡ start_at t shape.now names (truth b) }
+    ensures sound { IsSound result }
+{
+    below_leaf(shape, 2, u8::from(b))
+}
+
+/// `()` at a shape.
+fn unit_leaf(shape: &ShapeOf<usize>) -> Leaf<'static>
+    ensures leaf { (t : ℕ) (names : Names) → leaf_in result ≡ start_at t shape.now names unit }
+    ensures sound { IsSound result }
+{
+    below_leaf(shape, 1, 0)
+}
+
+/// A string at a shape.
+fn text_leaf<'a>(shape: &ShapeOf<usize>, bytes: &'a List<u8>) -> Leaf<'a>
+    ensures leaf { (t : ℕ) (names : Names) → leaf_in result ≡ start_at t shape.now names (string bytes.now) }
+    ensures sound { IsSound result }
+{
+    match shape {
+        ShapeOf::Bytes(_) => Leaf::Bytes(bytes.as_slice()),
+        _ => Leaf::Misfit,
+    }
+}
+
+/// A double at a shape.
+fn double_leaf(shape: &ShapeOf<usize>, bits: u64) -> Leaf<'static>
+    ensures leaf { (t : ℕ) (names : Names) → leaf_in result ≡ start_at t shape.now names (double bits) }
+    ensures sound { IsSound result }
+{
+    match shape {
+        ShapeOf::Double => Leaf::Double(bits),
+        _ => Leaf::Misfit,
+    }
+}
+
+/// `[||]` at a shape.
+fn empty_leaf(shape: &ShapeOf<usize>) -> Leaf<'static>
+    ensures leaf { (t : ℕ) (names : Names) → leaf_in result ≡ start_at t shape.now names empty_array }
+    ensures sound { IsSound result }
+{
+    match shape {
+        ShapeOf::ArrayOf(_) | ShapeOf::FloatArray | ShapeOf::ArrayOfVariable => {
+            Leaf::Small(Val::Atom(0))
+        }
+        _ => Leaf::Misfit,
+    }
+}
+
+/// A word at a shape: `true`, `false` or `ref`.
+fn word_leaf(shape: &ShapeOf<usize>, names: &Names, kind: &LexemeKind, word: &[u8]) -> Leaf<'static>
+    ensures truth { (t : ℕ) (b : Bool) → word.now ≡ truth_name b → leaf_in result ≡ start_at t shape.now names.now (truth b) }
+    ensures constant { (t : ℕ) (h : Head) → kind.now ≡ kinds.Lower word.now → kind.now ≡ lead_of h → leaf_in result ≡ start_at t shape.now names.now (constant h) }
+    ensures sound { IsSound result }
+{
+    if word == b"ref".as_slice() {
+        constant_leaf(shape, names, kind)
+    } else {
+        truth_leaf(shape, word == b"true".as_slice())
+    }
+}
+
+/// A literal without parts at a shape, by its first lexeme.
+pub fn leaf_of<'a>(shape: &ShapeOf<usize>, names: &Names, kind: &'a LexemeKind) -> Leaf<'a>
+    ensures leaf { (t k : ℕ) (p : Plain) → kind.now ≡ lead_of_plain p → length (parts_of k p) ≡ 0 → leaf_in result ≡ start_at t shape.now names.now p }
+    ensures sound { IsSound result }
+{
+    match kind {
+        LexemeKind::Integer(i) => integer_leaf(shape, *i),
+        LexemeKind::Character(c) => character_leaf(shape, *c),
+        LexemeKind::Text(bytes) => text_leaf(shape, bytes),
+        LexemeKind::Double(bits) => double_leaf(shape, *bits),
+        LexemeKind::Symbol(Symbol::OpenParen) => unit_leaf(shape),
+        LexemeKind::Symbol(Symbol::OpenArray) => empty_leaf(shape),
+        LexemeKind::Lower(word) => word_leaf(shape, names, kind, word.as_slice()),
+        _ => constant_leaf(shape, names, kind),
+    }
+}

@@ -1,0 +1,138 @@
+//! What a name without parts is at a shape: a constant constructor, or a tag without an argument.
+
+ghost use Rattle.std.specs.Prelude.{ℕ, ◌≡◌, ◌<◌, ◌^◌, Some, List, Option, option_map, position, find, IsTrue};
+ghost use Rattle.om_model.specs.Graph.{IsInteger};
+ghost use Rattle.std.specs.Str.{bytes_eq};
+ghost use Rattle.om_types.specs.Fitting.{tag_with, is_number};
+ghost use Rattle.om_types.specs.declared.names.TagName.{TagName};
+ghost use Rattle.om_literal_grammar.specs.Literal.{Head, constant};
+ghost use Rattle.om_literal.specs.Starts.{start_at, is_in_bits, constructor_name, name_of_tag, constant_of_name, constant_start, tag_named, if_tag, bare_tag};
+ghost use Rattle.om_literal.specs.Leaves.{leaf_in, lead_of, IsSound};
+
+use crate::leaf::Leaf;
+use om_lex::lexeme::{LexemeKind, Symbol};
+use om_model::list::List;
+use om_model::value::Val;
+use om_types::names::{Names, TagName};
+use om_types::shape::{PolyTag, ShapeOf};
+
+/// The name of a constructor, by its first lexeme.
+pub(crate) fn name_of_constructor(kind: &LexemeKind) -> Option<&[u8]>
+    ensures { (h : Head) → kind.now ≡ lead_of h → option_map (λ name. name.now) result ≡ constructor_name h }
+{
+    match kind {
+        LexemeKind::Upper(name) | LexemeKind::Lower(name) => Some(name.as_slice()),
+        LexemeKind::Symbol(Symbol::DoubleColon) => Some(b"::"),
+        LexemeKind::Symbol(Symbol::OpenBracket) => Some(b"[]"),
+        _ => None,
+    }
+}
+
+/// The name of a tag, by its first lexeme.
+pub(crate) fn tag_name(kind: &LexemeKind) -> Option<&[u8]>
+    ensures { (h : Head) → kind.now ≡ lead_of h → option_map (λ name. name.now) result ≡ name_of_tag h }
+{
+    match kind {
+        LexemeKind::Tag(name) => Some(name.as_slice()),
+        _ => None,
+    }
+}
+
+/// The place of a name.
+fn place(all: &[List<u8>], name: &[u8]) -> Option<usize>
+    ensures bounded { (i : ℕ) → result ≡ Some i → i < 2 ^ 62 }
+    ensures place { result ≡ position (bytes_eq name.now) all.now }
+{
+    all.iter().position(|other| name == other.as_slice())
+}
+
+/// The place of a constant constructor.
+fn place_of_constant(names: &Names, kind: &LexemeKind) -> Option<usize>
+    ensures bounded { (i : ℕ) → result ≡ Some i → i < 2 ^ 62 }
+    ensures place { (h : Head) → kind.now ≡ lead_of h → result ≡ constant_of_name names.now h }
+{
+    match name_of_constructor(kind) {
+        Some(name) => place(names.constants.as_slice(), name),
+        None => None,
+    }
+}
+
+/// A constant constructor by its place.
+fn constant_of(constants: u64, place: Option<usize>) -> Leaf<'static>
+    requires { (i : ℕ) → place ≡ Some i → i < 2 ^ 62 }
+    ensures sound { IsSound result }
+    ensures leaf { leaf_in result ≡ constant_start constants place }
+{
+    match place {
+        Some(i) if (i as u64) < constants => Leaf::Small(Val::Int(i as i64)),
+        _ => Leaf::Misfit,
+    }
+}
+
+/// The tag of this hash.
+fn tag_of_hash(tags: &[PolyTag<usize>], hash: i64) -> Option<&PolyTag<usize>>
+    ensures { option_map (λ tag. tag.now) result ≡ tag_with tags.now hash }
+{
+    tags.iter().find(|tag| is_hash(tag.hash, hash))
+}
+
+/// Whether a tag's hash is the number.
+fn is_hash(own: i64, hash: i64) -> bool
+    ensures { result ≡ is_number own hash }
+{
+    own == hash
+}
+
+/// The tag of this name, with its hash.
+fn tag_of_name<'a>(tags: &'a [TagName], name: &[u8]) -> Option<&'a TagName>
+    ensures { option_map (λ tag. tag.now) result ≡ find (λ (tag : TagName). bytes_eq tag.name name.now) tags.now }
+{
+    tags.iter().find(|tag| tag.name.as_slice() == name)
+}
+
+/// The tag that a name stands for.
+pub(crate) fn tag_of<'a>(
+    tags: &'a [PolyTag<usize>],
+    names: &Names,
+    kind: &LexemeKind,
+) -> Option<&'a PolyTag<usize>>
+    ensures { (h : Head) → kind.now ≡ lead_of h → option_map (λ tag. tag.now) result ≡ tag_named tags.now names.now h }
+{
+    let name = tag_name(kind)?;
+    let tag = tag_of_name(names.tags.as_slice(), name)?;
+    tag_of_hash(tags, tag.hash)
+}
+
+/// A tag without an argument.
+fn bare_leaf(tag: Option<&PolyTag<usize>>) -> Leaf<'static>
+    ensures sound { IsSound result }
+    ensures leaf { leaf_in result ≡ if_tag bare_tag (option_map (λ tag. tag.now) tag.entry) }
+{
+    match tag {
+        Some(tag) => match tag.arg {
+            None if is_integer(tag.hash) => Leaf::Small(Val::Int(tag.hash)),
+            _ => Leaf::Misfit,
+        },
+        None => Leaf::Misfit,
+    }
+}
+
+/// Whether a number has at most 63 bits.
+pub(crate) fn is_integer(z: i64) -> bool
+    ensures bits { result ≡ is_in_bits 62 z }
+    ensures integer { IsTrue result → IsInteger z }
+{
+    z >= -(1 << 62) && z < 1 << 62
+}
+
+/// A name without parts at a shape, by its first lexeme.
+pub fn constant_leaf(shape: &ShapeOf<usize>, names: &Names, kind: &LexemeKind) -> Leaf<'static>
+    ensures sound { IsSound result }
+    ensures leaf { (t : ℕ) (h : Head) → kind.now ≡ lead_of h → leaf_in result ≡ start_at t shape.now names.now (constant h) }
+{
+    match shape {
+        ShapeOf::Sum(constants, _) => constant_of(*constants, place_of_constant(names, kind)),
+        ShapeOf::Poly(tags) => bare_leaf(tag_of(tags.as_slice(), names, kind)),
+        _ => Leaf::Misfit,
+    }
+}

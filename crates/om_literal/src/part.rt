@@ -1,0 +1,278 @@
+//! A part of a literal begins: its value, and the block whose parts are to come.
+
+ghost use Rattle.std.specs.Prelude.{ℕ, ◌≡◌, ◌<◌, ◌≤◌, ◌^◌, ◌++◌, true, Option, List, length, option_and_then, slice_get, pos, replicate, IfOk, OnOk, OnErr, IsTrue, IfSome, All};
+ghost use Rattle.om_model.specs.Graph.{IsInteger};
+ghost use Rattle.om_model.specs.declared.value.Obj.{Obj};
+ghost use Rattle.om_model.specs.declared.value.Obj.TheVariants as objects;
+ghost use Rattle.om_model.specs.declared.value.Val.TheVariants as vals;
+ghost use Rattle.om_heap.specs.Heap.{Appends};
+ghost use Rattle.om_literal_grammar.specs.Literal.{Literal, labelled, again, Plain};
+ghost use Rattle.om_literal.specs.Answers.{shape_in, names_in};
+ghost use Rattle.om_literal.specs.Leaves as leaves;
+ghost use Rattle.om_literal.specs.Leaves.{leaf_in};
+ghost use Rattle.om_literal.specs.Openings as openings;
+ghost use Rattle.om_literal.specs.Openings.{opening_in, front_of};
+ghost use Rattle.om_literal.specs.Reading.{is_next, with_label};
+ghost use Rattle.om_literal.specs.Started as started;
+ghost use Rattle.om_literal.specs.Started.{start_in};
+ghost use Rattle.om_literal.specs.Starts.{start_at};
+ghost use Rattle.om_literal.specs.Standing.{Stands, own_node};
+ghost use Rattle.om_literal.specs.Underway.{IsText, HasPart, IsMade, Begins, Grows};
+
+use crate::fault::LiteralFault;
+use crate::leaf::Leaf;
+use crate::opening::Opening;
+use crate::stack::Opened;
+use crate::start::{Start, start_of};
+use crate::text::{Text, byte_of, plain_first};
+use om_heap::Heap;
+use om_literal_grammar::{Form, Node};
+use om_model::Memory;
+use om_model::value::Val;
+use std::alloc::Global;
+
+/// The value of a part, and the block where its own parts are to come.
+#[derive(Clone, Copy)]
+pub struct Begun<'a> {
+    pub value: Val,
+    pub inner: Option<Opened<'a>>,
+}
+
+/// What is made of a literal at its type: nothing, an integer or an atom, an object, or a block whose parts are to come.
+#[derive(Clone, Copy)]
+pub enum Made<'a> {
+    Misfit,
+    OutOfRange,
+    Small(Val),
+    Whole(u64),
+    Block(Opened<'a>),
+}
+
+/// Whether the label has the next number, where there is one.
+fn has_next_number(labels: &[u64], label: Option<u64>) -> bool
+    ensures { result ≡ is_next labels.now label }
+{
+    match label {
+        Some(n) => n == labels.len() as u64,
+        None => true,
+    }
+}
+
+/// The object of a label.
+fn object_of(labels: &[u64], label: Option<u64>) -> Option<u64>
+    ensures { result ≡ option_and_then (slice_get labels.now) label }
+{
+    match label {
+        Some(n) => labels.get(n as usize).copied(),
+        None => None,
+    }
+}
+
+/// The use of a label.
+fn again<'a>(text: &Text, labels: &[u64], node: &Node) -> Result<Begun<'a>, LiteralFault>
+    ensures { (k n t : ℕ) (graph : List Obj) → node.now ≡ own_node k (again n) → All (λ o. o < length graph) labels.now
+        → Begins text.now k (again n) t graph graph labels.now labels.now result }
+{
+    match object_of(labels, node.label) {
+        Some(o) => Ok(Begun {
+            value: Val::Ref(o),
+            inner: None,
+        }),
+        None => Err(LiteralFault::Label(byte_of(text.lexemes, text.end, node.first))),
+    }
+}
+
+/// The reference to an object, which has the label where there is one.
+fn reference(labels: &mut Vec<u64>, label: Option<u64>, o: u64) -> Result<Val, Memory>
+    ensures value { IfOk result (λ value. value ≡ vals.Ref o) }
+    ensures labels { OnOk result (labels.new.items ≡ with_label labels.old.items label o) }
+    ensures kept { OnErr result (labels.new.items ≡ labels.old.items) }
+{
+    if label.is_some() {
+        labels.push(o)?;
+    }
+    Ok(Val::Ref(o))
+}
+
+/// Appends a string; `Memory` where it would be too large for an object.
+fn add_text(heap: &mut Heap, bytes: &[u8]) -> Result<u64, Memory>
+    ensures { Appends heap.old heap.new (objects.Bytes bytes.now) result }
+{
+    if bytes.len() >= 1 << 56 {
+        return Err(Memory);
+    }
+    heap.add_bytes_of(bytes)
+}
+
+/// Whether an object can have so many parts: some, and no more than memory holds.
+fn can_have(parts: usize) -> bool
+    ensures { IsTrue result → (0 < parts) × (parts < 2 ^ 53) }
+{
+    parts > 0 && parts < 1 << 53
+}
+
+/// Appends doubles.
+fn add_doubles(heap: &mut Heap, all: Vec<u64>) -> Result<u64, Memory>
+    ensures { Appends heap.old heap.new (objects.Doubles all.items) result }
+{
+    if !can_have(all.len()) {
+        return Err(Memory);
+    }
+    heap.add_doubles_of(all)
+}
+
+/// Appends a block with room for so many parts, and with the hash of a tag before them.
+fn add_parts(heap: &mut Heap, tag: u8, hash: Option<i64>, parts: usize) -> Result<u64, Memory>
+    requires tag { tag ≤ 243 }
+    requires hash { IfSome hash IsInteger }
+    ensures block { Appends heap.old heap.new (objects.Block tag (front_of hash ++ replicate parts (vals.Int (pos 0)))) result }
+    ensures many { OnOk result ((0 < parts) × (parts < 2 ^ 53)) }
+{
+    if !can_have(parts) {
+        return Err(Memory);
+    }
+    let parts = parts as u64;
+    match hash {
+        Some(hash) => {
+            let o = heap.add_block(tag, parts + 1)?;
+            heap.set(o, 0, Val::Int(hash));
+            Ok(o)
+        }
+        None => heap.add_block(tag, parts),
+    }
+}
+
+/// How many fields stand before the parts.
+fn front_len(hash: Option<i64>) -> u64
+    ensures len { result ≡ length (front_of hash) }
+    ensures few { result ≤ 1 }
+{
+    match hash {
+        Some(_) => 1,
+        None => 0,
+    }
+}
+
+/// A string, a double or a custom as an object; an integer and an atom need none.
+fn make_leaf<'a>(heap: &mut Heap, leaf: Leaf) -> Result<Made<'a>, Memory>
+    requires { leaves.IsSound leaf }
+    ensures made { (parts : ℕ) → IfOk result (IsMade parts (leaf_in leaf.entry) heap.old heap.new) }
+    ensures grows { Grows heap.old heap.new }
+{
+    match leaf {
+        Leaf::Misfit => Ok(Made::Misfit),
+        Leaf::OutOfRange => Ok(Made::OutOfRange),
+        Leaf::Small(value) => Ok(Made::Small(value)),
+        Leaf::Bytes(bytes) => Ok(Made::Whole(add_text(heap, bytes)?)),
+        Leaf::Double(bits) => Ok(Made::Whole(heap.add_double(bits)?)),
+        Leaf::Custom(c) => Ok(Made::Whole(heap.add_custom(c)?)),
+    }
+}
+
+/// A block, whose parts are to come.
+fn make_block<'a>(
+    heap: &mut Heap,
+    opening: Opening<'a>,
+    parts: usize,
+    t: usize,
+) -> Result<Made<'a>, Memory>
+    requires { openings.IsSound opening }
+    ensures made { IfOk result (IsMade parts (opening_in t opening.entry) heap.old heap.new) }
+    ensures grows { Grows heap.old heap.new }
+{
+    let Opening::Block(tag, hash, types) = opening else {
+        return Ok(Made::Misfit);
+    };
+    let block = add_parts(heap, tag, hash, parts)?;
+    Ok(Made::Block(Opened {
+        block,
+        field: front_len(hash),
+        part: 0,
+        left: parts,
+        types,
+        at: t,
+    }))
+}
+
+/// The object of a literal of so many parts, by its start at a type.
+fn make<'a>(heap: &mut Heap, start: Start<'a>, parts: usize, t: usize) -> Result<Made<'a>, Memory>
+    requires { started.IsSound start }
+    ensures made { IfOk result (IsMade parts (start_in t start.entry) heap.old heap.new) }
+    ensures grows { Grows heap.old heap.new }
+{
+    match start {
+        Start::Leaf(leaf) => make_leaf(heap, leaf),
+        Start::Doubles(all) => Ok(Made::Whole(add_doubles(heap, all)?)),
+        Start::Opening(opening) => make_block(heap, opening, parts, t),
+    }
+}
+
+/// What was made, with its label.
+fn placed<'a>(
+    text: &Text,
+    labels: &mut Vec<u64>,
+    node: &Node,
+    t: usize,
+    made: Made<'a>,
+) -> Result<Begun<'a>, LiteralFault>
+    requires { node.now.first < 2 ^ 63 }
+    ensures { (k : ℕ) (l : Option ℕ) (p : Plain) (graph new : List Obj) → node.now ≡ own_node k (labelled l p) → is_next labels.old.items l ≡ true
+        → All (λ o. o < length graph) labels.old.items → IsMade node.now.parts (start_at t (shape_in text.now.table.now t) (names_in text.now.table.now t) p) graph new made.entry
+        → Begins text.now k (labelled l p) t graph new labels.old.items labels.new.items result }
+{
+    match made {
+        Made::Misfit => Err(LiteralFault::Misfit(
+            byte_of(text.lexemes, text.end, plain_first(node)),
+            t,
+        )),
+        Made::OutOfRange => Err(LiteralFault::IntRange(byte_of(
+            text.lexemes,
+            text.end,
+            plain_first(node),
+        ))),
+        Made::Small(_) if node.label.is_some() => Err(LiteralFault::Label(byte_of(
+            text.lexemes,
+            text.end,
+            node.first,
+        ))),
+        Made::Small(value) => Ok(Begun { value, inner: None }),
+        Made::Whole(o) => {
+            let value = reference(labels, node.label, o)?;
+            Ok(Begun { value, inner: None })
+        }
+        Made::Block(opened) => {
+            let value = reference(labels, node.label, opened.block)?;
+            Ok(Begun {
+                value,
+                inner: Some(opened),
+            })
+        }
+    }
+}
+
+/// The literal at node j is begun at a type.
+pub fn begin<'a>(
+    alloc: Global,
+    text: &Text<'a>,
+    heap: &mut Heap,
+    labels: &mut Vec<u64>,
+    j: usize,
+    t: usize,
+) -> Result<Begun<'a>, LiteralFault>
+    requires text { IsText text.now }
+    requires part { HasPart text.now j }
+    ensures begins { (k : ℕ) (v : Literal) → Stands text.now.nodes.now text.now.lexemes.now j k v → All (λ o. o < length heap.old) labels.old.items
+        → Begins text.now k v t heap.old heap.new labels.old.items labels.new.items result }
+    ensures grows { Grows heap.old heap.new }
+{
+    let node = text.nodes[j];
+    if let Form::Again = node.form {
+        return again(text, labels, &node);
+    }
+    if !has_next_number(labels, node.label) {
+        return Err(LiteralFault::Label(byte_of(text.lexemes, text.end, node.first)));
+    }
+    let start = start_of(alloc, text, j, node, t)?;
+    let made = make(heap, start, node.parts, t)?;
+    placed(text, labels, &node, t, made)
+}

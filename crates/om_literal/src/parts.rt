@@ -1,0 +1,68 @@
+//! The parts of a literal's blocks, one after the other.
+
+ghost use Rattle.std.specs.Prelude.{ℕ, ◌≡◌, ◌<◌, ◌∷◌, [], List, Result, length, take, IfOk, IfErr};
+ghost use Rattle.om_model.specs.declared.value.Obj.{Obj};
+ghost use Rattle.om_literal.specs.Reading.{Refusal};
+ghost use Rattle.om_literal.specs.Underway.{IsText, MayRefuse, IsUnderway, CanGoOn, Finishes};
+
+use crate::fault::LiteralFault;
+use crate::part::begin;
+use crate::stack::{Opened, Stack};
+use crate::text::Text;
+use om_heap::Heap;
+use std::alloc::Global;
+
+/// Reads the part of a block that is the literal at node j: the node that comes next.
+fn read_part<'a>(
+    alloc: Global,
+    text: &Text<'a>,
+    heap: &mut Heap,
+    labels: &mut Vec<u64>,
+    stack: &mut Stack<'a>,
+    block: Opened<'a>,
+    j: usize,
+) -> Result<usize, LiteralFault>
+    requires text { IsText text.now }
+    requires underway { CanGoOn text.now (block ∷ stack.old) j heap.old labels.old.items }
+    ensures underway { (old : List Obj) (outcome : Result (List Obj) (Refusal ℕ)) → IsUnderway text.now old outcome (block.entry ∷ stack.old) j heap.old labels.old.items
+        → IfOk result (λ next. IsUnderway text.now old outcome stack.new next heap.new labels.new.items) }
+    ensures refused { (old : List Obj) (outcome : Result (List Obj) (Refusal ℕ)) → IsUnderway text.now old outcome (block.entry ∷ stack.old) j heap.old labels.old.items
+        → IfErr result (MayRefuse text.now.lexemes.now text.now.end outcome) }
+    ensures kept { (old : List Obj) (outcome : Result (List Obj) (Refusal ℕ)) → IsUnderway text.now old outcome (block.entry ∷ stack.old) j heap.old labels.old.items
+        → take (length old) heap.new ≡ old }
+    ensures onward { IfOk result (λ next. j < next) }
+    ensures inside { j < length text.now.nodes.now }
+{
+    let begun = begin(alloc, text, heap, labels, j, block.next_type())?;
+    heap.set(block.block, block.field, begun.value);
+    stack.put_back(block.advanced())?;
+    match begun.inner {
+        Some(inner) => {
+            stack.push(inner)?;
+            Ok(j + 1)
+        }
+        None => Ok(text.ends[j]),
+    }
+}
+
+/// Reads the parts of a block, from the node at 1 on, and all that is in them.
+pub fn read_parts<'a>(
+    alloc: Global,
+    text: &Text<'a>,
+    heap: &mut Heap,
+    labels: &mut Vec<u64>,
+    block: Opened<'a>,
+) -> Result<(), LiteralFault>
+    requires text { IsText text.now }
+    requires underway { CanGoOn text.now (block ∷ []) 1 heap.old labels.old.items }
+    ensures finished { (old : List Obj) (outcome : Result (List Obj) (Refusal ℕ)) → IsUnderway text.now old outcome (block.entry ∷ []) 1 heap.old labels.old.items
+        → Finishes text.now old outcome heap.new result }
+{
+    let mut stack = Stack::new(alloc);
+    stack.push(block)?;
+    let mut j = 1;
+    'part: while let Some(block) = stack.pop() {
+        j = read_part(alloc, text, heap, labels, &mut stack, block, j)?;
+    }
+    Ok(())
+}

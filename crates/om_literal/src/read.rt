@@ -1,0 +1,98 @@
+//! The value that lexemes are at a type.
+
+ghost use Rattle.std.specs.Prelude.{◌≡◌, length, List, Result, IfOk};
+ghost use Rattle.om_model.specs.declared.value.Val.{Val};
+ghost use Rattle.om_model.specs.declared.value.Obj.{Obj};
+ghost use Rattle.om_model.specs.Graph.{IsValue};
+ghost use Rattle.om_literal_grammar.specs.Nodes.{IsTreeOf};
+ghost use Rattle.om_literal.specs.declared.fault.LiteralFault.{LiteralFault};
+ghost use Rattle.om_literal.specs.Answers.{IsAnswer, IsAnswered, Gives};
+ghost use Rattle.om_literal.specs.Underway.{IsText, ReadsTree, Reads};
+
+use crate::fault::LiteralFault;
+use crate::part::begin;
+use crate::parts::read_parts;
+use crate::siblings::subtree_ends;
+use crate::text::{Text, byte_of};
+use om_heap::Heap;
+use om_lex::lexeme::Lexeme;
+use om_literal_grammar::{TreeFault, read_literal_tree};
+use om_model::value::Val;
+use om_type_table::TypeTable;
+use std::alloc::Global;
+
+/// Reads the literal of a text at a type. After a fault new objects may stay.
+fn read_tree(alloc: Global, text: &Text, heap: &mut Heap, at: usize) -> Result<Val, LiteralFault>
+    requires text { IsText text.now }
+    requires tree { IsTreeOf text.now.lexemes.now text.now.nodes.now }
+    ensures { ReadsTree text.now at heap.old heap.new result }
+{
+    let mut labels = Vec::new(alloc);
+    let begun = begin(alloc, text, heap, &mut labels, 0, at)?;
+    match begun.inner {
+        Some(block) => {
+            read_parts(alloc, text, heap, &mut labels, block)?;
+            Ok(begun.value)
+        }
+        None => Ok(begun.value),
+    }
+}
+
+/// Reads lexemes as a literal at a type. After a fault new objects may stay.
+fn read_lexemes(
+    alloc: Global,
+    heap: &mut Heap,
+    table: &TypeTable,
+    at: usize,
+    lexemes: &[Lexeme],
+    end: usize,
+) -> Result<Val, LiteralFault>
+    requires named { length table.now.names ≡ length table.now.nodes }
+    ensures { Reads table.now at lexemes.now end heap.old heap.new result }
+{
+    let tree = match read_literal_tree(alloc, lexemes) {
+        Ok(tree) => tree,
+        Err(TreeFault::Syntax(k)) => {
+            return Err(LiteralFault::Syntax(byte_of(lexemes, end, k)));
+        }
+        Err(TreeFault::Memory) => return Err(LiteralFault::Memory),
+    };
+    let nodes = tree.as_slice();
+    let ends = subtree_ends(alloc, nodes)?;
+    let text = Text {
+        table,
+        lexemes,
+        nodes,
+        ends: ends.as_slice(),
+        end,
+    };
+    read_tree(alloc, &text, heap, at)
+}
+
+/// Reads the lexemes of a text that ends at this byte as a value of a type, whose objects are appended to the heap.
+pub fn read_literal(
+    alloc: Global,
+    heap: &mut Heap,
+    table: &TypeTable,
+    at: usize,
+    lexemes: &[Lexeme],
+    end: usize,
+) -> Result<Val, LiteralFault>
+    requires { length table.now.names ≡ length table.now.nodes }
+
+    // The value, behind the old objects, or the fault, and then the heap is as it was. So it is out of memory too.
+    ensures answer { IsAnswered table.now at lexemes.now end heap.old heap.new result }
+
+    // The one answer is given, unless memory runs out.
+    ensures only { (answer : Result (List Obj × Val) LiteralFault) → IsAnswer table.now at lexemes.now end heap.old answer → Gives answer heap.new result }
+
+    // A value that is given is one of the heap.
+    ensures valid { IfOk result (IsValue (length heap.new)) }
+{
+    let count = heap.count();
+    let result = read_lexemes(alloc, heap, table, at, lexemes, end);
+    if result.is_err() {
+        heap.truncate(count);
+    }
+    result
+}

@@ -1,0 +1,21 @@
+//! Rows of names.
+
+ghost use Rattle.std.specs.Prelude.{◌≡◌, map};
+ghost use Rattle.om_literal.specs.Starts as starts;
+
+use om_model::list::List;
+
+/// Whether two rows of names are the same.
+pub(crate) fn same_names(own: &[List<u8>], wanted: &[&[u8]]) -> bool
+    ensures { result ≡ starts.same_names own.now (map (λ name. name.now) wanted.now) }
+{
+    if own.len() != wanted.len() {
+        return false;
+    }
+    for i in 0..own.len() {
+        if own[i].as_slice() != wanted[i] {
+            return false;
+        }
+    }
+    true
+}

@@ -1,0 +1,37 @@
+//! Where each literal of a row of nodes ends.
+
+ghost use Rattle.std.specs.Prelude.{◌≡◌, length, IfOk};
+ghost use Rattle.om_literal.specs.Ends as specs;
+
+use om_literal_grammar::Node;
+use om_model::Memory;
+use std::alloc::Global;
+
+/// The node so many siblings on.
+pub(crate) fn sibling(ends: &[usize], from: usize, many: usize) -> usize
+    ensures { result ≡ specs.sibling ends.now from many }
+{
+    let mut place = from;
+    let mut left = many;
+    while left > 0 {
+        if place >= ends.len() {
+            return place;
+        }
+        place = ends[place];
+        left -= 1;
+    }
+    place
+}
+
+/// For each node the number of the node behind its last part.
+pub(crate) fn subtree_ends(alloc: Global, nodes: &[Node]) -> Result<Vec<usize>, Memory>
+    ensures len { IfOk result (λ ends. length ends.items ≡ length nodes.now) }
+    ensures ends { IfOk result (λ ends. specs.AreEnds nodes.now ends.items) }
+{
+    let mut ends = vec![in alloc; 0usize; nodes.len()]?;
+    for i in (0..nodes.len()).rev() {
+        let end = sibling(ends.as_slice(), i + 1, nodes[i].parts);
+        ends[i] = end;
+    }
+    Ok(ends)
+}

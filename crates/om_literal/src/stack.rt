@@ -1,0 +1,104 @@
+//! The blocks that are open, the innermost first.
+
+ghost use Rattle.std.specs.Prelude.{◌≡◌, ◌<◌, ◌≤◌, ◌+◌, ◌^◌, List, [], ◌∷◌, reverse, IfOk};
+ghost use Rattle.om_literal.specs.Openings.{types_in};
+ghost use Rattle.om_literal.specs.Underway.{Popped, IsAdvanced, if_open};
+
+use crate::opening::Types;
+use om_model::Memory;
+use std::alloc::Global;
+use std::marker::Model;
+
+/// A block whose parts are being read.
+#[derive(Clone, Copy)]
+pub struct Opened<'a> {
+    /// The number of the object.
+    pub block: u64,
+    /// The field and the number of the part that comes next, and how many parts are to come.
+    pub field: u64,
+    pub part: usize,
+    pub left: usize,
+    /// The types of the parts; where a part has none it is judged at that of the block.
+    pub types: Types<'a>,
+    pub at: usize,
+}
+
+impl<'a> Opened<'a> {
+    /// The block when that part has begun.
+    pub fn advanced(self) -> Opened<'a>
+        requires left { 0 < self.left }
+        requires few { self.field + self.left < 2 ^ 54 }
+        requires within { self.part ≤ self.field }
+        ensures { IsAdvanced self.entry result }
+    {
+        Opened {
+            block: self.block,
+            field: self.field + 1,
+            part: self.part + 1,
+            left: self.left - 1,
+            types: self.types,
+            at: self.at,
+        }
+    }
+
+    /// The type of the part that comes next.
+    pub fn next_type(&self) -> usize
+        ensures { result ≡ types_in self.now.at self.now.types self.now.part }
+    {
+        match self.types {
+            Types::Listed(types) => match types.get(self.part) {
+                Some(part) => *part,
+                None => self.at,
+            },
+            Types::Each(part) => part,
+        }
+    }
+}
+
+/// The blocks, the innermost last in memory.
+#[derive(Drop)]
+pub struct Stack<'a> {
+    items: Vec<Opened<'a>>,
+}
+
+impl<'a> Model for Stack<'a> {
+    ghost use Rattle.std.specs.Prelude.{List, reverse};
+    ghost use Rattle.om_literal.specs.declared.stack.Opened.{Opened};
+
+    ghost Value = { List Opened };
+
+    ghost view = { λ s. reverse s.items.items };
+}
+
+impl<'a> Stack<'a> {
+    pub fn new(alloc: Global) -> Stack<'a>
+        ensures { result ≡ [] }
+    {
+        Stack {
+            items: Vec::new(alloc),
+        }
+    }
+
+    pub fn push(&mut self, block: Opened<'a>) -> Result<(), Memory>
+        ensures { IfOk result (λ _. self.new ≡ block.entry ∷ self.old) }
+    {
+        self.items.push(block)?;
+        Ok(())
+    }
+
+    /// Puts a block back if parts of it are to come.
+    pub fn put_back(&mut self, block: Opened<'a>) -> Result<(), Memory>
+        ensures { IfOk result (λ _. self.new ≡ if_open block.entry self.old) }
+    {
+        if block.left > 0 {
+            self.push(block)?;
+        }
+        Ok(())
+    }
+
+    pub fn pop(&mut self) -> Option<Opened<'a>>
+        ensures { Popped self.old self.new result }
+    {
+        self.items.pop()
+    }
+}

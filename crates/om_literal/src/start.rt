@@ -1,0 +1,204 @@
+//! What a literal is at a type, before its parts are read.
+
+ghost use Rattle.std.specs.Prelude.{ℕ, ◌≡◌, ◌<◌, ◌++◌, ◌∷◌, [], Some, None, Option, length, map, suc, option_map, slice_get, IfOk, ◌&&◌, ◌==◌, ◌+◌};
+ghost use Rattle.om_types.specs.declared.names.Names.{Names};
+ghost use Rattle.om_grammar.specs.Grammar.{Name};
+ghost use Rattle.om_literal_grammar.specs.Literal.{Head, Literal, labelled, Plain, Parts, Rows, array, fields, label_kinds};
+ghost use Rattle.om_literal_grammar.specs.Nodes.{rows_count};
+ghost use Rattle.om_literal.specs.Answers.{shape_in, names_in};
+ghost use Rattle.om_literal.specs.Standing.{Stands, own_node, lead_of_owner, lead_of_plain};
+ghost use Rattle.om_literal.specs.Starts.{start_at, if_fits, doubles_start, and_bits, bits_of, bits_of_parts, bits_of_rows, names_of_rows};
+ghost use Rattle.om_literal.specs.Starts as starts;
+ghost use Rattle.om_literal.specs.Started.{start_in, IsSound};
+ghost use Rattle.om_literal.specs.Underway.{IsText};
+
+use crate::doubles::doubles_of_parts;
+use crate::fields::field_names;
+use crate::leaf::{Leaf, leaf_of};
+use crate::opening::{
+    Opening, applied_opening, array_opening, inline_opening, record_opening, tuple_opening,
+};
+use crate::rows::same_names;
+use crate::text::{Text, plain_first};
+use om_lex::lexeme::{LexemeKind, Symbol};
+use om_literal_grammar::{Form, Node};
+use om_model::Memory;
+use om_type_table::TypeTable;
+use om_types::names::Names;
+use om_types::shape::ShapeOf;
+use std::alloc::Global;
+
+/// What it is: a leaf, doubles in one object, or a block.
+#[derive(Drop)]
+pub enum Start<'a> {
+    Leaf(Leaf<'a>),
+    Doubles(Vec<u64>),
+    Opening(Opening<'a>),
+}
+
+/// The parts of the literal at node j as doubles in one object.
+fn doubles_at<'a>(alloc: Global, text: &Text<'a>, j: usize) -> Result<Start<'a>, Memory>
+    requires { j < length text.now.nodes.now }
+    ensures array { (t k : ℕ) (l : Option ℕ) (ps : Parts) (v : Literal) → Stands text.now.nodes.now text.now.lexemes.now j k (labelled l (array ps v))
+        → IfOk result (λ start. start_in t start ≡ doubles_start (and_bits (bits_of_parts ps) (bits_of v))) }
+    ensures flat { (t k : ℕ) (l : Option ℕ) (rs : Rows) (x : Name) (v : Literal) → Stands text.now.nodes.now text.now.lexemes.now j k (labelled l (fields None rs x v))
+        → IfOk result (λ start. start_in t start ≡ doubles_start (and_bits (bits_of_rows rs) (bits_of v))) }
+    ensures sound { IfOk result IsSound }
+{
+    match doubles_of_parts(alloc, text.nodes, j, text.lexemes)? {
+        Some(all) => Ok(Start::Doubles(all)),
+        None => Ok(Start::Leaf(Leaf::Misfit)),
+    }
+}
+
+/// Parts in the brackets of arrays.
+fn array_start<'a>(
+    alloc: Global,
+    text: &Text<'a>,
+    j: usize,
+    shape: &'a ShapeOf<usize>,
+) -> Result<Start<'a>, Memory>
+    requires { j < length text.now.nodes.now }
+    ensures start { (t k : ℕ) (names : Names) (l : Option ℕ) (ps : Parts) (v : Literal) → Stands text.now.nodes.now text.now.lexemes.now j k (labelled l (array ps v))
+        → IfOk result (λ start. start_in t start ≡ start_at t shape.now names (array ps v)) }
+    ensures sound { IfOk result IsSound }
+{
+    match shape {
+        ShapeOf::FloatArray => doubles_at(alloc, text, j),
+        _ => Ok(Start::Opening(array_opening(shape))),
+    }
+}
+
+/// Whether so many fields of these names are those of a record that lies flat.
+fn is_flat(names: &Names, wanted: &[&[u8]], many: u64, parts: usize) -> bool
+    ensures { result ≡ (starts.same_names names.now.fields (map (λ name. name.now) wanted.now) && many == parts) }
+{
+    same_names(names.fields.as_slice(), wanted) && many == parts as u64
+}
+
+/// The fields of a record that lies flat, where it fits.
+fn flat_start<'a>(alloc: Global, text: &Text<'a>, j: usize, fits: bool) -> Result<Start<'a>, Memory>
+    requires { j < length text.now.nodes.now }
+    ensures fits { (t k : ℕ) (l : Option ℕ) (rs : Rows) (x : Name) (v : Literal) → Stands text.now.nodes.now text.now.lexemes.now j k (labelled l (fields None rs x v))
+        → IfOk result (λ start. start_in t start ≡ if_fits fits (doubles_start (and_bits (bits_of_rows rs) (bits_of v)))) }
+    ensures sound { IfOk result IsSound }
+{
+    if fits {
+        doubles_at(alloc, text, j)
+    } else {
+        Ok(Start::Leaf(Leaf::Misfit))
+    }
+}
+
+/// So many fields of these names without a constructor.
+fn record_start<'a>(
+    alloc: Global,
+    text: &Text<'a>,
+    j: usize,
+    shape: &'a ShapeOf<usize>,
+    names: &Names,
+    wanted: &[&[u8]],
+    parts: usize,
+) -> Result<Start<'a>, Memory>
+    requires { j < length text.now.nodes.now }
+    ensures start { (t k : ℕ) (l : Option ℕ) (rs : Rows) (x : Name) (v : Literal) → Stands text.now.nodes.now text.now.lexemes.now j k (labelled l (fields None rs x v))
+        → parts ≡ suc (rows_count rs) → map (λ name. name.now) wanted.now ≡ names_of_rows rs ++ x ∷ []
+        → IfOk result (λ start. start_in t start ≡ start_at t shape.now names.now (fields None rs x v)) }
+    ensures sound { IfOk result IsSound }
+{
+    match shape {
+        ShapeOf::FlatFloats(_, many) => {
+            let fits = is_flat(names, wanted, *many, parts);
+            flat_start(alloc, text, j, fits)
+        }
+        _ => Ok(Start::Opening(record_opening(shape, names, wanted, parts))),
+    }
+}
+
+/// So many fields, by their first lexeme.
+fn fields_start<'a>(
+    alloc: Global,
+    text: &Text<'a>,
+    j: usize,
+    shape: &'a ShapeOf<usize>,
+    names: &Names,
+    kind: &LexemeKind,
+    parts: usize,
+) -> Result<Start<'a>, Memory>
+    requires text { IsText text.now }
+    requires node { j < length text.now.nodes.now }
+    ensures start { (t k : ℕ) (l : Option ℕ) (o : Option Head) (rs : Rows) (x : Name) (v : Literal) → Stands text.now.nodes.now text.now.lexemes.now j k (labelled l (fields o rs x v))
+        → kind.now ≡ lead_of_owner o → parts ≡ suc (rows_count rs)
+        → IfOk result (λ start. start_in t start ≡ start_at t shape.now names.now (fields o rs x v)) }
+    ensures sound { IfOk result IsSound }
+{
+    let wanted = field_names(alloc, text.nodes, text.ends, j, text.lexemes)?;
+    match kind {
+        LexemeKind::Symbol(Symbol::OpenBrace) => {
+            record_start(alloc, text, j, shape, names, &wanted, parts)
+        }
+        _ => Ok(Start::Opening(inline_opening(shape, names, kind, &wanted, parts))),
+    }
+}
+
+/// A literal with parts, by its node and its first lexeme.
+fn opening_start<'a>(
+    alloc: Global,
+    text: &Text<'a>,
+    j: usize,
+    node: Node,
+    shape: &'a ShapeOf<usize>,
+    names: &Names,
+    kind: &LexemeKind,
+) -> Result<Start<'a>, Memory>
+    requires text { IsText text.now }
+    requires node { j < length text.now.nodes.now }
+    requires parts { 0 < node.parts }
+    ensures start { (t k : ℕ) (l : Option ℕ) (p : Plain) → Stands text.now.nodes.now text.now.lexemes.now j k (labelled l p)
+        → node ≡ own_node k (labelled l p) → kind.now ≡ lead_of_plain p
+        → IfOk result (λ start. start_in t start ≡ start_at t shape.now names.now p) }
+    ensures sound { IfOk result IsSound }
+{
+    match node.form {
+        Form::Tuple => Ok(Start::Opening(tuple_opening(shape, names, node.parts))),
+        Form::Named => Ok(Start::Opening(applied_opening(shape, names, kind, node.parts))),
+        Form::Array => array_start(alloc, text, j, shape),
+        Form::Fields => fields_start(alloc, text, j, shape, names, kind, node.parts),
+        _ => Ok(Start::Leaf(Leaf::Misfit)),
+    }
+}
+
+/// The shape of a type, where the table has it.
+fn shape_of(table: &TypeTable, t: usize) -> Option<&ShapeOf<usize>>
+    ensures { option_map (λ shape. shape.now) result ≡ slice_get table.now.nodes t }
+{
+    table.nodes.as_slice().get(t)
+}
+
+/// The literal at node j, which is this one, at a type.
+pub fn start_of<'a>(
+    alloc: Global,
+    text: &Text<'a>,
+    j: usize,
+    node: Node,
+    t: usize,
+) -> Result<Start<'a>, Memory>
+    requires text { IsText text.now }
+    requires node { j < length text.now.nodes.now }
+    requires first { node.first + length (label_kinds node.label) < length text.now.lexemes.now }
+    ensures start { (k : ℕ) (l : Option ℕ) (p : Plain) → Stands text.now.nodes.now text.now.lexemes.now j k (labelled l p)
+        → node ≡ own_node k (labelled l p)
+        → IfOk result (λ start. start_in t start ≡ start_at t (shape_in text.now.table.now t) (names_in text.now.table.now t) p) }
+    ensures sound { IfOk result IsSound }
+{
+    let Some(shape) = shape_of(text.table, t) else {
+        return Ok(Start::Leaf(Leaf::Misfit));
+    };
+    let names = text.table.names(t);
+    let kind = &text.lexemes[plain_first(&node)].kind;
+    if node.parts == 0 {
+        Ok(Start::Leaf(leaf_of(shape, names, kind)))
+    } else {
+        opening_start(alloc, text, j, node, shape, names, kind)
+    }
+}

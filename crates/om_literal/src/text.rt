@@ -1,0 +1,42 @@
+//! A literal by its nodes and its lexemes.
+
+ghost use Rattle.std.specs.Prelude.{◌≡◌, ◌+◌, ◌<◌, ◌^◌, length};
+ghost use Rattle.om_literal.specs.Answers.{byte_of as first_byte};
+ghost use Rattle.om_literal_grammar.specs.Literal.{label_kinds};
+
+use om_lex::lexeme::Lexeme;
+use om_literal_grammar::Node;
+use om_type_table::TypeTable;
+
+/// What the parts of a literal are read by.
+#[derive(Clone, Copy)]
+pub struct Text<'a> {
+    pub table: &'a TypeTable,
+    pub lexemes: &'a [Lexeme],
+    pub nodes: &'a [Node],
+    /// For each node the number of the one behind its last part.
+    pub ends: &'a [usize],
+    /// The byte at which the lexemes end.
+    pub end: usize,
+}
+
+/// The byte at which a lexeme begins, or the end.
+pub fn byte_of(lexemes: &[Lexeme], end: usize, k: usize) -> u64
+    ensures { result ≡ first_byte lexemes.now end k }
+{
+    match lexemes.get(k) {
+        Some(lexeme) => lexeme.span.first as u64,
+        None => end as u64,
+    }
+}
+
+/// The first lexeme of a literal behind its label.
+pub fn plain_first(node: &Node) -> usize
+    requires { node.now.first < 2 ^ 63 }
+    ensures { result ≡ node.now.first + length (label_kinds node.now.label) }
+{
+    match node.label {
+        Some(_) => node.first + 3,
+        None => node.first,
+    }
+}
