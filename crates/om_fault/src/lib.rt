@@ -9,5 +9,5 @@ mod steps;
 mod text;
 
 pub use fault::is_fault;
-pub use steps::walk;
+pub use steps::{step, walk};
 pub use text::fault_text;

@@ -28,8 +28,14 @@ pub fn walk(heap: &Heap, root: Val, table: &TypeTable, path: &Path) -> Option<(V
     Some((value, at))
 }
 
-/// One step of a path.
-fn step(heap: &Heap, value: Val, table: &TypeTable, at: usize, step: u64) -> Option<(Val, usize)>
+/// One step of a path: the value there and the number of its type, if the step is prescribed.
+pub fn step(
+    heap: &Heap,
+    value: Val,
+    table: &TypeTable,
+    at: usize,
+    step: u64,
+) -> Option<(Val, usize)>
     requires value { IsValue (length heap.now) value }
     requires lawful { IsLawful (table_of table.now) }
     requires number { at < length table.now.nodes }

@@ -1,0 +1,272 @@
+-- What each step of an edit gives, as the answer to the edit.
+use Rattle.std.proofs.Common.{ℕ, ◌<◌, ◌≡◌, ◌∙◌, take, List, [], ◌∷◌, ◌++◌, length, Option, Some, None, Result, Ok, Err, refl, ap, sym, subst, arith}
+use Rattle.std.specs.Prelude.{pos, IsErrAnd}
+use Rattle.std.proofs.lemmas.List.{take_all, take-append-le}
+use Rattle.std.proofs.lemmas.Option.{slice_get-get_or}
+use Rattle.om_model.specs.declared.value.Val.{Val}
+use Rattle.om_model.specs.declared.value.Val.TheVariants as vals
+use Rattle.om_model.specs.declared.value.Obj.{Obj}
+use Rattle.om_model.specs.declared.value.Obj.TheVariants as objects
+use Rattle.om_model.specs.Graph.{IsValue}
+use Rattle.om_lex.specs.declared.lexeme.Lexeme.{Lexeme}
+use Rattle.om_heap.specs.Heap.{object_at}
+use Rattle.om_types.specs.Table.{table_shapes}
+use Rattle.om_type_table.specs.declared.table.TypeTable.{TypeTable}
+use Rattle.om_types.specs.Lawful.{Everything}
+use Rattle.om_types.proofs.FaultLemmas.{fault_excludes_type}
+use Rattle.om_type_table.specs.Made.{table_of, IsLawful}
+use Rattle.om_literal.specs.declared.fault.LiteralFault.{LiteralFault}
+use Rattle.om_literal.specs.declared.fault.LiteralFault.TheVariants as faults
+use Rattle.om_literal.specs.Answers.{shape_in, names_in, in_bytes, fault_of, IsMisread, IsAnswered}
+use Rattle.om_literal.specs.Reading.{Refusal, misfit_at, int_range_at, label_at}
+use Rattle.om_path.specs.declared.edits.Edit.{Edit}
+use Rattle.om_path.specs.declared.edits.Edit.TheVariants as edits
+use Rattle.om_edit.specs.declared.spots.Place.{Place}
+use Rattle.om_edit.specs.declared.refusal.Side.{Side}
+use Rattle.om_edit.specs.declared.refusal.Side.TheVariants.{Left, Right}
+use Rattle.om_edit.specs.declared.refusal.EditRefusal.{EditRefusal}
+use Rattle.om_edit.specs.declared.refusal.EditRefusal.TheVariants as refusals
+use Rattle.om_edit.specs.Places.{place_at, on_side}
+use Rattle.om_edit.specs.Reasons.{Reason, no_field, not_block, no_literal, misread, literal_reason, reason_of}
+use Rattle.om_edit.specs.Answers.{Answer, put_at, linked, copied, object_of, unshared, IsSet, IsMade}
+use Rattle.om_edit.specs.Tables.{SameClass, IsAnswerIn, IsApplied, IsKept, IsRefusedFor, IsReason, Gives}
+use Rattle.om_edit.proofs.MadeLemmas.{answer_once}
+
+first_of : (old more new : List Obj) (count : ℕ) → count ≡ length old → new ≡ old ++ more → take count new ≡ old
+first_of old more new count many is =
+    ap (λ g. take count g) is ∙ ap (λ n. take n (old ++ more)) many
+    ∙ take-append-le (length old) old more (omega arith) ∙ take_all (length old) old (omega arith)
+
+-- ---- places
+
+abbrev pub Found : Type 0
+Found = Result (Place ℕ) ℕ
+
+pub found_is : (side : Side) (x : Found) (p : Place ℕ) → Ok p ≡ on_side side x → x ≡ Ok p
+found_is side (Ok q) p is = sym (same q p is) where
+  same : (q p : Place ℕ) → ◌≡◌ {A = Result (Place ℕ) EditRefusal} (Ok p) (Ok q) → ◌≡◌ {A = Found} (Ok p) (Ok q)
+  same q p is = cc
+found_is side (Err n) p is = absurd (never n p is) where
+  never : (n : ℕ) (p : Place ℕ) → ◌≡◌ {A = Result (Place ℕ) EditRefusal} (Ok p) (Err (refusals.NoField side n)) → ⊥
+  never n p is = cc
+
+pub missing_is : (side : Side) (x : Found) (refusal : EditRefusal) → Err refusal ≡ on_side side x
+    → (n : ℕ) × (x ≡ Err n) × (refusal ≡ refusals.NoField side n)
+missing_is side (Err n) refusal is = (n, refl, same n refusal is) where
+  same : (n : ℕ) (r : EditRefusal) → ◌≡◌ {A = Result (Place ℕ) EditRefusal} (Err r) (Err (refusals.NoField side n)) → r ≡ refusals.NoField side n
+  same n r is = cc
+missing_is side (Ok p) refusal is = absurd (never p refusal is) where
+  never : (p : Place ℕ) (r : EditRefusal) → ◌≡◌ {A = Result (Place ℕ) EditRefusal} (Err r) (Ok p) → ⊥
+  never p r is = cc
+
+module _ (table : TypeTable) where
+  abbrev pub place_of : List Obj → Val → List ℕ → Found
+  place_of graph root path = place_at (table_shapes (table_of table)) graph root 0 path
+
+  abbrev pub IsMadeIn : Edit → List Obj → Val → Answer ℕ → Type 0
+  IsMadeIn edit graph root made = IsMade (shape_in table) (names_in table) (SameClass table) 0 edit graph root made
+
+  -- the value is as it was, for a reason that the edit has
+  refused : (edit : Edit) (graph : List Obj) (root : Val) (refusal : EditRefusal) (reason : Reason ℕ)
+      → reason_of refusal ≡ Some reason → IsAnswerIn table edit graph root (Err reason) → IsApplied table edit graph root graph root (Err refusal)
+  refused edit graph root refusal reason same is = (refl, refl, subst (IsRefusedFor table edit graph root) (sym same) is)
+
+  no_step : (edit : Edit) (graph : List Obj) (root : Val) (refusal : EditRefusal) (side : Side) (n : ℕ) → refusal ≡ refusals.NoField side n
+      → IsMadeIn edit graph root (Err (no_field side n)) → IsApplied table edit graph root graph root (Err refusal)
+  no_step edit graph root refusal side n same is = refused edit graph root refusal (no_field side n) (ap reason_of same) is
+
+  pub set_missing : (path : List ℕ) (lexemes : List Lexeme) (end : ℕ) (graph : List Obj) (root : Val) (refusal : EditRefusal)
+      → Err refusal ≡ on_side Left (place_of graph root path) → IsApplied table (edits.Set path lexemes end) graph root graph root (Err refusal)
+  set_missing path lexemes end graph root refusal is =
+      let (n, none, same) = missing_is Left (place_of graph root path) refusal is in
+      no_step (edits.Set path lexemes end) graph root refusal Left n same
+      (subst (λ x. IsSet (shape_in table) (names_in table) graph root x lexemes end (Err (no_field Left n))) (sym none) refl)
+
+  pub unshare_missing : (path : List ℕ) (graph : List Obj) (root : Val) (refusal : EditRefusal)
+      → Err refusal ≡ on_side Left (place_of graph root path) → IsApplied table (edits.Unshare path) graph root graph root (Err refusal)
+  unshare_missing path graph root refusal is =
+      let (n, none, same) = missing_is Left (place_of graph root path) refusal is in
+      no_step (edits.Unshare path) graph root refusal Left n same (ap (unshared graph root) (sym none))
+
+  pub left_missing : (path source : List ℕ) (graph : List Obj) (root : Val) (refusal : EditRefusal)
+      → Err refusal ≡ on_side Left (place_of graph root path) → IsApplied table (edits.Link path source) graph root graph root (Err refusal)
+  left_missing path source graph root refusal is =
+      let (n, none, same) = missing_is Left (place_of graph root path) refusal is in
+      no_step (edits.Link path source) graph root refusal Left n same (ap (λ x. linked graph root x (place_of graph root source)) (sym none))
+
+  pub right_missing : (path source : List ℕ) (graph : List Obj) (root : Val) (p : Place ℕ) (refusal : EditRefusal)
+      → Ok p ≡ on_side Left (place_of graph root path)
+      → Err refusal ≡ on_side Right (place_of graph root source) → IsApplied table (edits.Link path source) graph root graph root (Err refusal)
+  right_missing path source graph root p refusal found is =
+      let (n, none, same) = missing_is Right (place_of graph root source) refusal is in
+      no_step (edits.Link path source) graph root refusal Right n same
+      (ap (λ x. linked graph root (Ok p) x) (sym none)
+      ∙ ap (λ x. linked graph root x (place_of graph root source)) (sym (found_is Left (place_of graph root path) p found)))
+
+  -- ---- what is put
+
+  pub kept_applied : (edit : Edit) (graph : List Obj) (root : Val) (made : List Obj × Val) (new : List Obj) (new_root : Val) (result : Result (Unit {0}) EditRefusal)
+      → IsMadeIn edit graph root (Ok made) → IsKept table made graph root new new_root result → IsApplied table edit graph root new new_root result
+  kept_applied edit graph root made new new_root (Ok unit) is kept =
+      subst (λ m. IsAnswerIn table edit graph root (Ok m)) (sym kept.0) (record { made = is; typed = kept.1 })
+  kept_applied edit graph root made new new_root (Err (refusals.IllTyped fault)) is kept =
+      (kept.0, kept.1, record { edited = made; made = is; least = kept.2 })
+  kept_applied edit graph root made new new_root (Err refusals.Memory) is kept = (kept.0, kept.1, tt)
+  kept_applied edit graph root made new new_root (Err (refusals.NoField side n)) is kept = absurd kept.2
+  kept_applied edit graph root made new new_root (Err refusals.NotBlock) is kept = absurd kept.2
+  kept_applied edit graph root made new new_root (Err (refusals.Literal fault)) is kept = absurd kept.2
+
+  pub link_made : (path source : List ℕ) (graph : List Obj) (root : Val) (p q : Place ℕ)
+      → Ok p ≡ on_side Left (place_of graph root path) → Ok q ≡ on_side Right (place_of graph root source)
+      → IsMadeIn (edits.Link path source) graph root (Ok (put_at p.spot q.value graph root))
+  link_made path source graph root p q found other =
+      ap (λ x. linked graph root (Ok p) x) (sym (found_is Right (place_of graph root source) q other))
+      ∙ ap (λ x. linked graph root x (place_of graph root source)) (sym (found_is Left (place_of graph root path) p found))
+
+  pub copy_made : (path : List ℕ) (graph : List Obj) (root : Val) (p : Place ℕ) (o : ℕ) → o < length graph → p.value ≡ vals.Ref o
+      → Ok p ≡ on_side Left (place_of graph root path)
+      → IsMadeIn (edits.Unshare path) graph root (Ok (put_at p.spot (vals.Ref (length graph)) (graph ++ object_at graph o ∷ []) root))
+  copy_made path graph root p o inside at found =
+      ap (copied graph root p.spot) (sym (slice_get-get_or graph o (objects.I32 (pos 0)) inside))
+      ∙ ap (λ v. copied graph root p.spot (object_of graph v)) (sym at)
+      ∙ ap (unshared graph root) (sym (found_is Left (place_of graph root path) p found))
+
+  pub no_object : (graph : List Obj) (v : Val) → ((o : ℕ) → v ≡ vals.Ref o → ⊥) → object_of graph v ≡ None
+  no_object graph (vals.Int z) no_reference = refl
+  no_object graph (vals.Atom tag) no_reference = refl
+  no_object graph (vals.Ref o) no_reference = absurd (no_reference o refl)
+
+  pub no_copy : (path : List ℕ) (graph : List Obj) (root : Val) (p : Place ℕ) → object_of graph p.value ≡ None
+      → Ok p ≡ on_side Left (place_of graph root path) → IsApplied table (edits.Unshare path) graph root graph root (Err refusals.NotBlock)
+  no_copy path graph root p none found =
+      refused (edits.Unshare path) graph root refusals.NotBlock not_block refl
+      (ap (copied graph root p.spot) (sym none) ∙ ap (unshared graph root) (sym (found_is Left (place_of graph root path) p found)))
+
+  -- ---- literals
+
+  misfit_is : (place t : ℕ) (x : Refusal ℕ) → faults.Misfit place t ≡ fault_of x → misfit_at place t ≡ x
+  misfit_is place t (misfit_at k u) is = cc
+  misfit_is place t (int_range_at k) is = absurd (never k is) where
+    never : (k : ℕ) → faults.Misfit place t ≡ faults.IntRange k → ⊥
+    never k is = cc
+  misfit_is place t (label_at k) is = absurd (never k is) where
+    never : (k : ℕ) → faults.Misfit place t ≡ faults.Label k → ⊥
+    never k is = cc
+
+  range_is : (place : ℕ) (x : Refusal ℕ) → faults.IntRange place ≡ fault_of x → int_range_at place ≡ x
+  range_is place (int_range_at k) is = cc
+  range_is place (misfit_at k u) is = absurd (never k u is) where
+    never : (k u : ℕ) → faults.IntRange place ≡ faults.Misfit k u → ⊥
+    never k u is = cc
+  range_is place (label_at k) is = absurd (never k is) where
+    never : (k : ℕ) → faults.IntRange place ≡ faults.Label k → ⊥
+    never k is = cc
+
+  label_is : (place : ℕ) (x : Refusal ℕ) → faults.Label place ≡ fault_of x → label_at place ≡ x
+  label_is place (label_at k) is = cc
+  label_is place (misfit_at k u) is = absurd (never k u is) where
+    never : (k u : ℕ) → faults.Label place ≡ faults.Misfit k u → ⊥
+    never k u is = cc
+  label_is place (int_range_at k) is = absurd (never k is) where
+    never : (k : ℕ) → faults.Label place ≡ faults.IntRange k → ⊥
+    never k is = cc
+
+  module _ (path : List ℕ) (lexemes : List Lexeme) (end : ℕ) (old : List Obj) (root : Val) (p : Place ℕ) (found : Ok p ≡ on_side Left (place_of old root path)) where
+    set_in : (made : Answer ℕ) → IsSet (shape_in table) (names_in table) old root (Ok p) lexemes end made → IsMadeIn (edits.Set path lexemes end) old root made
+    set_in made is =
+        subst (λ x. IsSet (shape_in table) (names_in table) old root x lexemes end made) (sym (found_is Left (place_of old root path) p found)) is
+
+    pub value_made : (new : List Obj) (value : Val) → IsAnswered table p.ty lexemes end old new (Ok value)
+        → IsMadeIn (edits.Set path lexemes end) old root (Ok (put_at p.spot value new root))
+    value_made new value is =
+        set_in (Ok (put_at p.spot value new root))
+        (is.objects, value, (is.literal, is.spelled, is.read), ap (λ g. put_at p.spot value g root) is.behind)
+
+    misread_in : (fault : LiteralFault) (reason : Refusal ℕ) (m : IsMisread table p.ty lexemes end (length old) fault) → reason ≡ in_bytes lexemes end m.refusal
+        → IsMadeIn (edits.Set path lexemes end) old root (Err (misread reason))
+    misread_in fault reason m same = set_in (Err (misread reason)) (m.literal, m.refusal, m.spelled, m.refused, same)
+
+    pub misread_applied : (new : List Obj) (fault : LiteralFault) (refusal : EditRefusal) → IsAnswered table p.ty lexemes end old new (Err fault)
+        → reason_of refusal ≡ literal_reason fault → IsApplied table (edits.Set path lexemes end) old root new root (Err refusal)
+    misread_applied new faults.Memory refusal is same =
+        (is, refl, subst (IsRefusedFor table (edits.Set path lexemes end) old root) (sym same) tt)
+    misread_applied new (faults.Syntax place) refusal is same =
+        (is.0, refl, subst (IsRefusedFor table (edits.Set path lexemes end) old root) (sym same) (set_in (Err (no_literal place)) (is.1.lexeme, is.1.syntax, is.1.is)))
+    misread_applied new (faults.Misfit place t) refusal is same = (
+      is.0,
+      refl,
+      subst (IsRefusedFor table (edits.Set path lexemes end) old root) (sym same)
+          (misread_in (faults.Misfit place t) (misfit_at place t) is.1 (misfit_is place t (in_bytes lexemes end is.1.refusal) is.1.is)),
+    )
+    misread_applied new (faults.IntRange place) refusal is same = (
+      is.0,
+      refl,
+      subst (IsRefusedFor table (edits.Set path lexemes end) old root) (sym same)
+          (misread_in (faults.IntRange place) (int_range_at place) is.1 (range_is place (in_bytes lexemes end is.1.refusal) is.1.is)),
+    )
+    misread_applied new (faults.Label place) refusal is same = (
+      is.0,
+      refl,
+      subst (IsRefusedFor table (edits.Set path lexemes end) old root) (sym same)
+          (misread_in (faults.Label place) (label_at place) is.1 (label_is place (in_bytes lexemes end is.1.refusal) is.1.is)),
+    )
+
+    pub misread_result : (new : List Obj) (fault : LiteralFault) (result : Result (Unit {0}) EditRefusal) → IsAnswered table p.ty lexemes end old new (Err fault)
+        → IsErrAnd result (λ refusal. reason_of refusal ≡ literal_reason fault) → IsApplied table (edits.Set path lexemes end) old root new root result
+    misread_result new fault (Ok unit) is same = absurd same
+    misread_result new fault (Err refusal) is same = misread_applied new fault refusal is same
+
+    -- so the literal's value is put
+    pub set_applied : (count : ℕ) (new : List Obj) (value : Val) → count ≡ length old → IsAnswered table p.ty lexemes end old new (Ok value)
+        → (left : List Obj) (left_root : Val) (result : Result (Unit {0}) EditRefusal)
+        → IsKept table (put_at p.spot value new root) (take count new) root left left_root result
+        → IsApplied table (edits.Set path lexemes end) old root left left_root result
+    set_applied count new value many is left left_root result kept =
+        kept_applied (edits.Set path lexemes end) old root (put_at p.spot value new root) left left_root result (value_made new value is)
+        (subst (λ before. IsKept table (put_at p.spot value new root) before root left left_root result) (first_of old is.objects new count many is.behind) kept)
+
+  pub link_applied : (path source : List ℕ) (graph : List Obj) (root : Val) (p q : Place ℕ)
+      → Ok p ≡ on_side Left (place_of graph root path) → Ok q ≡ on_side Right (place_of graph root source) → (count : ℕ) → count ≡ length graph
+      → (left : List Obj) (left_root : Val) (result : Result (Unit {0}) EditRefusal)
+      → IsKept table (put_at p.spot q.value graph root) (take count graph) root left left_root result
+      → IsApplied table (edits.Link path source) graph root left left_root result
+  link_applied path source graph root p q found other count many left left_root result kept =
+      kept_applied (edits.Link path source) graph root (put_at p.spot q.value graph root) left left_root result (link_made path source graph root p q found other)
+      (subst (λ before. IsKept table (put_at p.spot q.value graph root) before root left left_root result)
+      (ap (λ n. take n graph) many ∙ take_all (length graph) graph (omega arith)) kept)
+
+  pub copy_applied : (path : List ℕ) (graph : List Obj) (root : Val) (p : Place ℕ) (o : ℕ) → IsValue (length graph) p.value → p.value ≡ vals.Ref o
+      → Ok p ≡ on_side Left (place_of graph root path) → (count copy : ℕ) (new : List Obj) → count ≡ length graph → copy ≡ length graph
+      → new ≡ graph ++ object_at graph o ∷ []
+      → (left : List Obj) (left_root : Val) (result : Result (Unit {0}) EditRefusal)
+      → IsKept table (put_at p.spot (vals.Ref copy) new root) (take count new) root left left_root result
+      → IsApplied table (edits.Unshare path) graph root left left_root result
+  copy_applied path graph root p o valid at found count copy new many is_last grown left left_root result kept =
+      let made : List Obj × Val = put_at p.spot (vals.Ref (length graph)) (graph ++ object_at graph o ∷ []) root in
+      let same : put_at p.spot (vals.Ref copy) new root ≡ made =
+      ap (λ k. put_at p.spot (vals.Ref k) new root) is_last ∙ ap (λ g. put_at p.spot (vals.Ref (length graph)) g root) grown in
+      kept_applied (edits.Unshare path) graph root made left left_root result
+      (copy_made path graph root p o (subst (IsValue (length graph)) at valid) at found)
+      (subst (λ m. IsKept table m graph root left left_root result) same
+      (subst (λ before. IsKept table (put_at p.spot (vals.Ref copy) new root) before root left left_root result)
+      (first_of graph (object_at graph o ∷ []) new count many grown) kept))
+
+  -- ---- the one answer is given
+
+  module _ (lawful : IsLawful (table_of table)) where
+    pub once : (edit : Edit) (graph : List Obj) (root : Val) (answer other : Answer ℕ) → IsAnswerIn table edit graph root answer
+        → IsAnswerIn table edit graph root other → answer ≡ other
+    once edit graph root =
+        answer_once (shape_in table) (names_in table) (SameClass table) 0
+        (λ g v fault. fault_excludes_type (table_shapes (table_of table)) Everything lawful.lawful g v 0 fault tt) edit graph root
+
+    for_reason : (edit : Edit) (graph : List Obj) (root : Val) (answer : Answer ℕ) → IsAnswerIn table edit graph root answer → (reason : Option (Reason ℕ))
+        → IsRefusedFor table edit graph root reason → IsReason answer reason
+    for_reason edit graph root answer told None is = tt
+    for_reason edit graph root answer told (Some reason) is = once edit graph root answer (Err reason) told is
+
+    pub only_given : (edit : Edit) (graph : List Obj) (root : Val) (new : List Obj) (new_root : Val) (result : Result (Unit {0}) EditRefusal)
+        → IsApplied table edit graph root new new_root result → (answer : Answer ℕ) → IsAnswerIn table edit graph root answer
+        → Gives answer new new_root result
+    only_given edit graph root new new_root (Ok unit) is answer told = once edit graph root answer (Ok (new, new_root)) told is
+    only_given edit graph root new new_root (Err refusal) is answer told = for_reason edit graph root answer told (reason_of refusal) is.2

@@ -1,0 +1,185 @@
+-- An edit makes one value, or has one reason, and so it has one answer at most.
+use Rattle.std.proofs.Common.{ℕ, ◌≡◌, ◌∙◌, ⊎_elim, List, [], ◌∷◌, ◌++◌, length, Option, Some, None, Result, Ok, Err, refl, ap, sym, subst}
+use Rattle.om_model.specs.declared.value.Val.{Val}
+use Rattle.om_model.specs.declared.value.Obj.{Obj}
+use Rattle.om_lex.specs.declared.lexeme.Lexeme.{Lexeme}
+use Rattle.om_types.specs.declared.fault.Fault.{Fault}
+use Rattle.om_types.specs.declared.names.Names.{Names}
+use Rattle.om_types.specs.declared.shape.ShapeOf.{ShapeOf}
+use Rattle.om_types.specs.Fault.{IsFault}
+use Rattle.om_types.specs.Fitting.{shaped}
+use Rattle.om_types.specs.LeastFault.{IsLeastFault}
+use Rattle.om_types.specs.Typing.{HasType}
+use Rattle.om_typing.proofs.OnceLemmas.{least_once}
+use Rattle.om_grammar.specs.Refusals.{IsSyntax}
+use Rattle.om_grammar.proofs.LawLemmas.{one_tree, text_or_syntax, no_syntax}
+use Rattle.om_literal_grammar.specs.Literal.{Literal, literal_kinds}
+use Rattle.om_literal_grammar.specs.Nodes.{kinds_of}
+use Rattle.om_literal_grammar.proofs.LiteralTable.{literal_table}
+use Rattle.om_literal.specs.Answers.{byte_of, in_bytes}
+use Rattle.om_literal.specs.Reading.{Reading, Refusal, reading, literal_read}
+use Rattle.om_path.specs.declared.edits.Edit.{Edit}
+use Rattle.om_path.specs.declared.edits.Edit.TheVariants as edits
+use Rattle.om_path.specs.declared.edits.ScriptLine.{ScriptLine}
+use Rattle.om_edit.specs.declared.spots.Place.{Place}
+use Rattle.om_edit.specs.Reasons.{Reason, no_field, not_block, no_literal, misread, ill_typed}
+use Rattle.om_edit.specs.Answers.{Answer, Edited, put_at, linked, copied, object_of, unshared, IsSetAt, IsSet, IsMade, IsAnswer, IsContinued, AreEdited, place_in}
+
+-- ---- set
+
+module _ {T : Type 0} (shape : T → ShapeOf T) (names : T → Names) (graph : List Obj) (root : Val) (p : Place T) (lexemes : List Lexeme) (end : ℕ) where
+  abbrev reading_of : Literal → Result Reading (Refusal T)
+  reading_of v = literal_read shape names 0 v (length graph) [] p.ty
+
+  abbrev set_with : List Obj → List Val → Answer T
+  set_with objects [] = Err not_block
+  set_with objects (v ∷ vs) = Ok (put_at p.spot v (graph ++ objects) root)
+
+  abbrev set_said : Result Reading (Refusal T) → Answer T
+  set_said (Err refusal) = Err (misread (in_bytes lexemes end refusal))
+  set_said (Ok r) = set_with r.objects r.values
+
+  abbrev IsSetHere : Answer T → Type 0
+  IsSetHere made = IsSetAt shape names graph root p lexemes end made
+
+  not_both : (v : Literal) (k : ℕ) → literal_kinds v ≡ kinds_of lexemes → IsSyntax literal_kinds (kinds_of lexemes) k → ⊥
+  not_both v k spelled s = no_syntax literal_table v k (subst (λ all. IsSyntax literal_kinds all k) (sym spelled) s)
+
+  at_literal : (v : Literal) → literal_kinds v ≡ kinds_of lexemes → (made : Answer T) → IsSetHere made → made ≡ set_said (reading_of v)
+  at_literal v spelled (Ok made) (objects, value, (u, spells, read), is) =
+      ap Ok is ∙ ap set_said (sym (subst (λ u. reading_of u ≡ Ok (reading (value ∷ []) objects read.labels)) (one_tree literal_table u v (spells ∙ sym spelled)) read.read))
+  at_literal v spelled (Err (misread refusal)) (u, at, spells, refused, is) =
+      ap (λ r. Err (misread r)) is ∙ ap set_said (sym (subst (λ u. reading_of u ≡ Err at) (one_tree literal_table u v (spells ∙ sym spelled)) refused))
+  at_literal v spelled (Err (no_literal place)) (k, s, is) = absurd (not_both v k spelled s)
+  at_literal v spelled (Err (no_field side step)) is = absurd is
+  at_literal v spelled (Err not_block) is = absurd is
+  at_literal v spelled (Err (ill_typed fault)) is = absurd is
+
+  at_syntax : (k : ℕ) → IsSyntax literal_kinds (kinds_of lexemes) k → ((j : ℕ) → IsSyntax literal_kinds (kinds_of lexemes) j → j ≡ k)
+      → (made : Answer T) → IsSetHere made → made ≡ Err (no_literal (byte_of lexemes end k))
+  at_syntax k s same (Ok made) (objects, value, (u, spells, read), is) = absurd (not_both u k spells s)
+  at_syntax k s same (Err (misread refusal)) (u, at, spells, refused, is) = absurd (not_both u k spells s)
+  at_syntax k s same (Err (no_literal place)) (j, i, is) = ap (λ p. Err (no_literal p)) (is ∙ ap (byte_of lexemes end) (same j i))
+  at_syntax k s same (Err (no_field side step)) is = absurd is
+  at_syntax k s same (Err not_block) is = absurd is
+  at_syntax k s same (Err (ill_typed fault)) is = absurd is
+
+  set_once : (made other : Answer T) → IsSetHere made → IsSetHere other → made ≡ other
+  set_once made other one two = ⊎_elim
+      (λ (v, spelled). at_literal v spelled made one ∙ sym (at_literal v spelled other two))
+      (λ (k, s, same). at_syntax k s same made one ∙ sym (at_syntax k s same other two))
+      (text_or_syntax literal_table (kinds_of lexemes))
+
+module _ {T : Type 0} (shape : T → ShapeOf T) (names : T → Names) where
+  set_once_at : (graph : List Obj) (root : Val) (p : Result (Place T) ℕ) (lexemes : List Lexeme) (end : ℕ) (made other : Answer T)
+      → IsSet shape names graph root p lexemes end made → IsSet shape names graph root p lexemes end other → made ≡ other
+  set_once_at graph root (Err step) lexemes end made other one two = one ∙ sym two
+  set_once_at graph root (Ok p) lexemes end made other one two = set_once shape names graph root p lexemes end made other one two
+
+-- ---- what is made has its type, or a least fault
+
+module _ {T : Type 0} (shape : T → ShapeOf T) (names : T → Names) (Equal : T → T → Type 0) (t : T) where
+  pub made_once : (edit : Edit) (graph : List Obj) (root : Val) (made other : Answer T)
+      → IsMade shape names Equal t edit graph root made → IsMade shape names Equal t edit graph root other → made ≡ other
+  made_once (edits.Set path lexemes end) graph root made other one two =
+      set_once_at shape names graph root (place_in shape names Equal t graph root path) lexemes end made other one two
+  made_once (edits.Link path source) graph root made other one two = one ∙ sym two
+  made_once (edits.Unshare path) graph root made other one two = one ∙ sym two
+
+  -- what follows of it
+  abbrev pub Follows : Answer T → Answer T → Type 0
+  Follows (Ok made) (Ok edited) = (made ≡ edited) × HasType (shaped shape Equal) made.0 made.1 t
+  Follows (Ok made) (Err reason) = (fault : Fault) × (reason ≡ ill_typed fault) × IsLeastFault (shaped shape Equal) made.0 made.1 t fault
+  Follows (Err reason) answer = answer ≡ Err reason
+
+  pub parted : (edit : Edit) (graph : List Obj) (root : Val) (answer : Answer T) → IsAnswer shape names Equal t edit graph root answer
+      → (made : Answer T) × IsMade shape names Equal t edit graph root made × Follows made answer
+  parted edit graph root (Ok edited) is = (Ok edited, is.made, (refl, is.typed))
+  parted edit graph root (Err (ill_typed fault)) is = (Ok is.edited, is.made, (fault, refl, is.least))
+  parted edit graph root (Err (no_field side step)) is = (Err (no_field side step), is, refl)
+  parted edit graph root (Err not_block) is = (Err not_block, is, refl)
+  parted edit graph root (Err (no_literal place)) is = (Err (no_literal place), is, refl)
+  parted edit graph root (Err (misread refusal)) is = (Err (misread refusal), is, refl)
+
+  -- no edit makes a reason of the whole
+  abbrev IsOfPart : Answer T → Type 0
+  IsOfPart (Err (ill_typed fault)) = ⊥
+  IsOfPart made = Unit {0}
+
+  of_link : (graph : List Obj) (root : Val) (p q : Result (Place T) ℕ) → IsOfPart (linked graph root p q)
+  of_link graph root (Err step) q = tt
+  of_link graph root (Ok p) (Err step) = tt
+  of_link graph root (Ok p) (Ok q) = tt
+
+  of_copy : (graph : List Obj) (root : Val) (p : Place T) (object : Option Obj) → IsOfPart (copied graph root p.spot object)
+  of_copy graph root p None = tt
+  of_copy graph root p (Some object) = tt
+
+  of_unshare : (graph : List Obj) (root : Val) (p : Result (Place T) ℕ) → IsOfPart (unshared graph root p)
+  of_unshare graph root (Err step) = tt
+  of_unshare graph root (Ok p) = of_copy graph root p (object_of graph p.value)
+
+  of_set_at : (graph : List Obj) (root : Val) (p : Place T) (lexemes : List Lexeme) (end : ℕ) (made : Answer T)
+      → IsSetAt shape names graph root p lexemes end made → IsOfPart made
+  of_set_at graph root p lexemes end (Err (ill_typed fault)) is = is
+  of_set_at graph root p lexemes end made is = tt
+
+  of_set : (graph : List Obj) (root : Val) (p : Result (Place T) ℕ) (lexemes : List Lexeme) (end : ℕ) (made : Answer T)
+      → IsSet shape names graph root p lexemes end made → IsOfPart made
+  of_set graph root (Err step) lexemes end made is = subst IsOfPart (sym is) tt
+  of_set graph root (Ok p) lexemes end made is = of_set_at graph root p lexemes end made is
+
+  of_part : (edit : Edit) (graph : List Obj) (root : Val) (made : Answer T) → IsMade shape names Equal t edit graph root made → IsOfPart made
+  of_part (edits.Set path lexemes end) graph root made is = of_set graph root (place_in shape names Equal t graph root path) lexemes end made is
+  of_part (edits.Link path source) graph root made is =
+      subst IsOfPart (sym is) (of_link graph root (place_in shape names Equal t graph root path) (place_in shape names Equal t graph root source))
+  of_part (edits.Unshare path) graph root made is = subst IsOfPart (sym is) (of_unshare graph root (place_in shape names Equal t graph root path))
+
+  refused : (edit : Edit) (graph : List Obj) (root : Val) (reason : Reason T) → IsOfPart (Err reason) → IsMade shape names Equal t edit graph root (Err reason)
+      → IsAnswer shape names Equal t edit graph root (Err reason)
+  refused edit graph root (ill_typed fault) part is = absurd part
+  refused edit graph root (no_field side step) part is = is
+  refused edit graph root not_block part is = is
+  refused edit graph root (no_literal place) part is = is
+  refused edit graph root (misread refusal) part is = is
+
+  pub joined : (edit : Edit) (graph : List Obj) (root : Val) (made answer : Answer T) → IsMade shape names Equal t edit graph root made → Follows made answer
+      → IsAnswer shape names Equal t edit graph root answer
+  joined edit graph root (Ok made) (Ok edited) is (same, typed) =
+      subst (λ e. IsAnswer shape names Equal t edit graph root (Ok e)) same (record { made = is; typed = typed })
+  joined edit graph root (Ok made) (Err reason) is (fault, same, least) =
+      subst (λ r. IsAnswer shape names Equal t edit graph root (Err r)) (sym same) (record { edited = made; made = is; least = least })
+  joined edit graph root (Err reason) answer is same =
+      subst (λ a. IsAnswer shape names Equal t edit graph root a) (sym same) (refused edit graph root reason (of_part edit graph root (Err reason) is) is)
+
+  -- where nothing has both the type and a fault, there is one answer at most
+  module _ (never_both : (graph : List Obj) (v : Val) (fault : Fault) → IsFault (shaped shape Equal) graph v t fault → HasType (shaped shape Equal) graph v t → ⊥) where
+    follows_once : (made answer other : Answer T) → Follows made answer → Follows made other → answer ≡ other
+    follows_once (Ok made) (Ok edited) (Ok other) one two = ap Ok (sym one.0 ∙ two.0)
+    follows_once (Ok made) (Ok edited) (Err reason) one two = absurd (never_both made.0 made.1 two.0 two.2.is_fault one.1)
+    follows_once (Ok made) (Err reason) (Ok other) one two = absurd (never_both made.0 made.1 one.0 one.2.is_fault two.1)
+    follows_once (Ok made) (Err reason) (Err other) one two =
+        ap Err (one.1 ∙ ap ill_typed (least_once (shaped shape Equal) made.0 made.1 t one.0 two.0 one.2 two.2) ∙ sym two.1)
+    follows_once (Err reason) answer other one two = one ∙ sym two
+
+    pub answer_once : (edit : Edit) (graph : List Obj) (root : Val) (answer other : Answer T)
+        → IsAnswer shape names Equal t edit graph root answer → IsAnswer shape names Equal t edit graph root other → answer ≡ other
+    answer_once edit graph root answer other is its =
+        let one = parted edit graph root answer is in
+        let two = parted edit graph root other its in
+        follows_once two.0 answer other (subst (λ m. Follows m answer) (made_once edit graph root one.0 two.0 one.1 two.1) one.2) two.2
+
+    continued_once : (number : ℕ) (Rest : List Obj → Val → Edited T → Type 0)
+        → ((graph : List Obj) (root : Val) (all other : Edited T) → Rest graph root all → Rest graph root other → all ≡ other)
+        → (first : Answer T) (all other : Edited T) → IsContinued shape names Equal t number Rest first all → IsContinued shape names Equal t number Rest first other
+        → all ≡ other
+    continued_once number Rest once (Ok edited) all other one two = once edited.0 edited.1 all other one two
+    continued_once number Rest once (Err reason) all other one two = one ∙ sym two
+
+    pub edited_once : (lines : List ScriptLine) (graph : List Obj) (root : Val) (all other : Edited T)
+        → AreEdited shape names Equal t lines graph root all → AreEdited shape names Equal t lines graph root other → all ≡ other
+    edited_once [] graph root all other one two = one ∙ sym two
+    edited_once (line ∷ lines) graph root all other (first, is, on) (second, its, after) =
+        continued_once line.number (AreEdited shape names Equal t lines) (edited_once lines) first all other on
+        (subst (λ a. IsContinued shape names Equal t line.number (AreEdited shape names Equal t lines) a other)
+        (answer_once line.edit graph root second first its is) after)

@@ -1,0 +1,119 @@
+-- A value that is put at a place, and the one before that is put back.
+use Rattle.std.proofs.Common.{ℕ, zero, suc, ◌<◌, ◌≡◌, ◌∙◌, List, [], ◌∷◌, ◌++◌, length, set, take, drop, take-append-drop, Some, refl, ap, sym, subst, length-set}
+use Rattle.std.specs.Prelude.{slice_get, option_and_then, pos}
+use Rattle.std.proofs.lemmas.List.{get_or-set_same, set-set, set-get_or}
+use Rattle.std.proofs.lemmas.Option.{option_and_then_some, slice_get_within, get_or_from_slice_get, none-some}
+use Rattle.om_model.specs.declared.value.Val.{Val}
+use Rattle.om_model.specs.declared.value.Obj.{Obj}
+use Rattle.om_model.specs.declared.value.Obj.TheVariants as objects
+use Rattle.om_model.specs.Graph.{IsValue}
+use Rattle.om_types.specs.Typing.{values_of, field_at}
+use Rattle.om_heap.specs.Heap.{object_at, fields_of, with_field, set_field}
+use Rattle.om_edit.specs.declared.spots.Spot.{Spot}
+use Rattle.om_edit.specs.declared.spots.Spot.TheVariants as spots
+use Rattle.om_edit.specs.Places.{IsThere, StandsAt}
+use Rattle.om_edit.specs.Answers.{put_at}
+
+abbrev none_there : Obj
+none_there = objects.I32 (pos 0)
+
+parts_same : (object : Obj) → values_of object ≡ fields_of object
+parts_same (objects.Block tag values) = refl
+parts_same object = refl
+
+with_back : (object : Obj) (i : ℕ) (v w : Val) → slice_get (values_of object) i ≡ Some w
+    → with_field (with_field object i v) i w ≡ object
+with_back (objects.Block tag values) i v w at =
+    ap (objects.Block tag)
+    (set-set values i v w ∙ ap (set values i) (sym (get_or_from_slice_get values i w w at)) ∙ set-get_or values i w)
+with_back object i v w at = refl
+
+-- the object of a field
+held_in : (graph : List Obj) (o i : ℕ) (w : Val) → field_at graph o i ≡ Some w
+    → (object : Obj) × (slice_get graph o ≡ Some object) × (slice_get (values_of object) i ≡ Some w)
+held_in graph o i w at =
+    option_and_then_some (λ object. slice_get (values_of object) i) (slice_get graph o) w at
+    (λ object is field. (object, is, field))
+
+is_object : (graph : List Obj) (o : ℕ) (object : Obj) → slice_get graph o ≡ Some object → object_at graph o ≡ object
+is_object graph o object is = get_or_from_slice_get graph o object none_there is
+
+pub set_back : (graph : List Obj) (o i : ℕ) (v w : Val) → field_at graph o i ≡ Some w
+    → set_field (set_field graph o i v) o i w ≡ graph
+set_back graph o i v w at =
+    let held = held_in graph o i w at in
+    let new : Obj = with_field (object_at graph o) i v in
+    let inside = slice_get_within graph o held.0 held.1 in
+    let field : slice_get (values_of (object_at graph o)) i ≡ Some w =
+    ap (λ object. slice_get (values_of object) i) (is_object graph o held.0 held.1) ∙ held.2 in
+    ap (λ object. set (set graph o new) o (with_field object i w)) (get_or-set_same graph o new none_there inside)
+    ∙ set-set graph o new (with_field new i w)
+    ∙ ap (set graph o) (with_back (object_at graph o) i v w field)
+    ∙ set-get_or graph o none_there
+
+pub field_there : (graph : List Obj) (o i : ℕ) (w : Val) → field_at graph o i ≡ Some w → i < length (fields_of (object_at graph o))
+field_there graph o i w at =
+    let held = held_in graph o i w at in
+    let all = ap fields_of (is_object graph o held.0 held.1) in
+    let inside = slice_get_within (values_of held.0) i w held.2 in
+    subst (λ all. i < length all) (parts_same held.0 ∙ sym all) inside
+
+pub stands_there : (graph : List Obj) (root : Val) (spot : Spot) (w : Val) → StandsAt graph root spot w → IsThere graph spot
+stands_there graph root spots.Root w at = tt
+stands_there graph root (spots.Field o i) w at = field_there graph o i w at
+
+-- what stood there is put back
+pub put_back : (spot : Spot) (v w : Val) (graph : List Obj) (root : Val) → StandsAt graph root spot w
+    → put_at spot w (put_at spot v graph root).0 (put_at spot v graph root).1 ≡ (graph, root)
+put_back spots.Root v w graph root at = ap (λ r. (graph, r)) at
+put_back (spots.Field o i) v w graph root at = ap (λ g. (g, root)) (set_back graph o i v w at)
+
+-- and all is as it was
+pub restored : (spot : Spot) (v w : Val) (graph : List Obj) (root : Val) (one : List Obj) (one_root : Val) (two : List Obj) (two_root : Val)
+    → StandsAt graph root spot w → ◌≡◌ {A = List Obj × Val} (one, one_root) (put_at spot v graph root)
+    → ◌≡◌ {A = List Obj × Val} (two, two_root) (put_at spot w one one_root) → ◌≡◌ {A = List Obj × Val} (two, two_root) (graph, root)
+restored spot v w graph root one one_root two two_root stands first second =
+    second ∙ ap (λ (m : List Obj × Val). put_at spot w m.0 m.1) first ∙ put_back spot v w graph root stands
+
+-- a field is there after one was set
+fields_kept : (object : Obj) (i : ℕ) (v : Val) → length (fields_of (with_field object i v)) ≡ length (fields_of object)
+fields_kept (objects.Block tag values) i v = length-set values i v
+fields_kept object i v = refl
+
+pub there_still : (graph : List Obj) (root : Val) (spot : Spot) (v w : Val) → StandsAt graph root spot w → IsThere (put_at spot v graph root).0 spot
+there_still graph root spots.Root v w at = tt
+there_still graph root (spots.Field o i) v w at =
+    let held = held_in graph o i w at in
+    let new : Obj = with_field (object_at graph o) i v in
+    let inside = slice_get_within graph o held.0 held.1 in
+    subst (λ n. i < n)
+    (sym (ap (λ object. length (fields_of object)) (get_or-set_same graph o new none_there inside) ∙ fields_kept (object_at graph o) i v))
+    (field_there graph o i w at)
+
+pub as_many : (spot : Spot) (v : Val) (graph : List Obj) (root : Val) → length (put_at spot v graph root).0 ≡ length graph
+as_many spots.Root v graph root = refl
+as_many (spots.Field o i) v graph root = length-set graph o (with_field (object_at graph o) i v)
+
+-- the root is a value after it
+pub root_valid : (spot : Spot) (v : Val) (graph : List Obj) (root : Val) → IsValue (length graph) v → IsValue (length graph) root
+    → IsValue (length (put_at spot v graph root).0) (put_at spot v graph root).1
+root_valid spots.Root v graph root new old = new
+root_valid (spots.Field o i) v graph root new old = subst (λ n. IsValue n root) (sym (as_many (spots.Field o i) v graph root)) old
+
+-- ---- with objects behind
+
+get_behind : {X : Type 0} (xs ys : List X) (i : ℕ) (x : X) → slice_get xs i ≡ Some x → slice_get (xs ++ ys) i ≡ Some x
+get_behind [] ys zero x is = absurd (none-some x is)
+get_behind [] ys (suc i) x is = absurd (none-some x is)
+get_behind (y ∷ xs) ys zero x is = is
+get_behind (y ∷ xs) ys (suc i) x is = get_behind xs ys i x is
+
+pub stands_behind : (graph more : List Obj) (root : Val) (spot : Spot) (w : Val) → StandsAt graph root spot w → StandsAt (graph ++ more) root spot w
+stands_behind graph more root spots.Root w at = at
+stands_behind graph more root (spots.Field o i) w at =
+    let held = held_in graph o i w at in
+    ap (option_and_then (λ object. slice_get (values_of object) i)) (get_behind graph more o held.0 held.1) ∙ held.2
+
+pub stands_whole : (n : ℕ) (graph : List Obj) (root : Val) (spot : Spot) (w : Val) → StandsAt (take n graph) root spot w → StandsAt graph root spot w
+stands_whole n graph root spot w at =
+    subst (λ g. StandsAt g root spot w) (take-append-drop n graph) (stands_behind (take n graph) (drop n graph) root spot w at)

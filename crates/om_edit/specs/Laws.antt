@@ -1,0 +1,55 @@
+-- An edit has one answer, and what a table of types says of edits is what its types say.
+use Rattle.std.specs.Prelude.{ℕ, ◌≡◌, Ok, Err, List}
+use Rattle.om_model.specs.declared.value.Val.{Val}
+use Rattle.om_model.specs.declared.value.Obj.{Obj}
+use Rattle.om_types.specs.declared.decl.Decl.{Decl}
+use Rattle.om_types.specs.Accepted.{AreWellFormed, IsSoundType}
+use Rattle.om_types.specs.Equal.{Equal}
+use Rattle.om_types.specs.Names.{names_of}
+use Rattle.om_types.specs.Reached.{IsReached}
+use Rattle.om_types.specs.Shape.{shape}
+use Rattle.om_types.specs.Ty.{Ty}
+use Rattle.om_types.specs.TypeText.{type_text}
+use Rattle.om_type_table.specs.declared.table.TypeTable.{TypeTable}
+use Rattle.om_type_table.specs.Made.{table_of, IsLawful, IsTypeTable}
+use Rattle.om_fault.specs.Text.{text_at}
+use Rattle.om_path.specs.declared.edits.Edit.{Edit}
+use Rattle.om_path.specs.declared.edits.ScriptLine.{ScriptLine}
+use Rattle.om_edit.specs.Answers.{Answer, Edited, IsAnswer, AreEdited}
+use Rattle.om_edit.specs.Reasons.{reason_text}
+use Rattle.om_edit.specs.Tables.{IsAnswerIn}
+
+-- what is answered to an edit of a value at a declared type
+abbrev pub IsDeclaredAnswer : List Decl → Ty → Edit → List Obj → Val → Answer Ty → Type 0
+IsDeclaredAnswer decls t edit graph root answer = IsAnswer (shape decls) (names_of decls) (Equal decls) t edit graph root answer
+
+-- what lines, one after the other, make of a value of a declared type
+abbrev pub AreDeclaredEdits : List Decl → Ty → List ScriptLine → List Obj → Val → Edited Ty → Type 0
+AreDeclaredEdits decls t lines graph root all = AreEdited (shape decls) (names_of decls) (Equal decls) t lines graph root all
+
+-- there are no two
+abbrev pub IsAtMostOne : {A : Type 0} → (A → Type 0) → Type 0
+IsAtMostOne {A} Is = (answer other : A) → Is answer → Is other → answer ≡ other
+
+-- an edit has one answer at most, by the numbers of a table and by types, and so have lines
+pub record EditsHaveOneAnswer : Type 0 where
+  pub by_numbers : (table : TypeTable) → IsLawful (table_of table)
+      → (edit : Edit) (graph : List Obj) (root : Val) → IsAtMostOne (IsAnswerIn table edit graph root)
+  pub by_types : (decls : List Decl) (t : Ty) (types : List Ty) → AreWellFormed decls → IsSoundType decls t → IsReached decls t types
+      → (edit : Edit) (graph : List Obj) (root : Val) → IsAtMostOne (IsDeclaredAnswer decls t edit graph root)
+  pub in_order : (decls : List Decl) (t : Ty) (types : List Ty) → AreWellFormed decls → IsSoundType decls t → IsReached decls t types
+      → (lines : List ScriptLine) (graph : List Obj) (root : Val) → IsAtMostOne (AreDeclaredEdits decls t lines graph root)
+
+-- the same value, or reasons of one text
+abbrev pub SayTheSame : TypeTable → Answer ℕ → Answer Ty → Type 0
+SayTheSame table (Ok edited) (Ok other) = edited ≡ other
+SayTheSame table (Err reason) (Err other) = reason_text (text_at table) reason ≡ reason_text type_text other
+SayTheSame table (Ok edited) (Err other) = ⊥
+SayTheSame table (Err reason) (Ok other) = ⊥
+
+-- an answer by the numbers of a table is one by their types
+abbrev pub TablesEditAlike : Type 0
+TablesEditAlike =
+    (decls : List Decl) (t : Ty) (table : TypeTable) → IsTypeTable decls t table
+    → (edit : Edit) (graph : List Obj) (root : Val) (answer : Answer ℕ) → IsAnswerIn table edit graph root answer
+    → (other : Answer Ty) × IsDeclaredAnswer decls t edit graph root other × SayTheSame table answer other

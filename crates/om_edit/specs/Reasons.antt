@@ -1,0 +1,66 @@
+-- Why an edit is refused, over any types, and the text of it.
+use Rattle.std.specs.Prelude.{ℕ, Option, Some, None, List, [], ◌++◌, codes, decimal}
+use Rattle.om_model.specs.PathText.{path_text}
+use Rattle.om_types.specs.declared.fault.Fault.{Fault}
+use Rattle.om_types.specs.declared.fault.Fault.TheVariants.{Misfit, Clash}
+use Rattle.om_literal.specs.declared.fault.LiteralFault.{LiteralFault}
+use Rattle.om_literal.specs.declared.fault.LiteralFault.TheVariants as literals
+use Rattle.om_literal.specs.Reading.{Refusal, misfit_at, int_range_at, label_at}
+use Rattle.om_edit.specs.declared.refusal.Side.{Side}
+use Rattle.om_edit.specs.declared.refusal.Side.TheVariants.{Left, Right}
+use Rattle.om_edit.specs.declared.refusal.EditRefusal.{EditRefusal}
+use Rattle.om_edit.specs.declared.refusal.EditRefusal.TheVariants as refusals
+
+pub data Reason (T : Type 0) : Type 0 where
+  -- the path of this side has a step, counted from 0, that is not prescribed at its place
+  no_field : Side → ℕ → Reason T
+  -- what is to be copied is no object
+  not_block : Reason T
+  -- no literal goes on at this byte
+  no_literal : ℕ → Reason T
+  -- the literal is none of its type, for this reason at a byte
+  misread : Refusal T → Reason T
+  -- the edited value has not its type, by this least fault
+  ill_typed : Fault → Reason T
+
+-- ---- texts
+
+abbrev pub side_text : Side → List ℕ
+side_text Left = codes "left"
+side_text Right = codes "right"
+
+abbrev pub fault_places : Fault → List ℕ
+fault_places (Misfit path) = path_text path
+fault_places (Clash first second) = path_text first ++ codes " and " ++ path_text second
+
+module _ {T : Type 0} (type_text : T → List ℕ) where
+  abbrev pub reason_text : Reason T → List ℕ
+  reason_text (no_field side step) = codes "NoField(" ++ side_text side ++ codes ", " ++ decimal step ++ codes ")"
+  reason_text not_block = codes "NotBlock"
+  reason_text (no_literal place) = codes "Literal Syntax at " ++ decimal place
+  reason_text (misread (misfit_at place t)) = codes "Literal Misfit at " ++ decimal place ++ codes ": expected " ++ type_text t
+  reason_text (misread (int_range_at place)) = codes "Literal IntRange at " ++ decimal place
+  reason_text (misread (label_at place)) = codes "Literal Label at " ++ decimal place
+  reason_text (ill_typed fault) = codes "IllTyped at " ++ fault_places fault
+
+  -- without a reason there is no text
+  abbrev pub reason_or_none : Option (Reason T) → List ℕ
+  reason_or_none None = []
+  reason_or_none (Some reason) = reason_text reason
+
+-- ---- refusals of calls, whose types are numbers
+
+abbrev pub literal_reason : LiteralFault → Option (Reason ℕ)
+literal_reason (literals.Syntax place) = Some (no_literal place)
+literal_reason (literals.Misfit place t) = Some (misread (misfit_at place t))
+literal_reason (literals.IntRange place) = Some (misread (int_range_at place))
+literal_reason (literals.Label place) = Some (misread (label_at place))
+literal_reason literals.Memory = None
+
+-- why a call refuses; out of memory is no reason
+abbrev pub reason_of : EditRefusal → Option (Reason ℕ)
+reason_of (refusals.NoField side step) = Some (no_field side step)
+reason_of refusals.NotBlock = Some not_block
+reason_of (refusals.Literal fault) = literal_reason fault
+reason_of (refusals.IllTyped fault) = Some (ill_typed fault)
+reason_of refusals.Memory = None

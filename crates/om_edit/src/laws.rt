@@ -1,0 +1,19 @@
+//! Laws over the definitions. The functions do nothing: what each ensures is the law.
+
+ghost use Rattle.om_edit.specs.Laws.{EditsHaveOneAnswer, TablesEditAlike};
+ghost use Rattle.om_edit.specs.Rows.{Rows};
+
+/// An edit of a value has one answer at most.
+pub fn edits_have_one_answer()
+    ensures { EditsHaveOneAnswer }
+{}
+
+/// What a table of types says of edits is what its types say.
+pub fn tables_edit_alike()
+    ensures { TablesEditAlike }
+{}
+
+/// Worked edits make the values that they should, or are refused for the reasons that they should be.
+pub fn worked_edits_are_made()
+    ensures { Rows }
+{}

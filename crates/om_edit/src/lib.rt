@@ -1,0 +1,14 @@
+//! Edits of a value at its type.
+#![tactic(auto)]
+
+mod edit;
+mod laws;
+mod refusal;
+mod spots;
+mod text;
+
+pub use edit::apply;
+pub use laws::{edits_have_one_answer, tables_edit_alike, worked_edits_are_made};
+pub use refusal::{EditRefusal, Side};
+pub use spots::{Place, Spot};
+pub use text::refusal_text;

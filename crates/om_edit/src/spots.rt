@@ -1,0 +1,71 @@
+//! Places of a value, and where a path leads.
+
+ghost use Rattle.std.specs.Prelude.{◌≡◌, ◌<◌, length, IfOk};
+ghost use Rattle.om_model.specs.Graph.{IsValue};
+ghost use Rattle.om_types.specs.Table.{table_shapes};
+ghost use Rattle.om_type_table.specs.Made.{table_of, IsLawful};
+ghost use Rattle.om_edit.specs.Places.{place_at, spot_after, on_side, StandsAt};
+
+use crate::refusal::{EditRefusal, Side};
+use om_fault::step;
+use om_heap::Heap;
+use om_model::path::Path;
+use om_model::value::Val;
+use om_type_table::TypeTable;
+
+/// What can be changed: the root, or a field of an object.
+#[derive(Clone, Copy, Debug, PartialEq, Eq)]
+pub enum Spot {
+    Root,
+    /// The object's number, and the field's.
+    Field(u64, u64),
+}
+
+/// A place, what stands there, and the type that it has there.
+#[derive(Clone, Copy, Debug, PartialEq, Eq)]
+pub struct Place<T> {
+    pub spot: Spot,
+    pub value: Val,
+    pub ty: T,
+}
+
+/// The place that the path of a side leads to.
+pub(crate) fn find_place(
+    heap: &Heap,
+    root: Val,
+    table: &TypeTable,
+    side: Side,
+    path: &Path,
+) -> Result<Place<usize>, EditRefusal>
+    requires value { IsValue (length heap.now) root }
+    requires lawful { IsLawful (table_of table.now) }
+    ensures place { result ≡ on_side side (place_at (table_shapes (table_of table.now)) heap.now root 0 path.now) }
+    ensures number { IfOk result (λ place. place.ty < length table.now.nodes) }
+    ensures value { IfOk result (λ place. IsValue (length heap.now) place.value) }
+    ensures stands { IfOk result (λ place. StandsAt heap.now root place.spot place.value) }
+{
+    let mut place = Place {
+        spot: Spot::Root,
+        value: root,
+        ty: table.root(),
+    };
+    for i in 0..path.len() {
+        let n = path.step(i);
+        let Some((value, ty)) = step(heap, place.value, table, place.ty, n) else {
+            return Err(EditRefusal::NoField(side, i));
+        };
+        let spot = spot_after(place.value, n);
+        place = Place { spot, value, ty };
+    }
+    Ok(place)
+}
+
+/// Where a step leads from a value.
+fn spot_after(value: Val, step: u64) -> Spot
+    ensures { result ≡ spot_after value step }
+{
+    match value {
+        Val::Ref(object) => Spot::Field(object, step),
+        _ => Spot::Root,
+    }
+}

@@ -1,0 +1,150 @@
+//! The text of a refusal.
+
+ghost use Rattle.std.specs.Prelude.{◌≡◌, ◌<◌, ◌++◌, length, All, IfOk, OnOk, codes, decimal};
+ghost use Rattle.om_model.specs.PathText.{path_text};
+ghost use Rattle.om_literal.specs.Reading.{misfit_at};
+ghost use Rattle.om_fault.specs.Text.{text_at};
+ghost use Rattle.om_edit.specs.Reasons.{misread, side_text, fault_places, literal_reason, reason_of, reason_text, reason_or_none};
+
+use crate::refusal::{EditRefusal, Side};
+use itoa::Buffer;
+use om_literal::LiteralFault;
+use om_model::Memory;
+use om_model::list::List;
+use om_model::path::Path;
+use om_type_table::TypeTable;
+use om_types::fault::Fault;
+use std::alloc::Global;
+
+/// The text of a refusal. Out of memory is none, and has no text.
+pub fn refusal_text(
+    alloc: Global,
+    table: &TypeTable,
+    refusal: &EditRefusal,
+) -> Result<List<u8>, Memory>
+    requires within { All (λ i. i < length table.now.store) table.now.stored }
+    ensures { IfOk result (λ text. text ≡ reason_or_none (text_at table.now) (reason_of refusal.now)) }
+{
+    let mut text = Vec::new(alloc);
+    match refusal {
+        EditRefusal::NoField(side, step) => put_no_field(&mut text, *side, *step)?,
+        EditRefusal::NotBlock => put(&mut text, b"NotBlock")?,
+        EditRefusal::Literal(fault) => put_literal(&mut text, alloc, table, *fault)?,
+        EditRefusal::IllTyped(fault) => {
+            put(&mut text, b"IllTyped at ")?;
+            put_places(&mut text, alloc, fault)?;
+        }
+        EditRefusal::Memory => {}
+    }
+    Ok(List::of(text))
+}
+
+/// Puts which step is not prescribed.
+fn put_no_field(text: &mut Vec<u8>, side: Side, step: usize) -> Result<(), Memory>
+    ensures { OnOk result (text.new.items ≡ text.old.items ++ codes "NoField(" ++ side_text side ++ codes ", " ++ decimal step ++ codes ")") }
+{
+    put(text, b"NoField(")?;
+    match side {
+        Side::Left => put(text, b"left")?,
+        Side::Right => put(text, b"right")?,
+    }
+    put(text, b", ")?;
+    put_number(text, step as u64)?;
+    put(text, b")")
+}
+
+/// Puts why a literal is refused.
+fn put_literal(
+    text: &mut Vec<u8>,
+    alloc: Global,
+    table: &TypeTable,
+    fault: LiteralFault,
+) -> Result<(), Memory>
+    requires within { All (λ i. i < length table.now.store) table.now.stored }
+    ensures { OnOk result (text.new.items ≡ text.old.items ++ reason_or_none (text_at table.now) (literal_reason fault)) }
+{
+    match fault {
+        LiteralFault::Syntax(place) => put_at(text, b"Literal Syntax at ", place),
+        LiteralFault::Misfit(place, ty) => put_misfit(text, alloc, table, place, ty),
+        LiteralFault::IntRange(place) => put_at(text, b"Literal IntRange at ", place),
+        LiteralFault::Label(place) => put_at(text, b"Literal Label at ", place),
+        LiteralFault::Memory => Ok(()),
+    }
+}
+
+/// Puts which part of a literal is none of its type.
+fn put_misfit(
+    text: &mut Vec<u8>,
+    alloc: Global,
+    table: &TypeTable,
+    place: u64,
+    ty: usize,
+) -> Result<(), Memory>
+    requires within { All (λ i. i < length table.now.store) table.now.stored }
+    ensures { OnOk result (text.new.items ≡ text.old.items ++ reason_text (text_at table.now) (misread (misfit_at place ty))) }
+{
+    put_at(text, b"Literal Misfit at ", place)?;
+    put(text, b": expected ")?;
+    put_type(text, alloc, table, ty)
+}
+
+/// Puts what is at a byte.
+fn put_at(text: &mut Vec<u8>, what: &[u8], place: u64) -> Result<(), Memory>
+    ensures { OnOk result (text.new.items ≡ text.old.items ++ (what.now ++ decimal place)) }
+{
+    put(text, what)?;
+    put_number(text, place)
+}
+
+/// Puts a type, if the table has one of this number.
+fn put_type(
+    text: &mut Vec<u8>,
+    alloc: Global,
+    table: &TypeTable,
+    number: usize,
+) -> Result<(), Memory>
+    requires within { All (λ i. i < length table.now.store) table.now.stored }
+    ensures { OnOk result (text.new.items ≡ text.old.items ++ text_at table.now number) }
+{
+    if number < table.len() {
+        let spelled = table.text(alloc, number)?;
+        put(text, spelled.as_slice())?;
+    }
+    Ok(())
+}
+
+/// Puts the paths of a fault.
+fn put_places(text: &mut Vec<u8>, alloc: Global, fault: &Fault) -> Result<(), Memory>
+    ensures { OnOk result (text.new.items ≡ text.old.items ++ fault_places fault.now) }
+{
+    match fault {
+        Fault::Misfit(path) => put_path(text, alloc, path),
+        Fault::Clash(first, second) => {
+            put_path(text, alloc, first)?;
+            put(text, b" and ")?;
+            put_path(text, alloc, second)
+        }
+    }
+}
+
+/// Puts a path.
+fn put_path(text: &mut Vec<u8>, alloc: Global, path: &Path) -> Result<(), Memory>
+    ensures { OnOk result (text.new.items ≡ text.old.items ++ path_text path.now) }
+{
+    let steps = path.text(alloc)?;
+    put(text, steps.as_slice())
+}
+
+/// Puts a number.
+fn put_number(text: &mut Vec<u8>, n: u64) -> Result<(), Memory>
+    ensures { OnOk result (text.new.items ≡ text.old.items ++ decimal n) }
+{
+    put(text, Buffer::new().format(n).as_bytes())
+}
+
+/// Puts bytes.
+fn put(text: &mut Vec<u8>, bytes: &[u8]) -> Result<(), Memory>
+    ensures { OnOk result (text.new.items ≡ text.old.items ++ bytes.now) }
+{
+    Ok(text.extend_from_slice(bytes)?)
+}
