@@ -1,33 +1,41 @@
 -- Words that clap accepts ask for something.
 use Rattle.std.proofs.Common.{◌≡◌, ◌∙◌, ◌||◌, inl, inr, ℕ, Bool, true, false, not, List, [], ◌∷◌, codes, refl, sym, subst}
 use Rattle.std.specs.Str.Parse.{digits_value, without_leading_plus}
-use Rattle.clap.specs.Walk.{Rule, Text, nothing_held, rows_after}
+use Rattle.std.specs.Prelude.{fold}
+use Rattle.clap.specs.Walk.{Rule, Text, nothing_held, rows_after, settled, walk, with_default}
 use Rattle.clap.specs.Takes.{is_given}
 use Rattle.clap.specs.Faults.{level_fault}
 use Rattle.clap.specs.Words.{fault_of}
-use Rattle.om_outcome.specs.CommandLine.{command_set, HasLimit, HasTyped, HasArgument, Request, check, show, get, dump, compare, Asks, AsksBy}
-use Rattle.om_command_line.proofs.LevelLemmas.{given_read, limit_read}
-use Rattle.om_command_line.proofs.LevelWalkLemmas.{ArePlaces, rows_hold}
+use Rattle.om_outcome.specs.CommandLine.{command_set, HasLimit, HasTyped, HasArgument, Request, check, show, get, edit, dump, compare, Asks, AsksBy}
+use Rattle.om_command_line.proofs.LevelLemmas.{flag_read, given_read, limit_read}
+use Rattle.om_command_line.proofs.LevelWalkLemmas.{ArePlaces, flag_there, rows_hold}
 use Rattle.om_command_line.proofs.PlainLemmas.{limit_has}
 use Rattle.om_command_line.proofs.RequestLemmas.{asks_by}
-use Rattle.om_command_line.proofs.SetLemmas.{IsNamed, check_named, show_named, get_named, dump_named, same_named, get_places, leaf, limit_rule, named_fault, named_met, typed_places}
+use Rattle.om_command_line.proofs.SetLemmas.{IsNamed, check_named, show_named, get_named, edit_named, dump_named, same_named, edit_places, get_places, leaf, place, limit_rule, named_fault, named_met, typed_places}
 use Rattle.om_command_line.proofs.TopLemmas.{IsCommand, both_none, words_begin}
 
 no_places : ArePlaces []
-no_places = record { plain_rules = ((refl, refl, λ e. refl), tt); no_short = λ x. refl; defaults = tt }
+no_places = record { plain_rules = (inl (refl, refl, (λ e. refl), refl), tt); no_short = λ x. refl; defaults = tt }
 
 typed_are_places : ArePlaces typed_places
 typed_are_places = record {
-  plain_rules = ((refl, refl, λ e. refl), ((refl, refl, λ e. let bad : false ≡ true = e in cc bad), ((refl, refl, λ e. let bad : false ≡ true = e in cc bad), tt)));
+  plain_rules = (inl (refl, refl, (λ e. refl), refl), (inl (refl, refl, (λ e. let bad : false ≡ true = e in cc bad), refl), (inl (refl, refl, (λ e. let bad : false ≡ true = e in cc bad), refl), tt)));
   no_short = λ x. refl;
-  defaults = (refl, (refl, tt));
+  defaults = (inl refl, (inl refl, tt));
 }
 
 get_are_places : ArePlaces get_places
 get_are_places = record {
-  plain_rules = ((refl, refl, λ e. refl), ((refl, refl, λ e. let bad : false ≡ true = e in cc bad), ((refl, refl, λ e. let bad : false ≡ true = e in cc bad), ((refl, refl, λ e. let bad : false ≡ true = e in cc bad), tt))));
+  plain_rules = (inl (refl, refl, (λ e. refl), refl), (inl (refl, refl, (λ e. let bad : false ≡ true = e in cc bad), refl), (inl (refl, refl, (λ e. let bad : false ≡ true = e in cc bad), refl), (inl (refl, refl, (λ e. let bad : false ≡ true = e in cc bad), refl), tt))));
   no_short = λ x. refl;
-  defaults = (refl, (refl, (refl, tt)));
+  defaults = (inl refl, (inl refl, (inl refl, tt)));
+}
+
+edit_are_places : ArePlaces edit_places
+edit_are_places = record {
+  plain_rules = (inl (refl, refl, (λ e. refl), refl), (inl (refl, refl, (λ e. let bad : false ≡ true = e in cc bad), refl), (inl (refl, refl, (λ e. let bad : false ≡ true = e in cc bad), refl), (inl (refl, refl, (λ e. let bad : false ≡ true = e in cc bad), refl), (inr refl, tt)))));
+  no_short = λ x. refl;
+  defaults = (inl refl, (inl refl, (inl refl, (inr refl, tt))));
 }
 
 two_given : (a b : Bool) → (not a || (not b || false)) ≡ false → (a ≡ true) × (b ≡ true)
@@ -95,6 +103,21 @@ module _ (rest : List Text) where
       let request = get file.0 type.0 path.0 limit.0 in
       (request, named_asks (codes "get") get_places get_named get_are_places rest none request (refl, (file.1, type.1, limit.1), path.1))
 
+  edit_accepted : fault_of command_set (codes "edit" ∷ rest) ≡ [] → (request : Request) × Asks (codes "edit" ∷ rest) request
+  edit_accepted none =
+      let hold = rows_hold (codes "edit") edit_places edit_are_places rest (level_passes (codes "edit") edit_places edit_named edit_are_places rest none) in
+      let rows = rows_after (limit_rule ∷ edit_places) [] rest in
+      let given = three_given (is_given (codes "FILE") rows) (is_given (codes "TYPE") rows) (is_given (codes "SCRIPT") rows) hold.2 in
+      let file = rows_given (codes "edit") edit_places edit_named edit_are_places rest none (codes "FILE") given.0 in
+      let type = rows_given (codes "edit") edit_places edit_named edit_are_places rest none (codes "TYPE") given.1 in
+      let script = rows_given (codes "edit") edit_places edit_named edit_are_places rest none (codes "SCRIPT") given.2 in
+      let limit = rows_limit (codes "edit") edit_places edit_named edit_are_places rest none in
+      let before = fold with_default (settled (limit_rule ∷ edit_places) (walk (limit_rule ∷ edit_places) [] nothing_held rest).held).rows
+      (limit_rule ∷ place (codes "FILE") 1 ∷ place (codes "TYPE") 2 ∷ place (codes "SCRIPT") 3 ∷ []) in
+      let flag = flag_read rows hold.0 (flag_there before) in
+      let request = edit file.0 type.0 script.0 flag.0 limit.0 in
+      (request, named_asks (codes "edit") edit_places edit_named edit_are_places rest none request (refl, (file.1, type.1, limit.1), script.1, flag.1))
+
   dump_accepted : fault_of command_set (codes "dump" ∷ rest) ≡ [] → (request : Request) × Asks (codes "dump" ∷ rest) request
   dump_accepted none =
       let limit = rows_limit (codes "dump") [] dump_named no_places rest none in
@@ -109,8 +132,9 @@ module _ (rest : List Text) where
   command_accepted name (inl is) = subst (λ n. fault_of command_set (n ∷ rest) ≡ [] → (request : Request) × Asks (n ∷ rest) request) (sym is) check_accepted
   command_accepted name (inr (inl is)) = subst (λ n. fault_of command_set (n ∷ rest) ≡ [] → (request : Request) × Asks (n ∷ rest) request) (sym is) show_accepted
   command_accepted name (inr (inr (inl is))) = subst (λ n. fault_of command_set (n ∷ rest) ≡ [] → (request : Request) × Asks (n ∷ rest) request) (sym is) get_accepted
-  command_accepted name (inr (inr (inr (inl is)))) = subst (λ n. fault_of command_set (n ∷ rest) ≡ [] → (request : Request) × Asks (n ∷ rest) request) (sym is) dump_accepted
-  command_accepted name (inr (inr (inr (inr is)))) = subst (λ n. fault_of command_set (n ∷ rest) ≡ [] → (request : Request) × Asks (n ∷ rest) request) (sym is) same_accepted
+  command_accepted name (inr (inr (inr (inl is)))) = subst (λ n. fault_of command_set (n ∷ rest) ≡ [] → (request : Request) × Asks (n ∷ rest) request) (sym is) edit_accepted
+  command_accepted name (inr (inr (inr (inr (inl is))))) = subst (λ n. fault_of command_set (n ∷ rest) ≡ [] → (request : Request) × Asks (n ∷ rest) request) (sym is) dump_accepted
+  command_accepted name (inr (inr (inr (inr (inr is))))) = subst (λ n. fault_of command_set (n ∷ rest) ≡ [] → (request : Request) × Asks (n ∷ rest) request) (sym is) same_accepted
 
 pub accepted_words_ask : (words : List Text) → fault_of command_set words ≡ [] → (request : Request) × Asks words request
 accepted_words_ask words none =

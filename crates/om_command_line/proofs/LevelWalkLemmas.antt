@@ -1,5 +1,5 @@
 -- The rows of a command after clap's walk over its words, where clap finds no fault.
-use Rattle.std.proofs.Common.{◌≡◌, ◌∙◌, ◌&&◌, ℕ, zero, suc, Bool, true, false, not, List, [], ◌∷◌, Option, Some, None, codes, drop, length, is_some, refl, sym, ap, subst}
+use Rattle.std.proofs.Common.{◌≡◌, ◌∙◌, ◌⊎◌, inl, inr, ◌&&◌, ℕ, zero, suc, Bool, true, false, not, List, [], ◌∷◌, Option, Some, None, codes, drop, length, is_some, refl, sym, ap, subst}
 use Rattle.std.specs.Prelude.{if◌then◌else◌, encode_utf8, fold, slice_get}
 use Rattle.std.specs.List.{list_any}
 use Rattle.std.specs.Option.{option_map_or}
@@ -11,8 +11,8 @@ use Rattle.clap.specs.Faults.{check_fault, defaults_fault, flag_word_fault, leve
 use Rattle.clap.specs.Kinds.{or_else}
 use Rattle.clap.specs.declared.error.kind.ErrorKind.TheVariants as kind
 use Rattle.clap.specs.declared.parser.matches.ValueSource.TheVariants.{DefaultValue}
-use Rattle.om_command_line.proofs.LevelLemmas.{AreRead, ArePlainRules, IsPlainRule, added_has, added_read, found_plain, no_kinds, takes, use_read}
-use Rattle.om_command_line.proofs.SetLemmas.{leaf, limit_rule}
+use Rattle.om_command_line.proofs.LevelLemmas.{AreRead, ArePlainRules, IsPlainRule, TakesOne, added_has, added_keeps, added_read, flag_used, found_plain, no_kinds, takes, use_read}
+use Rattle.om_command_line.proofs.SetLemmas.{compat_rule, leaf, limit_rule}
 use Rattle.om_command_line.proofs.TopLemmas.{both_none}
 
 -- no subcommand is met
@@ -32,29 +32,62 @@ at_walk h wait n trails = record { held = h; waiting = wait; position = n; is_tr
 abbrev Stands : Walk → Type 0
 Stands w = (w.stopped ≡ None) × AreRead w.held.rows
 
-abbrev NoDefaults : List Rule → Type 0
-NoDefaults [] = Unit {0}
-NoDefaults (a ∷ rest) = (a.defaults ≡ []) × NoDefaults rest
+-- none has a default but the flag
+abbrev FewDefaults : List Rule → Type 0
+FewDefaults [] = Unit {0}
+FewDefaults (a ∷ rest) = ((a.defaults ≡ []) ⊎ (a ≡ compat_rule)) × FewDefaults rest
 
-no_defaults : (c : List Rule) → NoDefaults c → (rows : List Row) → fold with_default rows c ≡ rows
-no_defaults [] none rows = refl
-no_defaults (a ∷ rest) (none, more) rows =
-    ap (λ rs. fold with_default rs rest) (ap (λ vs. with_default rows (record a { defaults = vs })) none ∙ same (has_row a.id rows)) ∙ no_defaults rest more rows
-  where
-    same : (b : Bool) → (if b then rows else rows) ≡ rows
-    same true = refl
-    same false = refl
+-- rows that are read, the limit's among them
+abbrev HoldLimit : List Row → Type 0
+HoldLimit rows = AreRead rows × (has_row (codes "limit") rows ≡ true)
+
+no_default : (a : Rule) → a.defaults ≡ [] → (rows : List Row) → with_default rows a ≡ rows
+no_default a none rows = ap (λ vs. with_default rows (record a { defaults = vs })) none ∙ same (has_row a.id rows) where
+  same : (b : Bool) → (if b then rows else rows) ≡ rows
+  same true = refl
+  same false = refl
+
+-- the flag that is not used
+abbrev unused_row : Row
+unused_row = record { id = codes "compat32"; values = codes "false" ∷ []; count = None; source = Some DefaultValue; reading = reading_by compat_rule }
+
+abbrev with_unused : List Row → List Row
+with_unused rows = with_values (codes "compat32") (reading_by compat_rule) DefaultValue (codes "false" ∷ []) rows
+
+flag_default : (rows : List Row) → HoldLimit rows → HoldLimit (with_default rows compat_rule)
+flag_default rows hold = go (has_row (codes "compat32") rows) refl where
+  go : (b : Bool) → has_row (codes "compat32") rows ≡ b → HoldLimit (if b then rows else with_unused rows)
+  go true there = hold
+  go false absent =
+      let change = more_values DefaultValue (codes "false" ∷ []) in (
+        added_read (codes "compat32") change unused_row rows absent (codes "false", refl, (λ e. let bad : false ≡ true = e in cc bad), (λ e. (false, refl))) hold.0,
+        added_keeps (codes "compat32") (codes "limit") change unused_row rows absent hold.1,
+      )
+
+-- the flag has a row then
+pub flag_there : (rows : List Row) → has_row (codes "compat32") (with_default rows compat_rule) ≡ true
+flag_there rows = go (has_row (codes "compat32") rows) refl where
+  go : (b : Bool) → has_row (codes "compat32") rows ≡ b → has_row (codes "compat32") (if b then rows else with_unused rows) ≡ true
+  go true there = there
+  go false absent = added_has (codes "compat32") (more_values DefaultValue (codes "false" ∷ [])) unused_row rows absent refl
+
+few_defaults : (c : List Rule) → FewDefaults c → (rows : List Row) → HoldLimit rows → HoldLimit (fold with_default rows c)
+few_defaults [] few rows hold = hold
+few_defaults (a ∷ rest) (inl none, more) rows hold =
+    subst (λ rs. HoldLimit (fold with_default rs rest)) (sym (no_default a none rows)) (few_defaults rest more rows hold)
+few_defaults (a ∷ rest) (inr is, more) rows hold =
+    subst (λ r. HoldLimit (fold with_default (with_default rows r) rest)) (sym is) (few_defaults rest more (with_default rows compat_rule) (flag_default rows hold))
 
 no_subcommand : (wait : Waiting) (word : Text) → subcommand_met [] wait word ≡ None
 no_subcommand idle word = refl
 no_subcommand (waits_for id) word = refl
 no_subcommand positional word = refl
 
--- a command's places: each takes one value, none has a short name or a default
+-- a command's places: each takes one value or is the flag, none has a short name, and no other has a default
 pub record ArePlaces (places : List Rule) : Type 0 where
   pub plain_rules : ArePlainRules (limit_rule ∷ places)
   pub no_short : (x : ℕ) → arg_by_short (limit_rule ∷ places) x ≡ None
-  pub defaults : NoDefaults places
+  pub defaults : FewDefaults places
 
 module _ (name : Text) (places : List Rule) (are_places : ArePlaces places) where
   abbrev own : List Rule
@@ -111,15 +144,30 @@ module _ (name : Text) (places : List Rule) (are_places : ArePlaces places) wher
       let parts = both_none (settle_fault own false h) (use_fault false a (v ∷ []) (settled own h).rows) none in
       (use_read a is (settled own h).rows (settle_read h are parts.0) (v ∷ []) parts.1, tt)
 
-  long_fine : (wait : Waiting) (word : Text) (o : Option Rule) → ((a : Rule) → o ≡ Some a → IsPlainRule a) → (v : Option Text) (h : Held) → AreRead h.rows → long_fault own false o v h ≡ []
-      → IsFine (after_flag own wait word (long_met own o v h).0 (long_met own o v h).1)
-  long_fine wait word None each v h are none = cc none
-  long_fine wait word (Some a) each v h are none =
-      let is = each a refl in
+  used_fine : (wait : Waiting) (word : Text) (v : Option Text) (h : Held) → AreRead h.rows → long_fault own false (Some compat_rule) v h ≡ []
+      → IsFine (after_flag own wait word (long_met own (Some compat_rule) v h).0 (long_met own (Some compat_rule) v h).1)
+  used_fine wait word (Some x) h are none = let bad : kind.TooManyValues ∷ [] ≡ [] = none in cc bad
+  used_fine wait word None h are none =
+      let parts = both_none (settle_fault own false h) (use_fault false compat_rule [] (settled own h).rows) none in
+      (flag_used (settled own h).rows (settle_read h are parts.0) [] parts.1, tt)
+
+  taken_fine : (wait : Waiting) (word : Text) (a : Rule) → TakesOne a → (v : Option Text) (h : Held) → AreRead h.rows → long_fault own false (Some a) v h ≡ []
+      → IsFine (after_flag own wait word (long_met own (Some a) v h).0 (long_met own (Some a) v h).1)
+  taken_fine wait word a is v h are none =
       let at_value : option_fault own false a v h ≡ [] =
       subst (λ b. (if b then option_fault own false a v h else (if is_some v then kind.TooManyValues ∷ [] else react_fault own false a [] h)) ≡ []) (takes a is) none in
       subst (λ b. IsFine (after_flag own wait word (if b then option_met own a v h else flag_met own a v h).0 (if b then option_met own a v h else flag_met own a v h).1)) (sym (takes a is))
-      (value_fine wait word a is v h are at_value)
+      (value_fine wait word a (inl is) v h are at_value)
+
+  long_fine : (wait : Waiting) (word : Text) (o : Option Rule) → ((a : Rule) → o ≡ Some a → IsPlainRule a) → (v : Option Text) (h : Held) → AreRead h.rows → long_fault own false o v h ≡ []
+      → IsFine (after_flag own wait word (long_met own o v h).0 (long_met own o v h).1)
+  long_fine wait word None each v h are none = cc none
+  long_fine wait word (Some a) each v h are none = at (each a refl) where
+    at : IsPlainRule a → IsFine (after_flag own wait word (long_met own (Some a) v h).0 (long_met own (Some a) v h).1)
+    at (inl is) = taken_fine wait word a is v h are none
+    at (inr is) =
+        subst (λ r. IsFine (after_flag own wait word (long_met own (Some r) v h).0 (long_met own (Some r) v h).1)) (sym is)
+        (used_fine wait word v h are (subst (λ r. long_fault own false (Some r) v h ≡ []) is none))
 
   module _ (wait : Waiting) (n : ℕ) (word : Text) (h : Held) (are : AreRead h.rows) where
     short_fine : (flags : Option Text) → IsFine (short_or_plain own wait word flags h)
@@ -187,7 +235,7 @@ module _ (name : Text) (places : List Rule) (are_places : ArePlaces places) wher
   limit_added rows are false absent =
       let new : Row = record { id = codes "limit"; values = codes "134217728" ∷ []; count = None; source = Some DefaultValue; reading = reading_by limit_rule } in
       let change = more_values DefaultValue (codes "134217728" ∷ []) in
-      (added_read (codes "limit") change new rows absent (codes "134217728", refl, λ _. (refl, refl)) are, added_has (codes "limit") change new rows absent refl)
+      (added_read (codes "limit") change new rows absent (codes "134217728", refl, (λ _. (refl, refl)), (λ e. let bad : false ≡ true = e in cc bad)) are, added_has (codes "limit") change new rows absent refl)
 
   pub rows_hold : (rest : List Text) → level_fault (leaf name places) [] nothing_held rest false [] ≡ []
       → AreRead (rows_after own [] rest) × (has_row (codes "limit") (rows_after own [] rest) ≡ true)
@@ -201,8 +249,8 @@ module _ (name : Text) (places : List Rule) (are_places : ArePlaces places) wher
       let stands = walk_stands rest (walk_from nothing_held) (refl, tt) walks.0 in
       let rows : List Row = (settled own last).rows in
       let added = limit_added rows (settle_read last stands.1 settles.0) (has_row (codes "limit") rows) refl in
-      let same : finished own last ≡ with_default rows limit_rule = no_defaults places are_places.defaults (with_default rows limit_rule) in (
-        subst AreRead (sym same) added.0,
-        subst (λ rs. has_row (codes "limit") rs ≡ true) (sym same) added.1,
+      let all = few_defaults places are_places.defaults (with_default rows limit_rule) added in (
+        all.0,
+        all.1,
         no_kinds (list_any (λ a. a.required && not (is_given a.id (finished own last))) own) kind.MissingRequiredArgument checks.1,
       )

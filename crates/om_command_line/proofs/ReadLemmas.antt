@@ -1,12 +1,12 @@
 -- What is read of a command's arguments.
-use Rattle.std.proofs.Common.{◌≡◌, ◌∙◌, ◌<◌, ◌≤◌, ◌^◌, ℕ, List, Option, Some, None, Result, Ok, Err, codes, refl, sym, ap, subst, arith}
+use Rattle.std.proofs.Common.{◌≡◌, ◌∙◌, ◌<◌, ◌≤◌, ◌^◌, ℕ, Bool, true, false, List, Option, Some, None, Result, Ok, Err, codes, refl, sym, ap, subst, arith}
 use Rattle.std.specs.Prelude.{option_map}
 use Rattle.std.specs.Borrow.{Bor}
 use Rattle.std.specs.Str.Parse.{ParsesUnsigned, IsNumeral, digits_value, without_leading_plus}
 use Rattle.clap.specs.Words.{ReadsOne, Row, first_value, one_of, one_text, rows_of}
 use Rattle.clap.specs.declared.parser.matches.Found.{Found}
 use Rattle.clap.proofs.WalkLemmas.{first_value-rows, one_text-rows}
-use Rattle.om_outcome.specs.CommandLine.{HasArgument, HasLimit, HasTyped, greatest_limit, Request, AsksBy}
+use Rattle.om_outcome.specs.CommandLine.{HasArgument, HasCompat, HasLimit, HasTyped, greatest_limit, Request, AsksBy}
 use Rattle.om_command_line.proofs.RequestLemmas.{only_request, request_told}
 
 -- what a getter of a number says, where `parse` gives what `Gives` says
@@ -50,6 +50,12 @@ module _ (found : Found) (name : List ℕ) (r : Option (Bor (List ℕ))) (is : o
       let e : None ≡ Some text = sym (ap (option_map (λ (s : Bor (List ℕ)). s.now)) none) ∙ (is ∙ (first_value-rows found name ∙ has)) in
       cc e
 
+-- the flag's argument is another word
+pub flag_missing : (arguments : List Row) (text : List ℕ) → HasArgument arguments (codes "compat32") text → (text ≡ codes "true" → ⊥) → (text ≡ codes "false" → ⊥)
+    → (compat : Bool) → HasCompat arguments compat → ⊥
+flag_missing arguments text has used unused true is = let e : Some text ≡ Some (codes "true") = sym has ∙ is in used (cc e)
+flag_missing arguments text has used unused false is = let e : Some text ≡ Some (codes "false") = sym has ∙ is in unused (cc e)
+
 -- where what a command wants is missing, it asks for nothing
 module _ (arguments : List Row) where
   asks_told : (command : List ℕ) (request : Request) → AsksBy command arguments request → AsksBy command arguments (only_request command arguments)
@@ -64,6 +70,15 @@ module _ (arguments : List Row) where
 
     pub nothing_got : (request : Request) → AsksBy (codes "get") arguments request → ⊥
     nothing_got request by = none _ _ _ (asks_told (codes "get") request by).1
+
+    pub nothing_edited : (request : Request) → AsksBy (codes "edit") arguments request → ⊥
+    nothing_edited request by = none _ _ _ (asks_told (codes "edit") request by).1
+
+  pub nothing_by_script : ((script : List ℕ) → HasArgument arguments (codes "SCRIPT") script → ⊥) → (request : Request) → AsksBy (codes "edit") arguments request → ⊥
+  nothing_by_script none request by = none _ (asks_told (codes "edit") request by).2
+
+  pub nothing_for_flag : ((compat : Bool) → HasCompat arguments compat → ⊥) → (request : Request) → AsksBy (codes "edit") arguments request → ⊥
+  nothing_for_flag none request by = none _ (asks_told (codes "edit") request by).3
 
   pub nothing_at_path : ((path : List ℕ) → HasArgument arguments (codes "PATH") path → ⊥) → (request : Request) → AsksBy (codes "get") arguments request → ⊥
   nothing_at_path none request by = none _ (asks_told (codes "get") request by).2

@@ -1,5 +1,5 @@
 -- What accepted words ask for is one thing.
-use Rattle.std.proofs.Common.{◌≡◌, ◌≢◌, ◌∙◌, ℕ, true, List, [], Option, Some, Err, codes, refl, sym, ap, ap₂, subst, inl, inr, unwrap_or}
+use Rattle.std.proofs.Common.{◌≡◌, ◌≢◌, ◌∙◌, ℕ, Bool, true, false, List, [], Option, Some, Err, codes, refl, sym, ap, ap₂, subst, inl, inr, unwrap_or}
 use Rattle.std.specs.Prelude.{if◌then◌else◌}
 use Rattle.std.specs.Str.{bytes_eq}
 use Rattle.std.specs.Str.Parse.{digits_value, without_leading_plus}
@@ -8,7 +8,7 @@ use Rattle.clap.specs.declared.error.Error.{Error}
 use Rattle.clap.specs.declared.error.kind.ErrorKind.TheVariants as kinds
 use Rattle.clap.specs.declared.parser.matches.ArgMatches.{ArgMatches}
 use Rattle.clap.proofs.OnLiterals.{clap_on_literals}
-use Rattle.om_outcome.specs.CommandLine.{Accepted, HasArgument, HasLimit, command_set, Request, check, show, get, dump, compare, AsksBy, Asks, IsUsage}
+use Rattle.om_outcome.specs.CommandLine.{Accepted, HasArgument, HasLimit, command_set, Request, check, show, get, edit, dump, compare, AsksBy, Asks, IsUsage}
 use Rattle.om_command_line.specs.declared.read.Unread.{Unread}
 use Rattle.om_command_line.specs.declared.read.Unread.TheVariants.{Usage, Memory}
 use Rattle.om_command_line.specs.Requests.{ReadsWords}
@@ -30,18 +30,30 @@ show_in arguments = show (argument_in arguments (codes "FILE")) (argument_in arg
 abbrev pub get_in : List Row → Request
 get_in arguments = get (argument_in arguments (codes "FILE")) (argument_in arguments (codes "TYPE")) (argument_in arguments (codes "PATH")) (limit_in arguments)
 
+abbrev compat_in : List Row → Bool
+compat_in arguments = bytes_eq (argument_in arguments (codes "compat32")) (codes "true")
+
+abbrev pub edit_in : List Row → Request
+edit_in arguments =
+    edit (argument_in arguments (codes "FILE")) (argument_in arguments (codes "TYPE")) (argument_in arguments (codes "SCRIPT")) (compat_in arguments) (limit_in arguments)
+
 abbrev pub only_request : List ℕ → List Row → Request
 only_request command arguments =
     if bytes_eq command (codes "check") then check_in arguments
     else (if bytes_eq command (codes "show") then show_in arguments
     else (if bytes_eq command (codes "get") then get_in arguments
-    else (if bytes_eq command (codes "dump") then dump (limit_in arguments) else compare (limit_in arguments))))
+    else (if bytes_eq command (codes "edit") then edit_in arguments
+    else (if bytes_eq command (codes "dump") then dump (limit_in arguments) else compare (limit_in arguments)))))
 
 argument_told : (arguments : List Row) (name text : List ℕ) → HasArgument arguments name text → text ≡ argument_in arguments name
 argument_told arguments name text has = ap (λ (o : Option (List ℕ)). unwrap_or o []) (sym has)
 
 limit_told : (arguments : List Row) (limit : ℕ) → HasLimit arguments limit → limit ≡ limit_in arguments
 limit_told arguments limit (text, has, numeral, is, least) = sym is ∙ ap (λ (o : Option (List ℕ)). digits_value 10 (without_leading_plus (unwrap_or o []))) (sym has)
+
+flag_told : (compat : Bool) → compat ≡ bytes_eq (if compat then codes "true" else codes "false") (codes "true")
+flag_told true = refl
+flag_told false = refl
 
 pub request_told : (command : List ℕ) (arguments : List Row) (request : Request) → AsksBy command arguments request → request ≡ only_request command arguments
 request_told command arguments (check file type limit) (name, (is_file, is_type, is_limit)) =
@@ -63,6 +75,14 @@ request_told command arguments (get file type path limit) (name, (is_file, is_ty
     let limits = limit_told arguments limit is_limit in
     let told : get file type path limit ≡ get_in arguments = cc (files, types, paths, limits) in
     subst (λ k. get file type path limit ≡ only_request k arguments) (sym name) told
+request_told command arguments (edit file type script compat limit) (name, (is_file, is_type, is_limit), is_script, is_compat) =
+    let files = argument_told arguments _ file is_file in
+    let types = argument_told arguments _ type is_type in
+    let scripts = argument_told arguments _ script is_script in
+    let compats : compat ≡ compat_in arguments = flag_told compat ∙ ap (λ text. bytes_eq text (codes "true")) (argument_told arguments _ _ is_compat) in
+    let limits = limit_told arguments limit is_limit in
+    let told : edit file type script compat limit ≡ edit_in arguments = cc (files, types, scripts, compats, limits) in
+    subst (λ k. edit file type script compat limit ≡ only_request k arguments) (sym name) told
 request_told command arguments (dump limit) (name, is_limit) =
     subst (λ k. dump limit ≡ only_request k arguments) (sym name) (ap dump (limit_told arguments limit is_limit))
 request_told command arguments (compare limit) (name, is_limit) =

@@ -10,12 +10,15 @@ use Rattle.clap.specs.Faults.{built_fault, check_fault, defaults_fault, entered_
 use Rattle.clap.specs.Kinds.{Kinds, or_else}
 use Rattle.clap.specs.Words.{fault_of, subcommand_of}
 use Rattle.clap.proofs.FaultLemmas.{stopped_fault}
-use Rattle.om_outcome.specs.CommandLine.{command_set, limit_option, wanted}
+use Rattle.om_outcome.specs.CommandLine.{command_set, compat_flag, limit_option, wanted}
 
 -- ---- what clap builds
 
 abbrev pub limit_rule : Rule
 limit_rule = filled limit_option
+
+abbrev pub compat_rule : Rule
+compat_rule = filled compat_flag
 
 abbrev pub place : Text → ℕ → Rule
 place name i = with_index i (filled (wanted name))
@@ -25,6 +28,9 @@ typed_places = place (codes "FILE") 1 ∷ place (codes "TYPE") 2 ∷ []
 
 abbrev pub get_places : List Rule
 get_places = place (codes "FILE") 1 ∷ place (codes "TYPE") 2 ∷ place (codes "PATH") 3 ∷ []
+
+abbrev pub edit_places : List Rule
+edit_places = place (codes "FILE") 1 ∷ place (codes "TYPE") 2 ∷ place (codes "SCRIPT") 3 ∷ compat_rule ∷ []
 
 -- a command with `--limit N` and these places
 abbrev pub leaf : Text → List Rule → Shape
@@ -49,7 +55,7 @@ top = record (new_shape (codes "omarshal")) {
 abbrev pub commands : App
 commands = record {
   top = top;
-  subs = leaf (codes "check") typed_places ∷ leaf (codes "show") typed_places ∷ leaf (codes "get") get_places ∷ leaf (codes "dump") [] ∷ leaf (codes "same") [] ∷ [];
+  subs = leaf (codes "check") typed_places ∷ leaf (codes "show") typed_places ∷ leaf (codes "get") get_places ∷ leaf (codes "edit") edit_places ∷ leaf (codes "dump") [] ∷ leaf (codes "same") [] ∷ [];
 }
 
 abbrev pub command_names : Names
@@ -89,6 +95,9 @@ show_named = (refl, refl, refl)
 
 pub get_named : IsNamed (codes "get") get_places
 get_named = (refl, refl, refl)
+
+pub edit_named : IsNamed (codes "edit") edit_places
+edit_named = (refl, refl, refl)
 
 pub dump_named : IsNamed (codes "dump") []
 dump_named = (refl, refl, refl)

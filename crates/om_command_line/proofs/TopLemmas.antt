@@ -22,7 +22,7 @@ both_none (k ∷ ks) b none = cc none
 -- ---- a first word
 
 abbrev pub IsCommand : Text → Type 0
-IsCommand word = (word ≡ codes "check") ⊎ ((word ≡ codes "show") ⊎ ((word ≡ codes "get") ⊎ ((word ≡ codes "dump") ⊎ (word ≡ codes "same"))))
+IsCommand word = (word ≡ codes "check") ⊎ ((word ≡ codes "show") ⊎ ((word ≡ codes "get") ⊎ ((word ≡ codes "edit") ⊎ ((word ≡ codes "dump") ⊎ (word ≡ codes "same")))))
 
 is_text : (name word : Text) → (word ≡ name) ⊎ (bytes_eq name word ≡ false)
 is_text name word = go (bytes_eq name word) refl
@@ -31,27 +31,32 @@ is_text name word = go (bytes_eq name word) refl
     go true e = inl (sym ((bytes_eq-Decides name word).0 e))
     go false e = inr e
 
-none_met : (word : Text) → bytes_eq (codes "check") word ≡ false → bytes_eq (codes "show") word ≡ false → bytes_eq (codes "get") word ≡ false → bytes_eq (codes "dump") word ≡ false
-    → bytes_eq (codes "same") word ≡ false → subcommand_met command_names idle word ≡ None
-none_met word a b c d e = rw (a, b, c, d, e) refl
+none_met : (word : Text) → bytes_eq (codes "check") word ≡ false → bytes_eq (codes "show") word ≡ false → bytes_eq (codes "get") word ≡ false → bytes_eq (codes "edit") word ≡ false
+    → bytes_eq (codes "dump") word ≡ false → bytes_eq (codes "same") word ≡ false → subcommand_met command_names idle word ≡ None
+none_met word a b c d e f = rw (a, b, c, d, e, f) refl
 
 command_or_none : (word : Text) → IsCommand word ⊎ (subcommand_met command_names idle word ≡ None)
 command_or_none word = at_check (is_text (codes "check") word)
   where
-    at_same : bytes_eq (codes "check") word ≡ false → bytes_eq (codes "show") word ≡ false → bytes_eq (codes "get") word ≡ false → bytes_eq (codes "dump") word ≡ false
-        → (word ≡ codes "same") ⊎ (bytes_eq (codes "same") word ≡ false) → IsCommand word ⊎ (subcommand_met command_names idle word ≡ None)
-    at_same a b c d (inl is) = inl (inr (inr (inr (inr is))))
-    at_same a b c d (inr e) = inr (none_met word a b c d e)
+    at_same : bytes_eq (codes "check") word ≡ false → bytes_eq (codes "show") word ≡ false → bytes_eq (codes "get") word ≡ false → bytes_eq (codes "edit") word ≡ false
+        → bytes_eq (codes "dump") word ≡ false → (word ≡ codes "same") ⊎ (bytes_eq (codes "same") word ≡ false) → IsCommand word ⊎ (subcommand_met command_names idle word ≡ None)
+    at_same a b c d e (inl is) = inl (inr (inr (inr (inr (inr is)))))
+    at_same a b c d e (inr f) = inr (none_met word a b c d e f)
 
-    at_dump : bytes_eq (codes "check") word ≡ false → bytes_eq (codes "show") word ≡ false → bytes_eq (codes "get") word ≡ false
+    at_dump : bytes_eq (codes "check") word ≡ false → bytes_eq (codes "show") word ≡ false → bytes_eq (codes "get") word ≡ false → bytes_eq (codes "edit") word ≡ false
         → (word ≡ codes "dump") ⊎ (bytes_eq (codes "dump") word ≡ false) → IsCommand word ⊎ (subcommand_met command_names idle word ≡ None)
-    at_dump a b c (inl is) = inl (inr (inr (inr (inl is))))
-    at_dump a b c (inr d) = at_same a b c d (is_text (codes "same") word)
+    at_dump a b c d (inl is) = inl (inr (inr (inr (inr (inl is)))))
+    at_dump a b c d (inr e) = at_same a b c d e (is_text (codes "same") word)
+
+    at_edit : bytes_eq (codes "check") word ≡ false → bytes_eq (codes "show") word ≡ false → bytes_eq (codes "get") word ≡ false
+        → (word ≡ codes "edit") ⊎ (bytes_eq (codes "edit") word ≡ false) → IsCommand word ⊎ (subcommand_met command_names idle word ≡ None)
+    at_edit a b c (inl is) = inl (inr (inr (inr (inl is))))
+    at_edit a b c (inr d) = at_dump a b c d (is_text (codes "dump") word)
 
     at_get : bytes_eq (codes "check") word ≡ false → bytes_eq (codes "show") word ≡ false → (word ≡ codes "get") ⊎ (bytes_eq (codes "get") word ≡ false)
         → IsCommand word ⊎ (subcommand_met command_names idle word ≡ None)
     at_get a b (inl is) = inl (inr (inr (inl is)))
-    at_get a b (inr c) = at_dump a b c (is_text (codes "dump") word)
+    at_get a b (inr c) = at_edit a b c (is_text (codes "edit") word)
 
     at_show : bytes_eq (codes "check") word ≡ false → (word ≡ codes "show") ⊎ (bytes_eq (codes "show") word ≡ false) → IsCommand word ⊎ (subcommand_met command_names idle word ≡ None)
     at_show a (inl is) = inl (inr (inl is))

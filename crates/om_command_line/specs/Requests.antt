@@ -1,9 +1,9 @@
 -- The words as texts, and what is asked for.
-use Rattle.std.specs.Prelude.{ℕ, ◌≡◌, List, map, Option, Some, None, Result, Ok, Err, String, string_bytes}
+use Rattle.std.specs.Prelude.{ℕ, ◌≡◌, Bool, List, map, Option, Some, None, Result, Ok, Err, String, string_bytes}
 use Rattle.std.specs.declared.alloc.Global.{Global}
 use Rattle.clap.specs.Words.{Row, found_of, rows_of, subcommand_rows_of}
 use Rattle.clap.specs.declared.parser.matches.ArgMatches.{ArgMatches}
-use Rattle.om_outcome.specs.CommandLine.{HasLimit, HasTyped}
+use Rattle.om_outcome.specs.CommandLine.{HasCompat, HasLimit, HasTyped}
 use Rattle.om_outcome.specs.CommandLine as outcome
 use Rattle.om_command_line.specs.declared.read.Request.{Request}
 use Rattle.om_command_line.specs.declared.read.Request.TheVariants as requests
@@ -18,6 +18,7 @@ abbrev pub request_of : Request → outcome.Request
 request_of (requests.Check file type limit) = outcome.check file.now type.now limit
 request_of (requests.Show file type limit) = outcome.show file.now type.now limit
 request_of (requests.Get file type path limit) = outcome.get file.now type.now path.now limit
+request_of (requests.Edit file type script compat limit) = outcome.edit file.now type.now script.now compat limit
 request_of (requests.Dump limit) = outcome.dump limit
 request_of (requests.Same limit) = outcome.compare limit
 
@@ -34,6 +35,11 @@ ReadsLimit arguments None = (limit : ℕ) → HasLimit arguments limit → ⊥
 abbrev pub ReadsTyped : List Row → Option Typed → Type 0
 ReadsTyped arguments (Some typed) = HasTyped arguments typed.file.now typed.type_text.now typed.limit
 ReadsTyped arguments None = (file type : List ℕ) (limit : ℕ) → HasTyped arguments file type limit → ⊥
+
+-- whether the flag is used is read, if that is told
+abbrev pub ReadsCompat : List Row → Option Bool → Type 0
+ReadsCompat arguments (Some compat) = HasCompat arguments compat
+ReadsCompat arguments None = (compat : Bool) → HasCompat arguments compat → ⊥
 
 -- what a command with these arguments asks for is read, if it is anything
 abbrev pub ReadsBy : List ℕ → List Row → Option Request → Type 0

@@ -2,10 +2,10 @@
 
 ghost use Rattle.std.specs.Prelude.{◌≡◌, IfOk, false};
 ghost use Rattle.clap.specs.Words.{app_of, rule_of};
-ghost use Rattle.om_outcome.specs.CommandLine.{limit_option, wanted as rule_wanted, limited as limited_app, typed as typed_app, program as the_program, command_set as the_command_set};
-ghost use Rattle.om_command_line.specs.Commands.{Tells, get_app};
+ghost use Rattle.om_outcome.specs.CommandLine.{limit_option, compat_flag, wanted as rule_wanted, limited as limited_app, typed as typed_app, program as the_program, command_set as the_command_set};
+ghost use Rattle.om_command_line.specs.Commands.{Tells, get_app, edit_app};
 
-use clap::{Arg, Command, value_parser};
+use clap::{Arg, ArgAction, Command, value_parser};
 use std::alloc::{AllocError, Global};
 
 /// The greatest limit of words on 64 bits in a value.
@@ -20,6 +20,16 @@ fn limit<'a>(alloc: Global) -> Arg<'a>
         .long("limit")
         .value_parser(value_parser!(u64).range(..=1 << 40))
         .default_value("134217728")
+}
+
+// `--compat32`.
+fn compat<'a>(alloc: Global) -> Arg<'a>
+    ensures rule { rule_of result ≡ compat_flag }
+    ensures local { result.global ≡ false }
+{
+    Arg::new(alloc, "compat32")
+        .long("compat32")
+        .action(ArgAction::SetTrue)
 }
 
 // An argument that must be there.
@@ -53,6 +63,15 @@ fn get<'a>(alloc: Global) -> Result<Command<'a>, AllocError>
     typed(alloc, "get")?.arg(wanted(alloc, "PATH"))
 }
 
+// `edit [--limit N] [--compat32] FILE TYPE SCRIPT`.
+fn edit<'a>(alloc: Global) -> Result<Command<'a>, AllocError>
+    ensures { IfOk result (λ command. Tells command edit_app) }
+{
+    typed(alloc, "edit")?
+        .arg(wanted(alloc, "SCRIPT"))?
+        .arg(compat(alloc))
+}
+
 // A command is wanted, and none asks for help.
 fn program<'a>(alloc: Global) -> Command<'a>
     ensures { app_of result ≡ the_program }
@@ -71,12 +90,14 @@ pub fn command_set<'a>(alloc: Global) -> Result<Command<'a>, AllocError>
     let check = typed(alloc, "check")?;
     let show = typed(alloc, "show")?;
     let get = get(alloc)?;
+    let edit = edit(alloc)?;
     let dump = limited(alloc, "dump")?;
     let same = limited(alloc, "same")?;
     program(alloc)
         .subcommand(check)?
         .subcommand(show)?
         .subcommand(get)?
+        .subcommand(edit)?
         .subcommand(dump)?
         .subcommand(same)
 }

@@ -4,7 +4,7 @@ ghost use Rattle.std.specs.Prelude.{◌≡◌, ◌≢◌, codes};
 ghost use Rattle.clap.specs.Words.{kind_of};
 ghost use Rattle.clap.specs.declared.error.kind.ErrorKind.TheVariants as kinds;
 ghost use Rattle.om_command_line.specs.declared.read.Unread.TheVariants as unreads;
-ghost use Rattle.om_command_line.specs.Requests.{arguments_of, texts, ReadsBy, ReadsLimit, ReadsMet, ReadsTyped, ReadsWords};
+ghost use Rattle.om_command_line.specs.Requests.{arguments_of, texts, ReadsBy, ReadsCompat, ReadsLimit, ReadsMet, ReadsTyped, ReadsWords};
 
 use crate::command_set::{GREATEST_LIMIT, command_set};
 use clap::error::ErrorKind;
@@ -31,6 +31,15 @@ pub enum Request<'a> {
         file: &'a str,
         type_text: &'a str,
         path_text: &'a str,
+        limit: u64,
+    },
+    /// The bytes of the values of the input at the type, after the lines of a script that edit them; where `compat` asks for
+    /// that, a value that a reader on 32 bits cannot hold is refused.
+    Edit {
+        file: &'a str,
+        type_text: &'a str,
+        script: &'a str,
+        compat: bool,
         limit: u64,
     },
     /// The values of the input as they are.
@@ -83,7 +92,7 @@ struct Typed<'a> {
     limit: u64,
 }
 
-// What `check`, `show` and `get` want.
+// What `check`, `show`, `get` and `edit` want.
 fn typed_of<'a>(arguments: &ArgMatches<'a>) -> Option<Typed<'a>>
     ensures { ReadsTyped (arguments_of arguments.now) result }
 {
@@ -149,6 +158,42 @@ fn get_of<'a>(arguments: &ArgMatches<'a>) -> Option<Request<'a>>
     })
 }
 
+// Whether `--compat32` is used.
+fn compat_of(arguments: &ArgMatches) -> Option<bool>
+    ensures { ReadsCompat (arguments_of arguments.now) result }
+{
+    let Some(flag) = arguments.get_str("compat32") else {
+        return None;
+    };
+    match flag {
+        "true" => Some(true),
+        "false" => Some(false),
+        _ => None,
+    }
+}
+
+// What `edit` asks for.
+fn edit_of<'a>(arguments: &ArgMatches<'a>) -> Option<Request<'a>>
+    ensures { ReadsBy (codes "edit") (arguments_of arguments.now) result }
+{
+    let Some(typed) = typed_of(arguments) else {
+        return None;
+    };
+    let Some(script) = arguments.get_str("SCRIPT") else {
+        return None;
+    };
+    let Some(compat) = compat_of(arguments) else {
+        return None;
+    };
+    Some(Request::Edit {
+        file: typed.file,
+        type_text: typed.type_text,
+        script,
+        compat,
+        limit: typed.limit,
+    })
+}
+
 // What `dump` asks for.
 fn dump_of<'a>(arguments: &ArgMatches<'a>) -> Option<Request<'a>>
     ensures { ReadsBy (codes "dump") (arguments_of arguments.now) result }
@@ -177,6 +222,7 @@ fn request_by<'a>(command: &str, arguments: &ArgMatches<'a>) -> Option<Request<'
         "check" => check_of(arguments),
         "show" => show_of(arguments),
         "get" => get_of(arguments),
+        "edit" => edit_of(arguments),
         "dump" => dump_of(arguments),
         "same" => same_of(arguments),
         _ => None,

@@ -1,4 +1,3 @@
 pub mod Bytes
 pub mod Graph
 pub mod PathText
-pub mod Status

@@ -1,5 +1,5 @@
-//! Plain data that several subjects share: lists, values and objects of a graph, codes, headers, refusals, paths and
-//! statuses; what a graph is; and numbers from bytes.
+//! Plain data that several subjects share: lists, values and objects of a graph, codes, headers, refusals and
+//! paths; what a graph is; and numbers from bytes.
 #![tactic(auto)]
 
 pub mod bytes;
@@ -9,7 +9,6 @@ pub mod list;
 mod out_of_memory;
 pub mod path;
 pub mod refusal;
-pub mod status;
 pub mod value;
 
 pub use out_of_memory::Memory;

@@ -1,7 +1,8 @@
 -- The command line: what `clap` is told of it, which words are accepted, and what plain words ask for.
-use Rattle.std.specs.Prelude.{ℕ, ◌^◌, ◌≤◌, ◌≡◌, ◌≢◌, true, List, [], ◌∷◌, ◌++◌, All, Option, None, Some, codes}
+use Rattle.std.specs.Prelude.{ℕ, ◌^◌, ◌≤◌, ◌≡◌, ◌≢◌, ◌⊎◌, Bool, true, false, if◌then◌else◌, List, [], ◌∷◌, ◌++◌, All, Option, None, Some, codes}
 use Rattle.std.specs.Str.Parse.{IsNumeral, digits_value, without_leading_plus}
 use Rattle.clap.specs.Words.{App, Row, Rule, Shape, fault_of, first_of, new_app, new_rule, one_of, subcommand_of, with_rule, with_subcommand}
+use Rattle.clap.specs.declared.builder.action.ArgAction.TheVariants.{SetTrue}
 use Rattle.clap.specs.declared.builder.value_parser.ValueParser.TheVariants.{Unsigned}
 
 -- ---- the command set
@@ -19,6 +20,13 @@ limit_option = record (new_rule (codes "limit")) {
   long = Some (codes "limit");
   parser = Some (Unsigned 0 greatest_limit);
   defaults = codes "134217728" ∷ [];
+}
+
+-- `--compat32`: a flag
+abbrev pub compat_flag : Rule
+compat_flag = record (new_rule (codes "compat32")) {
+  long = Some (codes "compat32");
+  action = Some SetTrue;
 }
 
 -- an argument that must be there, known by its place
@@ -44,6 +52,10 @@ show_command = (typed (codes "show")).top
 abbrev pub get_command : Shape
 get_command = (with_rule (typed (codes "get")) (wanted (codes "PATH"))).top
 
+-- `edit [--limit N] [--compat32] FILE TYPE SCRIPT`
+abbrev pub edit_command : Shape
+edit_command = (with_rule (with_rule (typed (codes "edit")) (wanted (codes "SCRIPT"))) compat_flag).top
+
 -- `dump [--limit N]`
 abbrev pub dump_command : Shape
 dump_command = (limited (codes "dump")).top
@@ -66,8 +78,8 @@ program = record {
 
 abbrev pub command_set : App
 command_set =
-    with_subcommand (with_subcommand (with_subcommand (with_subcommand (with_subcommand program
-    check_command) show_command) get_command) dump_command) same_command
+    with_subcommand (with_subcommand (with_subcommand (with_subcommand (with_subcommand (with_subcommand program
+    check_command) show_command) get_command) edit_command) dump_command) same_command
 
 -- ---- accepted words
 
@@ -86,6 +98,10 @@ HasLimit arguments limit =
     (text : List ℕ) × (one_of (codes "limit") arguments ≡ Some text) × IsNumeral 10 (without_leading_plus text)
     × (digits_value 10 (without_leading_plus text) ≡ limit) × (limit ≤ greatest_limit)
 
+-- whether the flag is used, which clap tells in a word
+abbrev pub HasCompat : List Row → Bool → Type 0
+HasCompat arguments compat = HasArgument arguments (codes "compat32") (if compat then codes "true" else codes "false")
+
 -- ---- what is asked for
 
 -- what is asked for, with the limit of words on 64 bits in a value
@@ -93,6 +109,7 @@ pub data Request : Type 0 where
   check : (file type : List ℕ) → (limit : ℕ) → Request
   show : (file type : List ℕ) → (limit : ℕ) → Request
   get : (file type path : List ℕ) → (limit : ℕ) → Request
+  edit : (file type script : List ℕ) → (compat : Bool) → (limit : ℕ) → Request
   dump : (limit : ℕ) → Request
   compare : (limit : ℕ) → Request
 
@@ -107,6 +124,8 @@ AsksBy command arguments (check file type limit) = (command ≡ codes "check") �
 AsksBy command arguments (show file type limit) = (command ≡ codes "show") × HasTyped arguments file type limit
 AsksBy command arguments (get file type path limit) =
     (command ≡ codes "get") × HasTyped arguments file type limit × HasArgument arguments (codes "PATH") path
+AsksBy command arguments (edit file type script compat limit) =
+    (command ≡ codes "edit") × HasTyped arguments file type limit × HasArgument arguments (codes "SCRIPT") script × HasCompat arguments compat
 AsksBy command arguments (dump limit) = (command ≡ codes "dump") × HasLimit arguments limit
 AsksBy command arguments (compare limit) = (command ≡ codes "same") × HasLimit arguments limit
 
@@ -123,6 +142,7 @@ abbrev pub typed_by : Request → Option (List ℕ × List ℕ)
 typed_by (check file type limit) = Some (file, type)
 typed_by (show file type limit) = Some (file, type)
 typed_by (get file type path limit) = Some (file, type)
+typed_by (edit file type script compat limit) = Some (file, type)
 typed_by (dump limit) = None
 typed_by (compare limit) = None
 
@@ -131,11 +151,17 @@ abbrev pub path_of : Request → Option (List ℕ)
 path_of (get file type path limit) = Some path
 path_of request = None
 
+-- SCRIPT, where the command has one
+abbrev pub script_of : Request → Option (List ℕ)
+script_of (edit file type script compat limit) = Some script
+script_of request = None
+
 -- the limit of words on 64 bits in a value
 abbrev pub limit_of : Request → ℕ
 limit_of (check file type limit) = limit
 limit_of (show file type limit) = limit
 limit_of (get file type path limit) = limit
+limit_of (edit file type script compat limit) = limit
 limit_of (dump limit) = limit
 limit_of (compare limit) = limit
 
@@ -154,6 +180,12 @@ ArePlainLimit (option ∷ text ∷ []) limit =
     (option ≡ codes "--limit") × IsNumeral 10 text × (digits_value 10 text ≡ limit) × (limit ≤ greatest_limit)
 ArePlainLimit (option ∷ text ∷ more ∷ rest) limit = ⊥
 
+-- the words for a limit, and those for the flag before or after them, where it is used
+abbrev pub ArePlainOptions : List (List ℕ) → ℕ → Bool → Type 0
+ArePlainOptions words limit false = ArePlainLimit words limit
+ArePlainOptions words limit true =
+    (option : List (List ℕ)) × ArePlainLimit option limit × ((words ≡ codes "--compat32" ∷ option) ⊎ (words ≡ option ++ codes "--compat32" ∷ []))
+
 -- a command's name, perhaps a limit, and then its arguments
 abbrev pub AreWritten : List (List ℕ) → List ℕ → ℕ → List (List ℕ) → Type 0
 AreWritten words command limit arguments =
@@ -164,5 +196,8 @@ abbrev pub ArePlain : List (List ℕ) → Request → Type 0
 ArePlain words (check file type limit) = AreWritten words (codes "check") limit (file ∷ type ∷ [])
 ArePlain words (show file type limit) = AreWritten words (codes "show") limit (file ∷ type ∷ [])
 ArePlain words (get file type path limit) = AreWritten words (codes "get") limit (file ∷ type ∷ path ∷ [])
+ArePlain words (edit file type script compat limit) =
+    (options : List (List ℕ)) × ArePlainOptions options limit compat × All IsArgument (file ∷ type ∷ script ∷ [])
+    × (words ≡ codes "edit" ∷ options ++ file ∷ type ∷ script ∷ [])
 ArePlain words (dump limit) = AreWritten words (codes "dump") limit []
 ArePlain words (compare limit) = AreWritten words (codes "same") limit []

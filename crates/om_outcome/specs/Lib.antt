@@ -1,3 +1,4 @@
 pub mod CommandLine
 pub mod Outcome
 pub mod RefusalText
+pub mod Status

@@ -1,10 +1,10 @@
 -- What a run says: the stages in their order, then a text of each value, and a last reply. A command adds its plain words,
 -- the files that it opens, what it says of a value, what stops it there, and its last reply; the stages, the stops, their
 -- lines and their statuses stand here once.
-use Rattle.std.specs.Prelude.{ℕ, suc, ◌<◌, ◌≡◌, ◌≢◌, ◌↔◌, ◌⊎◌, Bool, true, false, IsTrue, ◌&&◌, if◌then◌else◌, List, [], ◌∷◌, ◌++◌, length, Option, Some, None, Result, Ok, Err, MatchResult, codes, decimal}
-use Rattle.om_model.specs.declared.status.Status.{Status}
-use Rattle.om_model.specs.declared.status.Status.TheVariants as statuses
-pub use Rattle.om_outcome.specs.CommandLine.{Request, check, show, get, dump, compare, Asks, IsUsage, typed_by, path_of, limit_of}
+use Rattle.std.specs.Prelude.{ℕ, suc, ◌<◌, ◌≡◌, ◌==◌, ◌≢◌, ◌↔◌, ◌⊎◌, Bool, true, false, IsTrue, ◌&&◌, not, nat_lt, if◌then◌else◌, List, [], ◌∷◌, ◌++◌, length, filter, find, Option, Some, None, Result, Ok, Err, MatchResult, codes, decimal}
+use Rattle.om_outcome.specs.declared.status.Status.{Status}
+use Rattle.om_outcome.specs.declared.status.Status.TheVariants as statuses
+pub use Rattle.om_outcome.specs.CommandLine.{Request, check, show, get, edit, dump, compare, Asks, IsUsage, typed_by, path_of, script_of, limit_of}
 use Rattle.om_outcome.specs.RefusalText.{refusal_text, truncated_text}
 use Rattle.om_format.specs.Iso.{Iso}
 use Rattle.om_format.specs.Tree.{Tree, root, objects_of}
@@ -39,9 +39,15 @@ pub data Found : Type 0 where
   failed : Found
   unfetched : Found
 
--- what is given to a run: what comes of fetching FILE, by its name, and the input
-pub record Given : Type 0 where
+-- What comes of fetching FILE and SCRIPT, by their names. They are fetched one after the other, so that one name may be found
+-- in two ways.
+pub record Fetches : Type 0 where
   pub file : List ℕ → Found
+  pub script : List ℕ → Found
+
+-- what is given to a run: what comes of fetching its files, and the input
+pub record Given : Type 0 where
+  pub files : Fetches
   pub input : Taken
 
 -- ---- why a run stops
@@ -54,6 +60,9 @@ pub data Stop : Type 0 where
   declarations : List ℕ → Stop
   requested_type : List ℕ → Stop
   value : ℕ → List ℕ → Stop
+  script_line : ℕ → List ℕ → Stop
+  untyped_value : ℕ → List ℕ → Stop
+  large_value : ℕ → List ℕ → Stop
   read_fault : Stop
   too_long : Stop
   out_of_memory : Stop
@@ -66,9 +75,16 @@ status_of (cannot_open name) = statuses.OpenFault
 status_of (declarations refusal) = statuses.Types
 status_of (requested_type refusal) = statuses.Types
 status_of (value number refusal) = statuses.Value
+status_of (script_line number refusal) = statuses.Script
+status_of (untyped_value number fault) = statuses.No
+status_of (large_value number refusal) = statuses.Compat
 status_of read_fault = statuses.ReadFault
 status_of too_long = statuses.TooLong
 status_of out_of_memory = statuses.Memory
+
+-- what is wrong with a value, by its number
+abbrev pub value_text : ℕ → List ℕ → List ℕ
+value_text number text = codes "value " ++ decimal number ++ codes ": " ++ text
 
 abbrev pub stop_text : Stop → List ℕ
 stop_text usage = codes "usage"
@@ -77,7 +93,10 @@ stop_text not_two_values = codes "not two values"
 stop_text (cannot_open name) = codes "cannot open " ++ name
 stop_text (declarations refusal) = codes "types: " ++ refusal
 stop_text (requested_type refusal) = codes "type: " ++ refusal
-stop_text (value number refusal) = codes "value " ++ decimal number ++ codes ": " ++ refusal
+stop_text (value number refusal) = value_text number refusal
+stop_text (script_line number refusal) = codes "script line " ++ decimal number ++ codes ": " ++ refusal
+stop_text (untyped_value number fault) = value_text number fault
+stop_text (large_value number refusal) = value_text number refusal
 stop_text read_fault = codes "read fault"
 stop_text too_long = codes "input too long"
 stop_text out_of_memory = codes "out of memory"
@@ -155,10 +174,10 @@ ending_of all = ends all.last where
 abbrev pub Then : {X Y : Type 0} → (Result X Stop → Type 0) → (X → Result Y Stop → Type 0) → Result Y Stop → Type 0
 Then {X} first next result = (given : Result X Stop) × first given × MatchResult given (λ x. next x result) (λ stop. result ≡ Err stop)
 
--- what is read of a text, or the text of its refusal, which the stop tells
-abbrev pub OrRefusal : {X : Type 0} → (Result X (List ℕ) → Type 0) → (List ℕ → Stop) → Result X Stop → Type 0
+-- what is read of a text, or its refusal, which the stop tells
+abbrev pub OrRefusal : {X R : Type 0} → (Result X R → Type 0) → (R → Stop) → Result X Stop → Type 0
 OrRefusal Reads stop (Ok x) = Reads (Ok x)
-OrRefusal Reads stop (Err s) = (refusal : List ℕ) × Reads (Err refusal) × (s ≡ stop refusal)
+OrRefusal {X} {R} Reads stop (Err s) = (refusal : R) × Reads (Err refusal) × (s ≡ stop refusal)
 
 -- ---- the words
 
@@ -193,84 +212,137 @@ pub data Saying : Type 0 where
   the_text : Saying
   the_part : (path : List ℕ) → Saying
 
--- What the run takes from the declarations D and the types T: what a FILE and a TYPE are read as, or the texts of their
--- refusals; the path that a PATH is, if it is one; the line that is said of a value at a type, which tells whether nothing
--- is wrong with it; and the lines of a value as it is.
-pub record Language (D T : Type 0) : Type 1 where
+-- why a value is not edited: it has not the type; a line of the script is refused, by its number; or what it was edited to
+-- is too large for a reader on 32 bits
+pub data Unedited : Type 0 where
+  untyped : (fault : List ℕ) → Unedited
+  refused_line : (number : ℕ) → (refusal : List ℕ) → Unedited
+  too_large : (refusal : List ℕ) → Unedited
+
+-- What the run takes from the declarations D, the types T and the lines of scripts E: what a FILE, a TYPE and a SCRIPT are
+-- read as, or the texts of their refusals, of a SCRIPT with the number of its line; the path that a PATH is, if it is one; the
+-- number of a line, and of the value that it edits; the line that is said of a value at a type, which tells whether nothing
+-- is wrong with it; what lines of a script make of a value at a type, its bytes, where a reader on 32 bits can hold it if
+-- that is asked for, or why there are none; and the lines of a value as it is.
+pub record Language (D T E : Type 0) : Type 1 where
   pub ReadsDeclarations : List ℕ → Result D (List ℕ) → Type 0
   pub ReadsType : D → List ℕ → Result T (List ℕ) → Type 0
+  pub ReadsScript : List ℕ → Result (List E) (ℕ × List ℕ) → Type 0
   pub ReadsPath : List ℕ → Option (List ℕ) → Type 0
+  pub line_number : E → ℕ
+  pub line_value : E → ℕ
   pub LineOf : Saying → T → Tree → List ℕ → Bool → Type 0
+  pub BytesOf : T → List E → Bool → Tree → Result (List ℕ) Unedited → Type 0
   pub lines_of : Tree → List ℕ
 
 -- FILE is opened and read, then its declarations, then TYPE
-abbrev pub ReadsTypeOf : {D T : Type 0} → Language D T → (List ℕ → Found) → List ℕ × List ℕ → Result T Stop → Type 0
+abbrev pub ReadsTypeOf : {D T E : Type 0} → Language D T E → (List ℕ → Found) → List ℕ × List ℕ → Result T Stop → Type 0
 ReadsTypeOf language file typed =
     Then (ReadsFile typed.0 (file typed.0)) (λ text.
     Then (OrRefusal (language.ReadsDeclarations text) declarations) (λ decls.
     OrRefusal (language.ReadsType decls typed.1) requested_type))
 
 -- PATH is a path, or the run stops
-abbrev pub ReadsPathOf : {D T : Type 0} → Language D T → List ℕ → Result (List ℕ) Stop → Type 0
+abbrev pub ReadsPathOf : {D T E : Type 0} → Language D T E → List ℕ → Result (List ℕ) Stop → Type 0
 ReadsPathOf language text (Ok path) = language.ReadsPath text (Some path)
 ReadsPathOf language text (Err stop) = language.ReadsPath text None × (stop ≡ bad_path)
 
+-- SCRIPT is opened and read, then its lines
+abbrev pub ReadsScriptOf : {D T E : Type 0} → Language D T E → (List ℕ → Found) → List ℕ → Result (List E) Stop → Type 0
+ReadsScriptOf language script name =
+    Then (ReadsFile name (script name)) (λ text. OrRefusal (language.ReadsScript text) (λ refusal. script_line refusal.0 refusal.1))
+
 -- what is done with each value, where the words, the files and the type are read
-pub data Work (T : Type 0) : Type 0 where
-  tells : Saying → T → Work T
-  dumps : Work T
-  compares : Work T
+pub data Work (T E : Type 0) : Type 0 where
+  tells : Saying → T → Work T E
+  edits : T → (script : List E) → (compat : Bool) → Work T E
+  dumps : Work T E
+  compares : Work T E
 
 -- this is told of the values at the type
-abbrev pub TellsAt : {D T : Type 0} → Language D T → (List ℕ → Found) → List ℕ × List ℕ → Saying → Result (Work T) Stop → Type 0
+abbrev pub TellsAt : {D T E : Type 0} → Language D T E → (List ℕ → Found) → List ℕ × List ℕ → Saying → Result (Work T E) Stop → Type 0
 TellsAt language file typed saying result =
     Then (ReadsTypeOf language file typed) (λ type found. found ≡ Ok (tells saying type)) result
 
--- PATH comes before FILE, and `dump` and `same` have neither
-abbrev pub FindsWork : {D T : Type 0} → Language D T → (List ℕ → Found) → Request → Result (Work T) Stop → Type 0
-FindsWork language file (check name type_text limit) result = TellsAt language file (name, type_text) the_verdict result
-FindsWork language file (show name type_text limit) result = TellsAt language file (name, type_text) the_text result
-FindsWork language file (get name type_text path_text limit) result =
-    Then (ReadsPathOf language path_text) (λ path. TellsAt language file (name, type_text) (the_part path)) result
-FindsWork language file (dump limit) result = result ≡ Ok dumps
-FindsWork language file (compare limit) result = result ≡ Ok compares
+-- the values at the type are edited by the lines of SCRIPT
+abbrev pub EditsBy : {D T E : Type 0} → Language D T E → Fetches → List ℕ × List ℕ → List ℕ → Bool → Result (Work T E) Stop → Type 0
+EditsBy language files typed script_name compat result =
+    Then (ReadsTypeOf language files.file typed) (λ type.
+    Then (ReadsScriptOf language files.script script_name) (λ script found. found ≡ Ok (edits type script compat))) result
+
+-- PATH comes before FILE, and SCRIPT after TYPE; `dump` and `same` have none of these
+abbrev pub FindsWork : {D T E : Type 0} → Language D T E → Fetches → Request → Result (Work T E) Stop → Type 0
+FindsWork language files (check name type_text limit) result = TellsAt language files.file (name, type_text) the_verdict result
+FindsWork language files (show name type_text limit) result = TellsAt language files.file (name, type_text) the_text result
+FindsWork language files (get name type_text path_text limit) result =
+    Then (ReadsPathOf language path_text) (λ path. TellsAt language files.file (name, type_text) (the_part path)) result
+FindsWork language files (edit name type_text script_name compat limit) result = EditsBy language files (name, type_text) script_name compat result
+FindsWork language files (dump limit) result = result ≡ Ok dumps
+FindsWork language files (compare limit) result = result ≡ Ok compares
 
 -- ---- all stages before the values
 
 -- what is to be done with the values, and how many words on 64 bits each may have
-pub record Task (T : Type 0) : Type 0 where
-  pub work : Work T
+pub record Task (T E : Type 0) : Type 0 where
+  pub work : Work T E
   pub limit : ℕ
 
-abbrev pub task : {T : Type 0} → Work T → ℕ → Task T
+abbrev pub task : {T E : Type 0} → Work T E → ℕ → Task T E
 task work limit = record { work = work; limit = limit }
 
-abbrev pub Prepares : {D T : Type 0} → Language D T → List (List ℕ) → (List ℕ → Found) → Result (Task T) Stop → Type 0
-Prepares language words file =
+abbrev pub Prepares : {D T E : Type 0} → Language D T E → List (List ℕ) → Fetches → Result (Task T E) Stop → Type 0
+Prepares language words files =
     Then (ReadsWords words) (λ request.
-    Then (FindsWork language file request) (λ work result.
+    Then (FindsWork language files request) (λ work result.
     result ≡ Ok (task work (limit_of request))))
 
 -- ---- the values
 
+-- the lines of a script that edit value k, in their order
+abbrev pub lines_for : {D T E : Type 0} → Language D T E → List E → ℕ → List E
+lines_for language script k = filter (λ line. language.line_value line == k) script
+
+-- the first line of a script that edits none of the first n values
+abbrev pub line_past : {D T E : Type 0} → Language D T E → List E → ℕ → Option E
+line_past language script n = find (λ line. not (nat_lt (language.line_value line) n)) script
+
 -- what is said of value k; after a stop nothing is: `same` takes two, and says nothing of them before the input's end
-abbrev pub Says : {D T : Type 0} → Language D T → Work T → ℕ → Tree → Said → Type 0
+abbrev pub Says : {D T E : Type 0} → Language D T E → Work T E → ℕ → Tree → Said → Type 0
 Says language (tells saying type) k tree said =
     (text : List ℕ) × language.LineOf saying type tree text said.well × (said.text ≡ line text)
+Says language (edits type script compat) k tree said =
+    language.BytesOf type (lines_for language script k) compat tree (Ok said.text) × (said.well ≡ true)
 Says language dumps k tree said = (said.text ≡ language.lines_of tree) × (said.well ≡ true)
 Says language compares k tree said = (k < 2) × (said ≡ nothing_said)
 
 -- what is said of the values, the first of which has number k
-abbrev pub AllSay : {D T : Type 0} → Language D T → Work T → ℕ → List Tree → List Said → Type 0
+abbrev pub AllSay : {D T E : Type 0} → Language D T E → Work T E → ℕ → List Tree → List Said → Type 0
 AllSay language work k [] [] = Unit {0}
 AllSay language work k [] (said ∷ more) = ⊥
 AllSay language work k (tree ∷ trees) [] = ⊥
 AllSay language work k (tree ∷ trees) (said ∷ more) =
     Says language work k tree said × AllSay language work (suc k) trees more
 
--- After these values the command stops at the bytes that come there, whatever they become: `same` at any after two values.
-abbrev pub StopsAt : {D T : Type 0} → Language D T → Work T → ℕ → List Tree → List ℕ → Stop → Type 0
+-- the stop at value k that is not edited
+abbrev pub unedited_stop : ℕ → Unedited → Stop
+unedited_stop k (untyped fault) = untyped_value k fault
+unedited_stop k (refused_line number refusal) = script_line number refusal
+unedited_stop k (too_large refusal) = large_value k refusal
+
+-- a value comes that is not edited
+pub record IsUnedited {D T E : Type 0} (language : Language D T E) (type : T) (script : List E) (compat : Bool) (limit k : ℕ) (bytes : List ℕ) (stop : Stop) : Type 0 where
+  pub tree : Tree
+  pub more : List ℕ
+  pub spelled : SpellAll limit bytes (tree ∷ []) more
+  pub why : Unedited
+  pub refused : language.BytesOf type (lines_for language script k) compat tree (Err why)
+  pub stops : stop ≡ unedited_stop k why
+
+-- After these values the command stops at the bytes that come there, whatever comes after them: `edit` at a value that is not
+-- edited, and `same` at any bytes after two values.
+abbrev pub StopsAt : {D T E : Type 0} → Language D T E → Work T E → ℕ → List Tree → List ℕ → Stop → Type 0
 StopsAt language (tells saying type) limit trees rest stop = ⊥
+StopsAt language (edits type script compat) limit trees rest stop = IsUnedited language type script compat limit (length trees) rest stop
 StopsAt language dumps limit trees rest stop = ⊥
 StopsAt language compares limit trees rest stop = (length trees ≡ 2) × (rest ≢ []) × (stop ≡ not_two_values)
 
@@ -283,16 +355,22 @@ abbrev pub comparison : Bool → Said
 comparison true = record { text = line (codes "same"); well = true }
 comparison false = record { text = line (codes "differ"); well = false }
 
+-- a line that edits no value of the input stops the run
+abbrev pub ends_script : {D T E : Type 0} → Language D T E → Option E → Reply
+ends_script language None = says nothing_said
+ends_script language (Some line) = stops (script_line (language.line_number line) (codes "NoValue"))
+
 -- the command's last reply, once the input's end is found after all values
-abbrev pub Finishes : {D T : Type 0} → Language D T → Work T → List Tree → Reply → Type 0
+abbrev pub Finishes : {D T E : Type 0} → Language D T E → Work T E → List Tree → Reply → Type 0
 Finishes language (tells saying type) trees last = last ≡ says nothing_said
+Finishes language (edits type script compat) trees last = last ≡ ends_script language (line_past language script (length trees))
 Finishes language dumps trees last = last ≡ says nothing_said
 Finishes language compares (first ∷ second ∷ []) last = (alike : Bool) × (IsTrue alike ↔ AreSame first second) × (last ≡ says (comparison alike))
 Finishes language compares trees last = last ≡ stops not_two_values
 
 -- The last reply after these values. Bytes that are refused stop the run where no call on the input failed, and no more
 -- than allowed were taken: it asks for no more then. Otherwise it asks on, so what happened to the input comes next.
-abbrev pub Closes : {D T : Type 0} → Language D T → Work T → List Tree → InputEnd → End → Reply → Type 0
+abbrev pub Closes : {D T E : Type 0} → Language D T E → Work T E → List Tree → InputEnd → End → Reply → Type 0
 Closes language work trees at_end clean last = Finishes language work trees last
 Closes language work trees at_end (cut n) last = last ≡ stops (value (length trees) (truncated_text n))
 Closes language work trees at_end (refused refusal) last = last ≡ stops (value (length trees) (refusal_text refusal))
@@ -307,12 +385,12 @@ Closes language work trees at_length clean last = last ≡ stops too_long
 Closes language work trees at_length (cut n) last = last ≡ stops too_long
 
 -- these are the first values of the bytes, each with what is said of it; and the rest comes after them
-pub record SayFirst {D T : Type 0} (language : Language D T) (task : Task T) (bytes : List ℕ) (trees : List Tree) (said : List Said) (rest : List ℕ) : Type 0 where
+pub record SayFirst {D T E : Type 0} (language : Language D T E) (task : Task T E) (bytes : List ℕ) (trees : List Tree) (said : List Said) (rest : List ℕ) : Type 0 where
   pub spelled : SpellAll task.limit bytes trees rest
   pub all_say : AllSay language task.work 0 trees said
 
 -- the values before the last reply, and what leads to it
-pub record ValuesReply {D T : Type 0} (language : Language D T) (task : Task T) (input : Taken) (all : Replies) : Type 0 where
+pub record ValuesReply {D T E : Type 0} (language : Language D T E) (task : Task T E) (input : Taken) (all : Replies) : Type 0 where
   pub trees : List Tree
   pub rest : List ℕ
   pub first : SayFirst language task input.bytes trees all.said rest
@@ -322,15 +400,15 @@ pub record ValuesReply {D T : Type 0} (language : Language D T) (task : Task T) 
 -- ---- the whole run
 
 -- what is said of what is given, where memory suffices and all is put
-abbrev pub RunReplies : {D T : Type 0} → Language D T → List (List ℕ) → Given → Replies → Type 0
-RunReplies {D} {T} language words given all =
-    (prepared : Result (Task T) Stop) × Prepares language words given.file prepared
+abbrev pub RunReplies : {D T E : Type 0} → Language D T E → List (List ℕ) → Given → Replies → Type 0
+RunReplies {D} {T} {E} language words given all =
+    (prepared : Result (Task T E) Stop) × Prepares language words given.files prepared
     × MatchResult prepared (λ task. ValuesReply language task given.input all) (λ stop. all ≡ stopped stop)
 
 -- what is said of the first values of what is given
-abbrev pub SaysOfFirst : {D T : Type 0} → Language D T → List (List ℕ) → Given → List Said → Type 0
-SaysOfFirst {D} {T} language words given said =
-    (task : Task T) × Prepares language words given.file (Ok task)
+abbrev pub SaysOfFirst : {D T E : Type 0} → Language D T E → List (List ℕ) → Given → List Said → Type 0
+SaysOfFirst {D} {T} {E} language words given said =
+    (task : Task T E) × Prepares language words given.files (Ok task)
     × (trees : List Tree) × (rest : List ℕ) × SayFirst language task given.input.bytes trees said rest
 
 -- ---- the outcome of words, files and an input that are told
@@ -339,7 +417,11 @@ abbrev pub found_of : Option (List ℕ) → Found
 found_of None = missing
 found_of (Some bytes) = opened (whole bytes)
 
--- The files are a look-up from names to bytes. Where FILE is not there, it cannot be opened.
-abbrev pub Outcome : {D T : Type 0} → Language D T → List (List ℕ) → (List ℕ → Option (List ℕ)) → List ℕ → Replies → Type 0
+-- one look-up is all that is fetched
+abbrev pub fetches_of : (List ℕ → Option (List ℕ)) → Fetches
+fetches_of files = record { file = λ name. found_of (files name); script = λ name. found_of (files name) }
+
+-- The files are a look-up from names to bytes. Where FILE or SCRIPT is not there, it cannot be opened.
+abbrev pub Outcome : {D T E : Type 0} → Language D T E → List (List ℕ) → (List ℕ → Option (List ℕ)) → List ℕ → Replies → Type 0
 Outcome language words files bytes =
-    RunReplies language words (record { file = λ name. found_of (files name); input = whole bytes })
+    RunReplies language words (record { files = fetches_of files; input = whole bytes })

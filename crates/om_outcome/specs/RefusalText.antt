@@ -1,7 +1,10 @@
 -- The texts of refusals: the name, the numbers in parentheses and the place.
-use Rattle.std.specs.Prelude.{ℕ, ◌/◌, ◌%◌, List, [], ◌∷◌, ◌++◌, flat_map, slice_index, codes, decimal}
+use Rattle.std.specs.Prelude.{ℕ, ◌/◌, ◌%◌, List, [], ◌∷◌, ◌++◌, length, flat_map, slice_index, codes, decimal}
 use Rattle.std.specs.Fmt.{signed_decimal}
 use Rattle.std.specs.Int.{w32, to_be_bytes}
+use Rattle.om_model.specs.declared.value.Obj.TheVariants as objects
+use Rattle.om_format.specs.Compat.{TooLargeFor32, token, header}
+use Rattle.om_format.specs.Token.{integer, block, leaf}
 use Rattle.om_model.specs.declared.refusal.ReadRefusal.{ReadRefusal}
 use Rattle.om_model.specs.declared.refusal.ReadRefusal.TheVariants.{BadMagic, Compressed, TooLarge, BadCode, PointerCode, OtherCustom, BadTag, BadShared, NoTable, BadNative, IntRange, ZeroArray, Overlong, SizeMismatch, CountMismatch, LengthMismatch, Memory}
 use Rattle.om_model.specs.declared.refusal.Stated.{Stated}
@@ -55,3 +58,13 @@ refusal_text Memory = []
 -- the input ended after so many bytes of a value
 abbrev pub truncated_text : ℕ → List ℕ
 truncated_text taken = codes "Truncated(" ++ decimal taken ++ codes ")"
+
+-- what is too large for a reader on 32 bits; nothing else is
+abbrev pub compat_text : TooLargeFor32 → List ℕ
+compat_text (token (integer z)) = codes "Compat(int, " ++ signed_decimal z ++ codes ")"
+compat_text (token (block tag size)) = codes "Compat(block, " ++ decimal size ++ codes ")"
+compat_text (token (leaf (objects.Bytes bytes))) = codes "Compat(string, " ++ decimal (length bytes) ++ codes ")"
+compat_text (token (leaf (objects.Native z))) = codes "Compat(nativeint, " ++ signed_decimal z ++ codes ")"
+compat_text (token (leaf (objects.Doubles all))) = codes "Compat(floats, " ++ decimal (length all) ++ codes ")"
+compat_text (header n) = codes "Compat(header, " ++ decimal n ++ codes ")"
+compat_text large = []

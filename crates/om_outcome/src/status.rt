@@ -1,7 +1,7 @@
 //! How the program ends.
 
 ghost use Rattle.std.specs.Prelude.{◌≡◌};
-ghost use Rattle.om_model.specs.Status.{code_of};
+ghost use Rattle.om_outcome.specs.Status.{code_of};
 
 /// The status that the program ends with.
 #[derive(Clone, Copy, Debug, PartialEq, Eq)]
@@ -28,6 +28,8 @@ pub enum Status {
     Memory,
     /// The input or a file has 2^48 bytes or more.
     TooLong,
+    /// A value is too large for a reader on 32 bits.
+    Compat,
 }
 
 impl Status {
@@ -47,6 +49,7 @@ impl Status {
             Status::OpenFault => 8,
             Status::Memory => 9,
             Status::TooLong => 10,
+            Status::Compat => 11,
         }
     }
 }
