@@ -1,13 +1,13 @@
 -- How the work with the values ends, from what `put_values` says.
 use Rattle.std.proofs.Common.{◌≡◌, ◌⊎◌, Bool, List, [], ◌++◌, Ok, Err, inl, inr, refl, sym, ap, ◌∙◌, subst, append-nil}
 use Rattle.std.specs.Prelude.{if◌then◌else◌}
-use Rattle.om_model.specs.declared.status.Status.{Status}
-use Rattle.om_model.specs.declared.status.Status.TheVariants as statuses
+use Rattle.om_outcome.specs.declared.status.Status.{Status}
+use Rattle.om_outcome.specs.declared.status.Status.TheVariants as statuses
 use Rattle.om_outcome.specs.Outcome.{Taken, Stop, out_of_memory, Said, says, stops, replies, texts_of, ending_of, ValuesReply}
 use Rattle.om_edge.specs.Sink.{Puts}
 use Rattle.om_edge.specs.State.{ByteState, Change, change}
 use Rattle.om_session.specs.declared.stop.Stop as codes
-use Rattle.om_session.specs.declared.values.Halt.TheVariants as halts
+use Rattle.om_session.specs.declared.stop.Halt.TheVariants as halts
 use Rattle.om_session.specs.declared.values.Work.{Work}
 use Rattle.om_session.specs.Ends.{ClosesValues, TakesValues}
 use Rattle.om_session.specs.Language.{declared_types}

@@ -9,15 +9,17 @@ use Rattle.om_outcome.specs.Outcome as outcome
 use Rattle.om_outcome.specs.RefusalText.{refusal_text, truncated_text}
 use Rattle.om_edge.specs.State.{ByteState, change}
 use Rattle.om_edge.specs.Sink.{Puts}
-use Rattle.om_session.specs.declared.values.Halt.{Halt}
-use Rattle.om_session.specs.declared.values.Halt.TheVariants as halts
+use Rattle.om_session.specs.declared.stop.Halt.{Halt}
+use Rattle.om_session.specs.declared.stop.Halt.TheVariants as halts
 use Rattle.om_session.specs.declared.values.Values.{Values}
 use Rattle.om_session.specs.Language.{declared_types}
 use Rattle.om_session.specs.Run.{HoldNoStop, IsPaced}
 use Rattle.om_session.specs.Stops.{stop_of}
 use Rattle.om_session.specs.Values.{StopsIn, HaltsIn, MayTake, ReadsPiece, EndsAt, EndsValues, AreSaid, work_of, task_of, word_limit}
 use Rattle.om_session.proofs.PutLemmas.{puts_then}
-use Rattle.om_session.proofs.ReadLemmas.{may_go_on, none_goes_on}
+use Rattle.om_model.specs.Bytes.{AreBytes}
+use Rattle.om_session.proofs.ReadLemmas.{none_goes_on, refused_goes_on}
+use Rattle.om_session.proofs.StreamLemmas.{spell_bytes}
 use Rattle.om_session.proofs.TakeLemmas.{taken}
 use Rattle.om_session.proofs.ValueLemmas.{first_after, texts_of-append, texts_of-one, all_well-snoc}
 
@@ -94,10 +96,10 @@ module _ (w : Work) (bytes : List ℕ) (said : List Said) (a b c : ByteState) (p
     pub paced : IsPaced declared_types (task_of w) (taken (bytes ++ piece) unasked) all
     pub ends : EndsValues w (taken (bytes ++ piece) unasked) all (change a c) (Err halt)
 
-  in_piece : (done in_hand : List ℕ) (more : List Said) (between : ByteState) (halt : Halt) → length in_hand ≤ 4096
+  in_piece : (done in_hand : List ℕ) (more : List Said) (between : ByteState) (halt : Halt) → AreBytes (bytes ++ (done ++ in_hand)) → length in_hand ≤ 4096
       → Puts (change a between) (texts_of (said ++ more)) → HaltsIn w (bytes ++ done) in_hand (said ++ more) (change between c) halt
       → Halted (done ++ in_hand) halt
-  in_piece done in_hand more between (halts.Stop stop) short before (holds, why, none) = record {
+  in_piece done in_hand more between (halts.Stop stop) are_bytes short before (holds, why, none) = record {
     all = said ++ more;
     paced = record {
       earlier = bytes ++ done;
@@ -109,14 +111,21 @@ module _ (w : Work) (bytes : List ℕ) (said : List Said) (a b c : ByteState) (p
     };
     ends = (replied why, subst (λ text. Puts (change a c) text) (append-nil (texts_of (said ++ more))) (puts_then a between c (texts_of (said ++ more)) [] before none));
   } where
+    first_values : SayFirst declared_types (task_of w) (bytes ++ (done ++ in_hand)) holds.trees (said ++ more) (holds.front ++ in_hand)
+    first_values =
+        subst (λ b. SayFirst declared_types (task_of w) b holds.trees (said ++ more) (holds.front ++ in_hand)) (append_assoc bytes done in_hand)
+        (first_after declared_types (task_of w) (bytes ++ done) holds.trees (said ++ more) holds.front in_hand holds.first)
+
+    left_bytes : AreBytes (holds.front ++ in_hand)
+    left_bytes = spell_bytes (word_limit w) (bytes ++ (done ++ in_hand)) (holds.front ++ in_hand) holds.trees first_values.spelled are_bytes
+
     replied : StopsIn w holds.trees (holds.front ++ in_hand) stop
         → ValuesReply declared_types (task_of w) (taken (bytes ++ (done ++ in_hand)) unasked) (replies (said ++ more) (outcome.stops (stop_of stop))) ⊎ (stop_of stop ≡ out_of_memory)
     replied (inl memory) = inr memory
     replied (inr why) = inl (record {
       trees = holds.trees;
       rest = holds.front ++ in_hand;
-      first = subst (λ b. SayFirst declared_types (task_of w) b holds.trees (said ++ more) (holds.front ++ in_hand)) (append_assoc bytes done in_hand)
-          (first_after declared_types (task_of w) (bytes ++ done) holds.trees (said ++ more) holds.front in_hand holds.first);
+      first = first_values;
       last = last why;
     }) where
       last : ((refusal : ReadRefusal) × IsTail (word_limit w) (holds.front ++ in_hand) (refused refusal) × MayTake w (length holds.trees) × (stop_of stop ≡ outcome.value (length holds.trees) (refusal_text refusal)))
@@ -126,9 +135,9 @@ module _ (w : Work) (bytes : List ℕ) (said : List Said) (a b c : ByteState) (p
           × ((s : outcome.Stop) → outcome.StopsAt declared_types (work_of w) (word_limit w) holds.trees (holds.front ++ in_hand) s → ⊥)
           × Closes declared_types (work_of w) holds.trees unasked end (outcome.stops (stop_of stop)))
       last (inl (refusal, tail, may, is)) =
-          inr (refused refusal, tail, λ s at. may_go_on w (word_limit w) holds.trees (holds.front ++ in_hand) s may at, ap (λ s. outcome.stops s) is)
+          inr (refused refusal, tail, λ s at. refused_goes_on w (word_limit w) holds.trees (holds.front ++ in_hand) refusal s may left_bytes tail at, ap (λ s. outcome.stops s) is)
       last (inr at) = inl (stop_of stop, at, refl, refl)
-  in_piece done in_hand more between halts.WriteFault short before (holds, next, are_said, part) = record {
+  in_piece done in_hand more between halts.WriteFault are_bytes short before (holds, next, are_said, part) = record {
     all = said ++ more;
     paced = record {
       earlier = bytes ++ done;
@@ -141,10 +150,10 @@ module _ (w : Work) (bytes : List ℕ) (said : List Said) (a b c : ByteState) (p
     ends = (next, inl (subst (λ b. AreSaid w b ((said ++ more) ++ next ∷ [])) (append_assoc bytes done in_hand) are_said), (between, before, part));
   }
 
-  pub halted : (U : Type 0) (piece : List ℕ) (new : Values) (halt : Halt) → length piece ≤ 4096
+  pub halted : (U : Type 0) (piece : List ℕ) (new : Values) (halt : Halt) → AreBytes (bytes ++ piece) → length piece ≤ 4096
       → ReadsPiece {U = U} w bytes said piece (change b c) new (Err halt) → Halted piece halt
-  halted U piece new halt short (done, in_hand, more, between, split, puts, halts) =
+  halted U piece new halt are_bytes short (done, in_hand, more, between, split, puts, halts) =
       let size : length piece ≡ length done + length in_hand = ap length split ∙ length-append done in_hand in
       let before : Puts (change a between) (texts_of (said ++ more)) =
       subst (λ text. Puts (change a between) text) (sym (texts_of-append said more)) (puts_then a b between (texts_of said) (texts_of more) put puts) in
-      subst (λ p. Halted p halt) (sym split) (in_piece done in_hand more between halt (omega (arith, size, short)) before halts)
+      subst (λ p. Halted p halt) (sym split) (in_piece done in_hand more between halt (subst (λ p. AreBytes (bytes ++ p)) split are_bytes) (omega (arith, size, short)) before halts)

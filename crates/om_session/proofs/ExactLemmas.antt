@@ -1,34 +1,34 @@
 -- Where a status has to come, from the account of a call.
-use Rattle.std.proofs.Common.{◌≡◌, ◌⊎◌, ℕ, ◌+◌, ◌-◌, ◌^◌, ◌<◌, ◌≤◌, List, [], ◌∷◌, ◌++◌, length, take, drop, take_all, Option, Some, None, IfSome, Ok, Err, inl, inr, refl, sym, ap, ◌∙◌, subst, arith}
+use Rattle.std.proofs.Common.{◌≡◌, ◌⊎◌, Bool, ℕ, ◌+◌, ◌-◌, ◌^◌, ◌<◌, ◌≤◌, List, [], ◌∷◌, ◌++◌, length, take, drop, take_all, Option, Some, None, IfSome, Ok, Err, inl, inr, refl, sym, ap, ◌∙◌, subst, arith}
 use Rattle.std.proofs.lemmas.List.{take-append-drop, take-append-le}
 use Rattle.std.proofs.lemmas.List.Elements.{All-take}
 use Rattle.std.proofs.Math.Seq.{take-append_seam, take-append-add}
 use Rattle.std.specs.Prelude.{IsSomeAnd, ◌↔◌, ◌≢◌}
-use Rattle.om_model.specs.declared.status.Status.{Status}
-use Rattle.om_model.specs.declared.status.Status.TheVariants as statuses
+use Rattle.om_outcome.specs.declared.status.Status.{Status}
+use Rattle.om_outcome.specs.declared.status.Status.TheVariants as statuses
 use Rattle.om_model.specs.Bytes.{AreBytes}
 use Rattle.om_model.specs.declared.refusal.ReadRefusal.{ReadRefusal}
 use Rattle.om_format.specs.Laws.{HasOneJudgement}
 use Rattle.om_format.specs.Stream.{SpellAll, IsTail, End, clean, refused as refused_end, cut, Stream}
 use Rattle.om_format.specs.Tree.{Tree}
-use Rattle.om_outcome.specs.Outcome.{IsUsage, Taken, InputEnd, at_end, at_fault, at_length, unasked, whole, Found, opened, missing, failed, unfetched, not_two_values, Request, compare, Asks, limit_of, Said, Work, compares, StopsAt, Task, Language, ReadsTypeOf, Prepares, found_of}
+use Rattle.om_outcome.specs.Outcome.{IsUsage, Taken, InputEnd, at_end, at_fault, at_length, unasked, whole, Found, opened, missing, failed, unfetched, Fetches, Stop, stops, not_two_values, Saying, the_verdict, the_text, the_part, Request, check, show, get, edit, dump, compare, Asks, limit_of, Said, Work, edits, compares, StopsAt, Finishes, Task, Language, ReadsTypeOf, ReadsScriptOf, TellsAt, FindsWork, Prepares, found_of, script_of, fetches_of}
 use Rattle.om_edge.specs.Files.{File, contents_of}
-use Rattle.om_edge.specs.State.{FilesState, Change}
+use Rattle.om_edge.specs.State.{FilesState, Change, change}
 use Rattle.om_session.specs.Call.{Call}
 use Rattle.om_session.specs.Given.{TellsBytes, IsFoundOf, TakesFrom, Fetched, IsMeasured}
-use Rattle.om_session.specs.Run.{HasNoPath, AsksBadly, HoldNoStop, Account, AsksForFile, AsksFor, IsRefusedType, IsOutside, TellsFile, AreShort, AreNotTwo, HoldBadValue, IfTypes, IfNotTwo, IfTooLong, IfValue}
-use Rattle.om_session.proofs.DecidedLemmas.{few_of, stop_or_end}
-use Rattle.om_session.proofs.HeadlineLemmas.{all_taken, front_none}
+use Rattle.om_session.specs.Run.{HasNoPath, AsksBadly, HoldNoStop, HoldStop, Account, AsksForScript, IsFoundIn, IsRefusedScript, AsksFor, IsRefusedType, IsOutside, TellsFile, AreShort, AreNotTwo, HoldBadValue, IfTypes, IfNotTwo, IfTooLong, IfValue}
+use Rattle.om_session.proofs.DecidedLemmas.{few_of, no_more_said, stop_or_end}
+use Rattle.om_session.proofs.HeadlineLemmas.{all_taken, front_none, stops_more}
 use Rattle.om_session.proofs.ValueLemmas.{spell_after}
 use Rattle.om_command_line.proofs.RequestLemmas.{one_request}
-use Rattle.om_session.proofs.WordLemmas.{one_typed, unnamed}
+use Rattle.om_session.proofs.WordLemmas.{one_typed, unnamed, unscripted, script_asks}
 use Rattle.om_session.proofs.FindingLemmas.{Finding, finding, is_compared, asks_comparison, Suits, compared_is}
-use Rattle.om_session.proofs.CompleteLemmas.{IsLawful, path_or_not, for_or_badly}
+use Rattle.om_session.proofs.CompleteLemmas.{IsGivenWork, IsLawful, path_or_not, for_or_badly, prepares_once, prepares_given}
 use Rattle.om_session.proofs.StreamLemmas.{streams_once, spell_once}
-use Rattle.om_session.proofs.CauseLemmas.{NoValue, NoRefusal, NotTwo, refused_after, bad_after, task_asks, IsReady, Why, all_well, some_no, not_plain, badly_asked, not_two, not_there, not_opened, no_types, file_fault, file_long, no_value, input_fault, input_long, memory, out_fault, err_fault, account_why, file_fetched, contents_are, longer, all_of, bad_of, not_two_of}
+use Rattle.om_session.proofs.CauseLemmas.{NoValue, NoRefusal, NotTwo, refused_after, bad_after, task_asks, Why, all_well, some_no, not_plain, badly_asked, not_two, not_there, not_opened, no_types, file_fault, file_long, no_script, untyped_edit, refused_edit, large_edit, Held, no_value, input_fault, input_long, memory, out_fault, err_fault, account_why, between, file_fetched, fetch_of, contents_are, longer, all_of, bad_of, stop_of_all, not_two_of}
 
 -- words have one kind of work, and one limit
-kinds : {T : Type 0} (words : List (List ℕ)) (request other : Request) → Asks words request → Asks words other → (work its : Work T) → Suits request work → Suits other its
+kinds : {T E : Type 0} (words : List (List ℕ)) (request other : Request) → Asks words request → Asks words other → (work its : Work T E) → Suits request work → Suits other its
     → (work ≡ compares ↔ its ≡ compares) × (limit_of request ≡ limit_of other)
 kinds words request other asks asks' work its suits suits' = (
   (
@@ -46,10 +46,10 @@ kinds words request other asks asks' work its suits suits' = (
 -- ---- what is accepted
 
 -- the declarations and the type are read
-abbrev pub IsAccepted : {D T : Type 0} → Language D T → List ℕ → List ℕ → Type 0
-IsAccepted {D} {T} language text type = (decls : D) × (t : T) × language.ReadsDeclarations text (Ok decls) × language.ReadsType decls type (Ok t)
+abbrev pub IsAccepted : {D T E : Type 0} → Language D T E → List ℕ → List ℕ → Type 0
+IsAccepted {D} {T} {E} language text type = (decls : D) × (t : T) × language.ReadsDeclarations text (Ok decls) × language.ReadsType decls type (Ok t)
 
-module _ {D T : Type 0} (language : Language D T) where
+module _ {D T E : Type 0} (language : Language D T E) where
   pub accepted_or_refused : IsLawful language → (text type : List ℕ) → IsAccepted language text type → IsRefusedType language text type → ⊥
   accepted_or_refused lawful text type (decls, t, read, typed) (inl (refusal, refused)) = lawful.declarations_once text decls refusal read refused
   accepted_or_refused lawful text type (decls, t, read, typed) (inr (other, refusal, read', refused)) =
@@ -67,25 +67,62 @@ module _ {D T : Type 0} (language : Language D T) where
   reads_accepted file f u t (Ok text, h, (Err s, read, same)) = absurd (cc same)
   reads_accepted file f u t (Ok text, h, (Ok decls, read, typed)) = record { text = text; found = h; accepted = (decls, t, read, typed) }
 
-  pub prepared_accepts : (words : List (List ℕ)) (file : List ℕ → Found) (task : Task T) → Prepares language words file (Ok task)
-      → (name type : List ℕ) → AsksFor language words name type → AcceptsFile file name type
-  prepared_accepts words file task (Err s, h, same) name type is = absurd (cc same)
-  prepared_accepts words file task (Ok request, asks, (Err s, h, same)) name type is = absurd (cc same)
-  prepared_accepts words file task (Ok request, asks, (Ok work, h, same)) name type is = found (finding language file request (Ok work) h) where
-    found : Finding language file request (Ok work) → AcceptsFile file name type
+  pub prepared_accepts : (words : List (List ℕ)) (files : Fetches) (task : Task T E) → Prepares language words files (Ok task)
+      → (name type : List ℕ) → AsksFor language words name type → AcceptsFile files.file name type
+  prepared_accepts words files task (Err s, h, same) name type is = absurd (cc same)
+  prepared_accepts words files task (Ok request, asks, (Err s, h, same)) name type is = absurd (cc same)
+  prepared_accepts words files task (Ok request, asks, (Ok work, h, same)) name type is = found (finding language files request (Ok work) h) where
+    accepts : (f u : List ℕ) → AsksFor language words f u → (t : T) → ReadsTypeOf language files.file (f, u) (Ok t) → AcceptsFile files.file name type
+    accepts f u its t reads =
+        let once = one_typed language words f u name type its is in
+        subst (λ n. AcceptsFile files.file n type) once.0 (subst (λ t. AcceptsFile files.file f t) once.1 (reads_accepted files.file f u t reads))
+
+    found : Finding language files request (Ok work) → AcceptsFile files.file name type
     found (inl (none, e)) = absurd (cc e)
-    found (inr (has, inr (none, other, e))) = absurd (unnamed language words request asks none name type is)
-    found (inr (has, inl (f, u, saying, typed, (Err s, reads, e)))) = absurd (cc e)
-    found (inr (has, inl (f, u, saying, typed, (Ok t, reads, e)))) =
-        let once = one_typed language words f u name type (record { request = request; asks = asks; has_path = has; typed = typed }) is in
-        subst (λ n. AcceptsFile file n type) once.0 (subst (λ t. AcceptsFile file f t) once.1 (reads_accepted file f u t reads))
+    found (inr (has, inr (inr (none, other, e)))) = absurd (unnamed language words request asks none name type is)
+    found (inr (has, inl (f, u, saying, typed, none, (Err s, reads, e)))) = absurd (cc e)
+    found (inr (has, inl (f, u, saying, typed, none, (Ok t, reads, e)))) = accepts f u (record { request = request; asks = asks; has_path = has; typed = typed }) t reads
+    found (inr (has, inr (inl (f, u, script, compat, typed, scripted, (Err s, reads, e))))) = absurd (cc e)
+    found (inr (has, inr (inl (f, u, script, compat, typed, scripted, (Ok t, reads, rest))))) = accepts f u (record { request = request; asks = asks; has_path = has; typed = typed }) t reads
+
+  -- so is FILE where SCRIPT comes in its turn
+  script_accepts : (words : List (List ℕ)) (file : List ℕ → Found) (script : List ℕ) → (its : AsksForScript language words file script) → (name type : List ℕ) → AsksFor language words name type → AcceptsFile file name type
+  script_accepts words file script its name type is =
+      let once = one_typed language words its.typed.0 its.typed.1 name type (script_asks language words file script its) is in
+      subst (λ n. AcceptsFile file n type) once.0 (subst (λ t. AcceptsFile file its.typed.0 t) once.1 (reads_accepted file its.typed.0 its.typed.1 its.type its.reads))
+
+  -- SCRIPT is accepted where there is a task
+  pub record AcceptsScript (script : List ℕ → Found) (name : List ℕ) : Type 0 where
+    pub text : List ℕ
+    pub found : script name ≡ opened (whole text)
+    pub lines : List E
+    pub reads : language.ReadsScript text (Ok lines)
+
+  lines_accepted : (files : Fetches) (name : List ℕ) (lines : List E) → ReadsScriptOf language files.script name (Ok lines) → AcceptsScript files.script name
+  lines_accepted files name lines (Err s, h, same) = absurd (cc same)
+  lines_accepted files name lines (Ok text, h, reads) = record { text = text; found = h; lines = lines; reads = reads }
+
+  pub prepared_script : (words : List (List ℕ)) (files : Fetches) (task : Task T E) → Prepares language words files (Ok task) → (file : List ℕ → Found) (name : List ℕ) → AsksForScript language words file name → AcceptsScript files.script name
+  prepared_script words files task (Err s, h, same) file name is = absurd (cc same)
+  prepared_script words files task (Ok request, asks, (Err s, h, same)) file name is = absurd (cc same)
+  prepared_script words files task (Ok request, asks, (Ok work, h, same)) file name is = found (finding language files request (Ok work) h) where
+    found : Finding language files request (Ok work) → AcceptsScript files.script name
+    found (inl (none, e)) = absurd (cc e)
+    found (inr (has, inr (inr (none, other, e)))) = absurd (unnamed language words request asks none is.typed.0 is.typed.1 (script_asks language words file name is))
+    found (inr (has, inl (f, u, saying, typed, none, told))) = absurd (unscripted language words file request asks none name is)
+    found (inr (has, inr (inl (f, u, script, compat, typed, scripted, (Err s, reads, e))))) = absurd (cc e)
+    found (inr (has, inr (inl (f, u, script, compat, typed, scripted, (Ok t, reads, (Err s, lines, e)))))) = absurd (cc e)
+    found (inr (has, inr (inl (f, u, script, compat, typed, scripted, (Ok t, reads, (Ok lines, read, e)))))) =
+        let both : ◌≡◌ {A = Option (List ℕ)} (Some script) (Some name) = sym scripted ∙ (ap script_of (one_request words request is.request asks is.asks) ∙ is.scripted) in
+        let same : script ≡ name = cc both in
+        subst (AcceptsScript files.script) same (lines_accepted files script lines read)
 
   -- where there is a task, PATH is a path
-  prepared_well : IsLawful language → (words : List (List ℕ)) (file : List ℕ → Found) (task : Task T) → Prepares language words file (Ok task) → AsksBadly language words → ⊥
-  prepared_well lawful words file task (Err s, h, same) bad = cc same
-  prepared_well lawful words file task (Ok request, asks, (Err s, h, same)) bad = cc same
-  prepared_well lawful words file task (Ok request, asks, (Ok work, h, same)) bad = found (finding language file request (Ok work) h) where
-    found : Finding language file request (Ok work) → ⊥
+  prepared_well : IsLawful language → (words : List (List ℕ)) (files : Fetches) (task : Task T E) → Prepares language words files (Ok task) → AsksBadly language words → ⊥
+  prepared_well lawful words files task (Err s, h, same) bad = cc same
+  prepared_well lawful words files task (Ok request, asks, (Err s, h, same)) bad = cc same
+  prepared_well lawful words files task (Ok request, asks, (Ok work, h, same)) bad = found (finding language files request (Ok work) h) where
+    found : Finding language files request (Ok work) → ⊥
     found (inl (none, e)) = cc e
     found (inr (has, rest)) =
         path_or_not language lawful request has (subst (λ q. HasNoPath language q) (one_request words bad.request request bad.asks asks) bad.no_path)
@@ -150,33 +187,39 @@ module _ (files : Change FilesState) (name bytes : List ℕ) (told : TellsFile f
 
 -- ---- the clauses
 
-module _ {D T : Type 0} (language : Language D T) (lawful : IsLawful language) (words : List (List ℕ)) (call : Call) (a : Account language words call) where
+module _ {D T E : Type 0} (language : Language D T E) (lawful : IsLawful language) (words : List (List ℕ)) (call : Call) (a : Account language words call) where
   abbrev Cause : Status → Type 0
   Cause status = Why language words call a.given status
 
   -- the task is this one
-  abbrev IsTask : Task T → Type 0
-  IsTask task = Prepares language words a.given.file (Ok task)
+  abbrev IsTask : Task T E → Type 0
+  IsTask task = Prepares language words a.given.files (Ok task)
 
   -- a cause that is none of the outside's is that of this status
   module _ (target : Status) (plain : ¬ IsUsage words) (path : AsksBadly language words → statuses.Usage ≡ target)
-      (unended : (task : Task T) → IsTask task → a.given.input.until ≡ at_end → NoRefusal language task a.given.input → ⊥)
-      (two : (task : Task T) → IsTask task → NotTwo task a.given.input → statuses.Usage ≡ target)
-      (types : (name type text : List ℕ) → AsksFor language words name type → a.given.file name ≡ opened (whole text) → IsRefusedType language text type → statuses.Types ≡ target)
-      (value : (task : Task T) → IsTask task → NoValue language task a.given.input → statuses.Value ≡ target)
-      (file : (name : List ℕ) (taken : Taken) → AsksForFile language words name → a.given.file name ≡ opened taken → taken.until ≡ at_length → statuses.TooLong ≡ target)
-      (input : (task : Task T) → IsTask task → a.given.input.until ≡ at_length → NoRefusal language task a.given.input → statuses.TooLong ≡ target) where
+      (unended : (task : Task T E) → IsTask task → a.given.input.until ≡ at_end → NoRefusal language task a.given.input → ⊥)
+      (two : (task : Task T E) → IsTask task → NotTwo task a.given.input → statuses.Usage ≡ target)
+      (types : (name type text : List ℕ) → AsksFor language words name type → a.given.files.file name ≡ opened (whole text) → IsRefusedType language text type → statuses.Types ≡ target)
+      (script : (name text : List ℕ) → a.given.files.script name ≡ opened (whole text) → IsRefusedScript language words a.given.files name text → ⊥)
+      (stopped : (task : Task T E) → IsTask task → (stop : Stop) → Held language task a.given.input stop → ⊥)
+      (value : (task : Task T E) → IsTask task → NoValue language task a.given.input → statuses.Value ≡ target)
+      (file : (name : List ℕ) (taken : Taken) → IsFoundIn language words a.given.files name (opened taken) → taken.until ≡ at_length → statuses.TooLong ≡ target)
+      (input : (task : Task T E) → IsTask task → a.given.input.until ≡ at_length → NoRefusal language task a.given.input → statuses.TooLong ≡ target) where
     cause_or_outside : (s : Status) → Cause s → (s ≡ target) ⊎ IsOutside s
     cause_or_outside s (all_well task p e held) = absurd (unended task p e held)
     cause_or_outside s (some_no task p e held) = absurd (unended task p e held)
     cause_or_outside s (not_plain none) = absurd (plain none)
     cause_or_outside s (badly_asked bad) = inl (path bad)
     cause_or_outside s (not_two task p n) = inl (two task p n)
-    cause_or_outside s (not_there n f e) = inr (inr (inl refl))
-    cause_or_outside s (not_opened n f e) = inr (inr (inl refl))
+    cause_or_outside s (not_there n f) = inr (inr (inl refl))
+    cause_or_outside s (not_opened n f) = inr (inr (inl refl))
     cause_or_outside s (no_types n t x f e why) = inl (types n t x f e why)
-    cause_or_outside s (file_fault n taken f e u) = inr (inl refl)
-    cause_or_outside s (file_long n taken f e u) = inl (file n taken f e u)
+    cause_or_outside s (file_fault n taken f u) = inr (inl refl)
+    cause_or_outside s (file_long n taken f u) = inl (file n taken f u)
+    cause_or_outside s (no_script n x e refused) = absurd (script n x e refused)
+    cause_or_outside s (untyped_edit task p k fault h) = absurd (stopped task p _ h)
+    cause_or_outside s (refused_edit task p n refusal h) = absurd (stopped task p _ h)
+    cause_or_outside s (large_edit task p k refusal h) = absurd (stopped task p _ h)
     cause_or_outside s (no_value task p v) = inl (value task p v)
     cause_or_outside s (input_fault e) = inr (inl refl)
     cause_or_outside s (input_long task p e held) = inl (input task p e held)
@@ -185,43 +228,61 @@ module _ {D T : Type 0} (language : Language D T) (lawful : IsLawful language) (
     cause_or_outside s (err_fault unput) = inr (inr (inr (inr refl)))
 
   -- what an accepted FILE that is told holds
-  ready_text : IsReady language words a.given → (name type text : List ℕ) → AsksFor language words name type → TellsFile call.files name text
+  accepted_text : (name type text : List ℕ) → AcceptsFile language a.given.files.file name type → AsksFor language words name type → TellsFile call.files name text
       → (length text < 2 ^ 48) × IsAccepted language text type
-  ready_text (task, p) name type text is told =
-      let here : AcceptsFile language a.given.file name type = prepared_accepts language words a.given.file task p name type is in
-      let fetched : Fetched call.files name (opened (whole here.text)) =
-      subst (λ o. Fetched call.files name o) here.found (file_fetched language words call a name (type, is)) in
-      let same : whole here.text ≡ whole text = told_whole call.files name text told (whole here.text) fetched refl in
-      (told_short call.files name text told (whole here.text) fetched refl, subst (λ t. IsAccepted language t type) (ap (λ t. t.bytes) same) here.accepted)
+  accepted_text name type text here is told =
+      let fetched : Fetched (change call.files.before (between language words call a)) name (opened (whole here.text)) =
+      subst (λ o. Fetched (change call.files.before (between language words call a)) name o) here.found (file_fetched language words call a name (type, is)) in
+      let same : whole here.text ≡ whole text = told_whole (change call.files.before (between language words call a)) name text told (whole here.text) fetched refl in
+      (told_short (change call.files.before (between language words call a)) name text told (whole here.text) fetched refl, subst (λ t. IsAccepted language t type) (ap (λ t. t.bytes) same) here.accepted)
+
+  -- FILE is accepted where there is a task, and where SCRIPT is refused
+  task_accepts : (task : Task T E) → IsTask task → (name type : List ℕ) → AsksFor language words name type → AcceptsFile language a.given.files.file name type
+  task_accepts task p name type is = prepared_accepts language words a.given.files task p name type is
+
+  refused_accepts : (script text : List ℕ) → IsRefusedScript language words a.given.files script text → (name type : List ℕ) → AsksFor language words name type → AcceptsFile language a.given.files.file name type
+  refused_accepts script text refused name type is = script_accepts language words a.given.files.file script refused.asks name type is
 
   module _ (name type text : List ℕ) (is : AsksFor language words name type) (told : TellsFile call.files name text) where
-    -- FILE of the words is the one that was found
-    fetched_as : (other : List ℕ) → AsksForFile language words other → (o : Found) → a.given.file other ≡ o → Fetched call.files name o
-    fetched_as other is' o e =
+    -- FILE of the words is the one that was found; SCRIPT comes where it is accepted
+    file_or_accepted : (other : List ℕ) (o : Found) → IsFoundIn language words a.given.files other o → Fetched (change call.files.before (between language words call a)) name o ⊎ AcceptsFile language a.given.files.file name type
+    file_or_accepted other o (inl (is', e)) =
         let once = one_typed language words other is'.0 name type is'.1 is in
-        subst (λ n. Fetched call.files n o) once.0 (subst (λ o. Fetched call.files other o) e (file_fetched language words call a other is'))
+        inl (subst (λ n. Fetched (change call.files.before (between language words call a)) n o) once.0 (subst (λ o. Fetched (change call.files.before (between language words call a)) other o) e (file_fetched language words call a other is')))
+    file_or_accepted other o (inr (its, e)) = inr (script_accepts language words a.given.files.file other its name type is)
+
+    abbrev here : Change FilesState
+    here = change call.files.before (between language words call a)
 
     module _ (short : length text < 2 ^ 48) (refused : IsRefusedType language text type) where
-      not_ready : IsReady language words a.given → ⊥
-      not_ready ready = accepted_or_refused language lawful text type (ready_text ready name type text is told).1 refused
+      not_accepted : AcceptsFile language a.given.files.file name type → ⊥
+      not_accepted accepts = accepted_or_refused language lawful text type (accepted_text name type text accepts is told).1 refused
+
+      not_long : (taken : Taken) → taken.until ≡ at_length → Fetched here name (opened taken) ⊎ AcceptsFile language a.given.files.file name type → ⊥
+      not_long taken u (inl fetched) = let long = told_long here name text told taken fetched u in omega (arith, long, short)
+      not_long taken u (inr accepts) = not_accepted accepts
 
       types_cause : (s : Status) → Cause s → (s ≡ statuses.Types) ⊎ IsOutside s
       types_cause =
-          cause_or_outside statuses.Types (λ none. none is.request is.asks) (λ bad. absurd (for_or_badly language lawful words name type is bad)) (λ task p e held. not_ready (task, p)) (λ task p n. absurd (not_ready (task, p))) (λ n t x typed e why. refl)
-          (λ task p v. absurd (not_ready (task, p)))
-          (λ n taken f e u. let long = told_long call.files name text told taken (fetched_as n f (opened taken) e) u in absurd (omega arith))
-          (λ task p e held. absurd (not_ready (task, p)))
+          cause_or_outside statuses.Types (λ none. none is.request is.asks) (λ bad. absurd (for_or_badly language lawful words name type is bad)) (λ task p e held. not_accepted (task_accepts task p name type is))
+          (λ task p n. absurd (not_accepted (task_accepts task p name type is))) (λ n t x typed e why. refl) (λ n x e r. not_accepted (refused_accepts n x r name type is))
+          (λ task p stop h. not_accepted (task_accepts task p name type is)) (λ task p v. absurd (not_accepted (task_accepts task p name type is)))
+          (λ n taken f u. absurd (not_long taken u (file_or_accepted n (opened taken) f))) (λ task p e held. absurd (not_accepted (task_accepts task p name type is)))
 
     module _ (long : 2 ^ 48 ≤ length text) where
-      unread : IsReady language words a.given → ⊥
-      unread ready = let short = (ready_text ready name type text is told).0 in omega arith
+      unread : AcceptsFile language a.given.files.file name type → ⊥
+      unread accepts = let short = (accepted_text name type text accepts is told).0 in omega (arith, short, long)
+
+      not_short : (x : List ℕ) → Fetched here name (opened (whole x)) ⊎ AcceptsFile language a.given.files.file name type → ⊥
+      not_short x (inl fetched) = let short = told_short here name text told (whole x) fetched refl in omega (arith, short, long)
+      not_short x (inr accepts) = unread accepts
 
       file_cause : (s : Status) → Cause s → (s ≡ statuses.TooLong) ⊎ IsOutside s
       file_cause =
-          cause_or_outside statuses.TooLong (λ none. none is.request is.asks) (λ bad. absurd (for_or_badly language lawful words name type is bad)) (λ task p e held. unread (task, p)) (λ task p n. absurd (unread (task, p)))
-          (λ n t x typed e why.
-          let short = told_short call.files name text told (whole x) (fetched_as n (t, typed) (opened (whole x)) e) refl in absurd (omega arith))
-          (λ task p v. absurd (unread (task, p))) (λ n taken f e u. refl) (λ task p e held. refl)
+          cause_or_outside statuses.TooLong (λ none. none is.request is.asks) (λ bad. absurd (for_or_badly language lawful words name type is bad)) (λ task p e held. unread (task_accepts task p name type is))
+          (λ task p n. absurd (unread (task_accepts task p name type is))) (λ n t x typed e why. absurd (not_short x (file_or_accepted n (opened (whole x)) (inl ((t, typed), e)))))
+          (λ n x e r. unread (refused_accepts n x r name type is)) (λ task p stop h. unread (task_accepts task p name type is))
+          (λ task p v. absurd (unread (task_accepts task p name type is))) (λ n taken f u. refl) (λ task p e held. refl)
 
   pub if_types : IfTypes language words call
   if_types name type text is told short refused = types_cause name type text is told short refused call.status (account_why language words call a)
@@ -250,13 +311,13 @@ module _ {D T : Type 0} (language : Language D T) (lawful : IsLawful language) (
     long_of_many e = longer bytes a.given.input taken_front.0 taken_front.1 (many e)
 
     -- a bad value comes after no two values that a byte follows, nor after the last of fewer
-    bad_or_not_two : (task : Task T) → task.work ≡ compares → HoldBadValue language task bytes → AreNotTwo task.limit bytes → ⊥
+    bad_or_not_two : (task : Task T E) → task.work ≡ compares → HoldBadValue language task bytes → AreNotTwo task.limit bytes → ⊥
     bad_or_not_two task is bad n = go n.why where
       go : ((length n.trees ≡ 2) × (n.rest ≢ [])) ⊎ ((length n.trees < 2) × (n.rest ≡ [])) → ⊥
       go (inl (two, some)) =
           stop_or_end language lawful law task.work task.limit bytes are_bytes n.trees bad.trees n.rest bad.rest bad.end not_two_values n.spelled
           (subst (λ w. StopsAt language w task.limit n.trees n.rest not_two_values) (sym is) (two, some, refl)) bad.first.spelled
-          (few_of language lawful task.work bad.trees bad.said bad.first.all_say) bad.tail bad.goes_on
+          (let few = few_of language lawful task.work bad.trees bad.said bad.first.all_say is in omega (arith, few, two)) bad.tail bad.goes_on
       go (inr (fewer, none)) =
           bad.some (sym (streams_once law task.limit bytes n.trees bad.trees clean bad.end are_bytes (n.rest, n.spelled, none) (bad.rest, bad.first.spelled, bad.tail)).1)
 
@@ -279,22 +340,22 @@ module _ {D T : Type 0} (language : Language D T) (lawful : IsLawful language) (
             subst (AreNotTwo most) (take_all (2 ^ 48) bytes (omega (arith, short))) two
 
       -- the task is to compare
-      compares_task : (task : Task T) → IsTask task → (task.work ≡ compares) × (task.limit ≡ most)
+      compares_task : (task : Task T E) → IsTask task → (task.work ≡ compares) × (task.limit ≡ most)
       compares_task task p =
           let asked = task_asks language words call a.given task p in
           let same = one_request words asked.0 (compare most) asked.1 asks in
           (compared_is task.work (asked.3 ∙ ap asks_comparison same), asked.2 ∙ ap limit_of same)
 
-      not_two_task : (task : Task T) → IsTask task → AreNotTwo task.limit bytes
+      not_two_task : (task : Task T E) → IsTask task → AreNotTwo task.limit bytes
       not_two_task task p = subst (λ limit. AreNotTwo limit bytes) (sym (compares_task task p).1) not_two_in_all
 
-      not_compared : (task : Task T) → IsTask task → a.given.input.until ≡ at_end → NoRefusal language task a.given.input → ⊥
+      not_compared : (task : Task T E) → IsTask task → a.given.input.until ≡ at_end → NoRefusal language task a.given.input → ⊥
       not_compared task p e held = go n.why where
         n : AreNotTwo task.limit bytes
         n = not_two_task task p
 
         all : bytes ≡ a.given.input.bytes
-        all = all_of language words call a bytes taken_front.0 taken_front.1 e
+        all = all_of language words call a bytes taken_front.0 are_bytes taken_front.1 e
 
         stream : Stream bytes task.limit held.trees clean
         stream = subst (λ b. Stream b task.limit held.trees clean) (sym all) (subst (λ end. Stream a.given.input.bytes task.limit held.trees end) (held.whole e) held.stream)
@@ -309,7 +370,7 @@ module _ {D T : Type 0} (language : Language D T) (lawful : IsLawful language) (
             let same : length n.trees ≡ length held.trees = ap length (streams_once law task.limit bytes n.trees held.trees clean clean are_bytes (n.rest, n.spelled, none) stream).0 in
             let pair = both in omega (arith, fewer, same, pair)
 
-      not_too_many : (task : Task T) → IsTask task → a.given.input.until ≡ at_length → NoRefusal language task a.given.input → ⊥
+      not_too_many : (task : Task T E) → IsTask task → a.given.input.until ≡ at_length → NoRefusal language task a.given.input → ⊥
       not_too_many task p e held = go two.why where
         go : ((length two.trees ≡ 2) × (two.rest ≢ [])) ⊎ ((length two.trees < 2) × (two.rest ≡ [])) → ⊥
         go (inr (fewer, none)) = let short = in_all none in let long = long_of_many e in omega (arith, short, long)
@@ -323,44 +384,108 @@ module _ {D T : Type 0} (language : Language D T) (lawful : IsLawful language) (
             stop_or_end language lawful law task.work task.limit a.given.input.bytes (All-take-front a.given.input.bytes taken_front.0 (subst AreBytes taken_front.1.front are_bytes))
             two.trees held.trees (two.rest ++ more) held.stream.0 held.end not_two_values spelled
             (subst (λ w. StopsAt language w task.limit two.trees (two.rest ++ more) not_two_values) (sym is.0) (both, (λ e. some (front_none two.rest more e)), refl))
-            held.stream.1 held.few held.stream.2 held.goes_on
+            held.stream.1 (let few = held.few is.0 in omega (arith, few, both)) held.stream.2 held.goes_on
+
+      not_edited : (work : Work T E) (t : T) (script : List E) (compat : Bool) → work ≡ edits t script compat → work ≡ compares → ⊥
+      not_edited work t script compat is other = let same : ◌≡◌ {A = Work T E} (edits t script compat) compares = sym is ∙ other in cc same
+
+      not_found : (n : List ℕ) (o : Found) → IsFoundIn language words a.given.files n o → ⊥
+      not_found n o (inl (f, e)) = unnamed language words (compare most) asks refl n f.0 f.1
+      not_found n o (inr (its, e)) = unscripted language words a.given.files.file (compare most) asks refl n its
 
       two_cause : (s : Status) → Cause s → (s ≡ statuses.Usage) ⊎ IsOutside s
       two_cause =
           cause_or_outside statuses.Usage (λ none. none (compare most) asks) (λ bad. refl) (λ task p e held. not_compared task p e held) (λ task p n. refl)
-          (λ n t x typed e why. absurd (unnamed language words (compare most) asks refl n t typed))
-          (λ task p v. absurd (bad_or_not_two task (compares_task task p).0 (bad_of language words call a bytes taken_front.0 taken_front.1 task v) (not_two_task task p)))
-          (λ n taken f e u. absurd (unnamed language words (compare most) asks refl n f.0 f.1)) (λ task p e held. absurd (not_too_many task p e held))
+          (λ n t x typed e why. absurd (unnamed language words (compare most) asks refl n t typed)) (λ n x e r. unscripted language words a.given.files.file (compare most) asks refl n r.asks)
+          (λ task p stop h. not_edited task.work h.holds.type h.holds.script h.holds.compat h.holds.work (compares_task task p).0)
+          (λ task p v. absurd (bad_or_not_two task (compares_task task p).0 (bad_of language words call a bytes taken_front.0 are_bytes taken_front.1 task v) (not_two_task task p)))
+          (λ n taken f u. absurd (not_found n (opened taken) f)) (λ task p e held. absurd (not_too_many task p e held))
 
-    module _ (files : List File) (task : Task T) (map : call.files.before.map ≡ Some files) (prepared : Prepares language words (λ name. found_of (contents_of files name)) (Ok task)) where
+    module _ (files : List File) (task : Task T E) (map : call.files.before.map ≡ Some files) (prepared : Prepares language words (fetches_of (contents_of files)) (Ok task)) where
       abbrev asked : (request : Request) × Asks words request × (task.limit ≡ limit_of request) × Suits request task.work
-      asked = task_asks language words call (record { file = λ name. found_of (contents_of files name); input = a.given.input }) task prepared
+      asked = task_asks language words call (record { files = fetches_of (contents_of files); input = a.given.input }) task prepared
 
       plain : ¬ IsUsage words
       plain none = none asked.0 asked.1
 
       well_asked : AsksBadly language words → ⊥
-      well_asked bad = prepared_well language lawful words (λ name. found_of (contents_of files name)) task prepared bad
+      well_asked bad = prepared_well language lawful words (fetches_of (contents_of files)) task prepared bad
 
       -- the task that was found is like this one
-      alike : (other : Task T) → IsTask other → (task.work ≡ compares ↔ other.work ≡ compares) × (other.limit ≡ task.limit)
+      alike : (other : Task T E) → IsTask other → (task.work ≡ compares ↔ other.work ≡ compares) × (other.limit ≡ task.limit)
       alike other p =
           let its = task_asks language words call a.given other p in
           let one = kinds words asked.0 its.0 asked.1 its.1 task.work other.work asked.3 its.3 in
           (one.0, its.2 ∙ (sym one.1 ∙ sym asked.2))
 
+      -- what was found is what the map has
+      file_in_map : (name text : List ℕ) (o : Found) → IsFoundIn language words a.given.files name o → o ≡ opened (whole text) → contents_of files name ≡ Some text
+      file_in_map name text o is e =
+          let f = fetch_of language words call a name o is in
+          let is_found : IsFoundOf (contents_of files name) o = rw (f.map ∙ map) at f.fetched.map in
+          contents_are language words call a (contents_of files name) text (subst (IsFoundOf (contents_of files name)) e is_found)
+
+      read_in_map : (f t : List ℕ) → AsksFor language words f t → (type : T) → ReadsTypeOf language a.given.files.file (f, t) (Ok type) → ReadsTypeOf language (fetches_of (contents_of files)).file (f, t) (Ok type)
+      read_in_map f t is type (Err s, r, same) = absurd (cc same)
+      read_in_map f t is type (Ok text, r, more) = (Ok text, ap found_of (file_in_map f text (a.given.files.file f) (inl ((t, is), refl)) r), more)
+
+      lines_in_map : (f : List ℕ) → AsksForScript language words a.given.files.file f → (lines : List E) → ReadsScriptOf language a.given.files.script f (Ok lines) → ReadsScriptOf language (fetches_of (contents_of files)).script f (Ok lines)
+      lines_in_map f is lines (Err s, r, same) = absurd (cc same)
+      lines_in_map f is lines (Ok text, r, more) = (Ok text, ap found_of (file_in_map f text (a.given.files.script f) (inr (is, refl)) r), more)
+
+      tells_in_map : (f t : List ℕ) (saying : Saying) → AsksFor language words f t → (work : Work T E) → TellsAt language a.given.files.file (f, t) saying (Ok work) → TellsAt language (fetches_of (contents_of files)).file (f, t) saying (Ok work)
+      tells_in_map f t saying is work (Err s, reads, e) = absurd (cc e)
+      tells_in_map f t saying is work (Ok type, reads, e) = (Ok type, read_in_map f t is type reads, e)
+
+      finds_in_map : (request : Request) → Asks words request → (work : Work T E) → FindsWork language a.given.files request (Ok work) → FindsWork language (fetches_of (contents_of files)) request (Ok work)
+      finds_in_map (check f t most) asks work h = tells_in_map f t the_verdict (record { request = check f t most; asks = asks; has_path = tt; typed = refl }) work h
+      finds_in_map (show f t most) asks work h = tells_in_map f t the_text (record { request = show f t most; asks = asks; has_path = tt; typed = refl }) work h
+      finds_in_map (get f t text most) asks work (Err s, none, same) = (Err s, none, same)
+      finds_in_map (get f t text most) asks work (Ok path, is_path, h) =
+          (Ok path, is_path, tells_in_map f t (the_part path) (record { request = get f t text most; asks = asks; has_path = (path, is_path); typed = refl }) work h)
+      finds_in_map (edit f t script compat most) asks work (Err s, reads, e) = absurd (cc e)
+      finds_in_map (edit f t script compat most) asks work (Ok type, reads, (Err s, read, e)) = absurd (cc e)
+      finds_in_map (edit f t script compat most) asks work (Ok type, reads, (Ok lines, read, e)) =
+          let is : AsksFor language words f t = record { request = edit f t script compat most; asks = asks; has_path = tt; typed = refl } in
+          let its : AsksForScript language words a.given.files.file script =
+          record { request = edit f t script compat most; asks = asks; scripted = refl; typed = (f, t); is_typed = refl; type = type; reads = reads } in
+          (Ok type, read_in_map f t is type reads, (Ok lines, lines_in_map script its lines read, e))
+      finds_in_map (dump most) asks work h = h
+      finds_in_map (compare most) asks work h = h
+
+      task_in_map : (other : Task T E) → IsTask other → Prepares language words (fetches_of (contents_of files)) (Ok other)
+      task_in_map other (Err s, h, same) = absurd (cc same)
+      task_in_map other (Ok request, asks, (Err s, h, same)) = absurd (cc same)
+      task_in_map other (Ok request, asks, (Ok work, h, same)) = (Ok request, asks, (Ok work, finds_in_map request asks work h, same))
+
+      -- so the task is this one
+      same_task : (other : Task T E) → IsTask other → other ≡ task
+      same_task other p =
+          let k = prepares_once language lawful (fetches_of (contents_of files)) words task (Ok other) prepared (task_in_map other p) in
+          let same : task ≡ other = cc k in sym same
+
+      is_given : IsGivenWork language task.work
+      is_given = prepares_given language lawful (fetches_of (contents_of files)) words task prepared
+
+      -- a SCRIPT that the map has as it was found is not refused
+      lines_not_refused : (name text : List ℕ) → a.given.files.script name ≡ opened (whole text) → IsRefusedScript language words a.given.files name text → ⊥
+      lines_not_refused name text found r =
+          let there = prepared_script language words (fetches_of (contents_of files)) task prepared a.given.files.file name r.asks in
+          let contents : contents_of files name ≡ Some text = file_in_map name text (a.given.files.script name) (inr (r.asks, refl)) found in
+          let same : opened (whole text) ≡ opened (whole there.text) = sym (ap found_of contents) ∙ there.found in
+          let texts : there.text ≡ text = sym (ap text_in same) in
+          lawful.script_once text there.lines r.refusal (subst (λ t. language.ReadsScript t (Ok there.lines)) texts there.reads) r.refused
+
       -- a FILE that the map has as it was found is not refused
-      map_accepts : (name type text : List ℕ) → AsksFor language words name type → a.given.file name ≡ opened (whole text) → IsAccepted language text type
+      map_accepts : (name type text : List ℕ) → AsksFor language words name type → a.given.files.file name ≡ opened (whole text) → IsAccepted language text type
       map_accepts name type text is found =
-          let here : AcceptsFile language (λ name. found_of (contents_of files name)) name type = prepared_accepts language words (λ name. found_of (contents_of files name)) task prepared name type is in
-          let fetched : Fetched call.files name (opened (whole text)) = subst (λ o. Fetched call.files name o) found (file_fetched language words call a name (type, is)) in
-          let is_found : IsFoundOf (contents_of files name) (opened (whole text)) = rw map at fetched.map in
-          let contents : contents_of files name ≡ Some text = contents_are language words call a (contents_of files name) text is_found in
+          let here : AcceptsFile language (fetches_of (contents_of files)).file name type = prepared_accepts language words (fetches_of (contents_of files)) task prepared name type is in
+          let contents : contents_of files name ≡ Some text = file_in_map name text (a.given.files.file name) (inl ((type, is), refl)) found in
           let same : opened (whole text) ≡ opened (whole here.text) = sym (ap found_of contents) ∙ here.found in
           let texts : here.text ≡ text = sym (ap text_in same) in
           subst (λ t. IsAccepted language t type) texts here.accepted
 
-      not_refused : (name type text : List ℕ) → AsksFor language words name type → a.given.file name ≡ opened (whole text) → IsRefusedType language text type → ⊥
+      not_refused : (name type text : List ℕ) → AsksFor language words name type → a.given.files.file name ≡ opened (whole text) → IsRefusedType language text type → ⊥
       not_refused name type text is found why = accepted_or_refused language lawful text type (map_accepts name type text is found) why
 
       -- ---- too many bytes
@@ -388,7 +513,7 @@ module _ {D T : Type 0} (language : Language D T) (lawful : IsLawful language) (
             let few : length a.given.input.bytes ≤ 2 ^ 48 + 4095 = at_most a.given.input.until (length a.given.input.bytes) a.input.measured in
             ap (λ b. take (2 ^ 48 + 4095) b) taken_front.1.front ∙ take_longer (2 ^ 48 + 4095) a.given.input.bytes taken_front.0 few
 
-        not_stopped : (other : Task T) → IsTask other → NoValue language other a.given.input → ⊥
+        not_stopped : (other : Task T E) → IsTask other → NoValue language other a.given.input → ⊥
         not_stopped other p v = go v.ends where
           go : (a.given.input.until ≡ at_end) ⊎ ((refusal : ReadRefusal) × (v.bad.end ≡ refused_end refusal)) → ⊥
           go (inl e) = not_at_end e
@@ -402,7 +527,7 @@ module _ {D T : Type 0} (language : Language D T) (lawful : IsLawful language) (
               (ends_once task.limit (take (2 ^ 48 + 4095) bytes) (drop (2 ^ 48 + 4095) bytes) (sym (take-append-drop (2 ^ 48 + 4095) bytes)) holds.trees v.bad.trees held_end.0 (refused_end refusal)
               (holds.front, holds.first.spelled, held_end.1) here)
 
-        not_more : (other : Task T) → IsTask other → NotTwo other a.given.input → ⊥
+        not_more : (other : Task T E) → IsTask other → NotTwo other a.given.input → ⊥
         not_more other p n = go n.why where
           go : ((length n.trees ≡ 2) × (n.rest ≢ [])) ⊎ ((length n.trees < 2) × (n.rest ≡ []) × (a.given.input.until ≡ at_end)) → ⊥
           go (inr (fewer, none, e)) = not_at_end e
@@ -414,12 +539,30 @@ module _ {D T : Type 0} (language : Language D T) (lawful : IsLawful language) (
               stop_or_end language lawful law task.work task.limit (take (2 ^ 48 + 4095) bytes)
               (All-take (λ b. b < 256) (2 ^ 48 + 4095) bytes are_bytes) n.trees holds.trees (n.rest ++ more) holds.front held_end.0 not_two_values spelled
               (subst (λ w. StopsAt language w task.limit n.trees (n.rest ++ more) not_two_values) (sym (like.0.1 n.is)) (two, (λ e. some (front_none n.rest more e)), refl))
-              holds.first.spelled (few_of language lawful task.work holds.trees said holds.first.all_say) held_end.1 holds.goes_on
+              holds.first.spelled (let few = few_of language lawful task.work holds.trees said holds.first.all_say (like.0.1 n.is) in omega (arith, few, two)) held_end.1 holds.goes_on
+
+        -- nor do values that are edited
+        not_held : (h : (stop : Stop) × Held language task a.given.input stop) → ⊥
+        not_held (stop, h) = go h.holds.why where
+          go : StopsAt language task.work task.limit h.holds.trees h.holds.rest stop ⊎ ((h.holds.rest ≡ []) × Finishes language task.work h.holds.trees (stops stop)) → ⊥
+          go (inr (none, finishes)) = not_at_end (h.ends none)
+          go (inl stops_at) =
+              let front = take (2 ^ 48 + 4095) bytes in
+              let front_bytes = All-take (λ b. b < 256) (2 ^ 48 + 4095) bytes are_bytes in
+              let spelled : SpellAll task.limit front h.holds.trees (h.holds.rest ++ more) =
+              subst (λ b. SpellAll task.limit b h.holds.trees (h.holds.rest ++ more)) (sym goes_on) (spell_after task.limit a.given.input.bytes h.holds.rest more h.holds.trees h.holds.first.spelled) in
+              let there = stops_more language task.work task.limit h.holds.trees h.holds.rest more stop stops_at in
+              stop_or_end language lawful law task.work task.limit front front_bytes h.holds.trees holds.trees (h.holds.rest ++ more) holds.front held_end.0 stop spelled there holds.first.spelled
+              (no_more_said language lawful law task.work is_given task.limit front front_bytes h.holds.trees holds.trees (h.holds.rest ++ more) holds.front stop said spelled there holds.first.spelled holds.first.all_say)
+              held_end.1 holds.goes_on
+
+        none_held : (other : Task T E) → IsTask other → (stop : Stop) → Held language other a.given.input stop → ⊥
+        none_held other p stop h = not_held (stop, subst (λ task. Held language task a.given.input stop) (same_task other p) h)
 
         input_cause : (s : Status) → Cause s → (s ≡ statuses.TooLong) ⊎ IsOutside s
         input_cause =
             cause_or_outside statuses.TooLong plain (λ bad. absurd (well_asked bad)) (λ other p e held. not_at_end e) (λ other p n. absurd (not_more other p n)) (λ n t x typed e why. absurd (not_refused n t x typed e why))
-            (λ other p v. absurd (not_stopped other p v)) (λ n taken f e u. refl) (λ other p e held. refl)
+            lines_not_refused none_held (λ other p v. absurd (not_stopped other p v)) (λ n taken f u. refl) (λ other p e held. refl)
 
       -- ---- a bad value
 
@@ -431,17 +574,17 @@ module _ {D T : Type 0} (language : Language D T) (lawful : IsLawful language) (
           go clean is = absurd (bad.some is)
           go (cut n) is = let few = in_all n is in subst (HoldBadValue language task) (take_all (2 ^ 48) bytes (omega (arith, few))) bad
           go (refused_end refusal) is =
-              subst (HoldBadValue language task) (take-append-drop (2 ^ 48) bytes) (bad_after language task (take (2 ^ 48) bytes) (drop (2 ^ 48) bytes) bad refusal is)
+              subst (HoldBadValue language task) (take-append-drop (2 ^ 48) bytes) (bad_after language task (take (2 ^ 48) bytes) (drop (2 ^ 48) bytes) (subst AreBytes (sym (take-append-drop (2 ^ 48) bytes)) are_bytes) bad refusal is)
 
-        ended : (other : Task T) → IsTask other → a.given.input.until ≡ at_end → NoRefusal language other a.given.input → ⊥
+        ended : (other : Task T E) → IsTask other → a.given.input.until ≡ at_end → NoRefusal language other a.given.input → ⊥
         ended other p e held =
             let stream : Stream bytes task.limit held.trees held.end =
-            subst (λ b. Stream b task.limit held.trees held.end) (sym (all_of language words call a bytes taken_front.0 taken_front.1 e))
+            subst (λ b. Stream b task.limit held.trees held.end) (sym (all_of language words call a bytes taken_front.0 are_bytes taken_front.1 e))
             (subst (λ limit. Stream a.given.input.bytes limit held.trees held.end) (alike other p).1 held.stream) in
             let b = bad_in_all in
             b.some ((streams_once law task.limit bytes b.trees held.trees b.end held.end are_bytes (b.rest, b.first.spelled, b.tail) stream).1 ∙ held.whole e)
 
-        too_many : (other : Task T) → IsTask other → a.given.input.until ≡ at_length → NoRefusal language other a.given.input → ⊥
+        too_many : (other : Task T E) → IsTask other → a.given.input.until ≡ at_length → NoRefusal language other a.given.input → ⊥
         too_many other p e held = go bad.end refl where
           go : (end : End) → bad.end ≡ end → ⊥
           go clean is = bad.some is
@@ -455,26 +598,50 @@ module _ {D T : Type 0} (language : Language D T) (lawful : IsLawful language) (
               let stream : Stream a.given.input.bytes task.limit held.trees held.end = subst (λ limit. Stream a.given.input.bytes limit held.trees held.end) (alike other p).1 held.stream in
               held.unrefused refusal (ends_once task.limit a.given.input.bytes taken_front.0 taken_front.1.front held.trees bad.trees held.end (refused_end refusal) stream all)
 
-        -- FILE is not too long
-        file_short : (name : List ℕ) (taken : Taken) → AsksForFile language words name → a.given.file name ≡ opened taken → taken.until ≡ at_length → ⊥
-        file_short name taken is found e =
-            let here : AcceptsFile language (λ name. found_of (contents_of files name)) name is.0 = prepared_accepts language words (λ name. found_of (contents_of files name)) task prepared name is.0 is.1 in
-            let contents : contents_of files name ≡ Some here.text = found_text (contents_of files name) here.text here.found in
-            let told_file : TellsFile call.files name here.text = rw map contents in
-            let fetched : Fetched call.files name (opened taken) = subst (λ o. Fetched call.files name o) found (file_fetched language words call a name is) in
-            let long = told_long call.files name here.text told_file taken fetched e in
-            let few = short name here.text contents in omega (arith, long, few)
+        -- no file is too long
+        sought_text : (name : List ℕ) (taken : Taken) → IsFoundIn language words a.given.files name (opened taken) → (text : List ℕ) × (contents_of files name ≡ Some text)
+        sought_text name taken (inl (is, found)) =
+            let here : AcceptsFile language (fetches_of (contents_of files)).file name is.0 = prepared_accepts language words (fetches_of (contents_of files)) task prepared name is.0 is.1 in
+            (here.text, found_text (contents_of files name) here.text here.found)
+        sought_text name taken (inr (is, found)) =
+            let here = prepared_script language words (fetches_of (contents_of files)) task prepared a.given.files.file name is in
+            (here.text, found_text (contents_of files name) here.text here.found)
 
-        only_one : (other : Task T) → IsTask other → NotTwo other a.given.input → ⊥
+        file_short : (name : List ℕ) (taken : Taken) → IsFoundIn language words a.given.files name (opened taken) → taken.until ≡ at_length → ⊥
+        file_short name taken is e =
+            let text = sought_text name taken is in
+            let f = fetch_of language words call a name (opened taken) is in
+            let told_file : TellsFile f.at name text.0 = rw (f.map ∙ map, text.1) in
+            let long = told_long f.at name text.0 told_file taken f.fetched e in
+            let few = short name text.0 text.1 in omega (arith, long, few)
+
+        -- values that are edited hold no stop
+        never_held : (stop : Stop) → HoldStop language task bytes stop → ⊥
+        never_held stop h = go h.why where
+          go : StopsAt language task.work task.limit h.trees h.rest stop ⊎ ((h.rest ≡ []) × Finishes language task.work h.trees (stops stop)) → ⊥
+          go (inl stops_at) =
+              let b = bad_in_all in
+              stop_or_end language lawful law task.work task.limit bytes are_bytes h.trees b.trees h.rest b.rest b.end stop h.first.spelled stops_at b.first.spelled
+              (no_more_said language lawful law task.work is_given task.limit bytes are_bytes h.trees b.trees h.rest b.rest stop b.said h.first.spelled stops_at b.first.spelled b.first.all_say)
+              b.tail b.goes_on
+          go (inr (none, finishes)) =
+              let b = bad_in_all in
+              b.some (streams_once law task.limit bytes b.trees h.trees b.end clean are_bytes (b.rest, b.first.spelled, b.tail) (h.rest, h.first.spelled, none)).1
+
+        none_held_in_all : (other : Task T E) → IsTask other → (stop : Stop) → Held language other a.given.input stop → ⊥
+        none_held_in_all other p stop h =
+            never_held stop (stop_of_all language words call a bytes taken_front.0 are_bytes taken_front.1 task stop (subst (λ task. Held language task a.given.input stop) (same_task other p) h))
+
+        only_one : (other : Task T E) → IsTask other → NotTwo other a.given.input → ⊥
         only_one other p n =
             let like = alike other p in
             bad_or_not_two task (like.0.1 n.is) bad_in_all
-            (subst (λ limit. AreNotTwo limit bytes) like.1 (not_two_of language words call a bytes taken_front.0 taken_front.1 other n))
+            (subst (λ limit. AreNotTwo limit bytes) like.1 (not_two_of language words call a bytes taken_front.0 are_bytes taken_front.1 other n))
 
         value_cause : (s : Status) → Cause s → (s ≡ statuses.Value) ⊎ IsOutside s
         value_cause =
             cause_or_outside statuses.Value plain (λ bad. absurd (well_asked bad)) (λ other p e held. ended other p e held) (λ other p n. absurd (only_one other p n)) (λ n t x typed e why. absurd (not_refused n t x typed e why))
-            (λ other p v. refl) (λ n taken f e u. absurd (file_short n taken f e u)) (λ other p e held. absurd (too_many other p e held))
+            lines_not_refused none_held_in_all (λ other p v. refl) (λ n taken f u. absurd (file_short n taken f u)) (λ other p e held. absurd (too_many other p e held))
 
   pub if_not_two : HasOneJudgement → TellsBytes call.input → IfNotTwo words call
   if_not_two law tells bytes most asks told two in_all = two_cause bytes told law (rw told at tells) most asks two in_all call.status (account_why language words call a)

@@ -1,12 +1,12 @@
 -- What is said of some first values is said first in the outcome.
-use Rattle.std.proofs.Common.{◌≡◌, ◌⊎◌, ℕ, suc, ◌≤◌, List, [], ◌∷◌, ◌++◌, length, Some, None, Result, Ok, Err, inl, inr, refl, sym, ap, ◌∙◌, subst, append_assoc, append-nil, arith}
+use Rattle.std.proofs.Common.{◌≡◌, ◌⊎◌, ℕ, suc, List, [], ◌∷◌, ◌++◌, Some, None, Result, Ok, Err, inl, inr, refl, sym, ap, ◌∙◌, subst, append_assoc, append-nil}
 use Rattle.std.specs.Prelude.{MatchResult}
-use Rattle.om_model.specs.declared.status.Status.TheVariants as statuses
+use Rattle.om_outcome.specs.declared.status.Status.TheVariants as statuses
 use Rattle.om_model.specs.Bytes.{AreBytes}
 use Rattle.om_format.specs.Laws.{HasOneJudgement}
 use Rattle.om_format.specs.Tree.{Tree}
 use Rattle.om_format.specs.Stream.{End, IsTail}
-use Rattle.om_outcome.specs.Outcome.{at_end, whole, Found, Stop, out_of_memory, stop_text, err_line, Said, Reply, says, stops, Replies, replies, all_said, texts_of, stopped, Work, tells, dumps, compares, Task, StopsAt, fault_of, Language, Prepares, RunReplies, ValuesReply, SayFirst, AllSay, SaysOfFirst, Closes, found_of, Outcome}
+use Rattle.om_outcome.specs.Outcome.{at_end, whole, Fetches, Stop, out_of_memory, stop_text, err_line, Said, Reply, says, stops, Replies, replies, all_said, texts_of, stopped, Work, Task, StopsAt, fault_of, Language, Prepares, RunReplies, ValuesReply, SayFirst, AllSay, SaysOfFirst, Closes, fetches_of, Outcome}
 use Rattle.om_edge.specs.Files.{File, contents_of}
 use Rattle.om_format.proofs.JudgementLaws.{one_judgement_lem}
 use Rattle.om_edge.specs.Sink.{Puts}
@@ -16,8 +16,8 @@ use Rattle.om_session.specs.Given.{TakesFrom, TellsBytes}
 use Rattle.om_session.specs.Run.{IsSaidFirst, Account, IsWellRead, IsFrontOfOutcome, IfMemory, IfWriteFault, OutBreaks, ErrBreaks}
 use Rattle.om_session.proofs.HeadlineLemmas.{prepares_same, says_same}
 use Rattle.om_session.proofs.CompleteLemmas.{IsGivenWork, IsLawful, prepares_once, prepares_given}
-use Rattle.om_session.proofs.DecidedLemmas.{one_said, one_outcome}
-use Rattle.om_session.proofs.ValueLemmas.{first_after, few_said}
+use Rattle.om_session.proofs.DecidedLemmas.{no_more_said, one_said, one_outcome}
+use Rattle.om_session.proofs.ValueLemmas.{first_after}
 use Rattle.om_session.proofs.StreamLemmas.{streams_once, spell_front, spell_append, spell_bytes, stream_of}
 use Rattle.om_session.proofs.CauseLemmas.{Why, memory, out_fault, err_fault, MayEnd, account_why}
 
@@ -36,9 +36,9 @@ one_stream_lem limit bytes are_bytes =
 
 -- ---- what is said first
 
-module _ {D T : Type 0} (language : Language D T) (lawful : IsLawful language) where
+module _ {D T E : Type 0} (language : Language D T E) (lawful : IsLawful language) where
   -- of first values the same is said
-  said_front : (work : Work T) → IsGivenWork language work → (k : ℕ) (trees more : List Tree) (said all : List Said) → AllSay language work k trees said → AllSay language work k (trees ++ more) all
+  said_front : (work : Work T E) → IsGivenWork language work → (k : ℕ) (trees more : List Tree) (said all : List Said) → AllSay language work k trees said → AllSay language work k (trees ++ more) all
       → (later : List Said) × (all ≡ said ++ later)
   said_front work given k [] more [] all h g = (all, refl)
   said_front work given k [] more (first ∷ said) all h g = absurd h
@@ -48,23 +48,16 @@ module _ {D T : Type 0} (language : Language D T) (lawful : IsLawful language) w
       let next = said_front work given (suc k) trees more said all h.1 g.1 in
       (next.0, ap (λ s. s ∷ all) (one_said language lawful work given k tree other first g.0 h.0) ∙ ap (λ s. first ∷ s) next.1)
 
-  module _ (law : HasOneJudgement) (task : Task T) (given : IsGivenWork language task.work) (input : List ℕ) (are_bytes : AreBytes input)
+  module _ (law : HasOneJudgement) (task : Task T E) (given : IsGivenWork language task.work) (input : List ℕ) (are_bytes : AreBytes input)
       (trees : List Tree) (said : List Said) (rest : List ℕ) (first : SayFirst language task input trees said rest) where
     -- they are the first values of each reply
     values_first : (all : Replies) (v : ValuesReply language task (whole input) all) → (more : List Tree) × (v.trees ≡ trees ++ more)
     values_first all v = at v.last where
-      two_at_most : (work : Work T) (stop : Stop) → StopsAt language work task.limit v.trees v.rest stop → AllSay language work 0 trees said → length trees ≤ length v.trees
-      two_at_most (tells saying t) stop at spoken = absurd at
-      two_at_most dumps stop at spoken = absurd at
-      two_at_most compares stop at spoken =
-          let few = few_said language 0 trees said (omega arith) spoken in
-          let two = at.0 in omega (arith, few, two)
-
       at : ((stop : Stop) × StopsAt language task.work task.limit v.trees v.rest stop × (fault_of at_end ≡ None) × (all.last ≡ stops stop))
           ⊎ ((end : End) × IsTail task.limit v.rest end × ((stop : Stop) → StopsAt language task.work task.limit v.trees v.rest stop → ⊥) × Closes language task.work v.trees at_end end all.last)
           → (more : List Tree) × (v.trees ≡ trees ++ more)
       at (inl (stop, stops_at, free, is)) =
-          spell_front law task.limit input trees v.trees rest v.rest are_bytes (two_at_most task.work stop stops_at first.all_say) first.spelled v.first.spelled
+          spell_front law task.limit input trees v.trees rest v.rest are_bytes (no_more_said language lawful law task.work given task.limit input are_bytes v.trees trees v.rest rest stop said v.first.spelled stops_at first.spelled first.all_say) first.spelled v.first.spelled
       at (inr (end, tail, none, closes)) =
           let more = stream_of law task.limit rest (spell_bytes task.limit input rest trees first.spelled are_bytes) in
           let once = streams_once law task.limit input v.trees (trees ++ more.0) end more.1 are_bytes (v.rest, v.first.spelled, tail)
@@ -80,12 +73,12 @@ module _ {D T : Type 0} (language : Language D T) (lawful : IsLawful language) w
         )
 
   module _ (law : HasOneJudgement) (words : List (List ℕ)) (files : List File) (input : List ℕ) (are_bytes : AreBytes input) where
-    abbrev in_map : List ℕ → Found
-    in_map name = found_of (contents_of files name)
+    abbrev in_map : Fetches
+    in_map = fetches_of (contents_of files)
 
-    front_of_values : (task : Task T) → Prepares language words in_map (Ok task) → (trees : List Tree) (said : List Said) (rest : List ℕ) → SayFirst language task input trees said rest → IsFrontOfOutcome language words input files said
+    front_of_values : (task : Task T E) → Prepares language words in_map (Ok task) → (trees : List Tree) (said : List Said) (rest : List ℕ) → SayFirst language task input trees said rest → IsFrontOfOutcome language words input files said
     front_of_values task prepared trees said rest first all (result, p, m) = at result (prepares_once language lawful in_map words task result prepared p) m where
-      at : (result : Result (Task T) Stop) → Ok task ≡ result → MatchResult result (λ task. ValuesReply language task (whole input) all) (λ stop. all ≡ stopped stop)
+      at : (result : Result (Task T E) Stop) → Ok task ≡ result → MatchResult result (λ task. ValuesReply language task (whole input) all) (λ stop. all ≡ stopped stop)
           → (later : List Said) × (all_said all ≡ said ++ later)
       at (Err s) e m = absurd (cc e)
       at (Ok own) e m =
@@ -97,14 +90,14 @@ module _ {D T : Type 0} (language : Language D T) (lawful : IsLawful language) w
 
 -- ---- of a call
 
-module _ {D T : Type 0} (language : Language D T) (lawful : IsLawful language) (law : HasOneJudgement) (words : List (List ℕ)) (call : Call) (a : Account language words call)
+module _ {D T E : Type 0} (language : Language D T E) (lawful : IsLawful language) (law : HasOneJudgement) (words : List (List ℕ)) (call : Call) (a : Account language words call)
     (input : List ℕ) (files : List File) (h : IsWellRead call input files) (are_bytes : AreBytes input) where
   -- what is said first of the bytes taken is said of the input
-  values_front : (task : Task T) → Prepares language words a.given.file (Ok task) → (trees : List Tree) (said : List Said) (rest : List ℕ) → SayFirst language task a.given.input.bytes trees said rest → IsFrontOfOutcome language words input files said
+  values_front : (task : Task T E) → Prepares language words a.given.files (Ok task) → (trees : List Tree) (said : List Said) (rest : List ℕ) → SayFirst language task a.given.input.bytes trees said rest → IsFrontOfOutcome language words input files said
   values_front task p trees said rest first =
       let taken : (rest : List ℕ) × TakesFrom input a.given.input rest × (call.input.after.bytes ≡ Some rest) = rw h.input_told at a.input.told in
       front_of_values language lawful law words files input are_bytes task
-      (prepares_same language words call.files files h.files_told h.files_short h.opens h.reads a.given.file a.files (Ok task) p) trees said (rest ++ taken.0)
+      (prepares_same language words call.files files h.files_told h.files_short h.opens h.reads a.given.files a.files (Ok task) p) trees said (rest ++ taken.0)
       (subst (λ bytes. SayFirst language task bytes trees said (rest ++ taken.0)) (sym taken.1.front) (first_after language task a.given.input.bytes trees said rest taken.0 first))
 
   first_front : (said : List Said) → IsSaidFirst language words a.given said → IsFrontOfOutcome language words input files said
@@ -120,17 +113,17 @@ module _ {D T : Type 0} (language : Language D T) (lawful : IsLawful language) (
   next_front said next (inl (task, p, trees, rest, first)) = values_front task p trees (said ++ next ∷ []) rest first
   next_front said next (inr reply) = λ all outcome.
       let same = one_outcome language lawful law words files input are_bytes all (replies said (says next)) outcome
-      (says_same language words call a input files h (replies said (says next)) reply) in
+      (says_same language words call a input files are_bytes h (replies said (says next)) reply) in
       ([], ap all_said same ∙ sym (append-nil (said ++ next ∷ [])))
 
   -- what an outcome says, or where memory ran out
   ending_front : (said : List Said) (last : Reply) → IsSaidFirst language words a.given said → MayEnd language words a.given said last
       → Outcome language words (contents_of files) input (replies said last)
       ⊎ (IsFrontOfOutcome language words input files said × (last ≡ stops out_of_memory))
-  ending_front said last first (inl reply) = inl (says_same language words call a input files h (replies said last) reply)
+  ending_front said last first (inl reply) = inl (says_same language words call a input files are_bytes h (replies said last) reply)
   ending_front said last first (inr same) = inr (first_front said first, same)
 
-module _ {D T : Type 0} (language : Language D T) (lawful : IsLawful language) (law : HasOneJudgement) (words : List (List ℕ)) (call : Call) (a : Account language words call) where
+module _ {D T E : Type 0} (language : Language D T E) (lawful : IsLawful language) (law : HasOneJudgement) (words : List (List ℕ)) (call : Call) (a : Account language words call) where
   pub if_memory : TellsBytes call.input → IfMemory language words call
   if_memory told input files h e = at (subst (Why language words call a.given) e (account_why language words call a)) where
     are_bytes : AreBytes input

@@ -1,5 +1,5 @@
 -- What is read of a text is one thing, and a value has one line at a type that is read.
-use Rattle.std.proofs.Common.{◌≡◌, ℕ, Bool, false, List, Some, None, Result, Ok, Err, inl, inr, sym, ap, ◌∙◌, subst}
+use Rattle.std.proofs.Common.{◌≡◌, ℕ, Bool, false, List, Option, Some, None, Result, Ok, Err, inl, inr, sym, ap, ◌∙◌, subst}
 use Rattle.om_model.specs.declared.value.Val.{Val}
 use Rattle.om_model.specs.declared.value.Obj.{Obj}
 use Rattle.om_types.specs.declared.decl.Decl.{Decl}
@@ -24,9 +24,17 @@ use Rattle.om_decl.specs.Answer.{Answer, accepted, no_lexemes, no_text, too_deep
 use Rattle.om_decl.specs.Read.{IsDeclared, IsTypeOf}
 use Rattle.om_decl.specs.Text.{answer_text}
 use Rattle.om_path.specs.Answer as paths
+use Rattle.om_path.specs.ScriptAnswer as scripts
+use Rattle.om_path.specs.declared.edits.Script.{Script}
+use Rattle.om_path.specs.declared.edits.ScriptFault.{ScriptFault}
+use Rattle.om_path.specs.declared.edits.ScriptLine.{ScriptLine}
+use Rattle.om_canonical.proofs.SameTree.{one_tree_only}
+use Rattle.om_edit.specs.Answers.{Edited}
+use Rattle.om_edit.specs.Laws.{EditsHaveOneAnswer}
+use Rattle.om_format.specs.Compat.{too_large_for_32}
 use Rattle.om_path.specs.declared.fault.PathFault.{PathFault}
-use Rattle.om_outcome.specs.Outcome.{Saying}
-use Rattle.om_session.specs.Language.{TypeOver, declared_types, ReadsPath, IsRefusal, ReachesFew, IsTooMuch, IsAccepted, IsTypeLine, ReadsType}
+use Rattle.om_outcome.specs.Outcome.{Saying, Unedited, untyped}
+use Rattle.om_session.specs.Language.{TypeOver, declared_types, ReadsPath, IsRefusal, ReachesFew, IsTooMuch, IsAccepted, IsTypeLine, IsBytesLine, AreBytesOf, AreBytesAfter, bytes_for, ReadsType, ReadsScript, script_refusal}
 use Rattle.om_session.proofs.CompleteLemmas.{IsGiven, IsLawful}
 
 -- ---- answers
@@ -85,8 +93,52 @@ module _ (once : (text : List ℕ) → paths.HasOneAnswer text) (text path : Lis
 
 -- ---- the language
 
+-- ---- scripts
+
+module _ (once : (text : List ℕ) → scripts.HasOneScriptAnswer text) (text : List ℕ) where
+  abbrev script_of : Result (List ScriptLine) ScriptFault → Result Script ScriptFault
+  script_of (Ok lines) = Ok (record { lines = lines })
+  script_of (Err fault) = Err fault
+
+  script_answers : (answer other : Result (List ScriptLine) ScriptFault) → scripts.AreEdits 1 text answer → scripts.AreEdits 1 text other → answer ≡ other
+  script_answers answer other is its = back answer other ((once text).2 (script_of answer) (as_script answer is) ∙ sym ((once text).2 (script_of other) (as_script other its))) where
+    as_script : (answer : Result (List ScriptLine) ScriptFault) → scripts.AreEdits 1 text answer → scripts.IsScriptAnswer text (script_of answer)
+    as_script (Ok lines) is = is
+    as_script (Err fault) is = is
+
+    back : (answer other : Result (List ScriptLine) ScriptFault) → script_of answer ≡ script_of other → answer ≡ other
+    back (Ok lines) (Ok others) e = let same : ◌≡◌ {A = Script} (record { lines = lines }) (record { lines = others }) = cc e in ap (λ (s : Script). Ok s.lines) same
+    back (Ok lines) (Err fault) e = absurd (cc e)
+    back (Err fault) (Ok lines) e = absurd (cc e)
+    back (Err fault) (Err other) e = let same : fault ≡ other = cc e in ap (λ f. Err f) same
+
+  lines_or_refusal : (lines : List ScriptLine) (refusal : ℕ × List ℕ) → ReadsScript text (Ok lines) → ReadsScript text (Err refusal) → ⊥
+  lines_or_refusal lines refusal is (fault, its, told) =
+      let k : ◌≡◌ {A = Result (List ScriptLine) ScriptFault} (Ok lines) (Err fault) = script_answers (Ok lines) (Err fault) is its in cc k
+
+  one_lines : (lines other : List ScriptLine) → ReadsScript text (Ok lines) → ReadsScript text (Ok other) → lines ≡ other
+  one_lines lines other is its =
+      let k : ◌≡◌ {A = Result (List ScriptLine) ScriptFault} (Ok lines) (Ok other) = script_answers (Ok lines) (Ok other) is its in cc k
+
+  one_refusal : (refusal other : ℕ × List ℕ) → ReadsScript text (Err refusal) → ReadsScript text (Err other) → refusal ≡ other
+  one_refusal refusal other (fault, is, told) (fault', its, told') =
+      let k : ◌≡◌ {A = Result (List ScriptLine) ScriptFault} (Err fault) (Err fault') = script_answers (Err fault) (Err fault') is its in
+      let same : fault ≡ fault' = cc k in
+      let both : ◌≡◌ {A = Option (ℕ × List ℕ)} (Some refusal) (Some other) = sym told ∙ (ap script_refusal same ∙ told') in cc both
+
+-- ---- bytes
+
+-- a value has one tree
+one_bytes : (compat : Bool) (graph : List Obj) (v : Val) (answer other : Result (List ℕ) Unedited) → AreBytesOf compat graph v answer → AreBytesOf compat graph v other → answer ≡ other
+one_bytes compat graph v answer other (tree, is, told) (tree', is', told') =
+    told ∙ (ap (λ t. bytes_for compat t (too_large_for_32 t)) (one_tree_only graph v tree tree' is is') ∙ sym told')
+
+bytes_after_once : (compat : Bool) (edited : Edited Ty) (answer other : Result (List ℕ) Unedited) → AreBytesAfter compat edited answer → AreBytesAfter compat edited other → answer ≡ other
+bytes_after_once compat (Ok edited) answer other is its = one_bytes compat edited.0 edited.1 answer other is its
+bytes_after_once compat (Err refused) answer other is its = is ∙ sym its
+
 module _ (files_once : HasOneAnswer IsFileAnswer) (types_once : (decls : List Decl) → HasOneAnswer (IsTypeAnswer decls))
-    (paths_once : (text : List ℕ) → paths.HasOneAnswer text) (files_well : FilesAreWellFormed) (types_sound : TypesAreSound) (never_both : NeverBoth) where
+    (paths_once : (text : List ℕ) → paths.HasOneAnswer text) (scripts_once : (text : List ℕ) → scripts.HasOneScriptAnswer text) (edits_once : EditsHaveOneAnswer) (files_well : FilesAreWellFormed) (types_sound : TypesAreSound) (never_both : NeverBoth) where
   same_decls : (text : List ℕ) (decls others : List Decl) → IsDeclared text decls → IsDeclared text others → decls ≡ others
   same_decls text decls others d e =
       d.stand ∙ (ap declarations_of (trees_once IsFileAnswer files_once text d.tree e.tree d.answer e.answer) ∙ sym e.stand)
@@ -129,13 +181,34 @@ module _ (files_once : HasOneAnswer IsFileAnswer) (types_once : (decls : List De
     lines_once saying line other one two (inl has) (inr is) = absurd (never_both t.decls t.type few.types well sound few.reached graph v is.why.fault is.why.least.is_fault has.has)
     lines_once saying line other one two (inr is) (inl has) = absurd (never_both t.decls t.type few.types well sound few.reached graph v is.why.fault is.why.least.is_fault has.has)
 
-  given_once : (saying : Saying) (t : TypeOver) → IsGiven declared_types t → (tree : Tree) (line other : List ℕ) (one two : Bool)
-      → IsTypeLine saying t (objects_of tree 0) (root tree 0) line one → IsTypeLine saying t (objects_of tree 0) (root tree 0) other two → (line ≡ other) × (one ≡ two)
-  given_once saying t (text, type, decls, declared, is) tree =
+    bytes_once : (lines : List ScriptLine) (compat : Bool) (answer other : Result (List ℕ) Unedited) → IsBytesLine t lines compat graph v answer → IsBytesLine t lines compat graph v other → answer ≡ other
+    bytes_once lines compat answer other (inl is) (inl its) =
+        let same : is.edited ≡ its.edited = edits_once.in_order t.decls t.type few.types well sound few.reached lines graph v is.edited its.edited is.made its.made in
+        bytes_after_once compat its.edited answer other (subst (λ e. AreBytesAfter compat e answer) same is.bytes) its.bytes
+    bytes_once lines compat answer other (inr is) (inr its) =
+        is.is ∙ (ap (λ text. Err (untyped text)) (no_line_once (declared_shapes t.decls) graph v t.type type_text is.text its.text is.why its.why) ∙ sym its.is)
+    bytes_once lines compat answer other (inl is) (inr its) = absurd (never_both t.decls t.type few.types well sound few.reached graph v its.why.fault its.why.least.is_fault is.has)
+    bytes_once lines compat answer other (inr is) (inl its) = absurd (never_both t.decls t.type few.types well sound few.reached graph v is.why.fault is.why.least.is_fault its.has)
+
+  -- a type that was read is sound over well-formed declarations, and reaches few types
+  record IsSoundOver (t : TypeOver) : Type 0 where
+    well : AreWellFormed t.decls
+    sound : IsSoundType t.decls t.type
+    few : ReachesFew t.decls t.type
+
+  given_sound : (t : TypeOver) → IsGiven declared_types t → IsSoundOver t
+  given_sound t (text, type, decls, declared, is) =
       let well : AreWellFormed t.decls = subst AreWellFormed (sym is.over) (decls_well text decls declared) in
       let written : IsTypeOf t.decls type t.type = subst (λ d. IsTypeOf d type t.type) (sym is.over) is.written in
-      let few : ReachesFew t.decls t.type = subst (λ d. ReachesFew d t.type) (sym is.over) is.few in
-      lines_once t well (type_sound t.decls type t.type well written) few (objects_of tree 0) (root tree 0) saying
+      record { well = well; sound = type_sound t.decls type t.type well written; few = subst (λ d. ReachesFew d t.type) (sym is.over) is.few }
+
+  given_once : (saying : Saying) (t : TypeOver) → IsGiven declared_types t → (tree : Tree) (line other : List ℕ) (one two : Bool)
+      → IsTypeLine saying t (objects_of tree 0) (root tree 0) line one → IsTypeLine saying t (objects_of tree 0) (root tree 0) other two → (line ≡ other) × (one ≡ two)
+  given_once saying t given tree = let s = given_sound t given in lines_once t s.well s.sound s.few (objects_of tree 0) (root tree 0) saying
+
+  edited_once : (t : TypeOver) → IsGiven declared_types t → (lines : List ScriptLine) (compat : Bool) (tree : Tree) (answer other : Result (List ℕ) Unedited)
+      → IsBytesLine t lines compat (objects_of tree 0) (root tree 0) answer → IsBytesLine t lines compat (objects_of tree 0) (root tree 0) other → answer ≡ other
+  edited_once t given lines compat tree = let s = given_sound t given in bytes_once t s.well s.sound s.few (objects_of tree 0) (root tree 0) lines compat
 
   pub declared_lawful : IsLawful declared_types
   declared_lawful = record {
@@ -148,6 +221,10 @@ module _ (files_once : HasOneAnswer IsFileAnswer) (types_once : (decls : List De
         ap (λ d. let t : TypeOver = record { decls = d; type = t.type } in t) (one.over ∙ sym other.over)
         ∙ ap (λ x. let t : TypeOver = record { decls = u.decls; type = x } in t) types;
     same_type_refusal = type_refusals;
+    script_once = λ text lines refusal is refused. lines_or_refusal scripts_once text lines refusal is refused;
+    same_script = λ text lines other is its. one_lines scripts_once text lines other is its;
+    same_script_refusal = λ text refusal other is its. one_refusal scripts_once text refusal other is its;
+    bytes_once = edited_once;
     path_once = λ text path is none. no_fault paths_once text path is none;
     same_path = λ text path other is its. one_path paths_once text path is other its;
     line_once = given_once;

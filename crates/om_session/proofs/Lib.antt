@@ -7,6 +7,7 @@ pub mod ReadLemmas
 pub mod WordLemmas
 pub mod FindingLemmas
 pub mod TypedLemmas
+pub mod EditLemmas
 pub mod EndLemmas
 pub mod LoopLemmas
 pub mod CloseLemmas

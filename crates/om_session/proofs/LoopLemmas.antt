@@ -9,8 +9,8 @@ use Rattle.om_edge.specs.Sink.{Puts}
 use Rattle.om_edge.specs.Source.{TakesFront}
 use Rattle.om_edge.specs.State.{ByteState, Change, change}
 use Rattle.om_session.specs.declared.stop.Stop.TheVariants as stops
-use Rattle.om_session.specs.declared.values.Halt.{Halt}
-use Rattle.om_session.specs.declared.values.Halt.TheVariants as halts
+use Rattle.om_session.specs.declared.stop.Halt.{Halt}
+use Rattle.om_session.specs.declared.stop.Halt.TheVariants as halts
 use Rattle.om_session.specs.declared.values.Values.{Values}
 use Rattle.om_session.specs.Given.{Gathers}
 use Rattle.om_session.specs.Values.{HasRead, ReadsSome, ReadsPiece, EndsAt, PutsValues}
@@ -154,5 +154,5 @@ module _ (w : Work) (count : ℕ) (a b o p : ByteState) (values : Values) (s : V
           → ReadsPiece {U = Unit {0}} w s.bytes s.said (take n buffer) (change p q) new (Err halt) → PutsValues w (change a c) (change o q) result
       values_halt halt (Ok has_type) is fits h = absurd is
       values_halt halt (Err e) is fits h =
-          let ends = halted w s.bytes s.said o p q s.put (Unit {0}) (take n buffer) new halt fits h in
+          let ends = halted w s.bytes s.said o p q s.put (Unit {0}) (take n buffer) new halt more_taken.are_bytes fits h in
           subst (λ e. PutsValues w (change a c) (change o q) (Err e)) (sym is) (taken (s.bytes ++ take n buffer) unasked, more_taken, ends.all, ends.paced, ends.ends)

@@ -1,17 +1,17 @@
 -- Where the input failed or was too long, what was taken of it holds no stop, and what is said of its values is put; where
--- FILE did, nothing was taken and nothing is put.
-use Rattle.std.proofs.Common.{◌≡◌, ◌⊎◌, ℕ, Bool, true, false, List, [], ◌∷◌, ◌++◌, Some, inl, inr, refl, sym, ap, ◌∙◌, subst, append-nil}
+-- a file did, nothing was taken and nothing is put.
+use Rattle.std.proofs.Common.{◌≡◌, ◌⊎◌, ℕ, Bool, true, false, List, [], ◌∷◌, ◌++◌, Some, Ok, inl, inr, refl, sym, ap, ◌∙◌, subst, append-nil}
 use Rattle.std.specs.Prelude.{if◌then◌else◌}
-use Rattle.om_model.specs.declared.status.Status.{Status}
-use Rattle.om_model.specs.declared.status.Status.TheVariants as statuses
-use Rattle.om_outcome.specs.Outcome.{InputEnd, Taken, at_end, unasked, nothing, opened, Stop, usage, bad_path, not_two_values, cannot_open, declarations, requested_type, value, read_fault, too_long, out_of_memory, status_of, stop_text, err_line, says, stops, Reply, replies, texts_of, all_well, ending_of, Language, fault_of}
+use Rattle.om_outcome.specs.declared.status.Status.{Status}
+use Rattle.om_outcome.specs.declared.status.Status.TheVariants as statuses
+use Rattle.om_outcome.specs.Outcome.{InputEnd, Taken, at_end, unasked, nothing, whole, opened, Task, Prepares, Stop, usage, bad_path, not_two_values, cannot_open, declarations, requested_type, value, script_line, untyped_value, large_value, read_fault, too_long, out_of_memory, status_of, stop_text, err_line, says, stops, Reply, replies, texts_of, all_well, ending_of, Language, fault_of}
 use Rattle.om_edge.specs.Sink.{Puts}
 use Rattle.om_session.specs.Call.{Call}
-use Rattle.om_session.specs.Given.{Gathers, Fetched}
-use Rattle.om_session.specs.Run.{HoldNoStop, IsSaidFirst, PutsLine, Completes, Breaks, Account, AsksForFile, TellsFault, FailsByInput, FailsByFile, IfInputFails}
-use Rattle.om_session.proofs.CauseLemmas.{IsReady, Why, file_fault, file_long, input_fault, input_long, account_why, file_fetched}
+use Rattle.om_session.specs.Given.{Gathers}
+use Rattle.om_session.specs.Run.{HoldNoStop, IsSaidFirst, PutsLine, Completes, Breaks, Account, IsFoundIn, TellsFault, FailsByInput, FailsByFile, IfInputFails}
+use Rattle.om_session.proofs.CauseLemmas.{IsReady, Why, file_fault, file_long, input_fault, input_long, account_why}
 use Rattle.om_session.proofs.CompleteLemmas.{IsLawful}
-use Rattle.om_session.proofs.ExactLemmas.{AcceptsFile, prepared_accepts}
+use Rattle.om_session.proofs.ExactLemmas.{AcceptsFile, prepared_accepts, prepared_script}
 
 -- ---- a stop by its status
 
@@ -24,6 +24,9 @@ read_fault_is (cannot_open name) e = absurd (cc e)
 read_fault_is (declarations refusal) e = absurd (cc e)
 read_fault_is (requested_type refusal) e = absurd (cc e)
 read_fault_is (value number refusal) e = absurd (cc e)
+read_fault_is (script_line number refusal) e = absurd (cc e)
+read_fault_is (untyped_value number fault) e = absurd (cc e)
+read_fault_is (large_value number refusal) e = absurd (cc e)
 read_fault_is too_long e = absurd (cc e)
 read_fault_is out_of_memory e = absurd (cc e)
 
@@ -36,6 +39,9 @@ too_long_is (cannot_open name) e = absurd (cc e)
 too_long_is (declarations refusal) e = absurd (cc e)
 too_long_is (requested_type refusal) e = absurd (cc e)
 too_long_is (value number refusal) e = absurd (cc e)
+too_long_is (script_line number refusal) e = absurd (cc e)
+too_long_is (untyped_value number fault) e = absurd (cc e)
+too_long_is (large_value number refusal) e = absurd (cc e)
 too_long_is read_fault e = absurd (cc e)
 too_long_is out_of_memory e = absurd (cc e)
 
@@ -44,7 +50,7 @@ ends_so : (P : Status → Type 0) (well : Bool) → P (if well then statuses.Wel
 ends_so P true h = inl h
 ends_so P false h = inr h
 
-module _ {D T : Type 0} (language : Language D T) (lawful : IsLawful language) (words : List (List ℕ)) (call : Call) (a : Account language words call) where
+module _ {D T E : Type 0} (language : Language D T E) (lawful : IsLawful language) (words : List (List ℕ)) (call : Call) (a : Account language words call) where
   module _ (status : Status) (stop : Stop) (same : call.status ≡ status) (only : (s : Stop) → status_of s ≡ status → s ≡ stop)
       (well : statuses.Well ≡ status → ⊥) (no : statuses.No ≡ status → ⊥) (fault : statuses.WriteFault ≡ status → ⊥) where
     last_is : (last : Reply) → (ending_of (replies a.said last)).status ≡ status → last ≡ stops stop
@@ -79,7 +85,7 @@ module _ {D T : Type 0} (language : Language D T) (lawful : IsLawful language) (
               taken = a.given.input;
               gathers = a.input;
               fails = fault_told a.given.input.until is its;
-              file = a.given.file;
+              found = a.given.files;
               files = a.files;
               task = task;
               prepared = p;
@@ -88,14 +94,23 @@ module _ {D T : Type 0} (language : Language D T) (lawful : IsLawful language) (
               out = (is_put a.ends).0;
             }
 
-      -- FILE did, before a byte of the input was taken
-      module _ (name : List ℕ) (taken : Taken) (is_file : AsksForFile language words name) (found : a.given.file name ≡ opened taken) (is : fault_of taken.until ≡ Some stop) where
-        not_ready : IsReady language words a.given → ⊥
-        not_ready (task, p) =
-            let here : AcceptsFile language a.given.file name is_file.0 = prepared_accepts language words a.given.file task p name is_file.0 is_file.1 in
-            let both : opened taken ≡ opened (record { bytes = here.text; until = at_end }) = sym found ∙ here.found in
-            let same_taken : taken ≡ record { bytes = here.text; until = at_end } = cc in
+      -- a file did, before a byte of the input was taken
+      module _ (name : List ℕ) (taken : Taken) (is_found : IsFoundIn language words a.given.files name (opened taken)) (is : fault_of taken.until ≡ Some stop) where
+        not_whole : (text : List ℕ) → opened taken ≡ opened (whole text) → ⊥
+        not_whole text both =
+            let same_taken : taken ≡ whole text = cc in
             let not : fault_of at_end ≡ Some stop = subst (λ t. fault_of t.until ≡ Some stop) same_taken is in cc not
+
+        task_or_found : (task : Task T E) → Prepares language words a.given.files (Ok task) → IsFoundIn language words a.given.files name (opened taken) → ⊥
+        task_or_found task p (inl (is_file, found)) =
+            let here : AcceptsFile language a.given.files.file name is_file.0 = prepared_accepts language words a.given.files task p name is_file.0 is_file.1 in
+            not_whole here.text (sym found ∙ here.found)
+        task_or_found task p (inr (is_script, found)) =
+            let here = prepared_script language words a.given.files task p a.given.files.file name is_script in
+            not_whole here.text (sym found ∙ here.found)
+
+        not_ready : IsReady language words a.given → ⊥
+        not_ready (task, p) = task_or_found task p is_found
 
         untaken : IsSaidFirst language words a.given a.said → (a.given.input ≡ nothing) × (a.said ≡ [])
         untaken (inl none) = none
@@ -106,9 +121,10 @@ module _ {D T : Type 0} (language : Language D T) (lawful : IsLawful language) (
             let none = untaken a.first in
             record {
               name = name;
-              is_file = is_file;
               taken = taken;
-              fetched = subst (λ o. Fetched call.files name o) found (file_fetched language words call a name is_file);
+              found = a.given.files;
+              files = a.files;
+              is_found = is_found;
               fails = fault_told taken.until is its;
               untaken = subst (λ t. Gathers call.input t) none.0 a.input;
               out = subst (λ said. Puts call.out (texts_of said)) none.1 (is_put a.ends).0;
@@ -117,14 +133,14 @@ module _ {D T : Type 0} (language : Language D T) (lawful : IsLawful language) (
   fault_fails : call.status ≡ statuses.ReadFault → Why language words call a.given statuses.ReadFault → FailsByInput language words call ⊎ FailsByFile language words call
   fault_fails same (input_fault e) =
       inl (by_input statuses.ReadFault read_fault same read_fault_is (λ e. cc e) (λ e. cc e) (λ e. cc e) refl (ap fault_of e) a.first)
-  fault_fails same (file_fault name taken is found e) =
-      inr (by_file statuses.ReadFault read_fault same read_fault_is (λ e. cc e) (λ e. cc e) (λ e. cc e) refl name taken is found (ap fault_of e))
+  fault_fails same (file_fault name taken is e) =
+      inr (by_file statuses.ReadFault read_fault same read_fault_is (λ e. cc e) (λ e. cc e) (λ e. cc e) refl name taken is (ap fault_of e))
 
   length_fails : call.status ≡ statuses.TooLong → Why language words call a.given statuses.TooLong → FailsByInput language words call ⊎ FailsByFile language words call
   length_fails same (input_long task p e held) =
       inl (by_input statuses.TooLong too_long same too_long_is (λ e. cc e) (λ e. cc e) (λ e. cc e) refl (ap fault_of e) a.first)
-  length_fails same (file_long name taken is found e) =
-      inr (by_file statuses.TooLong too_long same too_long_is (λ e. cc e) (λ e. cc e) (λ e. cc e) refl name taken is found (ap fault_of e))
+  length_fails same (file_long name taken is e) =
+      inr (by_file statuses.TooLong too_long same too_long_is (λ e. cc e) (λ e. cc e) (λ e. cc e) refl name taken is (ap fault_of e))
 
   pub if_input_fails : IfInputFails language words call
   if_input_fails (inl same) = fault_fails same (subst (λ s. Why language words call a.given s) same (account_why language words call a))

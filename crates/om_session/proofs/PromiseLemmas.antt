@@ -5,7 +5,7 @@ use Rattle.om_outcome.specs.Outcome.{Language}
 use Rattle.om_session.specs.Call.{Call}
 use Rattle.om_session.specs.Given.{TellsBytes}
 use Rattle.om_session.specs.Run.{Account, Promises}
-use Rattle.om_session.proofs.CauseLemmas.{only_usage, if_usage, only_types, only_value, only_read_fault, only_write_fault, only_open_fault, if_missing, only_too_long, tells_read_fault, tells_open_fault, tells_write_fault}
+use Rattle.om_session.proofs.CauseLemmas.{only_usage, if_usage, only_types, only_value, only_script, only_compat, only_read_fault, only_write_fault, only_open_fault, if_missing, only_too_long, tells_read_fault, tells_open_fault, tells_write_fault}
 use Rattle.om_session.proofs.CompleteLemmas.{IsLawful, complete}
 use Rattle.om_session.proofs.DecidedLemmas.{decided}
 use Rattle.om_session.proofs.ExactLemmas.{if_types, if_not_two, if_too_long, if_value}
@@ -13,20 +13,22 @@ use Rattle.om_session.proofs.PaceLemmas.{if_input_fails}
 use Rattle.om_session.proofs.FrontLemmas.{if_memory, if_write_fault}
 use Rattle.om_session.proofs.HeadlineLemmas.{headline}
 
-module _ {D T : Type 0} (language : Language D T) (lawful : IsLawful language) (law : HasOneJudgement) (words : List (List ℕ)) (call : Call)
+module _ {D T E : Type 0} (language : Language D T E) (lawful : IsLawful language) (law : HasOneJudgement) (words : List (List ℕ)) (call : Call)
     (tells : TellsBytes call.input) (a : Account language words call) where
   pub promises : Promises language words call
   promises = record {
     account = a;
-    headline = headline language words call a;
+    headline = headline language words call a tells;
     complete = complete language lawful law words call tells a;
     decided = decided language lawful law words call tells a;
-    usage_only = only_usage language words call a;
+    usage_only = only_usage language words call a tells;
     usage_if = if_usage language words call a lawful;
     not_two_if = if_not_two language lawful words call a law tells;
     types_only = only_types language words call a;
     types_if = if_types language lawful words call a;
-    value_only = only_value language words call a;
+    value_only = only_value language words call a tells;
+    script_only = only_script language words call a tells;
+    compat_only = only_compat language words call a tells;
     value_if = if_value language lawful words call a law tells;
     read_fault_only = only_read_fault language words call a;
     write_fault_only = only_write_fault language words call a;

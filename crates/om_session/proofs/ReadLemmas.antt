@@ -7,7 +7,7 @@ use Rattle.std.proofs.lemmas.List.Elements.{All-from_recursion}
 use Rattle.std.specs.declared.alloc.Global.{Global}
 use Rattle.om_edge.specs.Sink.{Puts, PutsPart}
 use Rattle.om_edge.specs.State.{ByteState, Change, change}
-use Rattle.om_session.specs.declared.values.Halt.{Halt}
+use Rattle.om_session.specs.declared.stop.Halt.{Halt}
 use Rattle.om_model.specs.declared.refusal.ReadRefusal.{ReadRefusal}
 use Rattle.om_format.specs.Front.{IsFront}
 use Rattle.om_format.specs.Tree.{Tree, root, objects_of}
@@ -20,7 +20,13 @@ use Rattle.om_read.specs.declared.reader.Truncated.{Truncated}
 use Rattle.om_read.specs.declared.value.Value.{Value}
 use Rattle.om_read.specs.Reading.{IsValueOf}
 use Rattle.om_read.specs.Reader.{Leads, Feeds, Finishes, EndsInput}
-use Rattle.om_format.specs.Stream.{SpellAll}
+use Rattle.om_format.specs.Stream.{SpellAll, refused, cut, IsTail}
+use Rattle.om_format.proofs.JudgementLaws.{one_judgement_lem}
+use Rattle.om_model.specs.Bytes.{AreBytes}
+use Rattle.om_session.specs.declared.edit.Edits.{Edits}
+use Rattle.om_session.specs.Edits.{AnswersOf, PutsEdited}
+use Rattle.om_session.proofs.HeadlineLemmas.{stops_more}
+use Rattle.om_session.proofs.StreamLemmas.{value_or_tail}
 use Rattle.om_session.proofs.LengthLemmas.{spelled_some}
 use Rattle.om_outcome.specs.RefusalText.{truncated_text}
 use Rattle.om_outcome.specs.Outcome as outcome
@@ -28,36 +34,79 @@ use Rattle.om_outcome.specs.Outcome.{Said, Says, SayFirst, StopsAt, Finishes as 
 use Rattle.om_session.specs.declared.verdict.Speech.{Speech}
 use Rattle.om_session.specs.declared.verdict.Speech.TheVariants as speeches
 use Rattle.om_session.specs.declared.values.Values.{Values}
-use Rattle.om_session.specs.declared.values.Halt.TheVariants as halts
+use Rattle.om_session.specs.declared.stop.Halt.TheVariants as halts
 use Rattle.om_session.specs.declared.stop.Stop.TheVariants as stops
 use Rattle.om_session.specs.Language.{declared_types}
 use Rattle.om_session.specs.Verdict.{work_by, IsSaidOf}
 use Rattle.om_session.specs.Run.{HoldNoStop}
+use Rattle.om_session.specs.Stops.{stop_of}
 use Rattle.om_session.specs.declared.stop.Stop.{Stop}
 use Rattle.om_format.specs.Front.{IsRefused}
 use Rattle.om_read.specs.Reading.{RefusedIn}
 use Rattle.om_read.proofs.ReadingLemmas.{unless_memory}
 use Rattle.om_session.specs.declared.values.Work.{Work}
 use Rattle.om_session.specs.declared.values.Work.TheVariants as works
-use Rattle.om_session.specs.Values.{IsStopOf, StopsIn, HaltsIn, ReadsSome, IsFull, MayTake, AreValues, IsKept, HasRead, IsValueRead, PutsNext, PutsLast, Compares, AreSaid, EndsAt, work_of, task_of, word_limit}
+use Rattle.om_session.specs.Values.{IsStopOf, StopsIn, HaltsIn, ReadsSome, IsReadyWork, IsFull, MayTake, AreValues, IsKept, HasRead, IsValueRead, PutsNext, PutsLast, Compares, AreSaid, EndsScript, EndsAt, work_of, task_of, word_limit}
 use Rattle.om_session.proofs.PutLemmas.{puts_nothing}
-use Rattle.om_session.proofs.ValueLemmas.{not_whole, nothing_front, first_more, first_after, silent, and_true, all_well-snoc}
+use Rattle.om_session.proofs.ValueLemmas.{not_whole, nothing_front, first_none, first_more, first_after, silent, and_true, all_well-snoc}
 
--- where one more value may come, any bytes may
-pub may_go_on : (w : Work) (limit : ℕ) (trees : List Tree) (rest : List ℕ) (stop : outcome.Stop) → MayTake w (length trees) → StopsAt declared_types (work_of w) limit trees rest stop → ⊥
-may_go_on (works.Say (speeches.Tell r saying) most) limit trees rest stop may at = at
-may_go_on (works.Say speeches.Dump most) limit trees rest stop may at = at
-may_go_on (works.Compare most) limit trees rest stop may at = let two = at.0 in omega (arith, may, two)
+-- where a value comes, no front of one does
+front_or_value : (limit : ℕ) (rest more : List ℕ) (tree : Tree) → AreBytes rest → IsFront limit rest → SpellAll limit rest (tree ∷ []) more → ⊥
+front_or_value limit rest more tree are_bytes front (first, after, same, spelled, end) =
+    let some : 0 < length first = spelled_some limit first tree spelled in
+    let size : length rest ≡ length first + length after = ap length same ∙ length-append first after in
+    value_or_tail one_judgement_lem limit first after rest tree (cut (length rest)) are_bytes spelled same (omega (arith, some, size), refl, front)
+
+-- where one more value may come, a front of one stops nothing
+front_goes_on : (w : Work) (limit : ℕ) (trees : List Tree) (rest : List ℕ) (stop : outcome.Stop) → MayTake w (length trees) → AreBytes rest → IsFront limit rest
+    → StopsAt declared_types (work_of w) limit trees rest stop → ⊥
+front_goes_on (works.Say (speeches.Tell r saying) most) limit trees rest stop may are_bytes front at = at
+front_goes_on (works.Say speeches.Dump most) limit trees rest stop may are_bytes front at = at
+front_goes_on (works.Edit e most) limit trees rest stop may are_bytes front at = front_or_value limit rest at.more at.tree are_bytes front at.spelled
+front_goes_on (works.Compare most) limit trees rest stop may are_bytes front at = let two = at.0 in omega (arith, may, two)
+
+-- nor do bytes that are refused
+pub refused_goes_on : (w : Work) (limit : ℕ) (trees : List Tree) (rest : List ℕ) (refusal : ReadRefusal) (stop : outcome.Stop) → MayTake w (length trees) → AreBytes rest → IsTail limit rest (refused refusal)
+    → StopsAt declared_types (work_of w) limit trees rest stop → ⊥
+refused_goes_on (works.Say (speeches.Tell r saying) most) limit trees rest refusal stop may are_bytes tail at = at
+refused_goes_on (works.Say speeches.Dump most) limit trees rest refusal stop may are_bytes tail at = at
+refused_goes_on (works.Edit e most) limit trees rest refusal stop may are_bytes tail at =
+    let s = at.spelled in value_or_tail one_judgement_lem limit s.0 s.1 rest at.tree (refused refusal) are_bytes s.3 s.2 tail
+refused_goes_on (works.Compare most) limit trees rest refusal stop may are_bytes tail at = let two = at.0 in omega (arith, may, two)
 
 -- and where none come, nothing stops the run
 pub none_goes_on : (w : Work) (limit : ℕ) (trees : List Tree) (stop : outcome.Stop) → StopsAt declared_types (work_of w) limit trees [] stop → ⊥
 none_goes_on (works.Say (speeches.Tell r saying) most) limit trees stop at = at
 none_goes_on (works.Say speeches.Dump most) limit trees stop at = at
+none_goes_on (works.Edit e most) limit trees stop at =
+    let s = at.spelled in
+    let some : 0 < length s.0 = spelled_some limit s.0 at.tree s.3 in
+    let size : length {A = ℕ} [] ≡ length s.0 + length s.1 = ap length s.2 ∙ length-append s.0 s.1 in omega (arith, some, size)
 none_goes_on (works.Compare most) limit trees stop at = at.1 refl
 
 -- what was taken holds no stop
 abbrev pub holds : (w : Work) (taken : List ℕ) (said : List Said) (values : Values) → HasRead w taken said values → HoldNoStop declared_types (task_of w) taken said
 holds w taken said values h = record { trees = h.trees; front = h.front; first = h.first; is_front = h.is_front; goes_on = h.goes_on }
+
+-- no value was read
+begins_kept : (w : Work) (kept : List Value) → kept ≡ [] → IsKept w [] kept
+begins_kept (works.Say speech most) kept none = tt
+begins_kept (works.Edit e most) kept none = tt
+begins_kept (works.Compare most) kept none = (subst (λ k. AllZip IsValueOf k []) (sym none) tt, omega arith)
+
+pub begins : (w : Work) (values : Values) → IsReadyWork w → Leads (word_limit w) [] values.reader → values.count ≡ 0 → values.well ≡ true → values.kept.items ≡ [] → HasRead w [] [] values
+begins w values ready leads counted well none = record {
+  ready = ready;
+  trees = [];
+  front = [];
+  first = first_none declared_types (task_of w) [];
+  is_front = nothing_front (word_limit w) leads.bytes;
+  goes_on = λ stop at. none_goes_on w (word_limit w) [] stop at;
+  leads = leads;
+  counted = counted;
+  well = well;
+  kept = begins_kept w values.kept.items none;
+}
 
 -- ---- the input's end
 
@@ -109,11 +158,11 @@ module _ (w : Work) (taken : List ℕ) (said : List Said) (values : Values) (h :
   -- or within one
   pub ends_cut : (truncated : Truncated) → EndsInput {U = Unit {0}} (word_limit w) h.front (Err truncated) → (out : Change ByteState) → Puts out []
       → EndsAt w taken said out (Err (halts.Stop (stops.Cut values.count truncated.taken)))
-  ends_cut truncated cut out none = (
+  ends_cut truncated within out none = (
     inl (
       holds w taken said values h,
-      cut.1,
-      ap (λ n. outcome.value n (truncated_text truncated.taken)) h.counted ∙ ap (λ n. outcome.value (length h.trees) (truncated_text n)) cut.0,
+      within.1,
+      ap (λ n. outcome.value n (truncated_text truncated.taken)) h.counted ∙ ap (λ n. outcome.value (length h.trees) (truncated_text n)) within.0,
     ),
     none,
   )
@@ -136,12 +185,27 @@ ends_compared most taken said values h e out (Ok well) (final, finishes, is, put
 ends_compared most taken said values h e out (Err (halts.Stop stop)) (why, put) = (inr (h.trees, ended (works.Compare most) taken said values h e, why), put)
 ends_compared most taken said values h e out (Err halts.WriteFault) (final, finishes, part) = (h.trees, ended (works.Compare most) taken said values h e, final, finishes, part)
 
+-- values that are edited: a line may edit none of them
+pub ends_edited : (e : Edits) (most : ℕ) (taken : List ℕ) (said : List Said) (values : Values) (h : HasRead (works.Edit e most) taken said values) → EndsInput {U = Unit {0}} most h.front (Ok tt) → (o : ByteState)
+    (result : Result Bool Halt) → EndsScript e h.trees values.well result → EndsAt (works.Edit e most) taken said (change o o) result
+ends_edited e most taken said values h end o (Ok well) (finishes, same) =
+    (h.trees, ended (works.Edit e most) taken said values h end, nothing_said, finishes, same ∙ (h.well ∙ sym (and_true (all_well said))), puts_nothing o)
+ends_edited e most taken said values h end o (Err (halts.Stop stop)) finishes =
+    (inr (h.trees, ended (works.Edit e most) taken said values h end, inl finishes), puts_nothing o)
+ends_edited e most taken said values h end o (Err halts.WriteFault) never = absurd never
+
 -- the same, where the work is known by an equation
 module _ (w : Work) (taken : List ℕ) (said : List Said) (values : Values) (h : HasRead w taken said values) where
   pub ends_as_said : (speech : Speech) (most : ℕ) → w ≡ works.Say speech most → EndsInput {U = Unit {0}} (word_limit w) h.front (Ok tt) → (o : ByteState) → EndsAt w taken said (change o o) (Ok values.well)
   ends_as_said speech most is e o =
       let P : Work → Type 0 = λ w. (h : HasRead w taken said values) → EndsInput {U = Unit {0}} (word_limit w) h.front (Ok tt) → EndsAt w taken said (change o o) (Ok values.well) in
       subst P (sym is) (λ h e. ends_said speech most taken said values h e o) h e
+
+  pub ends_as_edited : (e : Edits) (most : ℕ) → w ≡ works.Edit e most → EndsInput {U = Unit {0}} (word_limit w) h.front (Ok tt) → (o : ByteState) (result : Result Bool Halt)
+      → ((trees : List Tree) → values.count ≡ length trees → EndsScript e trees values.well result) → EndsAt w taken said (change o o) result
+  ends_as_edited e most is end o result ends =
+      let P : Work → Type 0 = λ w. (h : HasRead w taken said values) → EndsInput {U = Unit {0}} (word_limit w) h.front (Ok tt) → EndsAt w taken said (change o o) result in
+      subst P (sym is) (λ h end. ends_edited e most taken said values h end o result (ends h.trees h.counted)) h end
 
   pub ends_as_compared : (most : ℕ) → w ≡ works.Compare most → EndsInput {U = Unit {0}} (word_limit w) h.front (Ok tt) → (out : Change ByteState) (result : Result Bool Halt) → Compares values.kept.items out result
       → EndsAt w taken said out result
@@ -163,6 +227,11 @@ says_read speech k value tree text well is_value it_says =
       of_tree (speeches.Tell r saying) h = h
       of_tree speeches.Dump h = h
 
+-- the bytes of a value that was read whole, and edited
+pub edited_read : (e : Edits) (k : ℕ) (value : Value) (tree : Tree) (answer : Result (List ℕ) outcome.Unedited) → IsValueOf value tree → AnswersOf e k value.heap value.root answer
+    → AnswersOf e k (objects_of tree 0) (root tree 0) answer
+edited_read e k value tree answer is it = subst (λ v. AnswersOf e k (objects_of tree 0) v answer) is.root (subst (λ h. AnswersOf e k h value.root answer) is.heap it)
+
 -- ---- bytes in hand
 
 module _ (w : Work) (taken : List ℕ) (said : List Said) (values : Values) (h : HasRead w taken said values) (rest : List ℕ) (reader : Reader) (fed : Fed) (f : Feeds (word_limit w) h.front rest reader fed) where
@@ -170,7 +239,7 @@ module _ (w : Work) (taken : List ℕ) (said : List Said) (values : Values) (h :
   after = record values { reader = reader }
 
   -- they complete the value
-  pub whole_read : MayTake w (length h.trees) → fed.done ≡ true → IsValueRead w (taken ++ take fed.taken rest) said after
+  abbrev pub whole_read : MayTake w (length h.trees) → fed.done ≡ true → IsValueRead w (taken ++ take fed.taken rest) said after
   whole_read may done = record {
     ready = h.ready;
     trees = h.trees;
@@ -212,7 +281,8 @@ module _ (w : Work) (taken : List ℕ) (said : List Said) (values : Values) (h :
         front = h.front ++ take fed.taken rest;
         first = first_after declared_types (task_of w) taken h.trees said h.front (take fed.taken rest) h.first;
         is_front = subst (λ b. IsFront (word_limit w) (h.front ++ b)) (sym all) more.1;
-        goes_on = λ stop at. may_go_on w (word_limit w) h.trees (h.front ++ take fed.taken rest) stop may at;
+        goes_on = λ stop at.
+            front_goes_on w (word_limit w) h.trees (h.front ++ take fed.taken rest) stop may f.leads.bytes (subst (λ b. IsFront (word_limit w) (h.front ++ b)) (sym all) more.1) at;
         leads = f.leads;
         counted = h.counted;
         well = h.well;
@@ -266,6 +336,12 @@ kept_next w most taken said values v is new o kept =
     let P : Work → Type 0 = λ w. IsValueRead w taken said values → HasRead w taken (said ++ nothing_said ∷ []) new in
     (nothing_said, subst P (sym is) kept v, puts_nothing o)
 
+pub next_as : (w known : Work) → w ≡ known → (taken : List ℕ) (said : List Said) (values : Values) (v : IsValueRead w taken said values) (out : Change ByteState) (new : Values) (result : Result (Unit {0}) Halt)
+    → ((v : IsValueRead known taken said values) → PutsNext known taken said v.trees v.whole out new result) → PutsNext w taken said v.trees v.whole out new result
+next_as w known is taken said values v out new result next =
+    let P : Work → Type 0 = λ w. (v : IsValueRead w taken said values) → PutsNext {U = Unit {0}} w taken said v.trees v.whole out new result in
+    subst P (sym is) next v
+
 -- there are no more values than bytes
 spell_count : (limit : ℕ) (bytes rest : List ℕ) (trees : List Tree) → SpellAll limit bytes trees rest → length trees + length rest ≤ length bytes
 spell_count limit bytes rest [] same = let e : length bytes ≡ length rest = ap length same in omega (arith, e)
@@ -281,16 +357,16 @@ room_for_one w taken said values v short =
     let some = v.some in omega (arith, fewer, short, counted, some)
 
 -- memory ran out for the line, by `?`
-pub next_memory : (w : Work) (taken : List ℕ) (said : List Said) (out : Change ByteState) (new : Values) (result : Result (Unit {0}) Halt) → IsErrAnd result (λ h. h ≡ halts.Stop stops.Memory) → Puts out []
-    → PutsNext w taken said out new result
-next_memory w taken said out new (Ok unit) is none = absurd is
-next_memory w taken said out new (Err halt) is none = subst (λ h. PutsNext {U = Unit {0}} w taken said out new (Err h)) (sym is) (refl, none)
+pub next_memory : (w : Work) (taken : List ℕ) (said : List Said) (trees : List Tree) (whole : List ℕ) (out : Change ByteState) (new : Values) (result : Result (Unit {0}) Halt)
+    → IsErrAnd result (λ h. h ≡ halts.Stop stops.Memory) → Puts out [] → PutsNext w taken said trees whole out new result
+next_memory w taken said trees whole out new (Ok unit) is none = absurd is
+next_memory w taken said trees whole out new (Err halt) is none = subst (λ h. PutsNext {U = Unit {0}} w taken said trees whole out new (Err h)) (sym is) (inl refl, none)
 
 -- out failed, by `?`
-pub next_fault : (w : Work) (taken : List ℕ) (said : List Said) (out : Change ByteState) (new : Values) (result : Result (Unit {0}) Halt) → IsErrAnd result (λ h. h ≡ halts.WriteFault)
-    → (next : Said) → AreSaid w taken (said ++ next ∷ []) → PutsPart out next.text → PutsNext w taken said out new result
-next_fault w taken said out new (Ok unit) is next are part = absurd is
-next_fault w taken said out new (Err halt) is next are part = subst (λ h. PutsNext {U = Unit {0}} w taken said out new (Err h)) (sym is) (next, are, part)
+pub next_fault : (w : Work) (taken : List ℕ) (said : List Said) (trees : List Tree) (whole : List ℕ) (out : Change ByteState) (new : Values) (result : Result (Unit {0}) Halt)
+    → IsErrAnd result (λ h. h ≡ halts.WriteFault) → (next : Said) → AreSaid w taken (said ++ next ∷ []) → PutsPart out next.text → PutsNext w taken said trees whole out new result
+next_fault w taken said trees whole out new (Ok unit) is next are part = absurd is
+next_fault w taken said trees whole out new (Err halt) is next are part = subst (λ h. PutsNext {U = Unit {0}} w taken said trees whole out new (Err h)) (sym is) (next, are, part)
 
 -- what is refused in hand stops the run, or memory ran out
 pub stops_in : (w : Work) (trees : List Tree) (rest : List ℕ) (refusal : ReadRefusal) (stop : Stop) → MayTake w (length trees) → RefusedIn (word_limit w) rest refusal → IsStopOf (length trees) refusal stop
@@ -302,13 +378,18 @@ stops_in w trees rest refusal stop may r (inr (some, is)) =
 -- any byte after two values does
 pub full_stops : (w : Work) (trees : List Tree) (front rest : List ℕ) → IsFull w (length trees) → 0 < length rest → StopsIn w trees (front ++ rest) stops.NotTwoValues
 full_stops (works.Say speech most) trees front rest full some = absurd full
+full_stops (works.Edit e most) trees front rest full some = absurd full
 full_stops (works.Compare most) trees front rest full some =
     inr (inr (full, λ none. let e : length (front ++ rest) ≡ 0 = ap length none in let size = length-append front rest in absurd (omega (arith, e, size, some)), refl))
 
 -- a halt at the value's line, in what is in hand
 module _ (w : Work) (taken : List ℕ) (said : List Said) (values : Values) (h : HasRead w taken said values) (rest : List ℕ) (n : ℕ) (out : Change ByteState) (new : Values) where
-  next_halt : (halt : Halt) → PutsNext {U = Unit {0}} w (taken ++ take n rest) said out new (Err halt) → HaltsIn w taken rest said out halt
-  next_halt (halts.Stop stop) (memory, none) = (holds w taken said values h, inl memory, none)
+  next_halt : (halt : Halt) → PutsNext {U = Unit {0}} w (taken ++ take n rest) said h.trees (h.front ++ take n rest) out new (Err halt) → HaltsIn w taken rest said out halt
+  next_halt (halts.Stop stop) (inl memory, none) = (holds w taken said values h, inl memory, none)
+  next_halt (halts.Stop stop) (inr at, none) =
+      let more = stops_more declared_types (work_of w) (word_limit w) h.trees (h.front ++ take n rest) (drop n rest) (stop_of stop) at in
+      let all : (h.front ++ take n rest) ++ drop n rest ≡ h.front ++ rest = append_assoc h.front (take n rest) (drop n rest) ∙ ap (λ r. h.front ++ r) (take-append-drop n rest) in
+      (holds w taken said values h, inr (inr (subst (λ b. StopsAt declared_types (work_of w) (word_limit w) h.trees b (stop_of stop)) all more)), none)
   next_halt halts.WriteFault (next, (trees, left, first), part) =
       let all : (taken ++ take n rest) ++ drop n rest ≡ taken ++ rest = append_assoc taken (take n rest) (drop n rest) ∙ ap (λ r. taken ++ r) (take-append-drop n rest) in (
         holds w taken said values h,
@@ -322,6 +403,54 @@ module _ (w : Work) (taken : List ℕ) (said : List Said) (values : Values) (h :
         part,
       )
 
-  pub some_halt : (halt : Halt) (result : Result ℕ Halt) → IsErrAnd result (λ e. e ≡ halt) → PutsNext {U = Unit {0}} w (taken ++ take n rest) said out new (Err halt) → ReadsSome w taken said rest out new result
+  pub some_halt : (halt : Halt) (result : Result ℕ Halt) → IsErrAnd result (λ e. e ≡ halt) → PutsNext {U = Unit {0}} w (taken ++ take n rest) said h.trees (h.front ++ take n rest) out new (Err halt)
+      → ReadsSome w taken said rest out new result
   some_halt halt (Ok m) is put = absurd is
   some_halt halt (Err e) is put = subst (λ e. ReadsSome w taken said rest out new (Err e)) (sym is) (next_halt halt put)
+
+-- ---- a value that is edited
+
+module _ (e : Edits) (most : ℕ) (taken : List ℕ) (said : List Said) (values : Values) (v : IsValueRead (works.Edit e most) taken said values) (value : Value) (f : Finishes most v.whole value) where
+  -- what is answered to it is answered to the tree after the values
+  answered : (answer : Result (List ℕ) outcome.Unedited) → AnswersOf e values.count value.heap value.root answer → AnswersOf e (length v.trees) (objects_of f.tree 0) (root f.tree 0) answer
+  answered answer it = edited_read e (length v.trees) value f.tree answer f.is_value (subst (λ k. AnswersOf e k value.heap value.root answer) v.counted it)
+
+  abbrev edited_said : List ℕ → Said
+  edited_said bytes = record { text = bytes; well = true }
+
+  -- its bytes were put, and the reader waits for the next one
+  pub edited_put : (out : Change ByteState) (result : Result (Unit {0}) Halt) → result ≡ Ok tt → PutsEdited e values.count value.heap value.root out result
+      → (reader : Reader) → Leads most [] reader
+      → (next : Said) × HasRead (works.Edit e most) taken (said ++ next ∷ []) (record { reader = reader; well = values.well; count = values.count + 1; kept = values.kept }) × Puts out next.text
+  edited_put out (Err halt) is p reader leads = absurd (cc is)
+  edited_put out (Ok unit) is (bytes, it, put) reader leads = (
+    edited_said bytes,
+    value_put (works.Edit e most) taken said values v f.tree f.spelled (edited_said bytes) (answered (Ok bytes) it, refl) reader leads values.well (sym (and_true values.well)) values.kept tt,
+    put,
+  )
+
+  -- or it stops the run, or out failed
+  edited_halt : (out : Change ByteState) (halt : Halt) (new : Values) → PutsEdited {U = Unit {0}} e values.count value.heap value.root out (Err halt)
+      → PutsNext {U = Unit {0}} (works.Edit e most) taken said v.trees v.whole out new (Err halt)
+  edited_halt out (halts.Stop stop) new (inl memory, none) = (inl memory, none)
+  edited_halt out (halts.Stop stop) new (inr (why, it, is), none) = (
+    inr (record {
+      tree = f.tree;
+      more = [];
+      spelled = (v.whole, [], sym (append-nil v.whole), f.spelled, refl);
+      why = why;
+      refused = answered (Err why) it;
+      stops = subst (λ k. stop_of stop ≡ outcome.unedited_stop k why) v.counted is;
+    }),
+    none,
+  )
+  edited_halt out halts.WriteFault new (bytes, it, part) = (
+    edited_said bytes,
+    (v.trees ++ f.tree ∷ [], [], value_said (works.Edit e most) taken said values v f.tree f.spelled (edited_said bytes) (answered (Ok bytes) it, refl)),
+    part,
+  )
+
+  pub edited_halts : (out : Change ByteState) (halt : Halt) (new : Values) (result : Result (Unit {0}) Halt) → IsErrAnd result (λ h. h ≡ halt) → PutsEdited {U = Unit {0}} e values.count value.heap value.root out (Err halt)
+      → PutsNext {U = Unit {0}} (works.Edit e most) taken said v.trees v.whole out new result
+  edited_halts out halt new (Ok unit) is p = absurd is
+  edited_halts out halt new (Err h) is p = subst (λ h. PutsNext {U = Unit {0}} (works.Edit e most) taken said v.trees v.whole out new (Err h)) (sym is) (edited_halt out halt new p)

@@ -49,7 +49,7 @@ module _ (law : HasOneJudgement) (limit : ℕ) where
   nothing_refused n refusal (inr r) = empty n r.front r.last r.bytes_are
 
   -- where there is a value, no tail begins
-  value_or_tail : (first more tail : List ℕ) (t : Tree) (e : End) → AreBytes tail → SpelledUnder limit first t → tail ≡ first ++ more → IsTail limit tail e → ⊥
+  pub value_or_tail : (first more tail : List ℕ) (t : Tree) (e : End) → AreBytes tail → SpelledUnder limit first t → tail ≡ first ++ more → IsTail limit tail e → ⊥
   value_or_tail first more tail t clean are_bytes spelled same h =
       let some : 0 < length first = spelled_some limit first t spelled in
       let size : length (first ++ more) ≡ length first + length more = length-append first more in

@@ -1,5 +1,5 @@
 -- What a FILE and a TYPE are read as.
-use Rattle.std.proofs.Common.{◌≡◌, ◌≤◌, ℕ, List, length, Some, None, Option, Result, Ok, Err, inl, inr, refl, ap, ◌∙◌, arith}
+use Rattle.std.proofs.Common.{◌≡◌, ◌⊎◌, ◌≤◌, ℕ, List, length, Some, None, Option, Result, Ok, Err, inl, inr, refl, ap, ◌∙◌, arith}
 use Rattle.std.specs.Prelude.{◌≢◌, MatchOption, codes}
 use Rattle.std.proofs.lemmas.List.{length-map}
 use Rattle.om_types.specs.Nodes.{type_at}
@@ -15,17 +15,21 @@ use Rattle.om_decl.specs.declared.fault.DeclFault.TheVariants as faults
 use Rattle.om_decl.specs.Answer.{Answer, accepted, IsFileAnswer, IsTypeAnswer}
 use Rattle.om_decl.specs.Fault.{told, IsRefused}
 use Rattle.om_decl.specs.Read.{IsTypeOf}
-use Rattle.om_decl.specs.Text.{answer_text}
-use Rattle.om_outcome.specs.Outcome.{at_end, Taken, Found, opened, missing, failed, Stop, cannot_open, declarations, requested_type, out_of_memory, fault_of}
+use Rattle.om_decl.specs.Text.{answer_text, lexer_text, placed_text}
+use Rattle.om_outcome.specs.Outcome.{at_end, Taken, Found, opened, missing, failed, Stop, cannot_open, declarations, requested_type, script_line, out_of_memory, fault_of}
 use Rattle.om_session.specs.declared.stop.Stop as codes_of
 use Rattle.om_session.specs.declared.stop.Stop.TheVariants as stops
 use Rattle.om_session.specs.declared.types.Requested.{Requested}
 use Rattle.om_path.specs.Answer.{IsAnswer, UnlessMemory}
 use Rattle.om_path.specs.declared.fault.PathFault.{PathFault}
 use Rattle.om_path.specs.declared.fault.PathFault.TheVariants as path_faults
-use Rattle.om_session.specs.Language.{IsRefusal, ReadsPath}
+use Rattle.om_path.specs.ScriptAnswer.{IsScriptAnswer, UnlessMemory as UnlessMemoryInScript}
+use Rattle.om_path.specs.declared.edits.Script.{Script}
+use Rattle.om_path.specs.declared.edits.ScriptFault.{ScriptFault}
+use Rattle.om_path.specs.declared.edits.ScriptFault.TheVariants as script_faults
+use Rattle.om_session.specs.Language.{IsRefusal, ReadsPath, ReadsScript}
 use Rattle.om_session.specs.Stops.{stop_of, declared_text}
-use Rattle.om_session.specs.Types.{StopsBy, IsDeclarationsStop, IsTypeStop, GivesDeclarations, GivesRequested, GivesType}
+use Rattle.om_session.specs.Types.{StopsBy, IsDeclarationsStop, IsTypeStop, IsScriptStop, GivesDeclarations, GivesRequested, GivesType, GivesScript}
 
 -- ---- faults
 
@@ -178,3 +182,43 @@ pub path_refused : (text : List ℕ) (fault : PathFault) → fault ≢ path_faul
 path_refused text path_faults.Lex some is = (path_faults.Lex, some, is)
 path_refused text (path_faults.Syntax place) some is = (path_faults.Syntax place, some, is)
 path_refused text path_faults.Memory some is = absurd (some refl)
+
+-- ---- SCRIPT
+
+-- the stop tells the line of the text that is at fault
+abbrev StopsByLine : List ℕ → codes_of.Stop → Type 0
+StopsByLine text stop = (refusal : ℕ × List ℕ) × ReadsScript text (Err refusal) × (stop_of stop ≡ script_line refusal.0 refusal.1)
+
+-- a fault but for out of memory is that of a text that is no script
+lines_refused : (text : List ℕ) (fault : ScriptFault) → UnlessMemoryInScript (λ f. IsScriptAnswer text (Err f)) fault → (stop : codes_of.Stop) → IsScriptStop fault stop
+    → StopsByLine text stop ⊎ (stop_of stop ≡ out_of_memory)
+lines_refused text (script_faults.Lex number fault) refused stop is = inl ((number, lexer_text fault), (script_faults.Lex number fault, refused, refl), is)
+lines_refused text (script_faults.Syntax number place) refused stop is = inl ((number, placed_text (codes "Syntax") place), (script_faults.Syntax number place, refused, refl), is)
+lines_refused text script_faults.Memory refused stop is = inr is
+
+module _ (name : List ℕ) where
+  abbrev pub GivesLines : Found → Result Script codes_of.Stop → Type 0
+  GivesLines found result = GivesScript name found result
+
+  pub script_missing : (stop : codes_of.Stop) → stop_of stop ≡ cannot_open name → GivesLines missing (Err stop)
+  script_missing stop e = inl (Err (cannot_open name), refl, ap Err e)
+
+  pub script_failed : (stop : codes_of.Stop) → stop_of stop ≡ cannot_open name → GivesLines failed (Err stop)
+  script_failed stop e = inl (Err (cannot_open name), refl, ap Err e)
+
+  module _ (taken : Taken) where
+    pub script_fault : (stop : codes_of.Stop) → fault_of taken.until ≡ Some (stop_of stop) → GivesLines (opened taken) (Err stop)
+    script_fault stop e = inl (Err (stop_of stop), e, refl)
+
+    abbrev all_taken : taken.until ≡ at_end → opened taken ≡ opened (record { bytes = taken.bytes; until = at_end })
+    all_taken e = ap (λ u. opened (record { bytes = taken.bytes; until = u })) e
+
+    pub script_read : taken.until ≡ at_end → (script : Script) → IsScriptAnswer taken.bytes (Ok script) → GivesLines (opened taken) (Ok script)
+    script_read e script is = (Ok taken.bytes, all_taken e, is)
+
+    pub script_refused : taken.until ≡ at_end → (fault : ScriptFault) → UnlessMemoryInScript (λ f. IsScriptAnswer taken.bytes (Err f)) fault → (stop : codes_of.Stop) → IsScriptStop fault stop
+        → GivesLines (opened taken) (Err stop)
+    script_refused e fault refused stop is = at (lines_refused taken.bytes fault refused stop is) where
+      at : StopsByLine taken.bytes stop ⊎ (stop_of stop ≡ out_of_memory) → GivesLines (opened taken) (Err stop)
+      at (inl (refusal, reads, same)) = inl (Ok taken.bytes, all_taken e, (refusal, reads, same))
+      at (inr memory) = inr memory

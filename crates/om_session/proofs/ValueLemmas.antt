@@ -77,7 +77,7 @@ all_well-snoc (first ∷ said) next =
 -- ---- of values that are compared
 
 -- of no more than two values something is said
-pub few_said : {D T : Type 0} (language : Language D T) (k : ℕ) (trees : List Tree) (said : List Said) → k ≤ 2 → AllSay language compares k trees said → k + length trees ≤ 2
+pub few_said : {D T E : Type 0} (language : Language D T E) (k : ℕ) (trees : List Tree) (said : List Said) → k ≤ 2 → AllSay language compares k trees said → k + length trees ≤ 2
 few_said language k [] said fits h = omega (arith, fits)
 few_said language k (t ∷ trees) [] fits h = absurd h
 few_said language k (t ∷ trees) (next ∷ said) fits h =
@@ -85,7 +85,7 @@ few_said language k (t ∷ trees) (next ∷ said) fits h =
     let more = few_said language (suc k) trees said (omega (arith, less)) h.1 in omega (arith, more)
 
 -- nothing is wrong before the line
-pub silent : {D T : Type 0} (language : Language D T) (k : ℕ) (trees : List Tree) (said : List Said) → AllSay language compares k trees said → all_well said ≡ true
+pub silent : {D T E : Type 0} (language : Language D T E) (k : ℕ) (trees : List Tree) (said : List Said) → AllSay language compares k trees said → all_well said ≡ true
 silent language k [] [] h = refl
 silent language k [] (next ∷ said) h = absurd h
 silent language k (t ∷ trees) [] h = absurd h
@@ -98,7 +98,7 @@ comparison-well false = refl
 
 -- ---- one value more
 
-module _ {D T : Type 0} (language : Language D T) (task : Task T) where
+module _ {D T E : Type 0} (language : Language D T E) (task : Task T E) where
   say_snoc : (k n : ℕ) (trees : List Tree) (said : List Said) (tree : Tree) (next : Said) → n ≡ k + length trees
       → AllSay language task.work k trees said → Says language task.work n tree next → AllSay language task.work k (trees ++ tree ∷ []) (said ++ next ∷ [])
   say_snoc k n [] [] tree next at before says =

@@ -5,6 +5,7 @@ use Rattle.std.proofs.lemmas.List.{length-map}
 use Rattle.om_model.specs.declared.value.Val.{Val}
 use Rattle.om_model.specs.declared.value.Obj.{Obj}
 use Rattle.om_types.specs.declared.fault.Fault.{Fault}
+use Rattle.om_types.specs.Equal.{declared_shapes}
 use Rattle.om_types.specs.Fault.{value_at}
 use Rattle.om_types.specs.Names.{names_of}
 use Rattle.om_types.specs.Ty.{Ty}
@@ -31,7 +32,7 @@ use Rattle.om_session.specs.declared.verdict.Saying.{Saying}
 use Rattle.om_session.specs.declared.verdict.Saying.TheVariants as sayings
 use Rattle.om_session.specs.Language.{told_of, part_or_none}
 use Rattle.om_session.specs.Types.{type_over, IsReady}
-use Rattle.om_session.specs.Verdict.{IsVerdictOf, PutsLine, saying_of}
+use Rattle.om_session.specs.Verdict.{IsVerdictOf, PutsLine, PutsNo, saying_of}
 use Rattle.om_session.proofs.TypedLemmas.{place_has_type}
 
 module _ (r : Requested) (ready : IsReady r) where
@@ -107,20 +108,17 @@ module _ (r : Requested) (ready : IsReady r) where
 
     -- `no` and the least fault are put
     pub puts_no : TablesHaveTheLeastFault → TextsAreOfTypes → (fault : Fault) → IsVerdictOf r graph root (No fault) → (text : List ℕ)
-        → IsFaultText (table_shapes (table_of r.table)) (text_at r.table) graph root 0 fault text → (saying : outcome.Saying) (old new : List ℕ) → new ≡ old ++ (codes "no " ++ text)
-        → PutsLine saying (type_over r) graph root old new false
-    puts_no same_faults same_texts fault least text is_text saying old new put = (
+        → IsFaultText (table_shapes (table_of r.table)) (text_at r.table) graph root 0 fault text → (old new : List ℕ) → new ≡ old ++ (codes "no " ++ text)
+        → PutsNo (type_over r) graph root old new
+    puts_no same_faults same_texts fault least text is_text old new put = (
       codes "no " ++ text,
-      inr (record {
-        why = record {
-          fault = fault;
-          text = text;
-          least = (same_faults r.decls (types_of r.table) (table_of r.table) ready.made.made graph root 0 r.ty is_first fault).0 least;
-          is_text = same_texts r.decls r.ty r.table ready.made graph root fault text is_text;
-          spelled = refl;
-        };
-        is_well = refl;
-      }),
+      record {
+        fault = fault;
+        text = text;
+        least = (same_faults r.decls (types_of r.table) (table_of r.table) ready.made.made graph root 0 r.ty is_first fault).0 least;
+        is_text = same_texts r.decls r.ty r.table ready.made graph root fault text is_text;
+        spelled = refl;
+      },
       put,
     )
 
@@ -135,7 +133,18 @@ module _ (r : Requested) (ready : IsReady r) where
   ready_names =
       ap length ready.made.named ∙ (length-map (types_of r.table) (names_of r.decls) ∙ (length-map r.table.stored (type_at r.table.store) ∙ ready_sizes))
 
+-- that line is said whatever was asked for
+pub no_line : (saying : outcome.Saying) (r : Requested) (graph : List Obj) (root : Val) (old new : List ℕ) → PutsNo (type_over r) graph root old new → PutsLine saying (type_over r) graph root old new false
+no_line saying r graph root old new (line, why, put) = (line, inr (record { why = why; is_well = refl }), put)
+
 -- a verdict is `yes` where the value has the type
 pub yes_typed : (r : Requested) (graph : List Obj) (root : Val) (verdict : Verdict) → IsVerdictOf r graph root verdict → (typing : Typing) → verdict ≡ Yes typing
     → HasType (table_shapes (table_of r.table)) graph root 0
 yes_typed r graph root verdict is typing same = let has : IsVerdictOf r graph root (Yes typing) = subst (IsVerdictOf r graph root) same is in has.0
+
+-- so it has the declared type
+pub yes_declared : (r : Requested) (ready : IsReady r) → TheRootIsFirst → TablesDecide → (graph : List Obj) (root : Val) (verdict : Verdict) → IsVerdictOf r graph root verdict → (typing : Typing) → verdict ≡ Yes typing
+    → HasType (declared_shapes r.decls) graph root r.ty
+yes_declared r ready root_first decide graph root verdict is typing same =
+    (decide r.decls r.ty (types_of r.table) (table_of r.table) (record { well = ready.well; sound = ready.sound; reached = ready.made.reached; made = ready.made.made }) graph root 0 r.ty
+    (root_first r.decls r.ty (types_of r.table) ready.made.reached)).0 (yes_typed r graph root verdict is typing same)

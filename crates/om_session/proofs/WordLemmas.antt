@@ -1,8 +1,8 @@
 -- Lists of two, and what words ask for, which is one thing.
 use Rattle.std.proofs.Common.{◌≡◌, ◌∙◌, ℕ, List, [], ◌∷◌, Option, Some, None, length, get_or, sym, ap, arith}
-use Rattle.om_outcome.specs.Outcome.{Language, Request, compare, typed_by, Asks}
+use Rattle.om_outcome.specs.Outcome.{Language, Found, Request, check, show, get, edit, dump, compare, typed_by, script_of, Asks}
 use Rattle.om_command_line.proofs.RequestLemmas.{one_request}
-use Rattle.om_session.specs.Run.{AsksFor}
+use Rattle.om_session.specs.Run.{HasPath, AsksFor, AsksForScript}
 
 pub two : {X : Type 0} (xs : List X) (x y : X) → length xs ≡ 2 → x ≡ get_or xs 0 x → y ≡ get_or xs 1 y → xs ≡ x ∷ y ∷ []
 two [] x y n a b = absurd (cc n)
@@ -17,7 +17,7 @@ compare_part most most' e = cc e
 pub same_compare : (words : List (List ℕ)) (most most' : ℕ) → Asks words (compare most) → Asks words (compare most') → most ≡ most'
 same_compare words most most' asks other = compare_part most most' (one_request words (compare most) (compare most') asks other)
 
-module _ {D T : Type 0} (language : Language D T) (words : List (List ℕ)) where
+module _ {D T E : Type 0} (language : Language D T E) (words : List (List ℕ)) where
   -- one FILE and one TYPE
   pub one_typed : (name type other type' : List ℕ) → AsksFor language words name type → AsksFor language words other type' → (name ≡ other) × (type ≡ type')
   one_typed name type other type' is its =
@@ -30,3 +30,26 @@ module _ {D T : Type 0} (language : Language D T) (words : List (List ℕ)) wher
   pub unnamed : (request : Request) → Asks words request → typed_by request ≡ None → (name type : List ℕ) → AsksFor language words name type → ⊥
   unnamed request asks none name type is =
       let found : ◌≡◌ {A = Option (List ℕ × List ℕ)} None (Some (name, type)) = sym none ∙ (ap typed_by (one_request words request is.request asks is.asks) ∙ is.typed) in cc found
+
+  -- nor a SCRIPT
+  pub unscripted : (file : List ℕ → Found) (request : Request) → Asks words request → script_of request ≡ None → (name : List ℕ) → AsksForScript language words file name → ⊥
+  unscripted file request asks none name is =
+      let found : ◌≡◌ {A = Option (List ℕ)} None (Some name) = sym none ∙ (ap script_of (one_request words request is.request asks is.asks) ∙ is.scripted) in cc found
+
+  -- one SCRIPT
+  pub one_script : (file : List ℕ → Found) (name other : List ℕ) → AsksForScript language words file name → AsksForScript language words file other → name ≡ other
+  one_script file name other is its =
+      let found : ◌≡◌ {A = Option (List ℕ)} (Some name) (Some other) = sym is.scripted ∙ (ap script_of (one_request words is.request its.request is.asks its.asks) ∙ its.scripted) in cc found
+
+  -- words with a SCRIPT have no PATH
+  pathless : (request : Request) (name : List ℕ) → script_of request ≡ Some name → HasPath language request
+  pathless (check f t most) name is = absurd (cc is)
+  pathless (show f t most) name is = absurd (cc is)
+  pathless (get f t text most) name is = absurd (cc is)
+  pathless (edit f t script compat most) name is = tt
+  pathless (dump most) name is = absurd (cc is)
+  pathless (compare most) name is = absurd (cc is)
+
+  -- and have a FILE
+  pub script_asks : (file : List ℕ → Found) (name : List ℕ) (is : AsksForScript language words file name) → AsksFor language words is.typed.0 is.typed.1
+  script_asks file name is = record { request = is.request; asks = is.asks; has_path = pathless is.request name is.scripted; typed = is.is_typed }

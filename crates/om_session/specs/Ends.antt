@@ -1,7 +1,7 @@
 -- How the work with the values ends.
 use Rattle.std.specs.Prelude.{◌≡◌, ◌⊎◌, List, [], ◌∷◌, ◌++◌}
-use Rattle.om_model.specs.declared.status.Status.{Status}
-use Rattle.om_model.specs.declared.status.Status.TheVariants.{WriteFault}
+use Rattle.om_outcome.specs.declared.status.Status.{Status}
+use Rattle.om_outcome.specs.declared.status.Status.TheVariants.{WriteFault}
 use Rattle.om_outcome.specs.Outcome.{Taken, Reply, says, stops, out_of_memory, Said, replies, texts_of, ending_of, ValuesReply}
 use Rattle.om_edge.specs.Sink.{Puts}
 use Rattle.om_edge.specs.State.{ByteState, Change}

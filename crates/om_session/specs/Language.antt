@@ -1,4 +1,4 @@
--- The language of declared types: FILE has declarations, and TYPE is a type over them.
+-- The language of declared types: FILE has declarations, TYPE is a type over them, and SCRIPT is a list of edits.
 use Rattle.std.specs.Prelude.{ℕ, ◌≤◌, ◌≡◌, ◌≢◌, ◌⊎◌, Bool, true, false, List, length, Option, Some, None, Result, Ok, Err, codes}
 use Rattle.om_model.specs.declared.value.Val.{Val}
 use Rattle.om_model.specs.declared.value.Obj.{Obj}
@@ -11,16 +11,26 @@ use Rattle.om_types.specs.Shape.{shape}
 use Rattle.om_types.specs.TypeText.{type_text}
 use Rattle.om_types.specs.Typing.{HasType}
 use Rattle.om_types.specs.VerdictText.{IsNoLine}
-use Rattle.om_format.specs.Tree.{root, objects_of}
+use Rattle.om_format.specs.Canonical.{canon}
+use Rattle.om_format.specs.Compat.{TooLargeFor32, too_large_for_32}
+use Rattle.om_format.specs.Iso.{IsTreeOf}
+use Rattle.om_format.specs.Tree.{Tree, root, objects_of}
 use Rattle.om_decl.specs.Answer.{Answer, accepted, IsFileAnswer, IsTypeAnswer}
 use Rattle.om_decl.specs.Read.{IsDeclared, IsTypeOf}
-use Rattle.om_decl.specs.Text.{answer_text}
+use Rattle.om_decl.specs.Text.{answer_text, lexer_text, placed_text}
+use Rattle.om_edit.specs.Answers.{Edited, AreEdited}
+use Rattle.om_edit.specs.Reasons.{reason_text}
 use Rattle.om_path.specs.Answer.{IsAnswer}
 use Rattle.om_path.specs.declared.fault.PathFault.{PathFault}
 use Rattle.om_path.specs.declared.fault.PathFault.TheVariants as path_faults
+use Rattle.om_path.specs.ScriptAnswer.{AreEdits}
+use Rattle.om_path.specs.declared.edits.ScriptFault.{ScriptFault}
+use Rattle.om_path.specs.declared.edits.ScriptFault.TheVariants as script_faults
+use Rattle.om_path.specs.declared.edits.ScriptLine.{ScriptLine}
 use Rattle.om_show.specs.Dumped.{dump_text}
 use Rattle.om_show.specs.Shown.{shown_text, shown_at}
-use Rattle.om_outcome.specs.Outcome.{Language, Said, Saying, the_verdict, the_text, the_part, line}
+use Rattle.om_outcome.specs.RefusalText.{compat_text}
+use Rattle.om_outcome.specs.Outcome.{Language, Said, Saying, the_verdict, the_text, the_part, Unedited, untyped, refused_line, too_large, line}
 
 -- a type over declarations
 pub record TypeOver : Type 0 where
@@ -58,6 +68,40 @@ IsTypeLine saying t graph v text well = IsTold saying t graph v text well ⊎ Is
 -- the same with its line feed
 abbrev pub SaysLine : Saying → TypeOver → List Obj → Val → List ℕ → Bool → Type 0
 SaysLine saying t graph v text well = (said : List ℕ) × IsTypeLine saying t graph v said well × (text ≡ line said)
+
+-- ---- edits
+
+-- the bytes of a tree; or, where a reader on 32 bits is to hold it, what is too large for one
+abbrev pub bytes_for : Bool → Tree → Option TooLargeFor32 → Result (List ℕ) Unedited
+bytes_for compat tree None = Ok (canon tree)
+bytes_for false tree (Some large) = Ok (canon tree)
+bytes_for true tree (Some large) = Err (too_large (compat_text large))
+
+-- the bytes of a value
+abbrev pub AreBytesOf : Bool → List Obj → Val → Result (List ℕ) Unedited → Type 0
+AreBytesOf compat graph v answer = (tree : Tree) × IsTreeOf graph v tree × (answer ≡ bytes_for compat tree (too_large_for_32 tree))
+
+-- those of what the lines made, or the line that is refused
+abbrev pub AreBytesAfter : Bool → Edited Ty → Result (List ℕ) Unedited → Type 0
+AreBytesAfter compat (Ok edited) answer = AreBytesOf compat edited.0 edited.1 answer
+AreBytesAfter compat (Err refused) answer = answer ≡ Err (refused_line refused.0 (reason_text type_text refused.1))
+
+-- the value has the type, and these are the bytes of what the lines make of it
+pub record IsEdited (t : TypeOver) (lines : List ScriptLine) (compat : Bool) (graph : List Obj) (v : Val) (answer : Result (List ℕ) Unedited) : Type 0 where
+  pub has : HasType (declared_shapes t.decls) graph v t.type
+  pub edited : Edited Ty
+  pub made : AreEdited (shape t.decls) (names_of t.decls) (Equal t.decls) t.type lines graph v edited
+  pub bytes : AreBytesAfter compat edited answer
+
+-- it has not
+pub record IsUntyped (t : TypeOver) (graph : List Obj) (v : Val) (answer : Result (List ℕ) Unedited) : Type 0 where
+  pub text : List ℕ
+  pub why : IsNoLine (declared_shapes t.decls) type_text graph v t.type text
+  pub is : answer ≡ Err (untyped text)
+
+-- what lines of a script make of a value at a type
+abbrev pub IsBytesLine : TypeOver → List ScriptLine → Bool → List Obj → Val → Result (List ℕ) Unedited → Type 0
+IsBytesLine t lines compat graph v answer = IsEdited t lines compat graph v answer ⊎ IsUntyped t graph v answer
 
 -- ---- what is read
 
@@ -100,11 +144,26 @@ abbrev pub ReadsPath : List ℕ → Option (List ℕ) → Type 0
 ReadsPath text (Some path) = IsAnswer text (Ok path)
 ReadsPath text None = (fault : PathFault) × (fault ≢ path_faults.Memory) × IsAnswer text (Err fault)
 
-abbrev pub declared_types : Language (List Decl) TypeOver
+-- the line of a script that is at fault, and its text; out of memory is no fault
+abbrev pub script_refusal : ScriptFault → Option (ℕ × List ℕ)
+script_refusal (script_faults.Lex number fault) = Some (number, lexer_text fault)
+script_refusal (script_faults.Syntax number place) = Some (number, placed_text (codes "Syntax") place)
+script_refusal script_faults.Memory = None
+
+-- the text is a script of these lines, or has this fault
+abbrev pub ReadsScript : List ℕ → Result (List ScriptLine) (ℕ × List ℕ) → Type 0
+ReadsScript text (Ok lines) = AreEdits 1 text (Ok lines)
+ReadsScript text (Err refusal) = (fault : ScriptFault) × AreEdits 1 text (Err fault) × (script_refusal fault ≡ Some refusal)
+
+abbrev pub declared_types : Language (List Decl) TypeOver ScriptLine
 declared_types = record {
   ReadsDeclarations = ReadsDeclarations;
   ReadsType = ReadsType;
+  ReadsScript = ReadsScript;
   ReadsPath = ReadsPath;
+  line_number = λ line. line.number;
+  line_value = λ line. line.value;
   LineOf = λ saying t tree text well. IsTypeLine saying t (objects_of tree 0) (root tree 0) text well;
+  BytesOf = λ t lines compat tree answer. IsBytesLine t lines compat (objects_of tree 0) (root tree 0) answer;
   lines_of = λ tree. dump_text (objects_of tree 0) (root tree 0);
 }

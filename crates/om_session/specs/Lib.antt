@@ -1,5 +1,6 @@
 pub mod Verdict
 pub mod Call
+pub mod Edits
 pub mod Ends
 pub mod Fetch
 pub mod Gathered

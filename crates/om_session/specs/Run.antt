@@ -1,14 +1,14 @@
 -- What is promised of a call of `run`. One account of the call carries all: what the outside gave, what is said of that,
 -- and how much of it was put. The others follow from it.
-use Rattle.std.specs.Prelude.{ℕ, ◌+◌, ◌^◌, ◌<◌, ◌≤◌, ◌≡◌, ◌≢◌, ◌⊎◌, true, List, [], ◌∷◌, ◌++◌, length, take, Some, None, IsSomeAnd, IfSome, Ok, Err}
-use Rattle.om_model.specs.declared.status.Status.{Status}
-use Rattle.om_model.specs.declared.status.Status.TheVariants.{Well, Usage, ReadFault, WriteFault, OpenFault, Memory, TooLong, Types, Value}
+use Rattle.std.specs.Prelude.{ℕ, suc, Bool, ◌+◌, ◌^◌, ◌<◌, ◌≤◌, ◌≡◌, ◌≢◌, ◌⊎◌, true, List, [], ◌∷◌, ◌++◌, length, take, Some, None, IsSomeAnd, IfSome, Ok, Err}
+use Rattle.om_outcome.specs.declared.status.Status.{Status}
+use Rattle.om_outcome.specs.declared.status.Status.TheVariants.{Well, Usage, ReadFault, WriteFault, OpenFault, Memory, TooLong, Types, Value, Script, Compat}
 use Rattle.std.specs.List.{AllByRecursion}
 use Rattle.om_format.specs.Tree.{Tree}
 use Rattle.om_format.specs.Stream.{SpellAll, End, clean, cut, IsTail}
 use Rattle.om_format.specs.Front.{IsFront}
-use Rattle.om_outcome.specs.Outcome.{InputEnd, Taken, unasked, nothing, Found, opened, fault_of, status_of, Given, Stop, Request, Language, Ending, ending_of, Said, says, stops, Reply, Replies, replies, all_said, texts_of, Work, tells, dumps, compares, Task, compare, Asks, IsUsage, typed_by, path_of, Prepares, StopsAt, AreSame, SayFirst, found_of, RunReplies, SaysOfFirst, Outcome, out_of_memory, stop_text, err_line}
-use Rattle.om_edge.specs.Faults.{RoseOrLast}
+use Rattle.om_outcome.specs.Outcome.{InputEnd, Taken, unasked, nothing, Found, opened, Fetches, fault_of, status_of, Given, Stop, Request, Language, Ending, ending_of, Said, says, stops, Reply, Replies, replies, all_said, texts_of, Work, tells, edits, dumps, compares, Task, compare, Asks, IsUsage, typed_by, path_of, script_of, ReadsTypeOf, Prepares, lines_for, line_past, StopsAt, Finishes, AreSame, SayFirst, fetches_of, RunReplies, SaysOfFirst, Outcome, out_of_memory, stop_text, err_line}
+use Rattle.om_edge.specs.Faults.{RoseOrLast, last_count}
 use Rattle.om_edge.specs.Files.{File, contents_of}
 use Rattle.om_edge.specs.Sink.{Puts, PutsPart}
 use Rattle.om_edge.specs.State.{ByteState, FilesState, Change, change}
@@ -18,40 +18,64 @@ use Rattle.om_session.specs.Given.{Gathers, Fetched}
 -- ---- the words
 
 -- PATH, where the words have one, is a path
-abbrev pub HasPath : {D T : Type 0} → Language D T → Request → Type 0
+abbrev pub HasPath : {D T E : Type 0} → Language D T E → Request → Type 0
 HasPath language request = IfSome (path_of request) (λ text. (path : List ℕ) × language.ReadsPath text (Some path))
 
 -- PATH is there, and is no path
-abbrev pub HasNoPath : {D T : Type 0} → Language D T → Request → Type 0
+abbrev pub HasNoPath : {D T E : Type 0} → Language D T E → Request → Type 0
 HasNoPath language request = IsSomeAnd (path_of request) (λ text. language.ReadsPath text None)
 
 -- FILE and TYPE of the words, where PATH is a path
-pub record AsksFor {D T : Type 0} (language : Language D T) (words : List (List ℕ)) (name type : List ℕ) : Type 0 where
+pub record AsksFor {D T E : Type 0} (language : Language D T E) (words : List (List ℕ)) (name type : List ℕ) : Type 0 where
   pub request : Request
   pub asks : Asks words request
   pub has_path : HasPath language request
   pub typed : typed_by request ≡ Some (name, type)
 
 -- FILE alone
-abbrev pub AsksForFile : {D T : Type 0} → Language D T → List (List ℕ) → List ℕ → Type 0
+abbrev pub AsksForFile : {D T E : Type 0} → Language D T E → List (List ℕ) → List ℕ → Type 0
 AsksForFile language words name = (type : List ℕ) × AsksFor language words name type
 
 -- the words ask for something, and PATH is no path
-pub record AsksBadly {D T : Type 0} (language : Language D T) (words : List (List ℕ)) : Type 0 where
+pub record AsksBadly {D T E : Type 0} (language : Language D T E) (words : List (List ℕ)) : Type 0 where
   pub request : Request
   pub asks : Asks words request
   pub no_path : HasNoPath language request
 
+-- SCRIPT of the words, in its turn: FILE and TYPE are read
+pub record AsksForScript {D T E : Type 0} (language : Language D T E) (words : List (List ℕ)) (file : List ℕ → Found) (name : List ℕ) : Type 0 where
+  pub request : Request
+  pub asks : Asks words request
+  pub scripted : script_of request ≡ Some name
+  pub typed : List ℕ × List ℕ
+  pub is_typed : typed_by request ≡ Some typed
+  pub type : T
+  pub reads : ReadsTypeOf language file typed (Ok type)
+
 -- ---- the account of a call
 
--- FILE is fetched where the words ask for one and PATH, if there, is a path; and nothing else is
-pub record FetchesFor {D T : Type 0} (language : Language D T) (words : List (List ℕ)) (files : Change FilesState) (file : List ℕ → Found) : Type 0 where
-  pub asked : (name type : List ℕ) → AsksFor language words name type → Fetched files name (file name)
-  pub unasked : ((name type : List ℕ) → AsksFor language words name type → ⊥) → files.after ≡ files.before
+-- the map of the files stays, and no count of faults falls
+pub record KeepFiles (files : Change FilesState) : Type 0 where
+  pub map : files.after.map ≡ files.before.map
+  pub opening : files.before.open_faults ≤ files.after.open_faults
+  pub opening_at_last : files.before.open_faults ≡ last_count → files.after.open_faults ≡ last_count
+  pub reading : files.before.read_faults ≤ files.after.read_faults
+  pub reading_at_last : files.before.read_faults ≡ last_count → files.after.read_faults ≡ last_count
+
+-- FILE is fetched where the words ask for one and PATH, if there, is a path; then SCRIPT, where they ask for one and FILE and
+-- TYPE are read; and nothing else is
+pub record FetchesFor {D T E : Type 0} (language : Language D T E) (words : List (List ℕ)) (files : Change FilesState) (found : Fetches) : Type 0 where
+  pub between : FilesState
+  pub first : KeepFiles (change files.before between)
+  pub second : KeepFiles (change between files.after)
+  pub asked : (name type : List ℕ) → AsksFor language words name type → Fetched (change files.before between) name (found.file name)
+  pub unasked : ((name type : List ℕ) → AsksFor language words name type → ⊥) → between ≡ files.before
+  pub scripted : (name : List ℕ) → AsksForScript language words found.file name → Fetched (change between files.after) name (found.script name)
+  pub unscripted : ((name : List ℕ) → AsksForScript language words found.file name → ⊥) → files.after ≡ between
 
 -- Nothing in the bytes stops the run: they are values of which this is said, and a front of one more. Of a value after a
 -- stop nothing can be said, so there is no stop between the values either.
-pub record HoldNoStop {D T : Type 0} (language : Language D T) (task : Task T) (bytes : List ℕ) (said : List Said) : Type 0 where
+pub record HoldNoStop {D T E : Type 0} (language : Language D T E) (task : Task T E) (bytes : List ℕ) (said : List Said) : Type 0 where
   pub trees : List Tree
   pub front : List ℕ
   pub first : SayFirst language task bytes trees said front
@@ -61,7 +85,7 @@ pub record HoldNoStop {D T : Type 0} (language : Language D T) (task : Task T) (
 -- The run takes no piece more once something stops it: what was taken but for some last bytes, 4,096 at most, holds no stop,
 -- and this is said of its values. Where more was asked for after them, since the input ended, failed or was too long, all
 -- that was taken holds none.
-pub record IsPaced {D T : Type 0} (language : Language D T) (task : Task T) (taken : Taken) (said : List Said) : Type 0 where
+pub record IsPaced {D T E : Type 0} (language : Language D T E) (task : Task T E) (taken : Taken) (said : List Said) : Type 0 where
   pub earlier : List ℕ
   pub in_hand : List ℕ
   pub bytes_are : taken.bytes ≡ earlier ++ in_hand
@@ -70,10 +94,10 @@ pub record IsPaced {D T : Type 0} (language : Language D T) (task : Task T) (tak
   pub asked : (taken.until ≡ unasked) ⊎ (in_hand ≡ [])
 
 -- what is said of the values, where a run came so far, and before that nothing; then nothing was taken
-abbrev pub IsSaidFirst : {D T : Type 0} → Language D T → List (List ℕ) → Given → List Said → Type 0
-IsSaidFirst {D} {T} language words given said =
+abbrev pub IsSaidFirst : {D T E : Type 0} → Language D T E → List (List ℕ) → Given → List Said → Type 0
+IsSaidFirst {D} {T} {E} language words given said =
     ((given.input ≡ nothing) × (said ≡ []))
-    ⊎ ((task : Task T) × Prepares language words given.file (Ok task) × IsPaced language task given.input said)
+    ⊎ ((task : Task T E) × Prepares language words given.files (Ok task) × IsPaced language task given.input said)
 
 -- err has the line of the ending, whose status is answered; or the line could not be put whole
 abbrev pub PutsLine : Change ByteState → Status → Ending → Type 0
@@ -87,14 +111,14 @@ PutsPartAfter sink text next =
 
 -- after what was said all was put that belongs to the last reply, but for its line perhaps; that reply follows from what
 -- was given, or memory ran out
-pub record Completes {D T : Type 0} (language : Language D T) (words : List (List ℕ)) (given : Given) (said : List Said) (call : Call) : Type 0 where
+pub record Completes {D T E : Type 0} (language : Language D T E) (words : List (List ℕ)) (given : Given) (said : List Said) (call : Call) : Type 0 where
   pub last : Reply
   pub may_end : RunReplies language words given (replies said last) ⊎ (last ≡ stops out_of_memory)
   pub out : Puts call.out (ending_of (replies said last)).out
   pub line : PutsLine call.err call.status (ending_of (replies said last))
 
 -- after what was said out failed within the next text, and err has nothing
-pub record Breaks {D T : Type 0} (language : Language D T) (words : List (List ℕ)) (given : Given) (said : List Said) (call : Call) : Type 0 where
+pub record Breaks {D T E : Type 0} (language : Language D T E) (words : List (List ℕ)) (given : Given) (said : List Said) (call : Call) : Type 0 where
   pub next : Said
   pub is_next : SaysOfFirst language words given (said ++ next ∷ []) ⊎ RunReplies language words given (replies said (says next))
   pub out : PutsPartAfter call.out (texts_of said) next.text
@@ -102,10 +126,10 @@ pub record Breaks {D T : Type 0} (language : Language D T) (words : List (List �
   pub status : call.status ≡ WriteFault
 
 -- what was given in the call, and what was put
-pub record Account {D T : Type 0} (language : Language D T) (words : List (List ℕ)) (call : Call) : Type 0 where
+pub record Account {D T E : Type 0} (language : Language D T E) (words : List (List ℕ)) (call : Call) : Type 0 where
   pub given : Given
   pub input : Gathers call.input given.input
-  pub files : FetchesFor language words call.files given.file
+  pub files : FetchesFor language words call.files given.files
   pub said : List Said
   pub first : IsSaidFirst language words given said
   pub ends : Completes language words given said call ⊎ Breaks language words given said call
@@ -133,7 +157,7 @@ pub record IsHonest (call : Call) (input : List ℕ) (files : List File) : Type 
   pub err : ¬ RoseOrLast call.err.before.faults call.err.after.faults
 
 -- the outcome of the words, the files and the input is what out, err and the status say
-pub record HasOutcome {D T : Type 0} (language : Language D T) (words : List (List ℕ)) (call : Call) (input : List ℕ) (files : List File) : Type 0 where
+pub record HasOutcome {D T E : Type 0} (language : Language D T E) (words : List (List ℕ)) (call : Call) (input : List ℕ) (files : List File) : Type 0 where
   pub all : Replies
   pub outcome : Outcome language words (contents_of files) input all
   pub out : Puts call.out (ending_of all).out
@@ -141,7 +165,7 @@ pub record HasOutcome {D T : Type 0} (language : Language D T) (words : List (Li
   pub status : call.status ≡ (ending_of all).status
 
 -- Unless memory runs out, an honest call has the outcome, however the input was cut.
-abbrev pub Headline : {D T : Type 0} → Language D T → List (List ℕ) → Call → Type 0
+abbrev pub Headline : {D T E : Type 0} → Language D T E → List (List ℕ) → Call → Type 0
 Headline language words call =
     (input : List ℕ) (files : List File) → IsHonest call input files → call.status ≢ Memory → HasOutcome language words call input files
 
@@ -159,14 +183,14 @@ pub record AreNotTwo (limit : ℕ) (bytes : List ℕ) : Type 0 where
   pub why : ((length trees ≡ 2) × (rest ≢ [])) ⊎ ((length trees < 2) × (rest ≡ []))
 
 -- 2: only where the words ask for nothing, PATH is no path, or `same` finds other than two values in the whole input
-abbrev pub OnlyUsage : {D T : Type 0} → Language D T → List (List ℕ) → Call → Type 0
+abbrev pub OnlyUsage : {D T E : Type 0} → Language D T E → List (List ℕ) → Call → Type 0
 OnlyUsage language words call = call.status ≡ Usage
     → IsUsage words
     ⊎ (AsksBadly language words
     ⊎ ((limit : ℕ) × Asks words (compare limit) × (input : List ℕ) × IfSome call.input.before.bytes (λ bytes. bytes ≡ input) × AreNotTwo limit input))
 
 -- and where they ask for nothing, or PATH is no path, unless it could not be said
-abbrev pub IfUsage : {D T : Type 0} → Language D T → List (List ℕ) → Call → Type 0
+abbrev pub IfUsage : {D T E : Type 0} → Language D T E → List (List ℕ) → Call → Type 0
 IfUsage language words call = IsUsage words ⊎ AsksBadly language words → (call.status ≡ Usage) ⊎ IsUnsaid call.status
 
 -- 6 to 9: what comes of a call that failed, or of out of memory, comes in the place of all else
@@ -184,25 +208,31 @@ abbrev pub TellsFile : Change FilesState → List ℕ → List ℕ → Type 0
 TellsFile files name bytes = IsSomeAnd files.before.map (λ all. contents_of all name ≡ Some bytes)
 
 -- the declarations are refused, or the type
-abbrev pub IsRefusedType : {D T : Type 0} → Language D T → List ℕ → List ℕ → Type 0
+abbrev pub IsRefusedType : {D T E : Type 0} → Language D T E → List ℕ → List ℕ → Type 0
 IsRefusedType {D} language text type =
     ((refusal : List ℕ) × language.ReadsDeclarations text (Err refusal))
     ⊎ ((decls : D) × (refusal : List ℕ) × language.ReadsDeclarations text (Ok decls) × language.ReadsType decls type (Err refusal))
 
 -- 3: only where what FILE holds is refused, or TYPE
-abbrev pub OnlyTypes : {D T : Type 0} → Language D T → List (List ℕ) → Call → Type 0
+abbrev pub OnlyTypes : {D T E : Type 0} → Language D T E → List (List ℕ) → Call → Type 0
 OnlyTypes language words call = call.status ≡ Types
     → (name type text : List ℕ) × AsksFor language words name type × IfSome call.files.before.map (λ all. contents_of all name ≡ Some text) × IsRefusedType language text type
 
 -- and where FILE is told, and is short enough, and it is refused, or TYPE
-abbrev pub IfTypes : {D T : Type 0} → Language D T → List (List ℕ) → Call → Type 0
+abbrev pub IfTypes : {D T E : Type 0} → Language D T E → List (List ℕ) → Call → Type 0
 IfTypes language words call =
     (name type text : List ℕ) → AsksFor language words name type → TellsFile call.files name text → length text < 2 ^ 48 → IsRefusedType language text type
     → (call.status ≡ Types) ⊎ IsOutside call.status
 
+-- the words and the files are accepted, and of the work and the whole input this holds
+abbrev pub AtInput : {D T E : Type 0} → Language D T E → List (List ℕ) → Call → (Task T E → List ℕ → Type 0) → Type 0
+AtInput {D} {T} {E} language words call Holds =
+    (found : Fetches) × FetchesFor language words call.files found × (task : Task T E) × Prepares language words found (Ok task)
+    × (input : List ℕ) × IfSome call.input.before.bytes (λ bytes. bytes ≡ input) × Holds task input
+
 -- after values of which this is said bytes come that are not one more: they are refused, or end within it; and nothing stops
 -- the run before
-pub record HoldBadValue {D T : Type 0} (language : Language D T) (task : Task T) (bytes : List ℕ) : Type 0 where
+pub record HoldBadValue {D T E : Type 0} (language : Language D T E) (task : Task T E) (bytes : List ℕ) : Type 0 where
   pub trees : List Tree
   pub said : List Said
   pub rest : List ℕ
@@ -213,17 +243,16 @@ pub record HoldBadValue {D T : Type 0} (language : Language D T) (task : Task T)
   pub goes_on : (stop : Stop) → StopsAt language task.work task.limit trees rest stop → ⊥
 
 -- 4: only where the words, FILE and TYPE are accepted, and the whole input holds a bad value
-abbrev pub OnlyValue : {D T : Type 0} → Language D T → List (List ℕ) → Call → Type 0
-OnlyValue {D} {T} language words call = call.status ≡ Value
-    → (file : List ℕ → Found) × FetchesFor language words call.files file × (task : Task T) × Prepares language words file (Ok task)
-    × (input : List ℕ) × IfSome call.input.before.bytes (λ bytes. bytes ≡ input) × HoldBadValue language task input
+abbrev pub OnlyValue : {D T E : Type 0} → Language D T E → List (List ℕ) → Call → Type 0
+OnlyValue language words call = call.status ≡ Value
+    → AtInput language words call (λ task input. HoldBadValue language task input)
 
 -- and where they are, FILE is short enough, and the first 2^48 bytes of the input, which is told, hold one, in all where it
 -- ends within it
-abbrev pub IfValue : {D T : Type 0} → Language D T → List (List ℕ) → Call → Type 0
-IfValue {D} {T} language words call =
-    (files : List File) (task : Task T) (bytes : List ℕ) → call.files.before.map ≡ Some files → AreShort files
-    → Prepares language words (λ name. found_of (contents_of files name)) (Ok task) → call.input.before.bytes ≡ Some bytes
+abbrev pub IfValue : {D T E : Type 0} → Language D T E → List (List ℕ) → Call → Type 0
+IfValue {D} {T} {E} language words call =
+    (files : List File) (task : Task T E) (bytes : List ℕ) → call.files.before.map ≡ Some files → AreShort files
+    → Prepares language words (fetches_of (contents_of files)) (Ok task) → call.input.before.bytes ≡ Some bytes
     → (bad : HoldBadValue language task (take (2 ^ 48) bytes)) → ((n : ℕ) → bad.end ≡ cut n → length bytes < 2 ^ 48)
     → (call.status ≡ Value) ⊎ IsOutside call.status
 
@@ -243,25 +272,31 @@ CannotOpen files name =
     (RoseOrLast files.before.open_faults files.after.open_faults × (files.after.last_open_fault ≡ Some name))
     ⊎ IsSomeAnd files.before.map (λ all. contents_of all name ≡ None)
 
--- 8: only where FILE could not be opened; and where the map is told and does not have FILE
-abbrev pub OnlyOpenFault : {D T : Type 0} → Language D T → List (List ℕ) → Call → Type 0
-OnlyOpenFault language words call = call.status ≡ OpenFault → (name : List ℕ) × AsksForFile language words name × CannotOpen call.files name
+-- a file that is sought: FILE, or SCRIPT in its turn
+abbrev pub IsSought : {D T E : Type 0} → Language D T E → List (List ℕ) → Change FilesState → List ℕ → Type 0
+IsSought language words files name =
+    AsksForFile language words name
+    ⊎ ((found : Fetches) × FetchesFor language words files found × AsksForScript language words found.file name)
 
-abbrev pub IfMissing : {D T : Type 0} → Language D T → List (List ℕ) → Call → Type 0
+-- 8: only where FILE could not be opened, or SCRIPT in its turn; and where the map is told and does not have FILE
+abbrev pub OnlyOpenFault : {D T E : Type 0} → Language D T E → List (List ℕ) → Call → Type 0
+OnlyOpenFault language words call = call.status ≡ OpenFault → (name : List ℕ) × IsSought language words call.files name × CannotOpen call.files name
+
+abbrev pub IfMissing : {D T E : Type 0} → Language D T E → List (List ℕ) → Call → Type 0
 IfMissing language words call = (name : List ℕ) → AsksForFile language words name → IsSomeAnd call.files.before.map (λ all. contents_of all name ≡ None)
     → (call.status ≡ OpenFault) ⊎ IsUnsaid call.status
 
--- 10: only where the input or FILE has 2^48 bytes or more, where they are told
-abbrev pub OnlyTooLong : {D T : Type 0} → Language D T → List (List ℕ) → Call → Type 0
+-- 10: only where the input, FILE, or SCRIPT in its turn, has 2^48 bytes or more, where they are told
+abbrev pub OnlyTooLong : {D T E : Type 0} → Language D T E → List (List ℕ) → Call → Type 0
 OnlyTooLong language words call = call.status ≡ TooLong
     → IfSome call.input.before.bytes (λ bytes. 2 ^ 48 ≤ length bytes)
-    ⊎ ((name : List ℕ) × AsksForFile language words name × IfSome call.files.before.map (λ all. IsSomeAnd (contents_of all name) (λ bytes. 2 ^ 48 ≤ length bytes)))
+    ⊎ ((name : List ℕ) × IsSought language words call.files name × IfSome call.files.before.map (λ all. IsSomeAnd (contents_of all name) (λ bytes. 2 ^ 48 ≤ length bytes)))
 
 -- and where FILE is told and has so many; or the words, FILE and TYPE are accepted, and the input is told and has so many,
 -- with no stop in those that are taken of it at most
-pub record IfTooLong {D T : Type 0} (language : Language D T) (words : List (List ℕ)) (call : Call) : Type 0 where
+pub record IfTooLong {D T E : Type 0} (language : Language D T E) (words : List (List ℕ)) (call : Call) : Type 0 where
   pub file : (name bytes : List ℕ) → AsksForFile language words name → TellsFile call.files name bytes → 2 ^ 48 ≤ length bytes → (call.status ≡ TooLong) ⊎ IsOutside call.status
-  pub input : (files : List File) (task : Task T) (bytes : List ℕ) (said : List Said) → call.files.before.map ≡ Some files → Prepares language words (λ name. found_of (contents_of files name)) (Ok task)
+  pub input : (files : List File) (task : Task T E) (bytes : List ℕ) (said : List Said) → call.files.before.map ≡ Some files → Prepares language words (fetches_of (contents_of files)) (Ok task)
       → call.input.before.bytes ≡ Some bytes → 2 ^ 48 ≤ length bytes → HoldNoStop language task (take (2 ^ 48 + 4095) bytes) said → (call.status ≡ TooLong) ⊎ IsOutside call.status
 
 -- a failed call is not taken for one that went well: where a count rose, the status is 6, 7, 8 or 9
@@ -276,7 +311,43 @@ pub record TellsReadFault (call : Call) : Type 0 where
   pub input : call.input.before.faults < call.input.after.faults → (call.status ≡ ReadFault) ⊎ IsUnsaid call.status
   pub file : call.files.before.read_faults < call.files.after.read_faults → (call.status ≡ ReadFault) ⊎ IsUnsaid call.status
 
--- ---- where the input or FILE failed, or was too long
+-- ---- edits
+
+-- what SCRIPT holds is refused, in its turn
+pub record IsRefusedScript {D T E : Type 0} (language : Language D T E) (words : List (List ℕ)) (found : Fetches) (name text : List ℕ) : Type 0 where
+  pub asks : AsksForScript language words found.file name
+  pub refusal : ℕ × List ℕ
+  pub refused : language.ReadsScript text (Err refusal)
+
+-- after values of which this is said the run stops so: at a value that is not edited, or by a line that edits no value, where
+-- the bytes end after them
+pub record HoldStop {D T E : Type 0} (language : Language D T E) (task : Task T E) (bytes : List ℕ) (stop : Stop) : Type 0 where
+  pub type : T
+  pub script : List E
+  pub compat : Bool
+  pub work : task.work ≡ edits type script compat
+  pub trees : List Tree
+  pub said : List Said
+  pub rest : List ℕ
+  pub first : SayFirst language task bytes trees said rest
+  pub why : StopsAt language task.work task.limit trees rest stop ⊎ ((rest ≡ []) × Finishes language task.work trees (stops stop))
+
+-- the whole input holds a stop of this status
+abbrev pub StopsBy : {D T E : Type 0} → Language D T E → List (List ℕ) → Call → Status → Type 0
+StopsBy language words call status = AtInput language words call (λ task input. (stop : Stop) × (status_of stop ≡ status) × HoldStop language task input stop)
+
+-- 5: only where what SCRIPT holds is refused, in its turn; or a line of it is refused at its value, or edits no value
+abbrev pub OnlyScript : {D T E : Type 0} → Language D T E → List (List ℕ) → Call → Type 0
+OnlyScript language words call = call.status ≡ Script
+    → ((found : Fetches) × FetchesFor language words call.files found × (name text : List ℕ) × IfSome call.files.before.map (λ all. contents_of all name ≡ Some text)
+    × IsRefusedScript language words found name text)
+    ⊎ StopsBy language words call Script
+
+-- 11: only where an edited value is too large for a reader on 32 bits, and that was asked for
+abbrev pub OnlyCompat : {D T E : Type 0} → Language D T E → List (List ℕ) → Call → Type 0
+OnlyCompat language words call = call.status ≡ Compat → StopsBy language words call Compat
+
+-- ---- where the input or a file failed, or was too long
 
 -- bytes ended at a fault, or were too many: the status tells it, and err has its line
 pub record TellsFault (until : InputEnd) (call : Call) : Type 0 where
@@ -286,83 +357,96 @@ pub record TellsFault (until : InputEnd) (call : Call) : Type 0 where
   pub err : Puts call.err (err_line (stop_text stop))
 
 -- by the input: what was taken of it holds no stop, and out has what is said of its values
-pub record FailsByInput {D T : Type 0} (language : Language D T) (words : List (List ℕ)) (call : Call) : Type 0 where
+pub record FailsByInput {D T E : Type 0} (language : Language D T E) (words : List (List ℕ)) (call : Call) : Type 0 where
   pub taken : Taken
   pub gathers : Gathers call.input taken
   pub fails : TellsFault taken.until call
-  pub file : List ℕ → Found
-  pub files : FetchesFor language words call.files file
-  pub task : Task T
-  pub prepared : Prepares language words file (Ok task)
+  pub found : Fetches
+  pub files : FetchesFor language words call.files found
+  pub task : Task T E
+  pub prepared : Prepares language words found (Ok task)
   pub said : List Said
   pub holds : HoldNoStop language task taken.bytes said
   pub out : Puts call.out (texts_of said)
 
--- by FILE: nothing was taken of the input, and out has nothing
-pub record FailsByFile {D T : Type 0} (language : Language D T) (words : List (List ℕ)) (call : Call) : Type 0 where
+-- this is found of FILE, or of SCRIPT in its turn
+abbrev pub IsFoundIn : {D T E : Type 0} → Language D T E → List (List ℕ) → Fetches → List ℕ → Found → Type 0
+IsFoundIn language words found name what =
+    (AsksForFile language words name × (found.file name ≡ what)) ⊎ (AsksForScript language words found.file name × (found.script name ≡ what))
+
+-- by FILE or SCRIPT: nothing was taken of the input, and out has nothing
+pub record FailsByFile {D T E : Type 0} (language : Language D T E) (words : List (List ℕ)) (call : Call) : Type 0 where
   pub name : List ℕ
-  pub is_file : AsksForFile language words name
   pub taken : Taken
-  pub fetched : Fetched call.files name (opened taken)
+  pub found : Fetches
+  pub files : FetchesFor language words call.files found
+  pub is_found : IsFoundIn language words found name (opened taken)
   pub fails : TellsFault taken.until call
   pub untaken : Gathers call.input nothing
   pub out : Puts call.out []
 
--- 6 or 10: the input caused it, or FILE
-abbrev pub IfInputFails : {D T : Type 0} → Language D T → List (List ℕ) → Call → Type 0
+-- 6 or 10: the input caused it, or FILE, or SCRIPT
+abbrev pub IfInputFails : {D T E : Type 0} → Language D T E → List (List ℕ) → Call → Type 0
 IfInputFails language words call = (call.status ≡ ReadFault) ⊎ (call.status ≡ TooLong)
     → FailsByInput language words call ⊎ FailsByFile language words call
 
 -- ---- where memory ran out, or out or err failed
 
 -- this is said first in the outcome, or all that is said; there is one outcome at most
-abbrev pub IsFrontOfOutcome : {D T : Type 0} → Language D T → List (List ℕ) → List ℕ → List File → List Said → Type 0
+abbrev pub IsFrontOfOutcome : {D T E : Type 0} → Language D T E → List (List ℕ) → List ℕ → List File → List Said → Type 0
 IsFrontOfOutcome language words input files said =
     (all : Replies) → Outcome language words (contents_of files) input all → (later : List Said) × (all_said all ≡ said ++ later)
 
 -- 9: out has the first texts of the outcome, and err the line that tells it
-abbrev pub IfMemory : {D T : Type 0} → Language D T → List (List ℕ) → Call → Type 0
+abbrev pub IfMemory : {D T E : Type 0} → Language D T E → List (List ℕ) → Call → Type 0
 IfMemory language words call =
     (input : List ℕ) (files : List File) → IsWellRead call input files → call.status ≡ Memory
     → (said : List Said) × IsFrontOfOutcome language words input files said × Puts call.out (texts_of said) × Puts call.err (err_line (stop_text out_of_memory))
 
 -- 7 by out: it has the first texts of the outcome, and of the next one a part, and err has nothing
-abbrev pub OutBreaks : {D T : Type 0} → Language D T → List (List ℕ) → Call → List ℕ → List File → Type 0
+abbrev pub OutBreaks : {D T E : Type 0} → Language D T E → List (List ℕ) → Call → List ℕ → List File → Type 0
 OutBreaks language words call input files =
     (said : List Said) × (next : Said) × IsFrontOfOutcome language words input files (said ++ next ∷ [])
     × PutsPartAfter call.out (texts_of said) next.text × Puts call.err []
 
 -- 7 by err: it has a proper front of a line, of the outcome or where memory ran out, and out what belongs to it
-abbrev pub ErrBreaks : {D T : Type 0} → Language D T → List (List ℕ) → Call → List ℕ → List File → Type 0
+abbrev pub ErrBreaks : {D T E : Type 0} → Language D T E → List (List ℕ) → Call → List ℕ → List File → Type 0
 ErrBreaks language words call input files =
     (all : Replies) × Puts call.out (ending_of all).out × PutsPart call.err (ending_of all).err
     × (Outcome language words (contents_of files) input all
     ⊎ (IsFrontOfOutcome language words input files all.said × (all.last ≡ stops out_of_memory)))
 
-abbrev pub IfWriteFault : {D T : Type 0} → Language D T → List (List ℕ) → Call → Type 0
+abbrev pub IfWriteFault : {D T E : Type 0} → Language D T E → List (List ℕ) → Call → Type 0
 IfWriteFault language words call =
     (input : List ℕ) (files : List File) → IsWellRead call input files → call.status ≡ WriteFault
     → OutBreaks language words call input files ⊎ ErrBreaks language words call input files
 
 -- ---- completeness
 
+-- each value, the first of which has number k, is edited and has its bytes
+abbrev pub AreEdited : {D T E : Type 0} → Language D T E → T → List E → Bool → ℕ → List Tree → Type 0
+AreEdited language type script compat k [] = Unit {0}
+AreEdited language type script compat k (tree ∷ trees) =
+    ((bytes : List ℕ) × language.BytesOf type (lines_for language script k) compat tree (Ok bytes)) × AreEdited language type script compat (suc k) trees
+
 -- nothing is wrong with the values
-abbrev pub AreAllWell : {D T : Type 0} → Language D T → Work T → List Tree → Type 0
+abbrev pub AreAllWell : {D T E : Type 0} → Language D T E → Work T E → List Tree → Type 0
 AreAllWell language (tells saying type) trees = AllByRecursion (λ tree. (line : List ℕ) × language.LineOf saying type tree line true) trees
+AreAllWell language (edits type script compat) trees = AreEdited language type script compat 0 trees × (line_past language script (length trees) ≡ None)
 AreAllWell language dumps trees = Unit {0}
 AreAllWell language compares (first ∷ second ∷ []) = AreSame first second
 AreAllWell language compares trees = ⊥
 
--- the words, the declarations and the type are accepted, and the input is values with which nothing is wrong
-pub record IsAllWell {D T : Type 0} (language : Language D T) (words : List (List ℕ)) (input : List ℕ) (files : List File) : Type 0 where
-  pub task : Task T
-  pub prepared : Prepares language words (λ name. found_of (contents_of files name)) (Ok task)
+-- the words and the files are accepted, and the input is values with which nothing is wrong
+pub record IsAllWell {D T E : Type 0} (language : Language D T E) (words : List (List ℕ)) (input : List ℕ) (files : List File) : Type 0 where
+  pub task : Task T E
+  pub prepared : Prepares language words (fetches_of (contents_of files)) (Ok task)
   pub trees : List Tree
   pub spelled : SpellAll task.limit input trees []
   pub well : AreAllWell language task.work trees
 
 -- where all is well, the run ends well, or memory ran out
-abbrev pub IsComplete : {D T : Type 0} → Language D T → List (List ℕ) → Call → Type 0
+abbrev pub IsComplete : {D T E : Type 0} → Language D T E → List (List ℕ) → Call → Type 0
 IsComplete language words call =
     (input : List ℕ) (files : List File) → IsHonest call input files → IsAllWell language words input files
     → (call.status ≡ Well) ⊎ (call.status ≡ Memory)
@@ -371,14 +455,14 @@ IsComplete language words call =
 
 -- Unless memory runs out, an honest call has the status of each outcome that there is: so each of them comes exactly where
 -- an outcome has it.
-abbrev pub IsDecided : {D T : Type 0} → Language D T → List (List ℕ) → Call → Type 0
+abbrev pub IsDecided : {D T E : Type 0} → Language D T E → List (List ℕ) → Call → Type 0
 IsDecided language words call =
     (input : List ℕ) (files : List File) → IsHonest call input files → call.status ≢ Memory
     → (all : Replies) → Outcome language words (contents_of files) input all → call.status ≡ (ending_of all).status
 
 -- ---- all of it
 
-pub record Promises {D T : Type 0} (language : Language D T) (words : List (List ℕ)) (call : Call) : Type 0 where
+pub record Promises {D T E : Type 0} (language : Language D T E) (words : List (List ℕ)) (call : Call) : Type 0 where
   -- what the outside gave, what is said of that, and how much of it was put
   pub account : Account language words call
   -- unless memory runs out, an honest call has the outcome of the words, the files and the input
@@ -397,17 +481,20 @@ pub record Promises {D T : Type 0} (language : Language D T) (words : List (List
   -- 4: the input holds a value that is refused or cut
   pub value_only : OnlyValue language words call
   pub value_if : IfValue language words call
-  -- 6: a call on the input failed, or a read of FILE
+  -- 5: what SCRIPT holds is refused, or a line of it, or it edits no value; 11: a value is too large for a reader on 32 bits
+  pub script_only : OnlyScript language words call
+  pub compat_only : OnlyCompat language words call
+  -- 6: a call on the input failed, or a read of a file
   pub read_fault_only : OnlyReadFault call
   -- 7: a call on out or err failed
   pub write_fault_only : OnlyWriteFault call
-  -- 8: FILE could not be opened, or it is not there
+  -- 8: FILE or SCRIPT could not be opened, or it is not there
   pub open_fault_only : OnlyOpenFault language words call
   pub missing_if : IfMissing language words call
-  -- 10: the input or FILE has 2^48 bytes or more
+  -- 10: the input or a file has 2^48 bytes or more
   pub too_long_only : OnlyTooLong language words call
   pub too_long_if : IfTooLong language words call
-  -- 6 or 10: by the input, where what was taken holds no earlier stop and out has what is said of its values; or by FILE
+  -- 6 or 10: by the input, where what was taken holds no earlier stop and out has what is said of its values; or by a file
   pub input_fails_if : IfInputFails language words call
   -- 9: memory ran out, and out has a front of what the outcome puts
   pub memory_if : IfMemory language words call

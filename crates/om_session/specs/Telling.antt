@@ -1,8 +1,13 @@
--- The words that ask to tell something of the values at a FILE and a TYPE.
-use Rattle.std.specs.Prelude.{ℕ, ◌≡◌, List, Some, Result}
-use Rattle.om_outcome.specs.Outcome.{Found, Stop, Saying, Work, Request, Asks, typed_by, limit_of, TellsAt, FindsWork}
+-- The words that ask to tell something of the values at a FILE and a TYPE, or to edit them by a SCRIPT.
+use Rattle.std.specs.Prelude.{ℕ, ◌≡◌, Bool, List, Some, Result, Ok}
+use Rattle.om_outcome.specs.Outcome.{Found, Fetches, Stop, Saying, Work, Request, edit, Asks, typed_by, limit_of, TellsAt, FindsWork}
+use Rattle.om_path.specs.declared.edits.ScriptLine.{ScriptLine}
 use Rattle.om_session.specs.Language.{TypeOver, declared_types}
+use Rattle.om_edge.specs.State.{FilesState, Change}
+use Rattle.om_session.specs.declared.types.Requested.{Requested}
+use Rattle.om_session.specs.Given.{Fetched}
 use Rattle.om_session.specs.Run.{HasPath}
+use Rattle.om_session.specs.Types.{GivesType}
 
 -- PATH, if there, is a path, and what FILE and TYPE give is what is told
 pub record AsksToTell (words : List (List ℕ)) (name type : List ℕ) (saying : Saying) (limit : ℕ) : Type 0 where
@@ -11,4 +16,13 @@ pub record AsksToTell (words : List (List ℕ)) (name type : List ℕ) (saying :
   pub typed : typed_by request ≡ Some (name, type)
   pub limited : limit_of request ≡ limit
   pub has_path : HasPath declared_types request
-  pub finds : (file : List ℕ → Found) (result : Result (Work TypeOver) Stop) → TellsAt declared_types file (name, type) saying result → FindsWork declared_types file request result
+  pub finds : (found : Fetches) (result : Result (Work TypeOver ScriptLine) Stop) → TellsAt declared_types found.file (name, type) saying result → FindsWork declared_types found request result
+
+-- FILE and TYPE gave this type, and SCRIPT comes next
+pub record AsksToEdit (words : List (List ℕ)) (r : Requested) (script : List ℕ) (compat : Bool) (limit : ℕ) (files : Change FilesState) : Type 0 where
+  pub file : List ℕ
+  pub type : List ℕ
+  pub asks : Asks words (edit file type script compat limit)
+  pub found : Found
+  pub fetched : Fetched files file found
+  pub gives : GivesType file type found (Ok r)

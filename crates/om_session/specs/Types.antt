@@ -7,15 +7,17 @@ use Rattle.om_grammar.specs.Grammar.{FileTree, Texpr}
 use Rattle.om_decl.specs.declared.fault.DeclFault.{DeclFault}
 use Rattle.om_decl.specs.Fault.{told}
 use Rattle.om_decl.specs.Text.{answer_text}
-use Rattle.om_outcome.specs.Outcome.{Found, ReadsTypeOf, bad_path, declarations, requested_type, out_of_memory}
+use Rattle.om_outcome.specs.Outcome.{Found, ReadsTypeOf, ReadsScriptOf, bad_path, declarations, requested_type, script_line, out_of_memory}
 use Rattle.om_outcome.specs.Outcome as outcome
 use Rattle.om_edge.specs.State.{FilesState, Change}
 use Rattle.om_path.specs.declared.fault.PathFault.{PathFault}
 use Rattle.om_path.specs.declared.fault.PathFault.TheVariants as path_faults
+use Rattle.om_path.specs.declared.edits.Script.{Script}
+use Rattle.om_path.specs.declared.edits.ScriptFault.{ScriptFault}
 use Rattle.om_session.specs.declared.stop.Stop.{Stop}
 use Rattle.om_session.specs.declared.types.Requested.{Requested}
 use Rattle.om_session.specs.Given.{Fetched}
-use Rattle.om_session.specs.Language.{TypeOver, declared_types, ReadsDeclarations, ReadsType}
+use Rattle.om_session.specs.Language.{TypeOver, declared_types, ReadsDeclarations, ReadsType, script_refusal}
 use Rattle.om_session.specs.Stops.{stop_of}
 
 -- the type, over its declarations
@@ -49,6 +51,11 @@ abbrev pub IsPathStop : PathFault → Stop → Type 0
 IsPathStop fault stop =
     ((fault ≡ path_faults.Memory) × (stop_of stop ≡ out_of_memory)) ⊎ ((fault ≢ path_faults.Memory) × (stop_of stop ≡ bad_path))
 
+-- memory ran out, or the stop tells the line at fault
+abbrev pub IsScriptStop : ScriptFault → Stop → Type 0
+IsScriptStop fault stop =
+    MatchOption (script_refusal fault) (stop_of stop ≡ out_of_memory) (λ refusal. stop_of stop ≡ script_line refusal.0 refusal.1)
+
 -- ---- what is given
 
 abbrev pub GivesDeclarations : List ℕ → Result (List Decl) Stop → Type 0
@@ -67,3 +74,11 @@ GivesType file type found (Err stop) =
 
 abbrev pub FindsTypeIn : Change FilesState → List ℕ → List ℕ → Result Requested Stop → Type 0
 FindsTypeIn files file type result = (found : Found) × Fetched files file found × GivesType file type found result
+
+-- the lines of the script, or why there are none, but for out of memory
+abbrev pub GivesScript : List ℕ → Found → Result Script Stop → Type 0
+GivesScript name found (Ok script) = ReadsScriptOf declared_types (λ name. found) name (Ok script.lines)
+GivesScript name found (Err stop) = ReadsScriptOf declared_types (λ name. found) name (Err (stop_of stop)) ⊎ (stop_of stop ≡ out_of_memory)
+
+abbrev pub FindsScriptIn : Change FilesState → List ℕ → Result Script Stop → Type 0
+FindsScriptIn files name result = (found : Found) × Fetched files name found × GivesScript name found result

@@ -12,38 +12,49 @@ use Rattle.om_read.specs.declared.value.Value.{Value}
 use Rattle.om_read.specs.Reading.{IsValueOf}
 use Rattle.om_read.specs.Reader.{Leads, IsDone}
 use Rattle.om_outcome.specs.RefusalText.{refusal_text, truncated_text}
-use Rattle.om_outcome.specs.Outcome.{Taken, value, not_two_values, out_of_memory, Said, nothing_said, says, replies, texts_of, all_well, compares, Task, task, SayFirst, StopsAt, Finishes, comparison, ValuesReply}
+use Rattle.om_outcome.specs.Outcome.{Taken, value, not_two_values, out_of_memory, Said, nothing_said, says, replies, texts_of, all_well, compares, edits, Task, task, SayFirst, StopsAt, Finishes, comparison, ValuesReply}
 use Rattle.om_outcome.specs.Outcome as outcome
 use Rattle.om_edge.specs.Sink.{Puts, PutsPart}
 use Rattle.om_edge.specs.State.{ByteState, Change, change}
+use Rattle.om_path.specs.declared.edits.ScriptLine.{ScriptLine}
 use Rattle.om_session.specs.declared.stop.Stop.{Stop}
-use Rattle.om_session.specs.declared.values.Halt.{Halt}
-use Rattle.om_session.specs.declared.values.Halt.TheVariants as halts
+use Rattle.om_session.specs.declared.stop.Halt.{Halt}
+use Rattle.om_session.specs.declared.stop.Halt.TheVariants as halts
 use Rattle.om_session.specs.declared.values.Values.{Values}
 use Rattle.om_session.specs.declared.values.Work.{Work}
 use Rattle.om_session.specs.declared.values.Work.TheVariants as works
 use Rattle.om_session.specs.Given.{Gathers}
 use Rattle.om_session.specs.Language.{TypeOver, declared_types}
 use Rattle.om_session.specs.Run.{HoldNoStop, IsPaced, PutsPartAfter}
+use Rattle.om_session.specs.declared.edit.Edits.{Edits}
+use Rattle.om_session.specs.Edits.{OrMemory}
 use Rattle.om_session.specs.Stops.{stop_of}
+use Rattle.om_session.specs.Types.{type_over, IsReady}
 use Rattle.om_session.specs.Verdict.{work_by, IsReadySpeech}
 
 -- the limit of words on 64 bits in a value
 abbrev pub word_limit : Work → ℕ
 word_limit (works.Say speech limit) = limit
+word_limit (works.Edit e limit) = limit
 word_limit (works.Compare limit) = limit
 
-abbrev pub work_of : Work → outcome.Work TypeOver
+-- the work that edits each value
+abbrev pub edits_by : Edits → outcome.Work TypeOver ScriptLine
+edits_by e = edits (type_over e.requested.now) e.script.now.lines e.compat
+
+abbrev pub work_of : Work → outcome.Work TypeOver ScriptLine
 work_of (works.Say speech limit) = work_by speech
+work_of (works.Edit e limit) = edits_by e
 work_of (works.Compare limit) = compares
 
 -- the table that values are checked by, if they are, is the type's
 abbrev pub IsReadyWork : Work → Type 0
 IsReadyWork (works.Say speech limit) = IsReadySpeech speech
+IsReadyWork (works.Edit e limit) = IsReady e.requested.now
 IsReadyWork (works.Compare limit) = Unit {0}
 
 -- the work with the values
-abbrev pub task_of : Work → Task TypeOver
+abbrev pub task_of : Work → Task TypeOver ScriptLine
 task_of w = task (work_of w) (word_limit w)
 
 -- ---- between two calls on the input
@@ -51,11 +62,13 @@ task_of w = task (work_of w) (word_limit w)
 -- after n values any more byte stops the run
 abbrev pub IsFull : Work → ℕ → Type 0
 IsFull (works.Say speech limit) n = ⊥
+IsFull (works.Edit e limit) n = ⊥
 IsFull (works.Compare limit) n = n ≡ 2
 
 -- after n values one more may come
 abbrev pub MayTake : Work → ℕ → Type 0
 MayTake (works.Say speech limit) n = Unit {0}
+MayTake (works.Edit e limit) n = Unit {0}
 MayTake (works.Compare limit) n = n < 2
 
 abbrev pub AreValues : List Value → Type 0
@@ -64,6 +77,7 @@ AreValues kept = All (λ v. IsValue (length v.heap) v.root) kept
 -- the values of the trees are kept, where they are compared
 abbrev pub IsKept : Work → List Tree → List Value → Type 0
 IsKept (works.Say speech limit) trees kept = Unit {0}
+IsKept (works.Edit e limit) trees kept = Unit {0}
 IsKept (works.Compare limit) trees kept = AllZip IsValueOf kept trees × (length trees ≤ 2)
 
 -- Of these bytes the reader has taken what comes after the values, a front of the next one, and nothing stops the run; this
@@ -103,12 +117,14 @@ abbrev pub KeepsNext : {U : Type 0} → ℕ → List ℕ → List Said → Value
 KeepsNext limit taken said new (Ok unit) = HasRead (works.Compare limit) taken (said ++ nothing_said ∷ []) new
 KeepsNext limit taken said new (Err memory) = Unit {0}
 
--- what is said of the value that is there is put, and the reader waits for the next one; or memory ran out, or out failed
-abbrev pub PutsNext : {U : Type 0} → Work → List ℕ → List Said → Change ByteState → Values → Result U Halt → Type 0
-PutsNext w taken said out new (Ok unit) =
+-- what is said of the value that is there, after these, is put, and the reader waits for the next one; or it stops the run, or
+-- memory ran out, or out failed
+abbrev pub PutsNext : {U : Type 0} → Work → List ℕ → List Said → List Tree → List ℕ → Change ByteState → Values → Result U Halt → Type 0
+PutsNext w taken said trees whole out new (Ok unit) =
     (next : Said) × HasRead w taken (said ++ next ∷ []) new × Puts out next.text
-PutsNext w taken said out new (Err (halts.Stop stop)) = (stop_of stop ≡ out_of_memory) × Puts out []
-PutsNext w taken said out new (Err halts.WriteFault) =
+PutsNext w taken said trees whole out new (Err (halts.Stop stop)) =
+    OrMemory (λ stop. StopsAt declared_types (work_of w) (word_limit w) trees whole (stop_of stop)) stop × Puts out []
+PutsNext w taken said trees whole out new (Err halts.WriteFault) =
     (next : Said) × AreSaid w taken (said ++ next ∷ []) × PutsPart out next.text
 
 -- ---- in a piece
@@ -151,7 +167,7 @@ ReadsPiece w taken said piece out new (Err halt) =
 -- ---- the input's end
 
 -- the line on the values is put, and the answer is whether nothing is wrong with it
-abbrev pub PutsLast : outcome.Work TypeOver → List Tree → Change ByteState → Result Bool Halt → Type 0
+abbrev pub PutsLast : outcome.Work TypeOver ScriptLine → List Tree → Change ByteState → Result Bool Halt → Type 0
 PutsLast work trees out (Ok well) = (final : Said) × Finishes declared_types work trees (says final) × (well ≡ final.well) × Puts out final.text
 PutsLast work trees out (Err (halts.Stop stop)) = (Finishes declared_types work trees (outcome.stops (stop_of stop)) ⊎ (stop_of stop ≡ out_of_memory)) × Puts out []
 PutsLast work trees out (Err halts.WriteFault) = (final : Said) × Finishes declared_types work trees (says final) × PutsPart out final.text
@@ -159,6 +175,12 @@ PutsLast work trees out (Err halts.WriteFault) = (final : Said) × Finishes decl
 -- the values that are kept are compared, whatever their trees
 abbrev pub Compares : List Value → Change ByteState → Result Bool Halt → Type 0
 Compares kept out result = (trees : List Tree) → AllZip IsValueOf kept trees → PutsLast compares trees out result
+
+-- a line that edits none of the values stops the run; else the answer is what it was
+abbrev pub EndsScript : Edits → List Tree → Bool → Result Bool Halt → Type 0
+EndsScript e trees well (Ok same) = Finishes declared_types (edits_by e) trees (says nothing_said) × (same ≡ well)
+EndsScript e trees well (Err (halts.Stop stop)) = Finishes declared_types (edits_by e) trees (outcome.stops (stop_of stop))
+EndsScript e trees well (Err halts.WriteFault) = ⊥
 
 -- the bytes end with a value, and what is said after all is put; or they cut the next one
 abbrev pub EndsAt : Work → List ℕ → List Said → Change ByteState → Result Bool Halt → Type 0

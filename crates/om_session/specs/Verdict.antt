@@ -2,11 +2,15 @@
 use Rattle.std.specs.Prelude.{ℕ, ◌≡◌, Bool, true, List, ◌++◌}
 use Rattle.om_model.specs.declared.value.Val.{Val}
 use Rattle.om_model.specs.declared.value.Obj.{Obj}
+use Rattle.om_types.specs.Equal.{declared_shapes}
+use Rattle.om_types.specs.TypeText.{type_text}
+use Rattle.om_types.specs.VerdictText.{IsNoLine}
 use Rattle.om_type_table.specs.Made.{table_of}
 use Rattle.om_check.specs.Verdict.{IsVerdict}
 use Rattle.om_check.specs.declared.verdict.Verdict.{Verdict}
 use Rattle.om_outcome.specs.Outcome as outcome
 use Rattle.om_show.specs.Dumped.{dump_text}
+use Rattle.om_path.specs.declared.edits.ScriptLine.{ScriptLine}
 use Rattle.om_session.specs.declared.types.Requested.{Requested}
 use Rattle.om_session.specs.declared.verdict.Saying.{Saying}
 use Rattle.om_session.specs.declared.verdict.Saying.TheVariants as sayings
@@ -21,7 +25,7 @@ saying_of sayings.Text = outcome.the_text
 saying_of (sayings.Part path) = outcome.the_part path.now
 
 -- the work that says so of each value
-abbrev pub work_by : Speech → outcome.Work TypeOver
+abbrev pub work_by : Speech → outcome.Work TypeOver ScriptLine
 work_by (speeches.Tell r saying) = outcome.tells (saying_of saying) (type_over r.now)
 work_by speeches.Dump = outcome.dumps
 
@@ -42,3 +46,7 @@ IsSaidOf speeches.Dump graph v text well = (text ≡ dump_text graph v) × (well
 -- the line is put after another text, and the answer is whether nothing is wrong with the value
 abbrev pub PutsLine : outcome.Saying → TypeOver → List Obj → Val → List ℕ → List ℕ → Bool → Type 0
 PutsLine saying t graph root old new well = (line : List ℕ) × IsTypeLine saying t graph root line well × (new ≡ old ++ line)
+
+-- the line of the least fault is put after another text
+abbrev pub PutsNo : TypeOver → List Obj → Val → List ℕ → List ℕ → Type 0
+PutsNo t graph root old new = (line : List ℕ) × IsNoLine (declared_shapes t.decls) type_text graph root t.type line × (new ≡ old ++ line)

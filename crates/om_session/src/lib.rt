@@ -1,6 +1,7 @@
 //! The top call: the words, the files, the type, and the values of the input one by one.
 #![tactic(auto)]
 
+mod edit;
 mod fetch;
 mod gather;
 pub mod laws;

@@ -1,12 +1,12 @@
 //! The line of a stop on err.
 
 ghost use Rattle.std.specs.Prelude.{◌≡◌, ◌⊎◌};
-ghost use Rattle.om_model.specs.declared.status.Status.TheVariants.{WriteFault};
+ghost use Rattle.om_outcome.specs.declared.status.Status.TheVariants.{WriteFault};
 ghost use Rattle.om_edge.specs.Sink.{Puts, PutsPart};
 ghost use Rattle.om_edge.specs.State.{change};
 
 use om_edge::{Failed, Sink, put_all};
-use om_model::status::Status;
+use om_outcome::status::Status;
 
 /// Puts a line, and answers the status, or that the line could not be put.
 pub fn report<E: Sink>(err: &mut E, line: &[u8], status: Status) -> Status

@@ -1,28 +1,31 @@
 //! The top call.
 
 ghost use Rattle.std.specs.Prelude.{List, ℕ};
-ghost use Rattle.om_outcome.specs.Outcome.{Asks, get as get_of};
-ghost use Rattle.om_edge.specs.State.{change};
+ghost use Rattle.om_outcome.specs.Outcome.{Asks, get as get_of, edit as edit_of};
+ghost use Rattle.om_edge.specs.State.{FilesState, change};
 ghost use Rattle.om_session.specs.Call.{call};
 ghost use Rattle.om_session.specs.Ends.{TakesValues};
 ghost use Rattle.om_session.specs.Language.{declared_types};
 ghost use Rattle.om_session.specs.Run.{Account, Promises};
-ghost use Rattle.om_session.specs.Telling.{AsksToTell};
+ghost use Rattle.om_session.specs.Telling.{AsksToTell, AsksToEdit};
+ghost use Rattle.om_session.specs.Types.{IsReady};
 ghost use Rattle.om_session.specs.Values.{IsReadyWork};
 ghost use Rattle.om_session.specs.Verdict.{saying_of};
 ghost use Rattle.om_command_line.specs.Requests.{texts, request_of};
 
-use crate::stop::{Stop, report_stop};
-use crate::types::{find_type, path_stop};
-use crate::values::{Halt, Work, put_values};
+use crate::edit::Edits;
+use crate::stop::{Halt, Stop, report_stop};
+use crate::types::{Requested, find_script, find_type, path_stop};
+use crate::values::{Work, put_values};
 use crate::verdict::{Saying, Speech};
 use om_command_line::{Request, Unread, read_words};
 use om_decl::laws::one_answer;
 use om_decl::told::{files_are_well_formed, types_are_sound};
 use om_edge::{Opener, Sink, Source};
+use om_edit::edits_have_one_answer;
 use om_format::laws::one_judgement;
-use om_model::status::Status;
-use om_path::{one_answer as one_path, read_path};
+use om_outcome::status::Status;
+use om_path::{one_answer as one_path, one_script_answer, read_path};
 use om_table::type_or_fault;
 use std::alloc::Global;
 
@@ -97,6 +100,61 @@ fn get<S: Source, O: Opener, K: Sink, E: Sink>(
     }
 }
 
+// Reads SCRIPT, and edits the values.
+fn edit_by<S: Source, O: Opener, K: Sink, E: Sink>(
+    alloc: Global,
+    requested: &Requested,
+    script: &str,
+    compat: bool,
+    limit: u64,
+    input: &mut S,
+    files: &mut O,
+    out: &mut K,
+    err: &mut E,
+) -> Status
+    requires { IsReady requested.now }
+    ensures { (words : List (List ℕ)) (before : FilesState) → AsksToEdit words requested.now script.now compat limit (change before (O.state files.old)) → Account declared_types words
+        (call (change (S.state input.old) (S.state input.new)) (change before (O.state files.new))
+        (change (K.state out.old) (K.state out.new)) (change (E.state err.old) (E.state err.new)) result) }
+{
+    match find_script(alloc, files, script) {
+        Ok(script) => {
+            let edits = Edits {
+                requested,
+                script: &script,
+                compat,
+            };
+            take_values(alloc, Work::Edit(edits, limit), input, out, err)
+        }
+        Err(stop) => report_stop(alloc, err, &stop),
+    }
+}
+
+// `edit`: reads FILE and TYPE, and then SCRIPT.
+fn edit<S: Source, O: Opener, K: Sink, E: Sink>(
+    alloc: Global,
+    file: &str,
+    type_text: &str,
+    script: &str,
+    compat: bool,
+    limit: u64,
+    input: &mut S,
+    files: &mut O,
+    out: &mut K,
+    err: &mut E,
+) -> Status
+    ensures { (words : List (List ℕ)) → Asks words (edit_of file.now type_text.now script.now compat limit) → Account declared_types words
+        (call (change (S.state input.old) (S.state input.new)) (change (O.state files.old) (O.state files.new))
+        (change (K.state out.old) (K.state out.new)) (change (E.state err.old) (E.state err.new)) result) }
+{
+    match find_type(alloc, files, file, type_text) {
+        Ok(requested) => edit_by(
+            alloc, &requested, script, compat, limit, input, files, out, err,
+        ),
+        Err(stop) => report_stop(alloc, err, &stop),
+    }
+}
+
 // Does what is asked for.
 fn run_request<S: Source, O: Opener, K: Sink, E: Sink>(
     alloc: Global,
@@ -149,6 +207,15 @@ fn run_request<S: Source, O: Opener, K: Sink, E: Sink>(
         } => get(
             alloc, file, type_text, path_text, limit, input, files, out, err,
         ),
+        Request::Edit {
+            file,
+            type_text,
+            script,
+            compat,
+            limit,
+        } => edit(
+            alloc, file, type_text, script, compat, limit, input, files, out, err,
+        ),
         Request::Dump { limit } => take_values(
             alloc,
             Work::Say(Speech::Dump, limit),
@@ -198,6 +265,8 @@ pub fn run<S: Source, O: Opener, K: Sink, E: Sink>(
     one_judgement();
     one_answer();
     one_path();
+    one_script_answer();
+    edits_have_one_answer();
     files_are_well_formed();
     types_are_sound();
     type_or_fault();

@@ -1,11 +1,11 @@
-//! The type that a run asks for: its FILE, and its TYPE; and the stops of texts that are refused.
+//! The type that a run asks for: its FILE, and its TYPE; its SCRIPT; and the stops of texts that are refused.
 
 ghost use Rattle.std.specs.Prelude.{ℕ, List as Seq};
 ghost use Rattle.om_types.specs.Accepted.{AreWellFormed};
 ghost use Rattle.om_outcome.specs.Outcome.{opened};
 ghost use Rattle.om_edge.specs.State.{change};
 ghost use Rattle.om_session.specs.Gathered.{taken_of};
-ghost use Rattle.om_session.specs.Types.{IsDeclarationsStop, IsTypeStop, IsPathStop, GivesDeclarations, GivesRequested, GivesType, FindsTypeIn};
+ghost use Rattle.om_session.specs.Types.{IsDeclarationsStop, IsTypeStop, IsPathStop, IsScriptStop, GivesDeclarations, GivesRequested, GivesType, GivesScript, FindsTypeIn, FindsScriptIn};
 
 use crate::fetch::{Fetch, fetch_file};
 use crate::gather::{Gathered, InputEnd};
@@ -13,7 +13,7 @@ use crate::stop::Stop;
 use om_decl::{DeclFault, read_decls, read_type};
 use om_edge::Opener;
 use om_model::list::List;
-use om_path::PathFault;
+use om_path::{PathFault, Script, ScriptFault, read_script};
 use om_type_table::TypeTable;
 use om_typeintern::{TypeFault, build};
 use om_types::decl::Decl;
@@ -55,6 +55,17 @@ pub fn path_stop(fault: PathFault) -> Stop<'static>
     match fault {
         PathFault::Memory => Stop::Memory,
         _ => Stop::BadPath,
+    }
+}
+
+/// The stop of a SCRIPT that is refused.
+fn script_stop(fault: ScriptFault) -> Stop<'static>
+    ensures { IsScriptStop fault result }
+{
+    match fault {
+        ScriptFault::Lex(number, fault) => Stop::Script(number, DeclFault::Lex(fault)),
+        ScriptFault::Syntax(number, place) => Stop::Script(number, DeclFault::Syntax(place)),
+        ScriptFault::Memory => Stop::Memory,
     }
 }
 
@@ -120,6 +131,37 @@ pub fn find_type<'a, O: Opener>(
         Ok(Fetch::Opened(gathered)) => read_gathered(alloc, &gathered, type_text),
         Ok(Fetch::Missing) => Err(Stop::CannotOpen(file)),
         Ok(Fetch::Failed) => Err(Stop::CannotOpen(file)),
+        Err(_) => Err(Stop::Memory),
+    }
+}
+
+// Reads the lines of a script that were gathered.
+fn read_lines<'a>(alloc: Global, gathered: &Gathered) -> Result<Script, Stop<'a>>
+    ensures { (name : Seq ℕ) → GivesScript name (opened (taken_of gathered.now)) result }
+{
+    match gathered.until {
+        InputEnd::Fault => return Err(Stop::ReadFault),
+        InputEnd::Length => return Err(Stop::TooLong),
+        InputEnd::End => {}
+    }
+    match read_script(alloc, gathered.bytes.as_slice()) {
+        Ok(script) => Ok(script),
+        Err(fault) => Err(script_stop(fault)),
+    }
+}
+
+/// Reads SCRIPT.
+pub fn find_script<'a, O: Opener>(
+    alloc: Global,
+    files: &mut O,
+    name: &'a str,
+) -> Result<Script, Stop<'a>>
+    ensures { FindsScriptIn (change (O.state files.old) (O.state files.new)) name.now result }
+{
+    match fetch_file(alloc, files, name) {
+        Ok(Fetch::Opened(gathered)) => read_lines(alloc, &gathered),
+        Ok(Fetch::Missing) => Err(Stop::CannotOpen(name)),
+        Ok(Fetch::Failed) => Err(Stop::CannotOpen(name)),
         Err(_) => Err(Stop::Memory),
     }
 }

@@ -2,16 +2,18 @@
 
 ghost use Rattle.std.specs.Prelude.{◌≡◌, ◌<◌, ◌≤◌, ◌+◌, ◌^◌, ◌++◌, ◌∷◌, ℕ, List, [], length, IfOk, OnOk, MatchBool};
 ghost use Rattle.om_model.specs.Bytes.{AreBytes};
+ghost use Rattle.om_format.specs.Tree.{Tree};
 ghost use Rattle.om_outcome.specs.Outcome.{Said, comparison};
 ghost use Rattle.om_edge.specs.State.{change};
 ghost use Rattle.om_session.specs.declared.values.Work.{Work as AnyWork};
 ghost use Rattle.om_session.specs.declared.values.Work.TheVariants as works;
-ghost use Rattle.om_session.specs.Values.{IsReadyWork, IsStopOf, AreValues, IsFull, MayTake, HasRead, IsValueRead, KeepsNext, PutsNext, ReadsSome, ReadsPiece, Compares, EndsAt, PutsValues, word_limit};
+ghost use Rattle.om_session.specs.Values.{IsReadyWork, IsStopOf, AreValues, IsFull, MayTake, HasRead, IsValueRead, KeepsNext, PutsNext, ReadsSome, ReadsPiece, Compares, EndsScript, EndsAt, PutsValues, word_limit};
 
+use crate::edit::{Edits, edit_value, line_past};
 use crate::gather::LENGTH_LIMIT;
-use crate::stop::Stop;
+use crate::stop::{Halt, Stop};
 use crate::verdict::{Speech, line_of};
-use om_edge::{Failed, Sink, Source, put_all};
+use om_edge::{Sink, Source, put_all};
 use om_iso::same;
 use om_model::Memory;
 use om_model::bytes::skip;
@@ -23,11 +25,12 @@ use std::mem;
 /// So many bytes a call on the input is asked for.
 const PIECE: usize = 4096;
 
-/// What is done with the values: something is said of each, or the two are compared. The number is the limit of words on
-/// 64 bits in a value.
+/// What is done with the values: something is said of each, each is edited, or the two are compared. The number is the limit
+/// of words on 64 bits in a value.
 #[derive(Clone, Copy)]
 pub enum Work<'a> {
     Say(Speech<'a>, u64),
+    Edit(Edits<'a>, u64),
     Compare(u64),
 }
 
@@ -37,36 +40,9 @@ impl Work<'_> {
     {
         match self {
             Work::Say(_, limit) => limit,
+            Work::Edit(_, limit) => limit,
             Work::Compare(limit) => limit,
         }
-    }
-}
-
-/// Why the values are read no further: the run stops, or out failed.
-#[derive(Drop)]
-pub enum Halt {
-    Stop(Stop<'static>),
-    WriteFault,
-}
-
-impl From<Memory> for Halt {
-    ghost use Rattle.om_session.specs.declared.values.Halt.TheVariants as halts;
-    ghost use Rattle.om_session.specs.declared.stop.Stop.TheVariants as stops;
-
-    ghost from_gives = { λ _ h. h ≡ halts.Stop stops.Memory };
-
-    fn from(_: Memory) -> Self {
-        Halt::Stop(Stop::Memory)
-    }
-}
-
-impl From<Failed> for Halt {
-    ghost use Rattle.om_session.specs.declared.values.Halt.TheVariants as halts;
-
-    ghost from_gives = { λ _ h. h ≡ halts.WriteFault };
-
-    fn from(_: Failed) -> Self {
-        Halt::WriteFault
     }
 }
 
@@ -138,7 +114,7 @@ impl Values {
         ensures { MatchBool result (IsFull work.entry self.now.count) (MayTake work.entry self.now.count) }
     {
         match work {
-            Work::Say(..) => false,
+            Work::Say(..) | Work::Edit(..) => false,
             Work::Compare(_) => self.count == 2,
         }
     }
@@ -152,8 +128,8 @@ impl Values {
         out: &mut K,
     ) -> Result<(), Halt>
         requires { (taken : List ℕ) × (said : List Said) × IsValueRead (works.Say speech limit) taken said self.old × (length taken < 2 ^ 64) }
-        ensures { (taken : List ℕ) (said : List Said) → IsValueRead (works.Say speech.entry limit) taken said self.old →
-            PutsNext (works.Say speech.entry limit) taken said (change (K.state out.old) (K.state out.new)) self.new result }
+        ensures { (taken : List ℕ) (said : List Said) (v : IsValueRead (works.Say speech.entry limit) taken said self.old) →
+            PutsNext (works.Say speech.entry limit) taken said v.trees v.whole (change (K.state out.old) (K.state out.new)) self.new result }
     {
         let reader = mem::replace(&mut self.reader, Reader::new(alloc, limit));
         let value = reader.finish();
@@ -161,6 +137,27 @@ impl Values {
         put_all(out, line.text.as_slice())?;
         self.reader = Reader::over(alloc, limit, value.heap);
         self.well &= line.well;
+        self.count += 1;
+        Ok(())
+    }
+
+    /// Edits the value that the reader has whole, and puts its bytes. A new reader waits for the next one, in the memory of
+    /// this one.
+    fn put_edited<K: Sink>(
+        &mut self,
+        alloc: Global,
+        edits: Edits<'_>,
+        limit: u64,
+        out: &mut K,
+    ) -> Result<(), Halt>
+        requires { (taken : List ℕ) × (said : List Said) × IsValueRead (works.Edit edits limit) taken said self.old × (length taken < 2 ^ 64) }
+        ensures { (taken : List ℕ) (said : List Said) (v : IsValueRead (works.Edit edits.entry limit) taken said self.old) →
+            PutsNext (works.Edit edits.entry limit) taken said v.trees v.whole (change (K.state out.old) (K.state out.new)) self.new result }
+    {
+        let reader = mem::replace(&mut self.reader, Reader::new(alloc, limit));
+        let mut value = reader.finish();
+        edit_value(alloc, &mut value, self.count, edits, out)?;
+        self.reader = Reader::over(alloc, limit, value.heap);
         self.count += 1;
         Ok(())
     }
@@ -176,14 +173,15 @@ impl Values {
         Ok(())
     }
 
-    /// Says what is said of the value that the reader has whole.
+    /// Does the work with the value that the reader has whole.
     fn put_value<K: Sink>(&mut self, alloc: Global, work: Work<'_>, out: &mut K) -> Result<(), Halt>
         requires { (taken : List ℕ) × (said : List Said) × IsValueRead work taken said self.old × (length taken < 2 ^ 64) }
-        ensures { (taken : List ℕ) (said : List Said) → IsValueRead work.entry taken said self.old →
-            PutsNext work.entry taken said (change (K.state out.old) (K.state out.new)) self.new result }
+        ensures { (taken : List ℕ) (said : List Said) (v : IsValueRead work.entry taken said self.old) →
+            PutsNext work.entry taken said v.trees v.whole (change (K.state out.old) (K.state out.new)) self.new result }
     {
         match work {
             Work::Say(speech, limit) => self.put_line(alloc, speech, limit, out),
+            Work::Edit(edits, limit) => self.put_edited(alloc, edits, limit, out),
             Work::Compare(limit) => Ok(self.keep_value(alloc, limit)?),
         }
     }
@@ -237,6 +235,16 @@ impl Values {
         Ok(())
     }
 
+    /// The input ends here with a value: a line that edits no value stops the run.
+    fn finish_script(&self, edits: Edits<'_>) -> Result<bool, Halt>
+        ensures { (trees : List Tree) → self.now.count ≡ length trees → EndsScript edits.entry trees self.now.well result }
+    {
+        match line_past(edits.script.lines.as_slice(), self.count) {
+            Some(number) => Err(Halt::Stop(Stop::NoValue(number))),
+            None => Ok(self.well),
+        }
+    }
+
     /// The input ends here: whether nothing is wrong with any value, or a value is cut. Two values are compared.
     fn finish<K: Sink>(&self, alloc: Global, work: Work<'_>, out: &mut K) -> Result<bool, Halt>
         requires { (taken : List ℕ) × (said : List Said) × HasRead work taken said self.now }
@@ -246,6 +254,7 @@ impl Values {
         match self.reader.at_end() {
             Ok(()) => match work {
                 Work::Say(..) => Ok(self.well),
+                Work::Edit(edits, _) => self.finish_script(edits),
                 Work::Compare(_) => compare(alloc, self.kept.as_slice(), out),
             },
             Err(Truncated { taken }) => Err(Halt::Stop(Stop::Cut(self.count, taken))),

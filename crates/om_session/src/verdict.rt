@@ -1,15 +1,15 @@
 //! What is said of a value.
 
-ghost use Rattle.std.specs.Prelude.{◌≡◌, ◌++◌, length, OnOk, IfOk};
+ghost use Rattle.std.specs.Prelude.{length, OnOk, IfOk};
 ghost use Rattle.om_model.specs.Graph.{IsValue};
 ghost use Rattle.om_types.specs.Typing.{HasType};
 ghost use Rattle.om_types.specs.Table.{table_shapes};
 ghost use Rattle.om_type_table.specs.Made.{table_of};
 ghost use Rattle.om_session.specs.Types.{type_over, IsReady};
-ghost use Rattle.om_session.specs.Verdict.{IsReadySpeech, IsVerdictOf, IsSaidOf, PutsLine, saying_of};
+ghost use Rattle.om_session.specs.Verdict.{IsReadySpeech, IsVerdictOf, IsSaidOf, PutsLine, PutsNo, saying_of};
 ghost use Rattle.om_session.specs.declared.verdict.Speech.TheVariants as speeches;
 ghost use Rattle.om_check.specs.declared.verdict.Verdict.TheVariants.{No};
-ghost use Rattle.om_outcome.specs.Outcome.{Saying as AnySaying, the_part};
+ghost use Rattle.om_outcome.specs.Outcome.{the_part};
 
 use crate::put::put;
 use crate::types::Requested;
@@ -99,7 +99,7 @@ fn told_line(
 }
 
 /// Whether the value has the type, and if not the least fault.
-fn find_verdict(
+pub fn find_verdict(
     alloc: Global,
     heap: &Heap,
     root: Val,
@@ -132,23 +132,26 @@ fn put_line(
 {
     match verdict {
         Verdict::Yes(_) => put_told(text, alloc, heap, root, requested, saying),
-        Verdict::No(fault) => put_no(text, alloc, heap, root, requested, fault),
+        Verdict::No(fault) => {
+            put_no(text, alloc, heap, root, requested, fault)?;
+            Ok(false)
+        }
     }
 }
 
 /// Puts `no` and the least fault at the end.
-fn put_no(
+pub fn put_no(
     text: &mut Vec<u8>,
     alloc: Global,
     heap: &Heap,
     root: Val,
     requested: &Requested,
     fault: &Fault,
-) -> Result<bool, Memory>
+) -> Result<(), Memory>
     requires value { IsValue (length heap.now) root }
     requires ready { IsReady requested.now }
     requires least { IsVerdictOf requested.now heap.now root (No fault.now) }
-    ensures { (saying : AnySaying) → IfOk result (PutsLine saying (type_over requested.now) heap.now root text.old.items text.new.items) }
+    ensures { OnOk result (PutsNo (type_over requested.now) heap.now root text.old.items text.new.items) }
 {
     tables_are_lawful();
     tables_decide();
@@ -157,7 +160,7 @@ fn put_no(
     let why = fault_text(alloc, heap, root, &requested.table, fault)?;
     put(text, b"no ")?;
     put(text, why.as_slice())?;
-    Ok(false)
+    Ok(())
 }
 
 /// Puts what is told of a value that has the type at the end, and answers whether nothing is wrong with it.

@@ -2,7 +2,7 @@
 #![tactic(auto)]
 
 use om_edge::{DiskFiles, MaybeClosed, Sink, StdSink, StdSource, put_all};
-use om_model::status::Status;
+use om_outcome::status::Status;
 use om_session::run;
 use std::env;
 use std::io::{ErrorKind, Lock, StdinLock};

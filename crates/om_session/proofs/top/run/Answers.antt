@@ -6,5 +6,5 @@ use Rattle.om_session.proofs.top.run.Goals as goal
 pub returns : goal.returns
 returns g c =
     promises declared_types
-    (declared_lawful c.one_answer.ensures.files c.one_answer.ensures.types c.one_answer-2.ensures c.files_are_well_formed.ensures c.types_are_sound.ensures c.type_or_fault.ensures.never_both)
+    (declared_lawful c.one_answer.ensures.files c.one_answer.ensures.types c.one_answer-2.ensures c.one_script_answer.ensures c.edits_have_one_answer.ensures c.files_are_well_formed.ensures c.types_are_sound.ensures c.type_or_fault.ensures.never_both)
     c.one_judgement.ensures _ _ c.tells_bytes.ensures c.run_command.ensures

@@ -29,6 +29,9 @@ returns-in-Show g c = λ words asks.
 pub returns-in-Get : goal.returns-in-Get
 returns-in-Get g c = λ words asks. c.get.ensures words (rw c.in-Get.is at asks)
 
+pub returns-in-Edit : goal.returns-in-Edit
+returns-in-Edit g c = λ words asks. c.edit.ensures words (rw c.in-Edit.is at asks)
+
 pub returns-in-Dump : goal.returns-in-Dump
 returns-in-Dump g c = λ words asks.
     dump_account words c.in-Dump.limit (g.O.Opener.state c.args.files.now)

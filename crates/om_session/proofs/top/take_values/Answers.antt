@@ -1,6 +1,6 @@
 use Rattle.std.proofs.Common.{sym, ap}
 use Rattle.std.specs.Prelude.{if◌then◌else◌}
-use Rattle.om_model.specs.declared.status.Status.TheVariants as statuses
+use Rattle.om_outcome.specs.declared.status.Status.TheVariants as statuses
 use Rattle.om_edge.specs.State.{change}
 use Rattle.om_session.proofs.CloseLemmas.{takes_ended, takes_stopped, takes_failed}
 use Rattle.om_session.proofs.top.take_values.Goals as goal

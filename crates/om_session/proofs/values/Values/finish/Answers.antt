@@ -2,7 +2,7 @@ use Rattle.std.proofs.Common.{sym, subst}
 use Rattle.om_edge.specs.State.{change}
 use Rattle.om_session.specs.Values.{AreValues, Compares, word_limit}
 use Rattle.om_session.proofs.PutLemmas.{puts_nothing}
-use Rattle.om_session.proofs.ReadLemmas.{ends_cut, ends_as_said, ends_as_compared, kept_as_values}
+use Rattle.om_session.proofs.ReadLemmas.{ends_cut, ends_as_said, ends_as_edited, ends_as_compared, kept_as_values}
 use Rattle.om_session.proofs.values.Values.finish.Goals as goal
 
 pub compare-requires : goal.compare-requires
@@ -11,6 +11,10 @@ compare-requires g c = subst AreValues (sym c.as_slice.ensures.value) (kept_as_v
 pub returns-in-Say : goal.returns-in-Say
 returns-in-Say g c = λ taken said h.
     ends_as_said c.args.work taken said c.args.self.now h _ _ c.in-Say.is (c.in-Ok.ensures (word_limit c.args.work) h.front h.leads) (g.K.Sink.state c.args.out.now)
+
+pub returns-in-Edit : goal.returns-in-Edit
+returns-in-Edit g c = λ taken said h.
+    ends_as_edited c.args.work taken said c.args.self.now h _ _ c.in-Edit.is (c.in-Ok.ensures (word_limit c.args.work) h.front h.leads) (g.K.Sink.state c.args.out.now) c.finish_script.result c.finish_script.ensures
 
 pub returns-in-Compare : goal.returns-in-Compare
 returns-in-Compare g c = λ taken said h.

@@ -8,7 +8,7 @@ use Rattle.om_session.proofs.values.Values.put_line.Goals as goal
 
 pub returns-in_err-line : goal.returns-in_err-line
 returns-in_err-line g c = λ taken said v.
-    next_memory (Say c.args.speech c.args.limit) taken said _ _ c.from_residual.result c.from_residual.ensures.1 (puts_nothing (g.K.Sink.state c.args.out.now))
+    next_memory (Say c.args.speech c.args.limit) taken said v.trees v.whole _ _ c.from_residual.result c.from_residual.ensures.1 (puts_nothing (g.K.Sink.state c.args.out.now))
 
 pub returns-in_err-put_all : goal.returns-in_err-put_all
 returns-in_err-put_all g c = λ taken said v.
@@ -16,7 +16,7 @@ returns-in_err-put_all g c = λ taken said v.
     let next : Said = record { text = c.as_slice.result.now; well = c.in_ok-line.line.well } in
     let f = c.finish-value.ensures c.args.limit v.whole leads in
     let says = says_read c.args.speech (length v.trees) c.finish-value.result f.tree next.text next.well f.is_value (rw (← c.as_slice.ensures) at c.in_ok-line.ensures) in
-    next_fault (Say c.args.speech c.args.limit) taken said _ _ c.from_residual-in_err-put_all.result c.from_residual-in_err-put_all.ensures.1 next
+    next_fault (Say c.args.speech c.args.limit) taken said v.trees v.whole _ _ c.from_residual-in_err-put_all.result c.from_residual-in_err-put_all.ensures.1 next
     (_, [], value_said (Say c.args.speech c.args.limit) taken said c.args.self.now v f.tree f.spelled next says) c.in_err-put_all.ensures.puts
 
 pub overflow_add-self : goal.overflow_add-self

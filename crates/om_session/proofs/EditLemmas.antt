@@ -1,0 +1,276 @@
+-- Values that are edited: the type, the lines, and the bytes.
+use Rattle.std.proofs.Common.{◌≡◌, ◌∙◌, ◌==◌, ◌≢◌, ◌<◌, ◌≤◌, ℕ, Bool, true, false, List, [], ◌∷◌, length, Option, None, Some, Result, Ok, Err, inl, inr, refl, sym, ap, subst, lt-ltb, le-ltb, eq-eqb}
+use Rattle.std.specs.Prelude.{IsErrAnd, IsSomeAnd, option_map, nat_lt, if◌then◌else◌}
+use Rattle.om_model.specs.declared.value.Val.{Val}
+use Rattle.om_model.specs.declared.value.Obj.{Obj}
+use Rattle.om_model.specs.declared.value.Obj.TheVariants as objects
+use Rattle.om_model.specs.Graph.{IsValue}
+use Rattle.om_types.specs.Equal.{declared_shapes}
+use Rattle.om_types.specs.Ty.{Ty}
+use Rattle.om_types.specs.TypeText.{type_text}
+use Rattle.om_types.specs.Typing.{HasType}
+use Rattle.om_fault.specs.Text.{text_at}
+use Rattle.om_format.specs.Canonical.{canon}
+use Rattle.om_format.specs.Compat.{TooLargeFor32, token, header, too_large_for_32}
+use Rattle.om_format.specs.Iso.{IsTreeOf}
+use Rattle.om_format.specs.Token.{integer, atom, shared, block, leaf}
+use Rattle.om_format.specs.Tree.{Tree}
+use Rattle.om_edge.specs.Sink.{Puts, Writes}
+use Rattle.om_edge.specs.State.{ByteState, Change, change}
+use Rattle.om_edge.specs.declared.sink.WriteError.TheVariants as errors
+use Rattle.om_edit.specs.Answers.{Answer, Edited}
+use Rattle.om_edit.specs.Laws.{IsDeclaredAnswer, SayTheSame, TablesEditAlike}
+use Rattle.om_edit.specs.Reasons.{Reason, no_field, no_literal, misread, ill_typed, reason_text, reason_or_none, literal_reason, reason_of}
+use Rattle.om_edit.specs.declared.refusal.EditRefusal.{EditRefusal}
+use Rattle.om_edit.specs.declared.refusal.EditRefusal.TheVariants as refusals
+use Rattle.om_edit.specs.declared.refusal.Side.{Side}
+use Rattle.om_types.specs.declared.fault.Fault.{Fault}
+use Rattle.om_edit.specs.Tables.{IsAnswerIn, IsRefusedFor, IsApplied}
+use Rattle.om_literal.specs.Reading.{misfit_at, int_range_at, label_at}
+use Rattle.om_literal.specs.declared.fault.LiteralFault.{LiteralFault}
+use Rattle.om_literal.specs.declared.fault.LiteralFault.TheVariants as literals
+use Rattle.om_path.specs.declared.edits.ScriptLine.{ScriptLine}
+use Rattle.om_read.specs.declared.value.Value.{Value}
+use Rattle.om_write.specs.Tells.{Tells}
+use Rattle.om_write.specs.Written.{IsEarly, Writes32}
+use Rattle.om_write.specs.declared.compat.Compat.{Compat}
+use Rattle.om_write.specs.declared.writer32.Write32Error.{Write32Error}
+use Rattle.om_write.specs.declared.writer32.Write32Error.TheVariants as errors32
+use Rattle.om_outcome.specs.RefusalText.{compat_text}
+use Rattle.om_outcome.specs.Outcome.{Unedited, untyped, refused_line, too_large, line_past, says, nothing_said, ends_script}
+use Rattle.om_outcome.specs.Outcome as outcome
+use Rattle.om_session.specs.declared.edit.Edits.{Edits}
+use Rattle.om_session.specs.declared.stop.Halt.{Halt}
+use Rattle.om_session.specs.declared.stop.Halt.TheVariants as halts
+use Rattle.om_session.specs.declared.stop.Stop.{Stop}
+use Rattle.om_session.specs.declared.stop.Stop.TheVariants as stops
+use Rattle.om_session.specs.declared.types.Requested.{Requested}
+use Rattle.om_session.specs.Edits.{lines_at, ChecksType, Edit, EditsOn, IsReasonStop, IsRefusedLine, EditsLine, EditsAll, EditsLines, PutsBytes, PutsEdited, AnswersOf, IsPast}
+use Rattle.om_session.specs.Language.{declared_types, bytes_for, AreBytesOf}
+use Rattle.om_session.specs.Stops.{stop_of, text_of_compat}
+use Rattle.om_session.specs.Types.{IsReady}
+use Rattle.om_session.specs.Values.{EndsScript}
+use Rattle.om_session.proofs.PutLemmas.{puts_nothing}
+
+-- ---- lines
+
+module _ (r : Requested) (k : ℕ) (line : ScriptLine) where
+  -- a line of another value changes nothing
+  pub other_line : (value : Value) → IsValue (length value.heap) value.root → (line.value == k) ≡ false → EditsOn r k line value value
+  other_line value valid other = record {
+    valid = valid;
+    goes_on = λ rest all edits. subst (λ b. Edit r (if b then line ∷ lines_at k rest else lines_at k rest) value.heap value.root all) (sym other) edits;
+  }
+
+  module _ (ready : IsReady r) (alike : TablesEditAlike) (own : line.value ≡ k) (old : Value) where
+    own_line : (rest : List ScriptLine) (all : Edited Ty) → Edit r (line ∷ lines_at k rest) old.heap old.root all → Edit r (lines_at k (line ∷ rest)) old.heap old.root all
+    own_line rest all edits = subst (λ b. Edit r (if b then line ∷ lines_at k rest else lines_at k rest) old.heap old.root all) (sym (eq-eqb line.value k own)) edits
+
+    -- what the table says of an edit is said of the type
+    pub line_applied : (new : Value) → IsValue (length new.heap) new.root → IsApplied r.table line.edit old.heap old.root new.heap new.root (Ok tt) → EditsOn r k line old new
+    line_applied new valid applied = at (alike r.decls r.ty r.table ready.made line.edit old.heap old.root (Ok (new.heap, new.root)) applied) where
+      at : (other : Answer Ty) × IsDeclaredAnswer r.decls r.ty line.edit old.heap old.root other × SayTheSame r.table (Ok (new.heap, new.root)) other → EditsOn r k line old new
+      at (Err reason, is, never) = absurd never
+      at (Ok edited, is, same) = record {
+        valid = valid;
+        goes_on = λ rest all edits. own_line rest all (Ok edited, is, subst (λ (e : List Obj × Val). Edit r (lines_at k rest) e.0 e.1 all) same edits);
+      }
+
+    pub line_refused : (reason : Reason ℕ) (stop : Stop) → stop_of stop ≡ outcome.script_line line.number (reason_text (text_at r.table) reason) → IsAnswerIn r.table line.edit old.heap old.root (Err reason)
+        → IsRefusedLine r k line old stop
+    line_refused reason stop told is = at (alike r.decls r.ty r.table ready.made line.edit old.heap old.root (Err reason) is) where
+      at : (other : Answer Ty) × IsDeclaredAnswer r.decls r.ty line.edit old.heap old.root other × SayTheSame r.table (Err reason) other → IsRefusedLine r k line old stop
+      at (Ok edited, is, never) = absurd never
+      at (Err other, is, same) = (
+        other,
+        (λ rest. own_line rest (Err (line.number, other)) (Err other, is, refl)),
+        told ∙ ap (λ t. outcome.script_line line.number t) same,
+      )
+
+    -- a line is refused for the reason that is told
+    pub refused_by : (new : Value) (refusal : EditRefusal) (stop : Stop) → IsReasonStop r line.number (reason_of refusal) stop → IsApplied r.table line.edit old.heap old.root new.heap new.root (Err refusal)
+        → IsRefusedLine r k line old stop
+    refused_by new refusal stop told (same, same_root, is) = at (reason_of refusal) told is where
+      at : (reason : Option (Reason ℕ)) → IsReasonStop r line.number reason stop → IsRefusedFor r.table line.edit old.heap old.root reason → IsRefusedLine r k line old stop
+      at None told is = absurd told
+      at (Some reason) told is = line_refused reason stop told is
+
+-- a literal that is not refused for out of memory has a reason
+pub literal_told : (fault : LiteralFault) → fault ≢ literals.Memory → (reason : Reason ℕ) × (literal_reason fault ≡ Some reason)
+literal_told (literals.Syntax place) some = (no_literal place, refl)
+literal_told (literals.Misfit place t) some = (misread (misfit_at place t), refl)
+literal_told (literals.IntRange place) some = (misread (int_range_at place), refl)
+literal_told (literals.Label place) some = (misread (label_at place), refl)
+literal_told literals.Memory some = absurd (some refl)
+
+-- so has a step that is not there, and a value that would not have its type
+pub step_told : (refusal : EditRefusal) (side : Side) (step : ℕ) → refusal ≡ refusals.NoField side step → (reason : Reason ℕ) × (reason_of refusal ≡ Some reason)
+step_told refusal side step is = (no_field side step, ap reason_of is)
+
+pub type_told : (refusal : EditRefusal) (fault : Fault) → refusal ≡ refusals.IllTyped fault → (reason : Reason ℕ) × (reason_of refusal ≡ Some reason)
+type_told refusal fault is = (ill_typed fault, ap reason_of is)
+
+-- the reason of a refusal that is not for out of memory is told
+pub reason_stop : (r : Requested) (number : ℕ) (refusal : EditRefusal) (text : List ℕ) → (reason : Reason ℕ) × (reason_of refusal ≡ Some reason) → text ≡ reason_or_none (text_at r.table) (reason_of refusal)
+    → IsReasonStop r number (reason_of refusal) (stops.Edit number text)
+reason_stop r number refusal text (reason, is) spelled = at (reason_of refusal) is spelled where
+  at : (told : Option (Reason ℕ)) → told ≡ Some reason → text ≡ reason_or_none (text_at r.table) told → IsReasonStop r number told (stops.Edit number text)
+  at None is spelled = absurd (cc is)
+  at (Some other) is spelled = ap (λ t. outcome.script_line number t) spelled
+
+-- what the lines so far made goes on to what all make
+pub record EditedSoFar (r : Requested) (k : ℕ) (lines rest : List ScriptLine) (old value : Value) : Type 0 where
+  pub valid : IsValue (length value.heap) value.root
+  pub goes_on : (all : Edited Ty) → Edit r (lines_at k rest) value.heap value.root all → Edit r (lines_at k lines) old.heap old.root all
+
+module _ (r : Requested) (k : ℕ) (lines : List ScriptLine) (old : Value) where
+  pub edits_begin : IsValue (length old.heap) old.root → EditedSoFar r k lines lines old old
+  edits_begin valid = record { valid = valid; goes_on = λ all edits. edits }
+
+  module _ (rest : List ScriptLine) (value : Value) (s : EditedSoFar r k lines rest old value) (line : ScriptLine) (more : List ScriptLine) (is : rest ≡ line ∷ more) where
+    pub edits_more : (new : Value) → EditsOn r k line value new → EditedSoFar r k lines more old new
+    edits_more new e = record {
+      valid = e.valid;
+      goes_on = λ all edits. s.goes_on all (subst (λ l. Edit r (lines_at k l) value.heap value.root all) (sym is) (e.goes_on more all edits));
+    }
+
+    pub edits_halt : (new : Value) (halt : Halt) (result : Result (Unit {0}) Halt) → IsErrAnd result (λ h. h ≡ halt) → EditsLine {U = Unit {0}} r k line value new (Err halt) → EditsLines r k lines old new result
+    edits_halt new halt (Ok unit) same e = absurd same
+    edits_halt new halt (Err h) same e = subst (λ h. EditsLines {U = Unit {0}} r k lines old new (Err h)) (sym same) (at halt e) where
+      at : (halt : Halt) → EditsLine {U = Unit {0}} r k line value new (Err halt) → EditsLines {U = Unit {0}} r k lines old new (Err halt)
+      at halts.WriteFault never = never
+      at (halts.Stop stop) (inl memory) = inl memory
+      at (halts.Stop stop) (inr (reason, refused, told)) =
+          inr (line.number, reason, s.goes_on (Err (line.number, reason)) (subst (λ l. Edit r (lines_at k l) value.heap value.root (Err (line.number, reason))) (sym is) (refused more)), told)
+
+  pub edits_end : (rest : List ScriptLine) (value : Value) → EditedSoFar r k lines rest old value → length rest ≡ 0 → EditsAll r k lines old value
+  edits_end [] value s none = record { valid = s.valid; made = s.goes_on (Ok (value.heap, value.root)) refl }
+  edits_end (line ∷ rest) value s none = absurd (cc none)
+
+-- ---- the value
+
+module _ (e : Edits) (k : ℕ) (old : Value) where
+  -- the value has not the type, or memory ran out
+  pub checked_halt : (out : ByteState) (halt : Halt) (result : Result (Unit {0}) Halt) → IsErrAnd result (λ h. h ≡ halt) → ChecksType {U = Unit {0}} e.requested.now k old.heap old.root (Err halt)
+      → PutsEdited e k old.heap old.root (change out out) result
+  checked_halt out halt (Ok unit) is c = absurd is
+  checked_halt out halt (Err h) is c = subst (λ h. PutsEdited {U = Unit {0}} e k old.heap old.root (change out out) (Err h)) (sym is) (at halt c) where
+    at : (halt : Halt) → ChecksType {U = Unit {0}} e.requested.now k old.heap old.root (Err halt) → PutsEdited {U = Unit {0}} e k old.heap old.root (change out out) (Err halt)
+    at halts.WriteFault never = absurd never
+    at (halts.Stop stop) (inl memory) = (inl memory, puts_nothing out)
+    at (halts.Stop stop) (inr (text, why, told)) = (inr (untyped text, inr (record { text = text; why = why; is = refl }), told), puts_nothing out)
+
+  module _ (has : HasType (declared_shapes e.requested.now.decls) old.heap old.root e.requested.now.ty) where
+    -- a line is refused, or memory ran out
+    pub lines_halt : (new : Value) (out : ByteState) (halt : Halt) (result : Result (Unit {0}) Halt) → IsErrAnd result (λ h. h ≡ halt) → EditsLines {U = Unit {0}} e.requested.now k e.script.now.lines old new (Err halt)
+        → PutsEdited e k old.heap old.root (change out out) result
+    lines_halt new out halt (Ok unit) is l = absurd is
+    lines_halt new out halt (Err h) is l = subst (λ h. PutsEdited {U = Unit {0}} e k old.heap old.root (change out out) (Err h)) (sym is) (at halt l) where
+      at : (halt : Halt) → EditsLines {U = Unit {0}} e.requested.now k e.script.now.lines old new (Err halt) → PutsEdited {U = Unit {0}} e k old.heap old.root (change out out) (Err halt)
+      at halts.WriteFault never = absurd never
+      at (halts.Stop stop) (inl memory) = (inl memory, puts_nothing out)
+      at (halts.Stop stop) (inr (number, reason, refused, told)) =
+          (inr (refused_line number (reason_text type_text reason), inl (record { has = has; edited = Err (number, reason); made = refused; bytes = refl }), told), puts_nothing out)
+
+    -- what the lines made is put
+    pub edited_puts : (new : Value) → EditsAll e.requested.now k e.script.now.lines old new → (out : Change ByteState) (result : Result (Unit {0}) Halt) → PutsBytes e.compat k new.heap new.root out result
+        → PutsEdited e k old.heap old.root out result
+    edited_puts new all out result p = at result p where
+      lifted : (answer : Result (List ℕ) Unedited) → AreBytesOf e.compat new.heap new.root answer → AnswersOf e k old.heap old.root answer
+      lifted answer bytes = inl (record { has = has; edited = Ok (new.heap, new.root); made = all.made; bytes = bytes })
+
+      at : (result : Result (Unit {0}) Halt) → PutsBytes e.compat k new.heap new.root out result → PutsEdited e k old.heap old.root out result
+      at (Ok unit) (bytes, are, put) = (bytes, lifted (Ok bytes) are, put)
+      at (Err (halts.Stop stop)) (inl memory, none) = (inl memory, none)
+      at (Err (halts.Stop stop)) (inr (why, is, told), none) = (inr (why, lifted (Err why) is, told), none)
+      at (Err halts.WriteFault) (bytes, are, part) = (bytes, lifted (Ok bytes) are, part)
+
+-- ---- bytes
+
+-- the text of what is too large
+compat_told : (large : TooLargeFor32) (compat : Compat) → Tells large compat → compat_text large ≡ text_of_compat compat
+compat_told (token (integer z)) compat is = sym (ap text_of_compat is)
+compat_told (token (block tag size)) compat is = sym (ap text_of_compat is)
+compat_told (token (leaf (objects.Bytes bytes))) compat is = sym (ap text_of_compat is)
+compat_told (token (leaf (objects.Doubles all))) compat is = sym (ap text_of_compat is)
+compat_told (token (leaf (objects.Native z))) compat is = sym (ap text_of_compat is)
+compat_told (header n) compat is = sym (ap text_of_compat is)
+compat_told (token (atom tag)) compat is = absurd is
+compat_told (token (shared offset)) compat is = absurd is
+compat_told (token (leaf (objects.Block tag values))) compat is = absurd is
+compat_told (token (leaf (objects.Double bits))) compat is = absurd is
+compat_told (token (leaf (objects.I32 z))) compat is = absurd is
+compat_told (token (leaf (objects.I64 z))) compat is = absurd is
+
+module _ (compat : Bool) (k : ℕ) (g : List Obj) (v : Val) where
+  canon_are : (tree : Tree) → IsTreeOf g v tree → (compat ≡ true → too_large_for_32 tree ≡ None) → AreBytesOf compat g v (Ok (canon tree))
+  canon_are tree is small = (tree, is, at compat refl (too_large_for_32 tree) refl) where
+    at : (b : Bool) → compat ≡ b → (large : Option TooLargeFor32) → too_large_for_32 tree ≡ large → Ok (canon tree) ≡ bytes_for compat tree (too_large_for_32 tree)
+    at b e None same = sym (ap (bytes_for compat tree) same)
+    at false e (Some large) same = sym (ap (λ c. bytes_for c tree (too_large_for_32 tree)) e ∙ ap (bytes_for false tree) same)
+    at true e (Some large) same = let none : ◌≡◌ {A = Option TooLargeFor32} (Some large) None = sym same ∙ small e in absurd (cc none)
+
+  pub plain_put : compat ≡ false → (out : Change ByteState) → (tree : Tree) × IsTreeOf g v tree × Writes {A = Unit {0}} out (canon tree) (Ok tt) → PutsBytes {U = Unit {0}} compat k g v out (Ok tt)
+  plain_put plain out (tree, is, put) = (canon tree, canon_are tree is (λ e. let no : false ≡ true = sym plain ∙ e in absurd (cc no)), put)
+
+  pub plain_fault : compat ≡ false → (out : Change ByteState) → (tree : Tree) × IsTreeOf g v tree × Writes {A = Unit {0}} out (canon tree) (Err errors.Fault) → PutsBytes {U = Unit {0}} compat k g v out (Err halts.WriteFault)
+  plain_fault plain out (tree, is, part) = (canon tree, canon_are tree is (λ e. let no : false ≡ true = sym plain ∙ e in absurd (cc no)), part)
+
+  pub memory_put : (a b : ByteState) → b ≡ a → PutsBytes {U = Unit {0}} compat k g v (change a b) (Err (halts.Stop stops.Memory))
+  memory_put a b same = (inl refl, subst (λ b. Puts (change a b) []) (sym same) (puts_nothing a))
+
+  pub compat_put : compat ≡ true → (out : Change ByteState) → (tree : Tree) × IsTreeOf g v tree × Writes32 {A = Unit {0}} out tree (Ok tt) → PutsBytes {U = Unit {0}} compat k g v out (Ok tt)
+  compat_put asked out (tree, is, (none, put)) = (canon tree, canon_are tree is (λ e. none), put)
+
+  pub compat_fault : compat ≡ true → (out : Change ByteState) → (tree : Tree) × IsTreeOf g v tree × Writes32 {A = Unit {0}} out tree (Err errors32.Fault) → PutsBytes {U = Unit {0}} compat k g v out (Err halts.WriteFault)
+  compat_fault asked out (tree, is, (none, part)) = (canon tree, canon_are tree is (λ e. none), part)
+
+  pub compat_refused : compat ≡ true → {S : Type 0} (state : S → ByteState) (a b : S) (error : Write32Error) → (IsEarly error → b ≡ a) → (large : Compat) → error ≡ errors32.Compat large
+      → (tree : Tree) × IsTreeOf g v tree × Writes32 {A = Unit {0}} (change (state a) (state b)) tree (Err error) → PutsBytes {U = Unit {0}} compat k g v (change (state a) (state b)) (Err (halts.Stop (stops.Large k large)))
+  compat_refused asked state a b error untouched large is (tree, of, tells) =
+      let tells : IsSomeAnd (too_large_for_32 tree) (λ t. Tells t large) = subst (λ e. Writes32 {A = Unit {0}} (change (state a) (state b)) tree (Err e)) is tells in
+      let same : b ≡ a = untouched (subst IsEarly (sym is) tt) in
+      at (too_large_for_32 tree) refl tells (subst (λ b. Puts (change (state a) (state b)) []) (sym same) (puts_nothing (state a))) where
+        at : (what : Option TooLargeFor32) → too_large_for_32 tree ≡ what → IsSomeAnd what (λ t. Tells t large) → Puts (change (state a) (state b)) []
+            → PutsBytes {U = Unit {0}} compat k g v (change (state a) (state b)) (Err (halts.Stop (stops.Large k large)))
+        at None e tells none = absurd tells
+        at (Some t) e tells none = (
+          inr (too_large (compat_text t), (tree, of, sym (ap (λ c. bytes_for c tree (too_large_for_32 tree)) asked ∙ ap (bytes_for true tree) e)), ap (outcome.large_value k) (sym (compat_told t large tells))),
+          none,
+        )
+
+-- ---- the end
+
+is_below : (a b : ℕ) → a < b → nat_lt a b ≡ true
+is_below a b less = lt-ltb a b less
+
+not_below : (a b : ℕ) → b ≤ a → nat_lt a b ≡ false
+not_below a b more = le-ltb a b more
+
+-- a line past so many values, or none
+pub past_here : (lines : List ScriptLine) (line : ScriptLine) (more : List ScriptLine) (n : ℕ) → lines ≡ line ∷ more → n ≤ line.value → line_past declared_types lines n ≡ Some line
+past_here lines line more n is past = ap (λ l. line_past declared_types l n) is ∙ rw (not_below line.value n past) refl
+
+pub past_later : (lines : List ScriptLine) (line : ScriptLine) (more : List ScriptLine) (n : ℕ) → lines ≡ line ∷ more → line.value < n → line_past declared_types lines n ≡ line_past declared_types more n
+past_later lines line more n is below = ap (λ l. line_past declared_types l n) is ∙ rw (is_below line.value n below) refl
+
+module _ (e : Edits) (trees : List Tree) (well : Bool) (n : ℕ) (counted : n ≡ length trees) (lines : List ScriptLine) (are : lines ≡ e.script.now.lines) where
+  past_is : (number : Option ℕ) → IsPast lines n number → number ≡ option_map (λ line. line.number) (line_past declared_types e.script.now.lines (length trees))
+  past_is number is = is ∙ (ap (λ m. option_map (λ (line : ScriptLine). line.number) (line_past declared_types lines m)) counted ∙ ap (λ l. option_map (λ (line : ScriptLine). line.number) (line_past declared_types l (length trees))) are)
+
+  pub script_ended : IsPast lines n None → EndsScript e trees well (Ok well)
+  script_ended is = (at (line_past declared_types e.script.now.lines (length trees)) refl (past_is None is), refl) where
+    at : (line : Option ScriptLine) → line_past declared_types e.script.now.lines (length trees) ≡ line → None ≡ option_map (λ line. line.number) (line_past declared_types e.script.now.lines (length trees))
+        → says nothing_said ≡ ends_script declared_types (line_past declared_types e.script.now.lines (length trees))
+    at None same none = sym (ap (ends_script declared_types) same)
+    at (Some line) same none = let no : ◌≡◌ {A = Option ℕ} None (Some line.number) = none ∙ ap (option_map (λ line. line.number)) same in absurd (cc no)
+
+  pub script_past : (number : ℕ) → IsPast lines n (Some number) → EndsScript e trees well (Err (halts.Stop (stops.NoValue number)))
+  script_past number is = at (line_past declared_types e.script.now.lines (length trees)) refl (past_is (Some number) is) where
+    at : (line : Option ScriptLine) → line_past declared_types e.script.now.lines (length trees) ≡ line → Some number ≡ option_map (λ line. line.number) (line_past declared_types e.script.now.lines (length trees))
+        → outcome.stops (stop_of (stops.NoValue number)) ≡ ends_script declared_types (line_past declared_types e.script.now.lines (length trees))
+    at None same none = let no : ◌≡◌ {A = Option ℕ} (Some number) None = none ∙ ap (option_map (λ line. line.number)) same in absurd (cc no)
+    at (Some line) same some =
+        let told : ◌≡◌ {A = Option ℕ} (Some number) (Some line.number) = some ∙ ap (option_map (λ line. line.number)) same in
+        let is : number ≡ line.number = cc told in
+        ap (λ m. outcome.stops (stop_of (stops.NoValue m))) is ∙ sym (ap (ends_script declared_types) same)
