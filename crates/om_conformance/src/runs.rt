@@ -2,10 +2,11 @@
 //! between tabs settings, the input in hexadecimal digits, the text of `f.ml` behind `=`, or `none`, and the words.
 //!
 //! A setting is `fetch=N`, `read=N`, `take=N` or `put=N` where the call N of this kind fails, counted from 0; `out=N` or
-//! `err=N` where so many bytes fit there; and `piece=N` where a take gives at most so many bytes.
+//! `err=N` where so many bytes fit there; `piece=N` where a take gives at most so many bytes; and `script=` with hexadecimal
+//! digits where there is a file `script` of these bytes.
 
 use om_edge::{MemFiles, MemSink, MemSource};
-use om_model::status::Status;
+use om_outcome::status::Status;
 use om_session::run;
 use std::alloc::Global;
 use std::io;
@@ -20,13 +21,13 @@ struct Given {
     words: Vec<String>,
 }
 
-/// The number of a setting.
-fn setting(given: &Given, name: &str) -> Option<u64> {
+/// What a setting has behind `=`.
+fn setting<'a>(given: &'a Given, name: &str) -> Option<&'a str> {
     for setting in given.settings.as_str().split(' ') {
         match setting.split_once('=') {
-            Some((key, number)) => {
+            Some((key, text)) => {
                 if key == name {
-                    return number.parse().ok();
+                    return Some(text);
                 }
             }
             None => {}
@@ -35,10 +36,15 @@ fn setting(given: &Given, name: &str) -> Option<u64> {
     None
 }
 
+/// The number of a setting.
+fn number(given: &Given, name: &str) -> Option<u64> {
+    setting(given, name)?.parse().ok()
+}
+
 // The calls of a kind that fail.
 fn failing(alloc: Global, given: &Given, name: &str) -> io::Result<Vec<u64>> {
     let mut found = Vec::new(alloc);
-    if let Some(number) = setting(given, name) {
+    if let Some(number) = number(given, name) {
         found.push(number)?;
     }
     Ok(found)
@@ -46,19 +52,31 @@ fn failing(alloc: Global, given: &Given, name: &str) -> io::Result<Vec<u64>> {
 
 // How many bytes fit.
 fn room(given: &Given, name: &str) -> usize {
-    match setting(given, name) {
+    match number(given, name) {
         Some(room) => room as usize,
         None => 20_000,
     }
 }
 
-// The files: f.ml alone, or none.
+// The bytes that hexadecimal digits stand for.
+fn decoded(alloc: Global, digits: &str) -> io::Result<Vec<u8>> {
+    match hex::decode(alloc, digits) {
+        Ok(bytes) => Ok(bytes),
+        Err(_) => Err(ErrorKind::InvalidInput.into()),
+    }
+}
+
+// The files: f.ml and a script, where they are there.
 fn files_of(alloc: Global, given: &Given) -> io::Result<Vec<(String, Vec<u8>)>> {
     let mut pairs = Vec::new(alloc);
     if let Some(text) = &given.file {
         let name = String::from_str(alloc, "f.ml")?;
         let text = Vec::from_slice(alloc, text.as_slice())?;
         pairs.push((name, text))?;
+    }
+    if let Some(digits) = setting(given, "script") {
+        let name = String::from_str(alloc, "script")?;
+        pairs.push((name, decoded(alloc, digits)?))?;
     }
     Ok(pairs)
 }
@@ -75,6 +93,25 @@ fn put_written(text: &mut Vec<u8>, before: &[u8], written: &[u8]) -> io::Result<
             }
             Ok(())
         }
+    }
+}
+
+// Puts the bytes of values that were written, in hexadecimal digits, if there are some.
+fn put_values(alloc: Global, text: &mut Vec<u8>, written: &[u8]) -> io::Result<()> {
+    match written {
+        [] => Ok(()),
+        _ => {
+            let digits = hex::encode(alloc, written)?;
+            writeln!(text, "values: {digits}")
+        }
+    }
+}
+
+// Whether the words are of the command that writes values.
+fn writes_values(words: &[String]) -> bool {
+    match words {
+        [command, ..] => command.as_str() == "edit",
+        [] => false,
     }
 }
 
@@ -146,9 +183,18 @@ fn run_outside(alloc: Global, words: &[String], outside: &mut Outside) -> Status
 }
 
 // What a run has put, its status, and how many calls failed.
-fn text_of(alloc: Global, outside: &Outside, status: Status) -> io::Result<Vec<u8>> {
+fn text_of(
+    alloc: Global,
+    words: &[String],
+    outside: &Outside,
+    status: Status,
+) -> io::Result<Vec<u8>> {
     let mut text = Vec::new(alloc);
-    put_written(&mut text, b"", outside.out.written())?;
+    if writes_values(words) {
+        put_values(alloc, &mut text, outside.out.written())?;
+    } else {
+        put_written(&mut text, b"", outside.out.written())?;
+    }
     put_written(&mut text, b"err: ", outside.err.written())?;
     writeln!(text, "status {}", status.code())?;
     put_faults(&mut text, "fetch", outside.files.open_faults())?;
@@ -162,7 +208,7 @@ fn text_of(alloc: Global, outside: &Outside, status: Status) -> io::Result<Vec<u
 fn ending(alloc: Global, given: &Given, piece: usize) -> io::Result<Vec<u8>> {
     let mut outside = outside_of(alloc, given, piece)?;
     let status = run_outside(alloc, given.words.as_slice(), &mut outside);
-    text_of(alloc, &outside, status)
+    text_of(alloc, given.words.as_slice(), &outside, status)
 }
 
 // The file's text: none, or what stands behind `=`.
@@ -180,9 +226,7 @@ fn given_by(alloc: Global, question: &str) -> io::Result<Given> {
     else {
         return Err(ErrorKind::InvalidInput.into());
     };
-    let Ok(input) = hex::decode(alloc, digits) else {
-        return Err(ErrorKind::InvalidInput.into());
-    };
+    let input = decoded(alloc, digits)?;
     let mut words = Vec::new(alloc);
     for word in parts {
         words.push(String::from_str(alloc, word)?)?;
@@ -199,7 +243,7 @@ fn given_by(alloc: Global, question: &str) -> io::Result<Given> {
 pub fn answer(rt: &HostRuntime, question: &str) -> io::Result<()> {
     let alloc = rt.alloc();
     let given = given_by(alloc, question)?;
-    if let Some(piece) = setting(&given, "piece") {
+    if let Some(piece) = number(&given, "piece") {
         let text = ending(alloc, &given, piece as usize)?;
         return rt.stdout().write_all(text.as_slice());
     }

@@ -1,7 +1,7 @@
 //! What `run` says of streams in the folder, which OCaml wrote.
 
 use om_edge::{DiskFiles, StdSink, StdSource};
-use om_model::status::Status;
+use om_outcome::status::Status;
 use om_session::run;
 use std::fs::File;
 use std::io;
