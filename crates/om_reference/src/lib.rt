@@ -19,6 +19,3 @@ pub use build::{Graph, graph_of};
 pub use refusal::Refusal;
 pub use token::Token;
 pub use value::{Judgement, judge};
-
-#[cfg(test)]
-mod tests;

@@ -10,6 +10,3 @@ mod types;
 pub use names::Names;
 pub use node::TypeNode;
 pub use types::Types;
-
-#[cfg(test)]
-mod tests;
