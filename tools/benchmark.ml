@@ -1,6 +1,7 @@
 (* The values that are read, and OCaml's own reader beside omarshal.
 
-   `write FILE SHAPE COUNT` writes a value of a shape, or many small ones; `read FILE` reads all values of a file. *)
+   `write FILE SHAPE COUNT` writes a value of a shape, or many small ones; `read FILE` reads all values of a file; `copy FILE`
+   writes each value that it reads. *)
 
 module Strings = Map.Make (String)
 
@@ -118,9 +119,22 @@ let read file =
   in
   next ()
 
+let copy file =
+  let input = open_in_bin file in
+  set_binary_mode_out stdout true;
+  let rec next () =
+    match (input_value input : Obj.t) with
+    | value ->
+        output_value stdout value;
+        next ()
+    | exception End_of_file -> ()
+  in
+  next ()
+
 let () =
   match Sys.argv with
   | [| _; "write"; file; shape; count |] ->
       write file shape (int_of_string count)
   | [| _; "read"; file |] -> read file
+  | [| _; "copy"; file |] -> copy file
   | _ -> exit 2

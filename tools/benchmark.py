@@ -2,12 +2,13 @@
 
     python3 benchmark.py FOLDER [PART ..]
 
-PART is `reading`, `checking`, `showing` or `types`; with none it is each of them. Time is the median of the processor time (user and
+PART is `reading`, `checking`, `showing`, `editing` or `types`; with none it is each of them. Time is the median of the processor time (user and
 system) of some runs of the whole process; memory is the greatest resident set. The system counts to a process what this
 script held when it started it: smaller amounts than that are not told apart. Instructions are those of user code for each
 object of a value, by valgrind's callgrind: the difference of two sizes.
 """
 
+import filecmp
 import os
 import re
 import resource
@@ -19,12 +20,13 @@ import sys
 
 RUNS = int(os.environ.get("RUNS", "7"))
 LIMIT = int(os.environ.get("LIMIT", "20"))
-PARTS = ("reading", "checking", "showing", "types")
+PARTS = ("reading", "checking", "showing", "editing", "types")
 folder = sys.argv[1]
 parts = sys.argv[2:] or PARTS
 if not set(parts) <= set(PARTS):
     sys.exit(f"the parts are {', '.join(PARTS)}")
 THEIRS = ["./reader", "read"]
+THEIR_COPY = ["./reader", "copy"]
 SMALL_STACK = ["sh", "-c", 'ulimit -s 128; exec "$@"', ""]
 
 # Each shape with the count of its large file, and its type over benchmark.types.
@@ -38,6 +40,9 @@ SHAPES = {
     "graph": (1_000_000, "node array"),
     "nested": (1_000_000, "nested"),
 }
+
+# Values that are deep, for a small stack.
+DEEP = (("nested", 1_000_000), ("list", 1_000_000), ("mixed", 1_000_000))
 
 
 def ours(ty, declarations="benchmark.types", command="check"):
@@ -77,8 +82,8 @@ def run(words, name):
         started = subprocess.Popen(words, stdin=given, stdout=out, stderr=out, cwd=folder, preexec_fn=limited)
         _, status, used = os.wait4(started.pid, 0)
         started.returncode = os.waitstatus_to_exitcode(status)
-    with open(said, encoding="ascii") as it:
-        line = it.readline(60).strip()
+    with open(said, "rb") as it:
+        line = it.readline(60).decode("latin-1").strip()
     return used.ru_utime + used.ru_stime, used.ru_maxrss / 1024, started.returncode, line
 
 
@@ -187,7 +192,7 @@ def checking():
         words = ours("record", at_many_types(1_000))
         alone(f"one list of {elements} blocks, at 1,000 types each", words, file_of("shared", elements))
     alone_heading("With a stack of 128 kB:")
-    for shape, count in (("nested", 1_000_000), ("list", 1_000_000), ("mixed", 1_000_000)):
+    for shape, count in DEEP:
         words = [*SMALL_STACK, *ours(SHAPES[shape][1])]
         alone(f"{shape}_{count} at `{SHAPES[shape][1]}`", words, file_of(shape, count))
 
@@ -217,10 +222,39 @@ def showing():
             flush=True,
         )
     alone_heading("With a stack of 128 kB, and an array that names one reference 10^6 times:")
-    for shape, count in (("nested", 1_000_000), ("list", 1_000_000), ("mixed", 1_000_000)):
+    for shape, count in DEEP:
         words = [*SMALL_STACK, *ours(SHAPES[shape][1], command="show")]
         alone(f"show {shape}_{count} at `{SHAPES[shape][1]}`", words, file_of(shape, count))
     alone("show references_1000000 at `int ref array`", ours("int ref array", command="show"), file_of("references", 1_000_000))
+
+
+def editing():
+    """`edit` with an empty script, beside OCaml's reading and writing; what is put is the input, byte for byte."""
+    print()
+    print("With an empty script, in turn with OCaml's reading and writing:")
+    print()
+    print("| file | bytes | omarshal s | OCaml s | ratio | omarshal MB | OCaml MB | ratio | the bytes |")
+    print("|---|---|---|---|---|---|---|---|---|")
+    for shape, (count, ty) in SHAPES.items():
+        path = file_of(shape, count)
+        pairs = []
+        same = True
+        for _ in range(RUNS):
+            mine = run([*ours(ty, command="edit"), "/dev/null"], path)
+            same = same and filecmp.cmp(path, os.path.join(folder, "said"), shallow=False)
+            pairs.append((mine, run([*THEIR_COPY, path], path)))
+        seconds = [statistics.median(pair[who][0] for pair in pairs) for who in (0, 1)]
+        peaks = [max(pair[who][1] for pair in pairs) for who in (0, 1)]
+        print(
+            f"| {shape}_{count} | {os.path.getsize(path)} | {seconds[0]:.3f} | {seconds[1]:.3f} | {seconds[0] / seconds[1]:.2f} "
+            f"| {memory(peaks[0])} | {memory(peaks[1])} | {peaks[0] / peaks[1]:.2f} | {'the same' if same else 'DIFFER'} |",
+            flush=True,
+        )
+    alone_heading("With a stack of 128 kB:")
+    for shape, count in DEEP:
+        words = [*SMALL_STACK, *ours(SHAPES[shape][1], command="edit"), "/dev/null"]
+        seconds, peak, status, _ = run(words, file_of(shape, count))
+        print(f"| edit {shape}_{count} at `{SHAPES[shape][1]}` | {seconds:.3f} | {memory(peak)} | {status} |", flush=True)
 
 
 # Declarations of each size, and a type over them.
@@ -352,4 +386,4 @@ def types():
 
 
 for part in parts:
-    {"reading": reading, "checking": checking, "showing": showing, "types": types}[part]()
+    {"reading": reading, "checking": checking, "showing": showing, "editing": editing, "types": types}[part]()

@@ -1,11 +1,11 @@
 #!/bin/sh
-# Measures how long omarshal takes to read, check and show values that OCaml wrote, and how much memory, beside OCaml's
-# `input_value` on the same files; and how long it takes for declarations and types alone.
+# Measures how long omarshal takes to read, check, show and write again values that OCaml wrote, and how much memory, beside
+# OCaml's `input_value` and `output_value` on the same files; and how long it takes for declarations and types alone.
 #
 #     tools/benchmark.sh [PROGRAM [PART ..]]
 #
-# PROGRAM is by default the one that `./omarshal` or `rt run` built. PART is `reading`, `checking`, `showing` or `types`; by default it
-# is each of them. RUNS=3 before the command makes three runs of each, not seven; LIMIT=60 lets one take 60 s, not 20.
+# PROGRAM is by default the one that `./omarshal` or `rt run` built. PART is `reading`, `checking`, `showing`, `editing` or
+# `types`; by default it is each of them. RUNS=3 before the command makes three runs of each, not seven; LIMIT=60 lets one take 60 s, not 20.
 set -eu
 if ! command -v ocaml >/dev/null 2>&1; then
     echo "skipped: no ocaml"

@@ -1,9 +1,9 @@
 #!/bin/sh
 # Checks files that OCaml itself wrote with omarshal, at the type files of examples/: each compiled interface of the
 # standard library and of the compiler, each .cmo, .cma, .cmx and .cmxa there, and a map, a set, a hash table and a queue.
-# Each value has its type; with a byte of it damaged it is refused, or does not have the type, or is another value of it,
-# and omarshal ends with 0, 1 or 4 all the same. The argument is the program; with none it is the one that `./omarshal`
-# built.
+# Each value has its type, and comes back byte for byte from `edit` with an empty script; with a byte of it damaged it is
+# refused, or does not have the type, or is another value of it, and omarshal ends with 0, 1 or 4 all the same. The argument
+# is the program; with none it is the one that `./omarshal` built.
 set -eu
 export LC_ALL=C
 for needed in ocaml ocamlc; do
@@ -38,13 +38,40 @@ descriptor() {
     tail -c "+$((place + 1))" "$1"
 }
 
-# value WHAT TYPES TYPE LINE: line LINE of the check of $work/values at a type is yes.
+# The length of the value that begins a file: its header has 20 bytes, of which four tell how many follow. No value here is
+# so large that it has the other header.
+length_of() {
+    # shellcheck disable=SC2046
+    set -- $(head -c 8 "$1" | tail -c 4 | od -An -tu1)
+    echo $((20 + (($1 * 256 + $2) * 256 + $3) * 256 + $4))
+}
+
+# nth N FILE: the N-th value of a file, the first of which is the first.
+nth() {
+    cp "$2" "$work/rest"
+    left=$1
+    while [ "$left" -gt 1 ]; do
+        tail -c "+$(($(length_of "$work/rest") + 1))" "$work/rest" > "$work/cut"
+        mv "$work/cut" "$work/rest"
+        left=$((left - 1))
+    done
+    head -c "$(length_of "$work/rest")" "$work/rest"
+}
+
+# value WHAT TYPES TYPE LINE: line LINE of the check of $work/values at a type is yes, and `edit` writes that value as it is.
 value() {
     checked=$((checked + 1))
     "$program" check "$examples/$2" "$3" < "$work/values" > "$work/lines" 2> "$work/told" || true
     found=$(sed -n "$4p" "$work/lines")
     if [ "$found" != yes ]; then
         echo "FAILED: $1 at $3: $found $(cat "$work/told")"
+        failures=$((failures + 1))
+    fi
+    checked=$((checked + 1))
+    nth "$4" "$work/values" > "$work/one"
+    if ! "$program" edit "$examples/$2" "$3" /dev/null < "$work/one" > "$work/written" 2> "$work/told" ||
+        ! cmp -s "$work/one" "$work/written"; then
+        echo "FAILED: edit of $1 at $3 with an empty script: $(cat "$work/told")"
         failures=$((failures + 1))
     fi
 }
@@ -92,9 +119,8 @@ grep -q '^no ' "$work/lines" || { echo "FAILED: a map is taken for a set"; failu
 # in the code of the root it is refused or `no`. A later byte may be one of a name or a number, which is another value of
 # the type: of these many are still refused or `no`, and the run ends in order.
 after_magic "$library/stdlib__Unit.cmi" > "$work/whole"
-set -- $(head -c 8 "$work/whole" | tail -c 4 | od -An -tu1)
-length=$((20 + (($1 * 256 + $2) * 256 + $3) * 256 + $4))
-head -c "$length" "$work/whole" > "$work/first"
+length=$(length_of "$work/whole")
+nth 1 "$work/whole" > "$work/first"
 place=0
 seen=0
 for byte in $(od -An -v -tu1 "$work/first"); do
