@@ -13,7 +13,7 @@ use Rattle.om_types.specs.Table.{Table}
 use Rattle.om_check.specs.declared.visits.Visit.{Visit}
 use Rattle.om_check.specs.declared.visits.Visits.{Visits}
 use Rattle.om_check.specs.Visits.{listed, AreLinked, IsFirstAt, pair_cmp}
-use Rattle.om_check.proofs.PlaceLemmas.{read_at}
+use Rattle.om_scan.proofs.PlaceLemmas.{read_at}
 use Rattle.om_check.specs.Clash.{IsWithin, mutable_at, AreApart, ClashAt, NoneClash, ClashesBack, IsFirstOf, IsFirstClash}
 
 pub less_or : (m n : ℕ) → (m < n) ⊎ (n ≤ m)

@@ -14,7 +14,7 @@ use Rattle.om_typing.proofs.PathLemmas.{OneOfThree, value_at-push}
 use Rattle.om_typing.proofs.SearchedLemmas.{before_transitive, never_before_itself}
 use Rattle.om_check.specs.Explored.{ComesBefore, needs_at, IsMetNeed, IsLedTo, AreExplored}
 use Rattle.om_check.proofs.OrderLemmas.{both_pushed, pushed_less, root_before, needs_increase, need_is_named}
-use Rattle.om_check.proofs.PlaceLemmas.{slice_get-append_left, slice_get-push_cases}
+use Rattle.om_scan.proofs.PlaceLemmas.{slice_get-append_left, slice_get-push_cases}
 
 -- ---- the order of needs
 

@@ -1,5 +1,4 @@
 pub mod OrderLemmas
-pub mod PlaceLemmas
 pub mod ToldLemmas
 pub mod NotedLemmas
 pub mod ClashLemmas
@@ -11,3 +10,4 @@ pub mod DecideLemmas
 pub mod ExploredLemmas
 pub mod RowsLemmas
 pub mod MadeLemmas
+pub mod ScannedLemmas

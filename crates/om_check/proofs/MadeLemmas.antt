@@ -12,7 +12,7 @@ use Rattle.om_types.specs.Reached.{named_in}
 use Rattle.om_types.specs.Table.{Table, node_or_none}
 use Rattle.om_type_table.specs.Made.{IsLawful}
 use Rattle.om_check.specs.ByHand.{all_below, all_name_below, IsTable}
-use Rattle.om_check.proofs.PlaceLemmas.{slice_get-push_cases}
+use Rattle.om_scan.proofs.PlaceLemmas.{slice_get-push_cases}
 use Rattle.om_check.proofs.ClashLemmas.{less_or}
 
 past : {X : Type 0} (xs : List X) (k : ℕ) → length xs ≤ k → slice_get xs k ≡ None

@@ -16,7 +16,7 @@ use Rattle.om_types.specs.Table.{Table}
 use Rattle.om_check.specs.declared.visits.Visit.{Visit}
 use Rattle.om_check.specs.declared.visits.Visits.{Visits}
 use Rattle.om_check.specs.Visits.{listed, IsMet, IsFirstAt, IsAppended, AreNoted, AreLinked, pair_cmp}
-use Rattle.om_check.proofs.PlaceLemmas.{slice_get-append_left, slice_get-append_below, slice_get-push_cases, slice_get-last}
+use Rattle.om_scan.proofs.PlaceLemmas.{slice_get-append_left, slice_get-append_below, slice_get-push_cases, slice_get-last}
 
 -- ---- lists
 

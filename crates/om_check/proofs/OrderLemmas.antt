@@ -51,7 +51,7 @@ module _ {T : Type 0} where
   Increase needs =
       (j k i l : ℕ) (a b : T) → j < k → slice_get needs j ≡ Some (i, a) → slice_get needs k ≡ Some (l, b) → i < l
 
-  numbered : (s : ℕ) (ts : List T) (k i : ℕ) (a : T) → slice_get (numbered_from s ts) k ≡ Some (i, a) → i ≡ s + k
+  pub numbered : (s : ℕ) (ts : List T) (k i : ℕ) (a : T) → slice_get (numbered_from s ts) k ≡ Some (i, a) → i ≡ s + k
   numbered s [] k i a at = absurd (none-some (i, a) at)
   numbered s (t ∷ ts) zero i a at =
       let number : s ≡ i = ap (λ (need : ℕ × T). need.0) (same_Some (s, t) (i, a) at) in omega (arith, number)

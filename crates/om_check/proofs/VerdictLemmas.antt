@@ -22,7 +22,7 @@ use Rattle.om_check.specs.Told.{IsClashOf}
 use Rattle.om_check.specs.Explored.{needs_at, root_of, IsExplored}
 use Rattle.om_check.specs.Search.{pairs_of}
 use Rattle.om_check.specs.Verdict.{IsYes}
-use Rattle.om_check.proofs.PlaceLemmas.{place_of}
+use Rattle.om_scan.proofs.PlaceLemmas.{place_of}
 use Rattle.om_check.proofs.ExploredLemmas.{AreInOrder}
 use Rattle.om_check.proofs.VisitLemmas.{tells_of, visit_fits}
 use Rattle.om_check.proofs.SpentLemmas.{pairs_apart}

@@ -1,30 +1,23 @@
 -- Visits whose needs are tested one after another.
 use Rattle.std.proofs.Common.{ℕ, suc, ◌+◌, ◌<◌, ◌≡◌, ◌∙◌, inl, inr, ⊎_elim, ◌++◌, List, [], ◌∷◌, length, get_or, true, false, Some, None, refl, sym, ap, subst, arith}
-use Rattle.std.specs.Prelude.{slice_get, All, Contains, IsSomeAnd, pos}
+use Rattle.std.specs.Prelude.{slice_get, All, IsSomeAnd}
 use Rattle.std.proofs.lemmas.List.{append-nil, append_assoc, length-append}
-use Rattle.std.proofs.lemmas.List.Elements.{All-contains}
-use Rattle.std.proofs.lemmas.Option.{same_Some, slice_get_within, slice_get-get_or, get_or_from_slice_get, option_and_then_some}
+use Rattle.std.proofs.lemmas.Option.{same_Some, slice_get_within, slice_get-get_or}
 use Rattle.om_model.proofs.Options.{slice_get_there, slice_get-Contains}
 use Rattle.om_model.specs.Graph.{IsValue}
 use Rattle.om_model.specs.declared.value.Val.{Val}
 use Rattle.om_model.specs.declared.value.Val.TheVariants as vals
 use Rattle.om_model.specs.declared.value.Obj.{Obj}
-use Rattle.om_model.specs.declared.value.Obj.TheVariants as objects
 use Rattle.om_types.specs.declared.fault.Fault.TheVariants.{Misfit}
 use Rattle.om_types.specs.Fault.{IsBefore, field_of, IsMisfit}
 use Rattle.om_types.specs.LeastFault.{IsLeastFault}
 use Rattle.om_types.specs.Lawful.{AreLawful, Everything}
-use Rattle.om_types.specs.Reached.{named_in}
 use Rattle.om_types.specs.Searched.{Entry, IsEntered, IsSearched}
-use Rattle.om_types.specs.Table.{Table, table_shapes, node_or_none}
-use Rattle.om_types.specs.Typing.{values_of}
-use Rattle.om_heap.specs.Heap.{object_at, fields_of}
+use Rattle.om_types.specs.Table.{Table, table_shapes}
 use Rattle.om_type_table.specs.Made.{IsLawful}
 use Rattle.om_typing.proofs.PathLemmas.{paths_compare}
 use Rattle.om_typing.proofs.SearchedLemmas.{before_transitive, never_before_itself}
 use Rattle.om_typing.proofs.LeastLemmas.{misfit_is_least}
-use Rattle.om_equal.proofs.ReachedLemmas.{needs_named}
-use Rattle.om_table.proofs.FieldLemmas.{needs_there}
 use Rattle.om_check.specs.declared.visits.Visit.{Visit}
 use Rattle.om_check.specs.declared.search.Need.{Need}
 use Rattle.om_check.specs.Clash.{IsWithin}
@@ -32,18 +25,8 @@ use Rattle.om_check.specs.Told.{AreOrdered, AreTold}
 use Rattle.om_check.specs.Explored.{needs_at, root_of, AreExplored, IsExplored}
 use Rattle.om_check.specs.Visits.{IsMet}
 use Rattle.om_check.specs.Search.{EntersValue, TestsNeed, IsMisfitAt, Grows, IsTesting, TestsVisit, visit_needs}
-use Rattle.om_check.proofs.PlaceLemmas.{slice_get-append_left, slice_get-append_below, slice_get-push_cases, place_of}
+use Rattle.om_scan.proofs.PlaceLemmas.{slice_get-append_left, slice_get-append_below, slice_get-push_cases, place_of}
 use Rattle.om_check.proofs.ExploredLemmas.{need_before, need_leads, entries_before, explored_same, explored_more, explored_next}
-
--- the fields of an object, in the words of the heap
-pub fields_are_values : (object : Obj) → values_of object ≡ fields_of object
-fields_are_values (objects.Block tag values) = refl
-fields_are_values (objects.Bytes bytes) = refl
-fields_are_values (objects.Double bits) = refl
-fields_are_values (objects.Doubles all) = refl
-fields_are_values (objects.I32 z) = refl
-fields_are_values (objects.I64 z) = refl
-fields_are_values (objects.Native z) = refl
 
 -- ---- growth
 
@@ -109,32 +92,6 @@ module _ (table : Table) (graph : List Obj) where
   types_within all n r lawful x = λ k d inside.
       let within = visit_within all n r k (get_or all k d) x (slice_get-get_or all k d inside) in
       omega (arith, within.1, lawful.classed)
-
-  -- ---- what is known of a need
-
-  pub need_field : (v : Visit) (k i a : ℕ) → v.object < length graph → slice_get (visit_needs table graph v) k ≡ Some (i, a) → i < length (fields_of (object_at graph v.object))
-  need_field v k i a inside at_k =
-      let needs = visit_needs table graph v in
-      let there = needs_there (node_or_none (slice_get table.nodes v.ty)) graph (vals.Ref v.object) i a (slice_get-Contains needs k (i, a) at_k) in
-      option_and_then_some (λ object. slice_get (values_of object) i) (slice_get graph v.object) there.0 there.1 (λ object at_o at_i.
-      let is : object_at graph v.object ≡ object = get_or_from_slice_get graph v.object object (objects.I32 (pos 0)) at_o in
-      let short = slice_get_within (values_of object) i there.0 at_i in
-      subst (λ o. i < length (fields_of o)) (sym is) (subst (λ vs. i < length vs) (fields_are_values object) short))
-
-  -- what needs something has fields
-  pub some_fields : (v : Visit) → v.object < length graph → 0 < length (visit_needs table graph v) → 0 < length (fields_of (object_at graph v.object))
-  some_fields v inside some =
-      let first = slice_get_there (visit_needs table graph v) 0 some in
-      let field = need_field v 0 first.0.0 first.0.1 inside first.1 in omega (arith, field)
-
-  pub need_node : IsLawful table → (v : Visit) (k i a : ℕ) → v.ty < length table.nodes → slice_get (visit_needs table graph v) k ≡ Some (i, a) → a < length table.nodes
-  need_node lawful v k i a inside at_k =
-      let node = slice_get_there table.nodes v.ty inside in
-      let needs = visit_needs table graph v in
-      let named = needs_named (node_or_none (slice_get table.nodes v.ty)) graph (vals.Ref v.object) i a (slice_get-Contains needs k (i, a) at_k) in
-      let named' = subst (λ n. Contains (named_in (node_or_none n)) a) node.1 named in
-      All-contains (λ j. j < length table.nodes) (named_in node.0) a
-      (All-contains (λ s. All (λ j. j < length table.nodes) (named_in s)) table.nodes node.0 lawful.closed (slice_get-Contains table.nodes v.ty node.0 node.1)) named'
 
   -- ---- one need more
 

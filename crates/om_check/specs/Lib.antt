@@ -1,11 +1,10 @@
-pub mod Row
 pub mod Rest
 pub mod Trail
 pub mod Visits
 pub mod Told
 pub mod Explored
 pub mod Search
+pub mod Typing
 pub mod Clash
 pub mod Verdict
-pub mod Rows
 pub mod ByHand

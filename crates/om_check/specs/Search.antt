@@ -1,5 +1,5 @@
 -- What the search and its parts answer.
-use Rattle.std.specs.Prelude.{ℕ, zero, suc, ◌≡◌, ◌<◌, ◌≤◌, ◌+◌, Bool, List, [], ◌∷◌, ◌++◌, length, map, Option, Some, None, slice_get, MatchBool, MatchOption}
+use Rattle.std.specs.Prelude.{ℕ, zero, suc, ◌≡◌, ◌<◌, ◌≤◌, ◌+◌, ◌==◌, if◌then◌else◌, Bool, false, List, [], ◌∷◌, ◌++◌, length, map, Option, Some, None, slice_get, slice_index, MatchBool, MatchOption}
 use Rattle.om_model.specs.declared.value.Val.{Val}
 use Rattle.om_model.specs.declared.value.Val.TheVariants as vals
 use Rattle.om_model.specs.declared.value.Obj.{Obj}
@@ -69,12 +69,25 @@ visit_needs table graph v = (table_shapes table).needs graph (vals.Ref v.object)
 abbrev pub cost_of : Table → List Obj → Visit → ℕ
 cost_of table graph v = 1 + length (visit_needs table graph v)
 
-abbrev pub cost_or_none : Table → List Obj → Option Visit → ℕ
-cost_or_none table graph None = 0
-cost_or_none table graph (Some v) = cost_of table graph v
+-- the type is of the class of the one that is told
+abbrev pub is_of_class : Table → Option ℕ → ℕ → Bool
+is_of_class table None t = false
+is_of_class table (Some u) t = slice_index table.classes u == slice_index table.classes t
 
-abbrev pub cost_at : Table → List Obj → List Visit → ℕ → ℕ
-cost_at table graph all n = cost_or_none table graph (slice_get all n)
+-- a scan that took the first objects at these types took the visit's object at an equal one
+abbrev pub is_taken : Table → List ℕ → Visit → Bool
+is_taken table taken v = is_of_class table (slice_get taken v.object) v.ty
+
+-- what a scan took was counted there
+abbrev pub counted : Table → List Obj → List ℕ → Visit → ℕ
+counted table graph taken v = if is_taken table taken v then 0 else cost_of table graph v
+
+abbrev pub cost_or_none : Table → List Obj → List ℕ → Option Visit → ℕ
+cost_or_none table graph taken None = 0
+cost_or_none table graph taken (Some v) = counted table graph taken v
+
+abbrev pub cost_at : Table → List Obj → List ℕ → List Visit → ℕ → ℕ
+cost_at table graph taken all n = cost_or_none table graph taken (slice_get all n)
 
 -- ---- all visits
 
@@ -84,10 +97,10 @@ pub record Searches (table : Table) (graph : List Obj) (old new : List Visit) (m
   pub tested : MatchOption misfit (IsExplored table graph new (length new) 0) (λ at. IsMisfitAt table graph new at.0 at.1)
 
 -- the steps of the first n visits
-abbrev pub spent : Table → List Obj → List Visit → ℕ → ℕ
-spent table graph [] n = 0
-spent table graph (v ∷ all) zero = 0
-spent table graph (v ∷ all) (suc n) = cost_of table graph v + spent table graph all n
+abbrev pub spent : Table → List Obj → List ℕ → List Visit → ℕ → ℕ
+spent table graph taken [] n = 0
+spent table graph taken (v ∷ all) zero = 0
+spent table graph taken (v ∷ all) (suc n) = counted table graph taken v + spent table graph taken all n
 
 -- visits as objects at types
 abbrev pub pairs_of : List Visit → List (ℕ × ℕ)
@@ -102,9 +115,9 @@ pub record IsTestingVisit (table : Table) (graph : List Obj) (old now : Visits) 
   pub few : steps ≤ start + r
 
 -- The needs of the first n visits were tested, in at most so many steps.
-pub record IsSearching (table : Table) (graph : List Obj) (old now : Visits) (n start steps : ℕ) : Type 0 where
+pub record IsSearching (table : Table) (graph : List Obj) (taken : List ℕ) (old now : Visits) (n start steps : ℕ) : Type 0 where
   pub linked : AreLinked table (length graph) now
   pub grows : Grows (listed old) (listed now)
   pub explored : IsExplored table graph (listed now) n 0
   pub within : n ≤ length (listed now)
-  pub few : steps ≤ start + spent table graph (listed now) n
+  pub few : steps ≤ start + spent table graph taken (listed now) n

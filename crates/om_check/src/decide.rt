@@ -1,11 +1,13 @@
 //! Whether a value has the type that is number 0 of a table.
 
-ghost use Rattle.std.specs.Prelude.{◌≤◌, ◌<◌, ◌+◌, length, IfOk, OnOk};
+ghost use Rattle.std.specs.Prelude.{◌≡◌, ◌≤◌, ◌<◌, ◌+◌, length, IfOk, OnOk};
 ghost use Rattle.om_model.specs.declared.value.Val.TheVariants as vals;
-ghost use Rattle.om_model.specs.Graph.{IsValue};
+ghost use Rattle.om_model.specs.Graph.{IsValue, IsGraph};
 ghost use Rattle.om_types.specs.Table.{table_shapes};
 ghost use Rattle.om_types.specs.Steps.{most_steps};
 ghost use Rattle.om_type_table.specs.Made.{table_of, IsLawful};
+ghost use Rattle.om_scan.specs.Rows.{AreRows};
+ghost use Rattle.om_scan.specs.Scanned.{AreTaken, cost_of};
 ghost use Rattle.om_check.specs.Told.{AreOrdered, IsClashOf};
 ghost use Rattle.om_check.specs.Visits.{listed};
 ghost use Rattle.om_check.specs.Verdict.{IsVerdict};
@@ -13,15 +15,15 @@ ghost use Rattle.om_check.specs.Verdict.{IsVerdict};
 use crate::clash::first_clash;
 use crate::path::path_of;
 use crate::search::search;
-use crate::steps::Steps;
 use crate::typing::Typing;
 use crate::verdict::Verdict;
 use crate::visits::Visits;
-use om_fits::needs_of;
+use om_fits::{Row, needs_of};
 use om_heap::Heap;
 use om_model::Memory;
 use om_model::path::Path;
 use om_model::value::Val;
+use om_scan::{Scanned, Steps, Taken, rows_of, scan};
 use om_type_table::TypeTable;
 use om_types::fault::Fault;
 use std::alloc::Global;
@@ -49,7 +51,7 @@ pub fn check(
     }
 }
 
-/// The same of an object that fits the type.
+/// The same of an object that fits the type: mostly a scan of the objects tells it, where the object is the first.
 fn check_object(
     alloc: Global,
     heap: &Heap,
@@ -63,8 +65,43 @@ fn check_object(
     ensures verdict { IfOk result (IsVerdict (table_of table.now) heap.now (vals.Ref object)) }
     ensures steps { steps.new + 1 ≤ steps.old + most_steps (table_of table.now) heap.now }
 {
-    let mut visits = Visits::new(alloc, heap.count(), table, object)?;
-    if let Some((n, step)) = search(alloc, heap, table, &mut visits, steps)? {
+    let objects = heap.count();
+    let rows = rows_of(alloc, heap, table)?;
+    if object != 0 {
+        let none = Taken::none(alloc)?;
+        return search_object(alloc, heap, objects, object, table, &rows, &none, steps);
+    }
+    match scan(alloc, heap, table, &rows, steps)? {
+        Scanned::Told(types) => Ok(Verdict::Yes(Typing::scanned(types))),
+        Scanned::Stopped(taken) => {
+            search_object(alloc, heap, objects, object, table, &rows, &taken, steps)
+        }
+    }
+}
+
+/// The same by a search of the heap, which has so many objects, after a scan took and counted these.
+fn search_object(
+    alloc: Global,
+    heap: &Heap,
+    objects: u64,
+    object: u64,
+    table: &TypeTable,
+    rows: &[Row],
+    taken: &Taken,
+    steps: &mut Steps,
+) -> Result<Verdict, Memory>
+    requires graph { IsGraph heap.now }
+    requires objects { objects ≡ length heap.now }
+    requires object { object < length heap.now }
+    requires rows { AreRows table.now.nodes rows.now }
+    requires table { IsLawful (table_of table.now) }
+    requires fits { (table_shapes (table_of table.now)).fits heap.now (vals.Ref object) 0 }
+    requires taken { AreTaken (table_of table.now) heap.now taken.now }
+    ensures verdict { IfOk result (IsVerdict (table_of table.now) heap.now (vals.Ref object)) }
+    ensures steps { steps.new + cost_of (table_of table.now) heap.now taken.now + 1 ≤ steps.old + most_steps (table_of table.now) heap.now }
+{
+    let mut visits = Visits::new(alloc, objects, table, object)?;
+    if let Some((n, step)) = search(heap, table, rows, &mut visits, taken, steps)? {
         let mut path = path_of(alloc, &visits, n)?;
         path.push(step)?;
         return Ok(Verdict::No(Fault::Misfit(path)));

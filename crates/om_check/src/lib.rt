@@ -1,15 +1,12 @@
 //! Whether a value has a type, which is a number of a table, and if not the least fault.
 #![tactic(auto)]
 
-mod cells;
 mod clash;
 mod decide;
 mod laws;
 mod path;
 mod rest;
-mod rows;
 mod search;
-mod steps;
 #[cfg(test)]
 mod tests;
 mod trail;
@@ -19,6 +16,6 @@ mod visits;
 
 pub use decide::check;
 pub use laws::items_take_61_steps;
-pub use steps::Steps;
+pub use om_scan::Steps;
 pub use typing::Typing;
 pub use verdict::Verdict;

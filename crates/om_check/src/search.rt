@@ -1,28 +1,28 @@
 //! Breadth first, each object is taken once at each class, and what it needs there is tested.
 
-ghost use Rattle.std.specs.Prelude.{◌≡◌, ◌<◌, ◌≤◌, ◌+◌, ◌↔◌, length, All, IfOk, OnOk, IsTrue, Some, slice_get};
+ghost use Rattle.std.specs.Prelude.{ℕ, ◌≡◌, ◌<◌, ◌≤◌, ◌+◌, ◌↔◌, length, All, IfOk, OnOk, IsTrue, Some, slice_get};
 ghost use Rattle.om_model.specs.Graph.{IsValue, IsGraph};
 ghost use Rattle.om_model.specs.declared.value.Val.{Val};
 ghost use Rattle.om_model.specs.declared.value.Val.TheVariants as vals;
 ghost use Rattle.om_heap.specs.Heap.{object_at, fields_of, field_at, word_of, IsFieldWord, IsReferenceWord};
 ghost use Rattle.om_types.specs.Table.{table_shapes};
 ghost use Rattle.om_fits.specs.Needs.{needs_in};
-ghost use Rattle.om_check.specs.Rows.{AreRows};
 ghost use Rattle.om_types.specs.Steps.{most_steps};
 ghost use Rattle.om_type_table.specs.Made.{table_of, IsLawful};
+ghost use Rattle.om_scan.specs.Rows.{AreRows};
+ghost use Rattle.om_scan.specs.Scanned as scans;
+ghost use Rattle.om_scan.specs.Scanned.{AreTaken};
 ghost use Rattle.om_check.specs.Visits.{listed, AreLinked};
 ghost use Rattle.om_check.specs.Explored.{IsExplored};
-ghost use Rattle.om_check.specs.Search.{FitAll, TestsNeed, TestsVisit, Searches, cost_at, visit_needs};
+ghost use Rattle.om_check.specs.Search.{FitAll, TestsNeed, TestsVisit, Searches, cost_of, cost_at, is_taken, visit_needs};
 
-use crate::rows::rows_of;
-use crate::steps::Steps;
 use crate::visits::{Visit, Visits, is_at};
-use om_fits::{Needs, Row, known_needs, needs_of, surely_fits};
+use om_fits::{Needs, Row, known_needs};
 use om_heap::Heap;
 use om_model::Memory;
 use om_model::value::Val;
+use om_scan::{Steps, Taken, fits_type};
 use om_type_table::TypeTable;
-use std::alloc::Global;
 
 /// What an object needs: its field `step` is to have the type. It is visited at place `parent`.
 #[derive(Clone, Copy)]
@@ -34,32 +34,13 @@ pub struct Need {
 }
 
 /// Tests what each visit needs, and enters the objects that are met. The answer is the first misfit: the place of a
-/// visit, and the number of its field that does not fit.
+/// visit, and the number of its field that does not fit. What a scan took was counted there, and is not counted again.
 pub fn search(
-    alloc: Global,
-    heap: &Heap,
-    table: &TypeTable,
-    visits: &mut Visits,
-    steps: &mut Steps,
-) -> Result<Option<(usize, u64)>, Memory>
-    requires graph { IsGraph heap.now }
-    requires lawful { IsLawful (table_of table.now) }
-    requires linked { AreLinked (table_of table.now) (length heap.now) visits.old }
-    requires explored { IsExplored (table_of table.now) heap.now (listed visits.old) 0 0 }
-    ensures linked { OnOk result (AreLinked (table_of table.now) (length heap.now) visits.new) }
-    ensures searches { IfOk result (Searches (table_of table.now) heap.now (listed visits.old) (listed visits.new)) }
-    ensures steps { steps.new + 1 ≤ steps.old + most_steps (table_of table.now) heap.now }
-{
-    let rows = rows_of(alloc, heap, table)?;
-    search_by(heap, table, &rows, visits, steps)
-}
-
-/// The same by these rows.
-fn search_by(
     heap: &Heap,
     table: &TypeTable,
     rows: &[Row],
     visits: &mut Visits,
+    taken: &Taken,
     steps: &mut Steps,
 ) -> Result<Option<(usize, u64)>, Memory>
     requires graph { IsGraph heap.now }
@@ -67,13 +48,14 @@ fn search_by(
     requires lawful { IsLawful (table_of table.now) }
     requires linked { AreLinked (table_of table.now) (length heap.now) visits.old }
     requires explored { IsExplored (table_of table.now) heap.now (listed visits.old) 0 0 }
+    requires taken { AreTaken (table_of table.now) heap.now taken.now }
     ensures linked { OnOk result (AreLinked (table_of table.now) (length heap.now) visits.new) }
     ensures searches { IfOk result (Searches (table_of table.now) heap.now (listed visits.old) (listed visits.new)) }
-    ensures steps { steps.new + 1 ≤ steps.old + most_steps (table_of table.now) heap.now }
+    ensures steps { steps.new + scans.cost_of (table_of table.now) heap.now taken.now + 1 ≤ steps.old + most_steps (table_of table.now) heap.now }
 {
     let mut n = 0;
     while visits.has(n) {
-        if let Some(step) = test_visit(heap, table, rows, visits, n, steps)? {
+        if let Some(step) = test_visit(heap, table, rows, visits, taken, n, steps)? {
             return Ok(Some((n, step)));
         }
         n += 1;
@@ -87,6 +69,7 @@ fn test_visit(
     table: &TypeTable,
     rows: &[Row],
     visits: &mut Visits,
+    taken: &Taken,
     n: usize,
     steps: &mut Steps,
 ) -> Result<Option<u64>, Memory>
@@ -96,12 +79,55 @@ fn test_visit(
     requires lawful { IsLawful (table_of table.now) }
     requires linked { AreLinked (table_of table.now) (length heap.now) visits.old }
     requires explored { IsExplored (table_of table.now) heap.now (listed visits.old) n 0 }
+    requires taken { AreTaken (table_of table.now) heap.now taken.now }
     ensures linked { OnOk result (AreLinked (table_of table.now) (length heap.now) visits.new) }
     ensures tests { IfOk result (TestsVisit (table_of table.now) heap.now (listed visits.old) (listed visits.new) n) }
-    ensures steps { steps.new ≤ steps.old + cost_at (table_of table.now) heap.now (listed visits.old) n }
+    ensures steps { steps.new ≤ steps.old + cost_at (table_of table.now) heap.now taken.now (listed visits.old) n }
+{
+    let visit = visits.get(n);
+    let known = was_taken(table, taken, visit);
+    let mut tested = Steps::new();
+    let found = take_visit(heap, table, rows, visits, n, visit, &mut tested);
+    if !known {
+        steps.raise_by(tested.taken());
+    }
+    found
+}
+
+/// Whether a scan took the visit's object at an equal type.
+#[inline(always)]
+fn was_taken(table: &TypeTable, taken: &Taken, visit: Visit) -> bool
+    requires ty { visit.ty < length table.now.classes }
+    requires types { (o t : ℕ) → slice_get taken.now o ≡ Some t → t < length table.now.classes }
+    ensures { result ≡ is_taken (table_of table.now) taken.now visit }
+{
+    match taken.type_of(visit.object as usize) {
+        Some(ty) => table.class(ty) == table.class(visit.ty),
+        None => false,
+    }
+}
+
+/// Tests what visit n needs, in a step for the visit and one for each need.
+fn take_visit(
+    heap: &Heap,
+    table: &TypeTable,
+    rows: &[Row],
+    visits: &mut Visits,
+    n: usize,
+    visit: Visit,
+    steps: &mut Steps,
+) -> Result<Option<u64>, Memory>
+    requires visit { slice_get (listed visits.old) n ≡ Some visit }
+    requires graph { IsGraph heap.now }
+    requires rows { AreRows table.now.nodes rows.now }
+    requires lawful { IsLawful (table_of table.now) }
+    requires linked { AreLinked (table_of table.now) (length heap.now) visits.old }
+    requires explored { IsExplored (table_of table.now) heap.now (listed visits.old) n 0 }
+    ensures linked { OnOk result (AreLinked (table_of table.now) (length heap.now) visits.new) }
+    ensures tests { IfOk result (TestsVisit (table_of table.now) heap.now (listed visits.old) (listed visits.new) n) }
+    ensures steps { steps.new ≤ steps.old + cost_of (table_of table.now) heap.now visit }
 {
     steps.raise();
-    let visit = visits.get(n);
     let Some(needs) = known_needs(heap, visit.object, table.shape(visit.ty)) else {
         return Ok(None);
     };
@@ -227,30 +253,4 @@ fn number_near(heap: &Heap, guess: u64, word: u64) -> u64
     } else {
         heap.number(word)
     }
-}
-
-/// Whether the value of a word fits a type: mostly the row tells it.
-#[inline(always)]
-fn fits_type(heap: &Heap, table: &TypeTable, rows: &[Row], ty: usize, word: u64) -> bool
-    requires graph { IsGraph heap.now }
-    requires rows { AreRows table.now.nodes rows.now }
-    requires word { IsFieldWord heap.now word }
-    requires node { ty < length table.now.nodes }
-    ensures { (v : Val) → IsValue (length heap.now) v → word ≡ word_of heap.now v → IsTrue result ↔ (table_shapes (table_of table.now)).fits heap.now v ty }
-{
-    if ty < rows.len() && surely_fits(heap, rows[ty], word) {
-        return true;
-    }
-    fits_by_kind(heap, table, ty, word)
-}
-
-/// The same by the kind of the value.
-#[inline(never)]
-fn fits_by_kind(heap: &Heap, table: &TypeTable, ty: usize, word: u64) -> bool
-    requires graph { IsGraph heap.now }
-    requires word { IsFieldWord heap.now word }
-    requires node { ty < length table.now.nodes }
-    ensures { (v : Val) → IsValue (length heap.now) v → word ≡ word_of heap.now v → IsTrue result ↔ (table_shapes (table_of table.now)).fits heap.now v ty }
-{
-    needs_of(heap, heap.value_of(word), table.shape(ty)).is_some()
 }

@@ -165,6 +165,19 @@ fn a_cycle_has_a_type(rt: HostRuntime) -> Result<(), Fail> {
     Ok(())
 }
 
+// Object 1 is met only from object 2: a scan takes object 0 and stops, and a search takes the two others.
+#[test]
+fn what_a_scan_took_is_counted_once(rt: HostRuntime) -> Result<(), Fail> {
+    let table = trees(rt.alloc())?;
+    let mut heap = Heap::new(rt.alloc());
+    let root = pair(&mut heap, Val::Int(0), Val::Int(0))?;
+    let last = pair(&mut heap, Val::Int(0), Val::Int(0))?;
+    let middle = pair(&mut heap, last, Val::Int(0))?;
+    fill(&mut heap, 0, 1, middle)?;
+    assert_eq!(rt; steps_of(rt.alloc(), &heap, root, &table)?, 10);
+    Ok(())
+}
+
 // One block of an integer is a reference at the first field, and a record that stays at the second.
 #[test]
 fn a_clash_has_two_paths(rt: HostRuntime) -> Result<(), Fail> {

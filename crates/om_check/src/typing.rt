@@ -1,16 +1,27 @@
 //! The typing of a value that has its type.
 
 ghost use Rattle.std.specs.Prelude.{◌≡◌, ◌<◌, length, slice_get, Some};
+ghost use Rattle.om_types.specs.Fitting.{numbered_from};
 ghost use Rattle.om_check.specs.Search.{pairs_of};
+ghost use Rattle.om_check.specs.Typing.{pairs_in};
 ghost use Rattle.om_check.specs.Visits.{listed};
 
 use crate::visits::Visits;
+use om_scan::Cells;
 use std::marker::Model;
+
+/// Objects at types, as a search met them or as a scan told them.
+#[derive(Drop)]
+pub enum Pairs {
+    Searched(Visits),
+    /// The type of each object, by its number.
+    Scanned(Cells),
+}
 
 /// Objects at types that justify one another, in the order in which they were met.
 #[derive(Drop)]
 pub struct Typing {
-    visits: Visits,
+    pairs: Pairs,
 }
 
 impl Model for Typing {
@@ -18,10 +29,9 @@ impl Model for Typing {
 
     ghost Value = { List (ℕ × ℕ) };
 
-    ghost use Rattle.om_check.specs.Search.{pairs_of};
-    ghost use Rattle.om_check.specs.Visits.{listed};
+    ghost use Rattle.om_check.specs.Typing.{pairs_in};
 
-    ghost view = { λ t. pairs_of (listed t.visits) };
+    ghost view = { λ t. pairs_in t.pairs };
 }
 
 impl Typing {
@@ -29,14 +39,25 @@ impl Typing {
     pub fn of(visits: Visits) -> Typing
         ensures { result ≡ pairs_of (listed visits) }
     {
-        Typing { visits }
+        Typing {
+            pairs: Pairs::Searched(visits),
+        }
+    }
+
+    /// Each object at its type.
+    pub fn scanned(types: Cells) -> Typing
+        ensures { result ≡ numbered_from 0 types }
+    {
+        Typing {
+            pairs: Pairs::Scanned(types),
+        }
     }
 
     /// How many there are.
     pub fn len(&self) -> usize
         ensures { result ≡ length self.now }
     {
-        self.visits.len()
+        count_in(&self.pairs)
     }
 
     /// Object and type number k.
@@ -44,7 +65,30 @@ impl Typing {
         requires { k < length self.now }
         ensures { slice_get self.now k ≡ Some (result.0, result.1) }
     {
-        let visit = self.visits.get(k);
-        (visit.object, visit.ty)
+        pair_at(&self.pairs, k)
+    }
+}
+
+/// How many there are.
+fn count_in(pairs: &Pairs) -> usize
+    ensures { result ≡ length (pairs_in pairs.now) }
+{
+    match pairs {
+        Pairs::Searched(visits) => visits.len(),
+        Pairs::Scanned(types) => types.len(),
+    }
+}
+
+/// Object and type number k.
+fn pair_at(pairs: &Pairs, k: usize) -> (u64, usize)
+    requires { k < length (pairs_in pairs.now) }
+    ensures { slice_get (pairs_in pairs.now) k ≡ Some (result.0, result.1) }
+{
+    match pairs {
+        Pairs::Searched(visits) => {
+            let visit = visits.get(k);
+            (visit.object, visit.ty)
+        }
+        Pairs::Scanned(types) => (k as u64, types.get(k) as usize),
     }
 }

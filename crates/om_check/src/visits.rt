@@ -5,9 +5,9 @@ ghost use Rattle.std.specs.Bool.{OnTrue};
 ghost use Rattle.om_type_table.specs.Made.{table_of};
 ghost use Rattle.om_check.specs.Visits.{listed, AreLinked, IsMet, IsAppended, Enters};
 
-use crate::cells::Cells;
 use crate::trail::Trail;
 use om_model::Memory;
+use om_scan::Cells;
 use om_type_table::TypeTable;
 use std::alloc::Global;
 use std::collections::BTreeSet;

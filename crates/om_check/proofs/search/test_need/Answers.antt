@@ -6,9 +6,10 @@ use Rattle.om_heap.specs.Heap.{field_at}
 use Rattle.om_heap.proofs.ReadLemmas.{word_of-inj}
 use Rattle.om_model.specs.declared.value.Val.TheVariants as vals
 use Rattle.om_check.specs.Visits.{listed}
-use Rattle.om_check.proofs.PlaceLemmas.{read_at}
+use Rattle.om_scan.proofs.PlaceLemmas.{read_at}
 use Rattle.om_check.proofs.NotedLemmas.{met_first, later_in}
-use Rattle.om_check.proofs.RowsLemmas.{field_there, field_valid, first_fits, tests_true, tests_false, enters_named}
+use Rattle.om_scan.proofs.FieldLemmas.{field_there, field_valid}
+use Rattle.om_check.proofs.RowsLemmas.{first_fits, tests_true, tests_false, enters_named}
 use Rattle.om_check.proofs.search.test_need.Goals as goal
 
 pub returns-then-is_at-clause-tests : goal.returns-then-is_at-clause-tests

@@ -1,43 +1,10 @@
-use Rattle.std.proofs.Common.{subst, arith}
-use Rattle.std.specs.Prelude.{IsSome}
-use Rattle.om_model.specs.declared.value.Val.TheVariants as vals
-use Rattle.om_types.specs.Fitting.{fields_of}
-use Rattle.om_types.specs.Table.{node_or_none}
+use Rattle.std.proofs.Common.{◌<◌, sym, subst}
 use Rattle.om_type_table.specs.Made.{table_of}
-use Rattle.om_check.proofs.VisitLemmas.{visit_within, visit_fits}
-use Rattle.om_check.proofs.TestLemmas.{never_unfit, cost_is}
+use Rattle.om_check.proofs.VisitLemmas.{visit_within}
 use Rattle.om_check.specs.Visits.{listed}
 use Rattle.om_check.proofs.search.test_visit.Goals as goal
 
-pub shape-requires : goal.shape-requires
-shape-requires c =
-    let all = (listed c.args.visits.now) in
-    let at_n = c.get-visit.ensures in
-    (visit_within (table_of c.args.table.now) c.args.heap.now all c.args.n 0 c.args.n c.get-visit.result c.requires.explored at_n).1
-
-pub known_needs-requires-clause-fits : goal.known_needs-requires-clause-fits
-known_needs-requires-clause-fits c =
-    let fits = visit_fits (table_of c.args.table.now) c.args.heap.now (listed c.args.visits.now) c.args.n 0 c.args.n c.get-visit.result c.requires.explored c.get-visit.ensures in
-    subst (λ n. IsSome (fields_of c.args.heap.now (vals.Ref c.get-visit.result.object) (node_or_none n))) c.shape.ensures fits
-
-pub known_needs-requires-clause-object : goal.known_needs-requires-clause-object
-known_needs-requires-clause-object c =
-    let all = (listed c.args.visits.now) in
-    let at_n = c.get-visit.ensures in
-    (visit_within (table_of c.args.table.now) c.args.heap.now all c.args.n 0 c.args.n c.get-visit.result c.requires.explored at_n).0
-
-pub returns-in_default-clause-tests : goal.returns-in_default-clause-tests
-returns-in_default-clause-tests c =
-    let all = (listed c.args.visits.now) in
-    let v = c.get-visit.result in
-    let at_n = c.get-visit.ensures in
-    absurd (never_unfit (table_of c.args.table.now) c.args.heap.now v c.shape.result.now c.known_needs.result c.shape.ensures c.known_needs.ensures c.in_default.is
-    (visit_fits (table_of c.args.table.now) c.args.heap.now all c.args.n 0 c.args.n v c.requires.explored at_n))
-
-pub returns-in_default-clause-steps : goal.returns-in_default-clause-steps
-returns-in_default-clause-steps c =
-    let all = (listed c.args.visits.now) in
-    let v = c.get-visit.result in
-    let at_n = c.get-visit.ensures in
-    let cost = cost_is (table_of c.args.table.now) c.args.heap.now all c.args.n v at_n in
-    omega (arith, cost, c.raise.ensures.more)
+pub was_taken-known-requires-clause-ty : goal.was_taken-known-requires-clause-ty
+was_taken-known-requires-clause-ty c =
+    let within = visit_within (table_of c.args.table.now) c.args.heap.now (listed c.args.visits.now) c.args.n 0 c.args.n c.get-visit.result c.requires.explored c.get-visit.ensures in
+    subst (λ m. c.get-visit.result.ty < m) (sym c.requires.lawful.classed) within.1

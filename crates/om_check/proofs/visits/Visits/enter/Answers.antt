@@ -2,7 +2,7 @@ use Rattle.std.proofs.Common.{suc, ◌≡◌, ◌∙◌, inr, sym, ap, arith}
 use Rattle.std.specs.Prelude.{slice_set}
 use Rattle.om_type_table.specs.Made.{table_of}
 use Rattle.om_check.specs.Visits.{listed}
-use Rattle.om_check.proofs.PlaceLemmas.{read_at}
+use Rattle.om_scan.proofs.PlaceLemmas.{read_at}
 use Rattle.om_check.proofs.NotedLemmas.{later_in, met_never, linked_first}
 use Rattle.om_check.proofs.visits.Visits.enter.Goals as goal
 

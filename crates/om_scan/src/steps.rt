@@ -34,11 +34,19 @@ impl Steps {
     }
 
     /// One more step, while the number has room.
-    pub(crate) fn raise(&mut self)
+    pub fn raise(&mut self)
         ensures counted { self.old + 1 < 2 ^ 64 → self.new ≡ self.old + 1 }
         ensures more { self.new ≤ self.old + 1 }
         ensures kept { self.old ≤ self.new }
     {
         self.taken = self.taken.saturating_add(1);
+    }
+    /// So many steps more, while the number has room.
+    pub fn raise_by(&mut self, more: u64)
+        ensures counted { self.old + more < 2 ^ 64 → self.new ≡ self.old + more }
+        ensures more { self.new ≤ self.old + more }
+        ensures kept { self.old ≤ self.new }
+    {
+        self.taken = self.taken.saturating_add(more);
     }
 }

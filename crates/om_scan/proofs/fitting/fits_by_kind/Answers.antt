@@ -4,8 +4,8 @@ use Rattle.om_types.specs.Fitting.{fields_of}
 use Rattle.om_types.specs.Table.{node_or_none}
 use Rattle.om_heap.proofs.ReadLemmas.{word_of-inj}
 use Rattle.om_fits.specs.Needs.{needs_in}
-use Rattle.om_check.proofs.RowsLemmas.{some_mapped}
-use Rattle.om_check.proofs.search.fits_by_kind.Goals as goal
+use Rattle.om_scan.proofs.RowLemmas.{some_mapped}
+use Rattle.om_scan.proofs.fitting.fits_by_kind.Goals as goal
 
 pub returns : goal.returns
 returns c = λ v is same.

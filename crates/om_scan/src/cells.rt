@@ -1,7 +1,7 @@
 //! A number for each place.
 
 ghost use Rattle.std.specs.Prelude.{◌≡◌, ◌<◌, length, replicate, slice_index, slice_set, IfOk, OnOk};
-ghost use Rattle.om_check.specs.Row.{numbers_in};
+ghost use Rattle.om_scan.specs.Row.{numbers_in};
 
 use om_model::Memory;
 use std::alloc::Global;
@@ -26,7 +26,7 @@ impl Model for Cells {
 
     ghost Value = { List ℕ };
 
-    ghost use Rattle.om_check.specs.Row.{numbers_in};
+    ghost use Rattle.om_scan.specs.Row.{numbers_in};
 
     ghost view = { λ c. numbers_in c.row };
 }
@@ -38,6 +38,17 @@ impl Cells {
     {
         let row = zeros(alloc, places, most)?;
         Ok(Cells { row })
+    }
+
+    /// How many places there are.
+    pub fn len(&self) -> usize
+        ensures { result ≡ length self.now }
+    {
+        match &self.row {
+            Row::Bytes(row) => row.len(),
+            Row::Shorts(row) => row.len(),
+            Row::Longs(row) => row.len(),
+        }
     }
 
     /// The number at a place.

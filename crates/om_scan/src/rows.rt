@@ -1,7 +1,7 @@
 //! For each type what surely fits it.
 
 ghost use Rattle.std.specs.Prelude.{IfOk};
-ghost use Rattle.om_check.specs.Rows.{AreRows};
+ghost use Rattle.om_scan.specs.Rows.{AreRows};
 
 use om_fits::{Row, row_of};
 use om_heap::Heap;

@@ -1,8 +1,8 @@
 use Rattle.std.proofs.Common.{◌+◌, ◌∙◌, [], ◌∷◌, length, sym, ap, subst}
 use Rattle.std.proofs.lemmas.List.{length-append}
-use Rattle.om_check.specs.Rows.{AreRows}
-use Rattle.om_check.proofs.RowsLemmas.{rows_more}
-use Rattle.om_check.proofs.rows.rows_of.Goals as goal
+use Rattle.om_scan.specs.Rows.{AreRows}
+use Rattle.om_scan.proofs.RowLemmas.{rows_more}
+use Rattle.om_scan.proofs.rows.rows_of.Goals as goal
 
 pub loop-i-preserved : goal.loop-i-preserved
 loop-i-preserved c = (

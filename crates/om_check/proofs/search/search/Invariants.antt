@@ -1,10 +1,10 @@
 use Rattle.std.proofs.Common.{◌-◌, ◌^◌}
 use Rattle.om_type_table.specs.Made.{table_of}
 use Rattle.om_check.specs.Search.{IsSearching}
-use Rattle.om_check.proofs.search.search_by.Given as goal
+use Rattle.om_check.proofs.search.search.Given as goal
 
 abbrev pub invariant-loop-visits : goal.invariant-loop-visits
-invariant-loop-visits l = IsSearching (table_of l.table) l.heap l.fn.visits l.visits l.n l.fn.steps l.steps
+invariant-loop-visits l = IsSearching (table_of l.table) l.heap l.taken l.fn.visits l.visits l.n l.fn.steps l.steps
 
 -- no list is longer
 abbrev pub decreases-loop-visits : goal.decreases-loop-visits

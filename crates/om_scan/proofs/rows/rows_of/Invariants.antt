@@ -1,6 +1,6 @@
 use Rattle.std.proofs.Common.{◌≡◌, length}
-use Rattle.om_check.specs.Rows.{AreRows}
-use Rattle.om_check.proofs.rows.rows_of.Given as goal
+use Rattle.om_scan.specs.Rows.{AreRows}
+use Rattle.om_scan.proofs.rows.rows_of.Given as goal
 
 abbrev pub invariant-loop-i : goal.invariant-loop-i
 invariant-loop-i l = (length l.rows.items ≡ l.i) × AreRows l.table.nodes l.rows.items

@@ -1,7 +1,7 @@
 -- The numbers of a row.
 use Rattle.std.specs.Prelude.{ℕ, List}
-use Rattle.om_check.specs.declared.cells.Row.{Row}
-use Rattle.om_check.specs.declared.cells.Row.TheVariants as rows
+use Rattle.om_scan.specs.declared.cells.Row.{Row}
+use Rattle.om_scan.specs.declared.cells.Row.TheVariants as rows
 
 abbrev pub numbers_in : Row → List ℕ
 numbers_in (rows.Bytes row) = row.items

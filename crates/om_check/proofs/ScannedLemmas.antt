@@ -1,0 +1,49 @@
+-- What the types that a scan tells say of the value.
+use Rattle.std.proofs.Common.{ℕ, zero, suc, ◌+◌, ◌<◌, ◌≡◌, ◌∙◌, List, [], ◌∷◌, length, Option, Some, refl, sym, ap, arith}
+use Rattle.std.specs.Prelude.{slice_get, slice_index, map, Contains}
+use Rattle.std.proofs.lemmas.Option.{same_Some, none-some}
+use Rattle.om_model.proofs.Options.{slice_get-Contains}
+use Rattle.om_model.specs.declared.value.Val.TheVariants as vals
+use Rattle.om_model.specs.declared.value.Obj.{Obj}
+use Rattle.om_types.specs.Fitting.{numbered_from}
+use Rattle.om_types.specs.Table.{Table, table_shapes}
+use Rattle.om_types.specs.Typing.{HasType}
+use Rattle.om_typing.specs.StepLaws.{AreApart, key_of}
+use Rattle.om_scan.specs.Scanned.{IsScanned}
+use Rattle.om_check.specs.Verdict.{IsYes}
+use Rattle.om_check.proofs.OrderLemmas.{numbered}
+use Rattle.om_check.proofs.SpentLemmas.{mapped_at}
+
+-- number k stands at place k
+pub numbered_there : (s : ℕ) (ts : List ℕ) (k n : ℕ) → n ≡ s + k → k < length ts → slice_get (numbered_from s ts) k ≡ Some (n, slice_index ts k)
+numbered_there s [] k n is less = absurd (omega arith)
+numbered_there s (t ∷ ts) zero n is less = let same : s ≡ n = omega (arith, is) in ap (λ m. Some (m, t)) same
+numbered_there s (t ∷ ts) (suc k) n is less = numbered_there (suc s) ts k n (omega (arith, is)) (omega arith)
+
+pub length_numbered : (s : ℕ) (ts : List ℕ) → length (numbered_from s ts) ≡ length ts
+length_numbered s [] = refl
+length_numbered s (t ∷ ts) = ap suc (length_numbered (suc s) ts)
+
+first_pair : (types : List ℕ) (t : ℕ) → slice_get types 0 ≡ Some t → Contains (numbered_from 0 types) (0, t)
+first_pair [] t at_0 = absurd (none-some t at_0)
+first_pair (u ∷ types) t at_0 = slice_get-Contains (numbered_from 0 (u ∷ types)) 0 (0, t) (ap (λ w. Some (0, w)) (same_Some u t at_0))
+
+-- numbers differ, so the pairs do
+numbers_apart : (table : Table) (types : List ℕ) → AreApart (map (key_of table) (numbered_from 0 types))
+numbers_apart table types j k key at_j at_k =
+    let p = mapped_at (key_of table) (numbered_from 0 types) j key at_j in
+    let q = mapped_at (key_of table) (numbered_from 0 types) k key at_k in
+    let one = numbered 0 types j p.0.0 p.0.1 p.1 in
+    let other = numbered 0 types k q.0.0 q.0.1 q.1 in
+    let same = ap (λ (x : ℕ × Option ℕ). x.0) (p.2 ∙ sym q.2) in
+    omega (arith, one, other, same)
+
+-- the first object has the type that is number 0
+pub scanned_yes :
+    (table : Table) (graph : List Obj) (types : List ℕ) → IsScanned table graph types
+    → HasType (table_shapes table) graph (vals.Ref 0) 0 × IsYes table graph (vals.Ref 0) (numbered_from 0 types)
+scanned_yes table graph types scanned =
+    let pair = first_pair types 0 scanned.root in (
+      record { fits = scanned.typing.fits 0 0 pair; typed = (numbered_from 0 types, scanned.typing, pair) },
+      record { typing = scanned.typing; rooted = (0, pair, refl); apart = numbers_apart table types },
+    )

@@ -1,0 +1,8 @@
+use Rattle.std.proofs.Common.{◌∙◌, length, sym, ap}
+use Rattle.om_check.specs.Typing.{pairs_in}
+use Rattle.om_check.proofs.ScannedLemmas.{length_numbered}
+use Rattle.om_check.proofs.typing.count_in.Goals as goal
+
+pub returns-in-Scanned : goal.returns-in-Scanned
+returns-in-Scanned c =
+    c.len-in-Scanned.ensures ∙ sym (ap (λ pairs. length (pairs_in pairs)) c.in-Scanned.is ∙ length_numbered 0 c.in-Scanned.types)

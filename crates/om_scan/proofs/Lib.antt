@@ -1,0 +1,6 @@
+pub mod PlaceLemmas
+pub mod RowLemmas
+pub mod FieldLemmas
+pub mod NeedLemmas
+pub mod MarkLemmas
+pub mod ScanLemmas

@@ -1,0 +1,76 @@
+-- What is known of the needs of an object at a type.
+use Rattle.std.proofs.Common.{ℕ, ◌<◌, ◌≡◌, ◌∙◌, List, length, Option, Some, None, sym, ap, subst, arith}
+use Rattle.std.specs.Prelude.{slice_get, option_map, IsSome, All, Contains, pos}
+use Rattle.std.proofs.lemmas.Bool.{false≢true}
+use Rattle.std.proofs.lemmas.List.Elements.{All-contains}
+use Rattle.std.proofs.lemmas.Option.{slice_get_within, get_or_from_slice_get, option_and_then_some}
+use Rattle.om_model.proofs.Options.{slice_get_there, slice_get-Contains}
+use Rattle.om_model.specs.declared.value.Val.TheVariants as vals
+use Rattle.om_model.specs.declared.value.Obj.{Obj}
+use Rattle.om_model.specs.declared.value.Obj.TheVariants as objects
+use Rattle.om_types.specs.declared.shape.ShapeOf.{ShapeOf}
+use Rattle.om_types.specs.Fitting as fitting
+use Rattle.om_types.specs.Fitting.{or_none}
+use Rattle.om_types.specs.Reached.{named_in}
+use Rattle.om_types.specs.Table.{Table, table_shapes, node_or_none}
+use Rattle.om_types.specs.Typing.{values_of}
+use Rattle.om_heap.specs.Heap.{object_at, fields_of}
+use Rattle.om_type_table.specs.Made.{IsLawful}
+use Rattle.om_equal.proofs.ReachedLemmas.{needs_named}
+use Rattle.om_table.proofs.FieldLemmas.{needs_there}
+use Rattle.om_fits.specs.declared.needs.Needs.{Needs}
+use Rattle.om_fits.specs.Needs.{needs_in}
+use Rattle.om_scan.specs.Scanned.{object_needs}
+use Rattle.om_scan.proofs.FieldLemmas.{fields_are_values}
+
+module _ (table : Table) (graph : List Obj) where
+  -- what is needed is a field
+  pub need_field : (o t k i a : ℕ) → o < length graph → slice_get (object_needs table graph o t) k ≡ Some (i, a) → i < length (fields_of (object_at graph o))
+  need_field o t k i a inside at_k =
+      let needs = object_needs table graph o t in
+      let there = needs_there (node_or_none (slice_get table.nodes t)) graph (vals.Ref o) i a (slice_get-Contains needs k (i, a) at_k) in
+      option_and_then_some (λ object. slice_get (values_of object) i) (slice_get graph o) there.0 there.1 (λ object at_o at_i.
+      let is : object_at graph o ≡ object = get_or_from_slice_get graph o object (objects.I32 (pos 0)) at_o in
+      let short = slice_get_within (values_of object) i there.0 at_i in
+      subst (λ x. i < length (fields_of x)) (sym is) (subst (λ vs. i < length vs) (fields_are_values object) short))
+
+  -- what needs something has fields
+  pub some_fields : (o t : ℕ) → o < length graph → 0 < length (object_needs table graph o t) → 0 < length (fields_of (object_at graph o))
+  some_fields o t inside some =
+      let first = slice_get_there (object_needs table graph o t) 0 some in
+      let field = need_field o t 0 first.0.0 first.0.1 inside first.1 in omega (arith, field)
+
+  -- what is needed is a type of the table
+  pub need_node : IsLawful table → (o t k i a : ℕ) → t < length table.nodes → slice_get (object_needs table graph o t) k ≡ Some (i, a) → a < length table.nodes
+  need_node lawful o t k i a inside at_k =
+      let node = slice_get_there table.nodes t inside in
+      let needs = object_needs table graph o t in
+      let named = needs_named (node_or_none (slice_get table.nodes t)) graph (vals.Ref o) i a (slice_get-Contains needs k (i, a) at_k) in
+      let named' = subst (λ n. Contains (named_in (node_or_none n)) a) node.1 named in
+      All-contains (λ j. j < length table.nodes) (named_in node.0) a
+      (All-contains (λ s. All (λ j. j < length table.nodes) (named_in s)) table.nodes node.0 lawful.closed (slice_get-Contains table.nodes t node.0 node.1)) named'
+
+  -- ---- the answer of a shape
+
+  fields_are :
+      (o t : ℕ) (shape : ShapeOf ℕ) (answer : Option Needs) → slice_get table.nodes t ≡ Some shape
+      → option_map needs_in answer ≡ fitting.fields_of graph (vals.Ref o) shape
+      → fitting.fields_of graph (vals.Ref o) (node_or_none (slice_get table.nodes t)) ≡ option_map needs_in answer
+  fields_are o t shape answer at_type is = ap (λ n. fitting.fields_of graph (vals.Ref o) (node_or_none n)) at_type ∙ sym is
+
+  pub needs_are :
+      (o t : ℕ) (shape : ShapeOf ℕ) (answer : Option Needs) (needs : Needs) → slice_get table.nodes t ≡ Some shape
+      → option_map needs_in answer ≡ fitting.fields_of graph (vals.Ref o) shape → answer ≡ Some needs
+      → object_needs table graph o t ≡ needs_in needs
+  needs_are o t shape answer needs at_type is some =
+      ap or_none (fields_are o t shape answer at_type is) ∙ ap (λ a. or_none (option_map needs_in a)) some
+
+  -- an object that fits has an answer
+  pub never_unfit :
+      (o t : ℕ) (shape : ShapeOf ℕ) (answer : Option Needs) → slice_get table.nodes t ≡ Some shape
+      → option_map needs_in answer ≡ fitting.fields_of graph (vals.Ref o) shape → answer ≡ None
+      → (table_shapes table).fits graph (vals.Ref o) t → ⊥
+  never_unfit o t shape answer at_type is none fit = no_some
+      (subst IsSome (fields_are o t shape answer at_type is ∙ ap (option_map needs_in) none) fit) where
+        no_some : IsSome {T = List (ℕ × ℕ)} None → ⊥
+        no_some some = false≢true some

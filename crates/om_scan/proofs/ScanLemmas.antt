@@ -1,0 +1,194 @@
+-- Objects that are taken one after another, and what they make when all are taken.
+use Rattle.std.proofs.Common.{ℕ, zero, suc, ◌+◌, ◌<◌, ◌≤◌, ◌≡◌, ◌∙◌, inl, ⊎_elim, ◌++◌, List, [], ◌∷◌, length, Option, Some, sym, ap, subst, arith}
+use Rattle.std.specs.Prelude.{slice_get, map, sum_by, Contains, IsSomeAnd}
+use Rattle.std.proofs.lemmas.List.{length-append}
+use Rattle.std.proofs.lemmas.List.Sums.{sum_by_push}
+use Rattle.std.proofs.lemmas.Option.{same_Some, none-some, slice_get_within}
+use Rattle.om_model.proofs.Options.{slice_get_there, slice_get-Contains}
+use Rattle.om_model.specs.Graph.{IsValue, IsGraph}
+use Rattle.om_model.specs.declared.value.Val.{Val}
+use Rattle.om_model.specs.declared.value.Val.TheVariants as vals
+use Rattle.om_model.specs.declared.value.Obj.{Obj}
+use Rattle.om_types.specs.Fitting.{numbered_from}
+use Rattle.om_types.specs.Steps.{most_steps}
+use Rattle.om_types.specs.Table.{Table, table_shapes}
+use Rattle.om_types.specs.Typing.{IsHeld, IsTyping}
+use Rattle.om_typing.specs.StepLaws.{key_of, AreEntries}
+use Rattle.om_typing.proofs.StepLemmas.{steps_are_few}
+use Rattle.om_heap.specs.Heap as heap
+use Rattle.om_heap.specs.Heap.{field_at}
+use Rattle.om_type_table.specs.Made.{IsLawful}
+use Rattle.om_scan.specs.Scanned.{object_needs, IsScanned, AreTaken, cost_of}
+use Rattle.om_scan.specs.Scan.{mark_of, AreMarks, AreKept, IsMet, AreMet, IsTaken, IsScanning}
+use Rattle.om_scan.proofs.PlaceLemmas.{place_of, slice_get-push_cases}
+use Rattle.om_scan.proofs.FieldLemmas.{field_there, field_valid}
+use Rattle.om_scan.proofs.NeedLemmas.{need_field}
+use Rattle.om_scan.proofs.MarkLemmas.{taken_kept}
+
+-- ---- numbered types
+
+numbered-push : (i : ℕ) (ts : List ℕ) (t : ℕ) → numbered_from i (ts ++ t ∷ []) ≡ numbered_from i ts ++ (i + length ts, t) ∷ []
+numbered-push i [] t = let same : i ≡ i + 0 = omega arith in ap (λ n. (n, t) ∷ []) same
+numbered-push i (s ∷ ts) t =
+    let same : suc i + length ts ≡ i + suc (length ts) = omega arith in
+    ap (λ all. (i, s) ∷ all) (numbered-push (suc i) ts t ∙ ap (λ n. numbered_from (suc i) ts ++ (n, t) ∷ []) same)
+
+numbered_at : (i : ℕ) (ts : List ℕ) (k o t : ℕ) → slice_get (numbered_from i ts) k ≡ Some (o, t) → (slice_get ts k ≡ Some t) × (o ≡ i + k)
+numbered_at i [] k o t at_k = absurd (none-some (o, t) at_k)
+numbered_at i (s ∷ ts) zero o t at_k =
+    let same = same_Some (i, s) (o, t) at_k in
+    (ap (λ (p : ℕ × ℕ). Some p.1) same, let is = ap (λ (p : ℕ × ℕ). p.0) same in omega (arith, is))
+numbered_at i (s ∷ ts) (suc k) o t at_k =
+    let rest = numbered_at (suc i) ts k o t at_k in
+    (rest.0, omega (arith, rest.1))
+
+numbered_there : (i : ℕ) (ts : List ℕ) (k t : ℕ) → slice_get ts k ≡ Some t → slice_get (numbered_from i ts) k ≡ Some (i + k, t)
+numbered_there i [] k t at_k = absurd (none-some t at_k)
+numbered_there i (s ∷ ts) zero t at_k =
+    let same : i ≡ i + 0 = omega arith in
+    ap (λ n. Some (n, s)) same ∙ ap (λ u. Some (i + 0, u)) (same_Some s t at_k)
+numbered_there i (s ∷ ts) (suc k) t at_k =
+    let same : suc i + k ≡ i + suc k = omega arith in
+    numbered_there (suc i) ts k t at_k ∙ ap (λ n. Some (n, t)) same
+
+pub pair_at : (ts : List ℕ) (o t : ℕ) → Contains (numbered_from 0 ts) (o, t) → slice_get ts o ≡ Some t
+pair_at ts o t among =
+    let k = place_of (numbered_from 0 ts) (o, t) among in
+    let is = numbered_at 0 ts k.0 o t k.1 in
+    let same : o ≡ k.0 = omega (arith, is.1) in
+    ap (slice_get ts) same ∙ is.0
+
+pub pair_there : (ts : List ℕ) (o t : ℕ) → slice_get ts o ≡ Some t → Contains (numbered_from 0 ts) (o, t)
+pair_there ts o t at_o =
+    let same : 0 + o ≡ o = omega arith in
+    slice_get-Contains (numbered_from 0 ts) o (o, t) (numbered_there 0 ts o t at_o ∙ ap (λ n. Some (n, t)) same)
+
+module _ (table : Table) (graph : List Obj) where
+  -- ---- one object more
+
+  cost_more : (types : List ℕ) (t : ℕ) → cost_of table graph (types ++ t ∷ []) ≡ cost_of table graph types + (1 + length (object_needs table graph (length types) t))
+  cost_more types t =
+      let cost : ℕ × ℕ → ℕ = λ entry. 1 + length (object_needs table graph entry.0 entry.1) in
+      let same : 0 + length types ≡ length types = omega arith in
+      ap (sum_by cost) (numbered-push 0 types t ∙ ap (λ n. numbered_from 0 types ++ (n, t) ∷ []) same) ∙ sum_by_push cost (numbered_from 0 types) (length types, t)
+
+  pub scanning_more :
+      (old new types : List ℕ) (o t steps more : ℕ) → IsScanning table graph old types o steps → AreMarks table graph new → AreKept old new
+      → mark_of graph old o ≡ suc t → (table_shapes table).fits graph (vals.Ref o) t
+      → AreMet table graph new o t (length (object_needs table graph o t))
+      → more ≤ steps + (1 + length (object_needs table graph o t)) → IsScanning table graph new (types ++ t ∷ []) (o + 1) more
+  scanning_more old new types o t steps more scanning valid kept marked fits met few =
+      let own : IsTaken table graph new o t = record { marked = kept (heap.key_of graph o) (omega (arith, marked)) ∙ marked; fits = fits; met = met } in
+      record {
+        valid = valid;
+        root = kept (heap.key_of graph 0) (let is = scanning.root in omega (arith, is)) ∙ scanning.root;
+        many = length-append types (t ∷ []) ∙ ap (λ n. n + 1) scanning.many;
+        taken = λ k u at_k. ⊎_elim
+            (λ before. taken_kept table graph old new k u kept (scanning.taken k u before))
+            (λ last. subst (λ n. IsTaken table graph new n u) (sym (last.0 ∙ scanning.many)) (subst (IsTaken table graph new o) last.1 own))
+            (slice_get-push_cases types t k u at_k);
+        few =
+            let cost = cost_more types t in
+            let own_cost = ap (λ n. length (object_needs table graph n t)) scanning.many in
+            let before = scanning.few in
+            omega (arith, few, cost, own_cost, before);
+      }
+
+  -- ---- the first objects
+
+  pub first_taken : (marks types : List ℕ) (n steps : ℕ) → n ≤ length graph → IsScanning table graph marks types n steps → AreTaken table graph types
+  first_taken marks types n steps inside scanning = record {
+    many = let many = scanning.many in omega (arith, many, inside);
+    within = λ o t at_o.
+        let marked = (scanning.taken o t at_o).marked in
+        let small = scanning.valid.small (heap.key_of graph o) in
+        omega (arith, marked, small);
+    fits = λ o t at_o. (scanning.taken o t at_o).fits;
+  }
+
+  place_first : (i : ℕ) (ts : List ℕ) (k : ℕ) (x : ℕ × Option ℕ) → slice_get (map (key_of table) (numbered_from i ts)) k ≡ Some x → x.0 ≡ i + k
+  place_first i [] k x at_k = absurd (none-some x at_k)
+  place_first i (t ∷ ts) zero x at_k =
+      let same = ap (λ (p : ℕ × Option ℕ). p.0) (same_Some (key_of table (i, t)) x at_k) in omega (arith, same)
+  place_first i (t ∷ ts) (suc k) x at_k = let rest = place_first (suc i) ts k x at_k in omega (arith, rest)
+
+  pub taken_entries : (types : List ℕ) → IsLawful table → AreTaken table graph types → AreEntries table graph (numbered_from 0 types)
+  taken_entries types lawful taken = record {
+    objects = λ o t among. let within = slice_get_within types o t (pair_at types o t among) in let many = taken.many in omega (arith, within, many);
+    types = λ o t among. let less = taken.within o t (pair_at types o t among) in let classed = lawful.classed in omega (arith, less, classed);
+    apart = λ j k x at_j at_k.
+        let one = place_first 0 types j x at_j in
+        let other = place_first 0 types k x at_k in
+        omega (arith, one, other);
+  }
+
+  pub taken_few : (types : List ℕ) → IsLawful table → AreTaken table graph types → 1 + cost_of table graph types ≤ most_steps table graph
+  taken_few types lawful taken = steps_are_few table graph (numbered_from 0 types) (taken_entries types lawful taken)
+
+  pub none_taken : AreTaken table graph []
+  none_taken = record {
+    many = omega arith;
+    within = λ o t at_o. absurd (none-some t at_o);
+    fits = λ o t at_o. absurd (none-some t at_o);
+  }
+
+  -- ---- all objects
+
+  module _ (marks types : List ℕ) (steps : ℕ) (lawful : IsLawful table) (is_graph : IsGraph graph) (scanning : IsScanning table graph marks types (length graph) steps) where
+    all_there : (o : ℕ) → o < length graph → (t : ℕ) × (slice_get types o ≡ Some t)
+    all_there o inside = slice_get_there types o (let many = scanning.many in omega (arith, many, inside))
+
+    inside_of : (o t : ℕ) → slice_get types o ≡ Some t → o < length graph
+    inside_of o t at_o = let within = slice_get_within types o t at_o in let many = scanning.many in omega (arith, within, many)
+
+    within_of : (o t : ℕ) → slice_get types o ≡ Some t → t < length table.nodes
+    within_of o t at_o =
+        let marked = (scanning.taken o t at_o).marked in
+        let small = scanning.valid.small (heap.key_of graph o) in
+        omega (arith, marked, small)
+
+    held_of : (v : Val) (t : ℕ) → IsValue (length graph) v → IsMet table graph marks v t → IsHeld (table_shapes table) graph (numbered_from 0 types) v t
+    held_of (vals.Int z) t valid met = record { fits = met; listed = tt }
+    held_of (vals.Atom tag) t valid met = record { fits = met; listed = tt }
+    held_of (vals.Ref p) t valid met =
+        let there = all_there p valid in
+        let taken = scanning.taken p there.0 there.1 in
+        let same : there.0 ≡ met.0 = let is = taken.marked in let other = met.1 in omega (arith, is, other) in
+        let equal : (table_shapes table).equal there.0 t = ap (slice_get table.classes) same ∙ met.2 in
+        record {
+          fits = lawful.lawful.fits graph (vals.Ref p) there.0 t (inl tt) equal taken.fits;
+          listed = (there.0, pair_there types p there.0 there.1, equal);
+        }
+
+    all_typed : IsTyping (table_shapes table) graph (numbered_from 0 types)
+    all_typed = record {
+      fits = λ o t among. (scanning.taken o t (pair_at types o t among)).fits;
+      held = λ o t i u among needed.
+          let at_o = pair_at types o t among in
+          let inside = inside_of o t at_o in
+          let j = place_of (object_needs table graph o t) (i, u) needed in
+          let short = need_field table graph o t j.0 i u inside j.1 in
+          let below = slice_get_within (object_needs table graph o t) j.0 (i, u) j.1 in
+          subst (λ value. IsSomeAnd value (λ v. IsHeld (table_shapes table) graph (numbered_from 0 types) v u)) (sym (field_there graph o i inside short))
+          (held_of (field_at graph o i) u (field_valid graph o i inside short is_graph) ((scanning.taken o t at_o).met j.0 i u below j.1));
+      one_type = λ o t u one other mutable.
+          let same = same_Some t u (sym (pair_at types o t one) ∙ pair_at types o u other) in
+          ap (slice_get table.classes) same;
+    }
+
+    pub all_scanned : 0 < length graph → IsScanned table graph types
+    all_scanned some =
+        let first = all_there 0 some in
+        let is : first.0 ≡ 0 = let marked = (scanning.taken 0 first.0 first.1).marked in let root = scanning.root in omega (arith, marked, root) in
+        record {
+          many = scanning.many;
+          within = within_of;
+          root = first.1 ∙ ap (λ t. Some t) is;
+          typing = all_typed;
+        }
+
+    pub all_few : 1 + steps ≤ most_steps table graph
+    all_few =
+        let most = taken_few types lawful (first_taken marks types (length graph) steps (omega arith) scanning) in
+        let few = scanning.few in
+        omega (arith, most, few)
