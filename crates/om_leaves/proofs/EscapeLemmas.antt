@@ -1,6 +1,8 @@
 -- Bytes that stand for themselves, and those that do not, behind what was put.
-use Rattle.std.proofs.Common.{ℕ, ◌+◌, ◌-◌, ◌<◌, ◌≤◌, ◌≡◌, ◌∙◌, List, [], ◌∷◌, ◌++◌, length, take, drop, get_or, sym, ap, append_assoc, arith, length-drop, get_or-drop}
+use Rattle.std.proofs.Common.{Bool, true, false, ℕ, zero, suc, refl, ◌+◌, ◌-◌, ◌<◌, ◌≤◌, ◌≡◌, ◌==◌, ◌∙◌, ⊎_elim, List, [], ◌∷◌, ◌++◌, length, take, drop, get_or, sym, ap, append_assoc, arith, length-drop, get_or-drop}
+use Rattle.std.specs.Bool.{OnTrue}
 use Rattle.std.specs.List.{flat_map, slice_range}
+use Rattle.std.proofs.lemmas.Bool.Decides.{eqb_tells}
 use Rattle.std.proofs.lemmas.List.{append-nil, take_more, flat_map_more}
 
 range_more : (xs : List ℕ) (start i : ℕ) → start ≤ i → i < length xs → slice_range xs start (i + 1) ≡ slice_range xs start i ++ get_or xs i 0 ∷ []
@@ -32,12 +34,16 @@ module _ (f : ℕ → List ℕ) (xs old text : List ℕ) (start i : ℕ) (less :
       ∙ ap (λ t. t ++ f (get_or xs i 0)) (is_led ∙ put)
       ∙ next
 
--- bytes that stand for themselves, and one more
-pub plain_more : (f : ℕ → List ℕ) (xs : List ℕ) (i : ℕ) → i < length xs → flat_map f (take i xs) ≡ take i xs → f (get_or xs i 0) ≡ get_or xs i 0 ∷ []
-    → flat_map f (take (i + 1) xs) ≡ take (i + 1) xs
-plain_more f xs i less plain one =
-    ap (flat_map f) (take_more xs i 0 less)
-    ∙ sym (flat_map_more f [] (take i xs) (get_or xs i 0))
-    ∙ ap (λ t. t ++ f (get_or xs i 0)) plain
-    ∙ ap (λ t. take i xs ++ t) one
-    ∙ sym (take_more xs i 0 less)
+-- bytes each of which stands for itself
+pub all_plain : (f : ℕ → List ℕ) (xs : List ℕ) → ((j : ℕ) → j < length xs → f (get_or xs j 0) ≡ get_or xs j 0 ∷ []) → flat_map f xs ≡ xs
+all_plain f [] plain = refl
+all_plain f (x ∷ xs) plain =
+    ap (λ t. t ++ flat_map f xs) (plain 0 (omega arith)) ∙ ap (λ t. x ∷ t) (all_plain f xs (λ j inside. plain (suc j) (omega arith)))
+
+pub eq_zero : (n : ℕ) → (n == 0) ≡ true → n ≡ 0
+eq_zero zero is = refl
+eq_zero (suc n) is = ⊎_elim (λ same. same.1) (λ other. absurd (cc)) (eqb_tells (suc n) 0)
+
+pub on_true : (b : Bool) (P : Type 0) → (b ≡ true → P) → OnTrue b P
+on_true true P holds = holds refl
+on_true false P holds = tt

@@ -1,5 +1,6 @@
 pub mod DumpLemmas
 pub mod EscapeLemmas
+pub mod ObjectLemmas
 pub mod ReadBackLemmas
 pub mod RowLemmas
 pub mod StringLemmas

@@ -1,7 +1,8 @@
--- Numbers of one digit.
-use Rattle.std.proofs.Common.{ℕ, ℤ, pos, ◌+◌, ◌<◌, ◌≡◌, [], ◌∷◌}
-use Rattle.std.specs.Fmt.{signed_decimal}
-use Rattle.std.proofs.lemmas.Fmt.{decimal_digit}
+-- One digit more.
+use Rattle.std.proofs.Common.{ℕ, ◌+◌, ◌/◌, ◌%◌, ◌^◌, ◌<◌, ◌≤◌, ◌≡◌, ◌∙◌, List, [], ◌∷◌, ◌++◌, sym, ap, append_assoc}
+use Rattle.std.specs.Prelude.{decimal}
+use Rattle.std.proofs.lemmas.Fmt.{decimal_step}
 
-pub signed_digit : (z : ℤ) (n : ℕ) → z ≡ pos n → n < 10 → signed_decimal z ≡ (48 + n) ∷ []
-signed_digit z n is less = rw is (decimal_digit n less)
+pub digit_more : (n : ℕ) (old text new : List ℕ) → 10 ≤ n → n < 2 ^ 64 → text ≡ old ++ decimal (n / 10) → new ≡ text ++ (48 + n % 10) ∷ [] → new ≡ old ++ decimal n
+digit_more n old text new two few put more =
+    more ∙ ap (λ t. t ++ (48 + n % 10) ∷ []) put ∙ append_assoc old (decimal (n / 10)) ((48 + n % 10) ∷ []) ∙ ap (λ t. old ++ t) (sym (decimal_step n two few))

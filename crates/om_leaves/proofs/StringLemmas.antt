@@ -100,20 +100,17 @@ words_put f words len j old start last all less whole is_last is_start is_all =
     ∙ append_assoc old (flat_map f front) (flat_map f end)
     ∙ ap (λ t. old ++ t) (sym (flat_map-append f front end) ∙ ap (flat_map f) (sym (take_words words len less)))
 
--- the words of a string's bytes
-pub record HasWords (bytes words : List ℕ) : Type 0 where
-  pub valid : AreBytes bytes
-  pub are : words ≡ string_words bytes
+-- the words of a string, and how many bytes they have
+pub record AreWords (bytes words : List ℕ) (len : ℕ) : Type 0 where
+  pub reach : len / 8 < length words
+  pub are : take len (flat_map bytes_in words) ≡ bytes
 
-pub string_body : (graph : List Obj) (object : Obj) (bytes words : List ℕ) → IsObject (length graph) object → object ≡ objects.Bytes bytes → words ≡ body_of graph object → HasWords bytes words
-string_body graph object bytes words valid is are = record {
-  valid = subst (IsObject (length graph)) is valid;
-  are = are ∙ ap (body_of graph) is;
-}
-
-module _ (bytes words : List ℕ) (len : ℕ) (has : HasWords bytes words) (all : len ≡ length bytes) where
-  pub words_reach : len / 8 < length words
-  words_reach = let many : length words ≡ length bytes / 8 + 1 = ap length has.are ∙ length-string_words bytes in omega (arith, many, all)
-
-  pub words_are : take len (flat_map bytes_in words) ≡ bytes
-  words_are = ap (λ n. take n (flat_map bytes_in words)) all ∙ ap (λ ws. take (length bytes) (flat_map bytes_in ws)) has.are ∙ string_back bytes has.valid
+pub string_body : (graph : List Obj) (object : Obj) (bytes words : List ℕ) (len : ℕ) → IsObject (length graph) object → object ≡ objects.Bytes bytes → words ≡ body_of graph object → len ≡ length bytes
+    → AreWords bytes words len
+string_body graph object bytes words len valid is are all =
+    let each : AreBytes bytes = subst (IsObject (length graph)) is valid in
+    let body : words ≡ string_words bytes = are ∙ ap (body_of graph) is in
+    let many : length words ≡ length bytes / 8 + 1 = ap length body ∙ length-string_words bytes in record {
+      reach = omega (arith, many, all);
+      are = ap (λ n. take n (flat_map bytes_in words)) all ∙ ap (λ ws. take (length bytes) (flat_map bytes_in ws)) body ∙ string_back bytes each;
+    }

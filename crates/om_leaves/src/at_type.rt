@@ -1,13 +1,13 @@
 //! The texts of values without parts, by the shape and the names of their type.
 
-ghost use Rattle.std.specs.Prelude.{◌≡◌, ◌<◌, ◌++◌, length, map, IsTrue, OnOk, unwrap_or, slice_get, []};
+ghost use Rattle.std.specs.Prelude.{◌≡◌, ◌<◌, ◌++◌, map, IsTrue, OnOk, unwrap_or, slice_get, []};
 ghost use Rattle.om_types.specs.Fitting.{fits_int, is_below};
-ghost use Rattle.om_heap.specs.Heap.{object_at, doubles_of, custom_object};
+ghost use Rattle.om_heap.specs.Heap.{custom_object, IsReferenceWord, ForNamed};
 ghost use Rattle.om_leaves.specs.Leaves.{below_text, float_text};
 ghost use Rattle.om_leaves.specs.Frames.{int_text, object_text, natural, tag_text, row_from, row_text};
 ghost use Rattle.om_leaves.specs.FrameView.{frame_in};
 
-use crate::bytes::put;
+use crate::bytes::{put, put_few};
 use crate::frame::{Frame, doubles_frame_of, name_of_tag};
 use crate::leaves::{put_below, put_float, put_int, put_int32, put_int64, put_native};
 use crate::strings::put_string_of;
@@ -49,6 +49,7 @@ fn put_int_below(text: &mut Vec<u8>, many: u64, z: i64) -> Result<(), Memory>
 }
 
 /// Puts the name of a constant constructor, if there is one.
+#[inline(always)]
 fn put_constant(text: &mut Vec<u8>, many: u64, z: i64, constants: &[List<u8>]) -> Result<(), Memory>
     requires { IsTrue (is_below many z) }
     ensures { OnOk result (text.new.items ≡ text.old.items ++ unwrap_or (slice_get constants.now (natural z)) []) }
@@ -56,7 +57,7 @@ fn put_constant(text: &mut Vec<u8>, many: u64, z: i64, constants: &[List<u8>]) -
     if z as usize >= constants.len() {
         return Ok(());
     }
-    put(text, constants[z as usize].as_slice())
+    put_few(text, constants[z as usize].as_slice())
 }
 
 /// Puts the tag of this hash.
@@ -67,59 +68,47 @@ fn put_tag(text: &mut Vec<u8>, hash: i64, names: &Names) -> Result<(), Memory>
     put(text, name_of_tag(names.tags.as_slice(), hash))
 }
 
-/// Puts an object without parts, and nothing for a block.
+/// Puts the object without parts that a reference's word names, and nothing for a block.
 #[inline(always)]
 pub fn put_object_at(
     text: &mut Vec<u8>,
     heap: &Heap,
-    o: u64,
+    word: u64,
     shape: &ShapeOf<usize>,
     names: &Names,
 ) -> Result<(), Memory>
-    requires object { o < length heap.now }
-    ensures { OnOk result (text.new.items ≡ text.old.items ++ object_text shape.now names.now (object_at heap.now o)) }
+    requires { IsReferenceWord heap.now word }
+    ensures { ForNamed heap.now word (λ object. OnOk result (text.new.items ≡ text.old.items ++ object_text shape.now names.now object)) }
 {
-    match heap.kind(o) {
+    match heap.kind_at(word) {
         Kind::Block(_, _) => Ok(()),
-        Kind::Bytes(len) => put_string_of(text, heap, o, len),
-        Kind::Double => put_float(text, heap.double(o, 0)),
-        Kind::Doubles(len) => put_doubles_at(text, heap, o, len, &doubles_frame_of(shape, names)),
+        Kind::Bytes(len) => put_string_of(text, heap.body_at(word), len as usize),
+        Kind::Double => put_float(text, heap.body_at(word)[0]),
+        Kind::Doubles(_) => put_doubles_at(
+            text,
+            heap.body_at(word),
+            &doubles_frame_of(shape, names),
+        ),
         Kind::Custom(custom) => put_custom_at(text, custom, shape, names),
     }
 }
 
-/// Puts the doubles of an object in a frame.
-fn put_doubles_at(
-    text: &mut Vec<u8>,
-    heap: &Heap,
-    o: u64,
-    len: u64,
-    frame: &Frame<'_>,
-) -> Result<(), Memory>
-    requires object { o < length heap.now }
-    requires len { len ≡ length (doubles_of (object_at heap.now o)) }
-    ensures { OnOk result (text.new.items ≡ text.old.items ++ row_text (frame_in frame.now) (map float_text (doubles_of (object_at heap.now o)))) }
+/// Puts doubles in a frame.
+fn put_doubles_at(text: &mut Vec<u8>, doubles: &[u64], frame: &Frame<'_>) -> Result<(), Memory>
+    ensures { OnOk result (text.new.items ≡ text.old.items ++ row_text (frame_in frame.now) (map float_text doubles.now)) }
 {
     frame.put_opening(text)?;
-    put_double_parts(text, heap, o, len, frame)?;
+    put_double_parts(text, doubles, frame)?;
     frame.put_closing(text)
 }
 
 /// Puts the doubles, and what stands before each.
-fn put_double_parts(
-    text: &mut Vec<u8>,
-    heap: &Heap,
-    o: u64,
-    len: u64,
-    frame: &Frame<'_>,
-) -> Result<(), Memory>
-    requires object { o < length heap.now }
-    requires len { len ≡ length (doubles_of (object_at heap.now o)) }
-    ensures { OnOk result (text.new.items ≡ text.old.items ++ row_from (frame_in frame.now) 0 (map float_text (doubles_of (object_at heap.now o)))) }
+fn put_double_parts(text: &mut Vec<u8>, doubles: &[u64], frame: &Frame<'_>) -> Result<(), Memory>
+    ensures { OnOk result (text.new.items ≡ text.old.items ++ row_from (frame_in frame.now) 0 (map float_text doubles.now)) }
 {
-    for i in 0..len {
-        frame.put_before(text, i)?;
-        put_float(text, heap.double(o, i))?;
+    for i in 0..doubles.len() {
+        frame.put_before(text, i as u64)?;
+        put_float(text, doubles[i])?;
     }
     Ok(())
 }

@@ -1,6 +1,6 @@
 //! Bytes at the end of a text.
 
-ghost use Rattle.std.specs.Prelude.{◌≡◌, ◌++◌, OnOk};
+ghost use Rattle.std.specs.Prelude.{◌≡◌, ◌+◌, ◌≤◌, ◌++◌, length, OnOk, vec_len, vec_capacity};
 
 use om_model::Memory;
 
@@ -10,4 +10,27 @@ pub fn put(text: &mut Vec<u8>, bytes: &[u8]) -> Result<(), Memory>
     ensures { OnOk result (text.new.items ≡ text.old.items ++ bytes.now) }
 {
     Ok(text.extend_from_slice(bytes)?)
+}
+
+/// Puts a few bytes for which there is room, one by one.
+#[inline(always)]
+pub fn put_reserved(text: &mut Vec<u8>, bytes: &[u8])
+    requires { vec_len text.old + length bytes.now ≤ vec_capacity text.old }
+    ensures items { text.new.items ≡ text.old.items ++ bytes.now }
+    ensures len { vec_len text.new ≡ vec_len text.old + length bytes.now }
+    ensures capacity { vec_capacity text.new ≡ vec_capacity text.old }
+{
+    for i in 0..bytes.len() {
+        text.push_reserved(bytes[i]);
+    }
+}
+
+/// Puts a few bytes, one by one.
+#[inline(always)]
+pub fn put_few(text: &mut Vec<u8>, bytes: &[u8]) -> Result<(), Memory>
+    ensures { OnOk result (text.new.items ≡ text.old.items ++ bytes.now) }
+{
+    text.reserve(bytes.len())?;
+    put_reserved(text, bytes);
+    Ok(())
 }

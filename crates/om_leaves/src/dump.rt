@@ -50,7 +50,7 @@ fn put_object(text: &mut Vec<u8>, heap: &Heap, o: u64, kind: Kind) -> Result<(),
         }
         Kind::Bytes(len) => {
             put(text, b" string ")?;
-            put_string_of(text, heap, o, len)
+            put_string_of(text, heap.body_at(heap.word(Val::Ref(o))), len as usize)
         }
         Kind::Double => {
             put(text, b" float")?;

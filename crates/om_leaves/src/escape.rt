@@ -1,11 +1,11 @@
 //! Characters and strings.
 
-ghost use Rattle.std.specs.Prelude.{◌≡◌, ◌∷◌, [], ◌++◌, OnOk};
+ghost use Rattle.std.specs.Prelude.{◌≡◌, ◌≤◌, ◌∷◌, [], ◌++◌, take, OnOk};
 ghost use Rattle.std.specs.Bool.{OnTrue};
 ghost use Rattle.std.specs.List.{flat_map};
 ghost use Rattle.om_leaves.specs.Leaves.{letter_of, escaped, char_text, string_text};
 
-use crate::bytes::put;
+use crate::bytes::{put, put_reserved};
 use om_model::Memory;
 
 /// The letter that stands for a byte after a backslash.
@@ -47,6 +47,7 @@ fn put_byte(text: &mut Vec<u8>, quote: u8, byte: u8) -> Result<(), Memory>
 }
 
 /// Whether a byte stands for itself between quotes of this kind.
+#[inline(always)]
 fn is_plain(quote: u8, byte: u8) -> bool
     ensures { OnTrue result (escaped quote byte ≡ byte ∷ []) }
 {
@@ -54,6 +55,7 @@ fn is_plain(quote: u8, byte: u8) -> bool
 }
 
 /// Puts bytes as they stand between quotes of this kind: those that stand for themselves, run by run.
+#[inline(never)]
 pub fn put_escaped(text: &mut Vec<u8>, quote: u8, bytes: &[u8]) -> Result<(), Memory>
     ensures { OnOk result (text.new.items ≡ text.old.items ++ flat_map (escaped quote) bytes.now) }
 {
@@ -69,49 +71,53 @@ pub fn put_escaped(text: &mut Vec<u8>, quote: u8, bytes: &[u8]) -> Result<(), Me
     put(text, &bytes[start..])
 }
 
-/// Whether each of these bytes stands for itself between quotes of this kind.
+// For each byte 0 if it stands for itself in a string, and else 1.
+static OTHERS: [u8; 256] = [
+    1, 1, 1, 1, 1, 1, 1, 1, 1, 1, 1, 1, 1, 1, 1, 1, 1, 1, 1, 1, 1, 1, 1, 1, 1, 1, 1, 1, 1, 1, 1, 1,
+    0, 0, 1, 0, 0, 0, 0, 0, 0, 0, 0, 0, 0, 0, 0, 0, 0, 0, 0, 0, 0, 0, 0, 0, 0, 0, 0, 0, 0, 0, 0, 0,
+    0, 0, 0, 0, 0, 0, 0, 0, 0, 0, 0, 0, 0, 0, 0, 0, 0, 0, 0, 0, 0, 0, 0, 0, 0, 0, 0, 0, 1, 0, 0, 0,
+    0, 0, 0, 0, 0, 0, 0, 0, 0, 0, 0, 0, 0, 0, 0, 0, 0, 0, 0, 0, 0, 0, 0, 0, 0, 0, 0, 0, 0, 0, 0, 1,
+    1, 1, 1, 1, 1, 1, 1, 1, 1, 1, 1, 1, 1, 1, 1, 1, 1, 1, 1, 1, 1, 1, 1, 1, 1, 1, 1, 1, 1, 1, 1, 1,
+    1, 1, 1, 1, 1, 1, 1, 1, 1, 1, 1, 1, 1, 1, 1, 1, 1, 1, 1, 1, 1, 1, 1, 1, 1, 1, 1, 1, 1, 1, 1, 1,
+    1, 1, 1, 1, 1, 1, 1, 1, 1, 1, 1, 1, 1, 1, 1, 1, 1, 1, 1, 1, 1, 1, 1, 1, 1, 1, 1, 1, 1, 1, 1, 1,
+    1, 1, 1, 1, 1, 1, 1, 1, 1, 1, 1, 1, 1, 1, 1, 1, 1, 1, 1, 1, 1, 1, 1, 1, 1, 1, 1, 1, 1, 1, 1, 1,
+];
+
+/// 0 for a byte that stands for itself in a string, and 1 for others.
 #[inline(always)]
-fn are_plain(quote: u8, bytes: &[u8]) -> bool
-    ensures { OnTrue result (flat_map (escaped quote) bytes.now ≡ bytes.now) }
+fn other(byte: u8) -> u8
+    ensures one { result ≤ 1 }
+    ensures plain { result ≡ 0 → escaped 34 byte ≡ byte ∷ [] }
 {
-    for i in 0..bytes.len() {
-        if !is_plain(quote, bytes[i]) {
-            return false;
-        }
-    }
-    true
+    OTHERS[usize::from(byte)]
 }
 
-/// Puts the bytes of a word as they stand between quotes of this kind: at once, if each stands for itself.
+/// Whether each of these bytes stands for itself in a string.
 #[inline(always)]
-pub fn put_word(text: &mut Vec<u8>, quote: u8, bytes: &[u8]) -> Result<(), Memory>
-    ensures { OnOk result (text.new.items ≡ text.old.items ++ flat_map (escaped quote) bytes.now) }
+fn are_plain(bytes: &[u8]) -> bool
+    ensures { OnTrue result (flat_map (escaped 34) bytes.now ≡ bytes.now) }
 {
-    if are_plain(quote, bytes) {
-        return put(text, bytes);
+    let mut others = 0;
+    for i in 0..bytes.len() {
+        others += u64::from(other(bytes[i]));
     }
-    put_escaped(text, quote, bytes)
+    others == 0
 }
 
-/// Puts a few bytes as they stand between quotes of this kind, one by one.
-pub fn put_few(text: &mut Vec<u8>, quote: u8, bytes: &[u8]) -> Result<(), Memory>
-    ensures { OnOk result (text.new.items ≡ text.old.items ++ flat_map (escaped quote) bytes.now) }
+/// Puts the first k bytes of a word as they stand in a string: at once, if each stands for itself.
+#[inline(always)]
+pub fn put_word(text: &mut Vec<u8>, bytes: &[u8; 8], k: usize) -> Result<(), Memory>
+    requires { k ≤ 8 }
+    ensures { OnOk result (text.new.items ≡ text.old.items ++ flat_map (escaped 34) (take k bytes.now)) }
 {
-    for i in 0..bytes.len() {
-        put_one(text, quote, bytes[i])?;
+    if !are_plain(&bytes[..k]) {
+        return put_escaped(text, b'"', &bytes[..k]);
     }
+    text.reserve(8)?;
+    let end = text.len() + k;
+    put_reserved(text, bytes);
+    text.truncate(end);
     Ok(())
-}
-
-/// Puts one byte between quotes of this kind, which is likely to stand for itself.
-#[inline(always)]
-fn put_one(text: &mut Vec<u8>, quote: u8, byte: u8) -> Result<(), Memory>
-    ensures { OnOk result (text.new.items ≡ text.old.items ++ escaped quote byte) }
-{
-    if is_plain(quote, byte) {
-        return Ok(text.push(byte)?);
-    }
-    put_byte(text, quote, byte)
 }
 
 /// Puts a character.

@@ -4,10 +4,10 @@ ghost use Rattle.std.specs.Prelude.{ℕ, List, ◌≡◌, ◌<◌, ◌++◌, len
 ghost use Rattle.om_model.specs.declared.value.Obj.TheVariants as objects;
 ghost use Rattle.om_types.specs.declared.names.TagName.{TagName};
 ghost use Rattle.om_heap.specs.Heap.{object_at, fields_of};
-ghost use Rattle.om_leaves.specs.Frames.{frame_of, doubles_frame, named_frame, constr_frame, is_hash, label_at, before_part, tag_of_values};
+ghost use Rattle.om_leaves.specs.Frames.{frame_of, doubles_frame, named_frame, constr_frame, is_hash, before_part, tag_of_values};
 ghost use Rattle.om_leaves.specs.FrameView.{frame_in};
 
-use crate::bytes::put;
+use crate::bytes::{put, put_few, put_reserved};
 use om_heap::{Heap, Kind};
 use om_model::Memory;
 use om_model::list::List;
@@ -40,7 +40,7 @@ impl<'a> Frame<'a> {
                 put(text, name)?;
                 put(text, b"(")
             }
-            Frame::Array => put(text, b"[|"),
+            Frame::Array => put_few(text, b"[|"),
         }
     }
 
@@ -64,8 +64,8 @@ impl<'a> Frame<'a> {
     {
         match *self {
             Frame::Named(_, fields) => Ok(text.push(if fields.is_empty() { b')' } else { b'}' })?),
-            Frame::Tagged(_) => put(text, b")"),
-            Frame::Array => put(text, b"|]"),
+            Frame::Tagged(_) => Ok(text.push(b')')?),
+            Frame::Array => put_few(text, b"|]"),
         }
     }
 }
@@ -75,18 +75,21 @@ impl<'a> Frame<'a> {
 fn put_ended(text: &mut Vec<u8>, name: &[u8], end: u8) -> Result<(), Memory>
     ensures { OnOk result (text.new.items ≡ text.old.items ++ (name.now ++ end ∷ [])) }
 {
-    put_name(text, name)?;
-    Ok(text.push(end)?)
+    text.reserve(name.len() + 1)?;
+    put_reserved(text, name);
+    text.push_reserved(end);
+    Ok(())
 }
 
 /// Puts what stands between two parts, before part i.
+#[inline(always)]
 fn put_between(text: &mut Vec<u8>, between: &[u8], i: u64) -> Result<(), Memory>
     ensures { OnOk result (text.new.items ≡ text.old.items ++ (if i == 0 then [] else between.now)) }
 {
     if i == 0 {
         return Ok(());
     }
-    put(text, between)
+    put_few(text, between)
 }
 
 /// Puts what stands before field i, if these are the names of the fields.
@@ -96,7 +99,11 @@ fn put_before_field(text: &mut Vec<u8>, fields: &[List<u8>], i: u64) -> Result<(
     ensures { (name : List ℕ) → OnOk result (text.new.items ≡ text.old.items ++ before_part (named_frame name fields.now) i) }
 {
     if i >= fields.len() as u64 {
-        return put_between(text, if fields.is_empty() { b", " } else { b"; " }, i);
+        return if fields.is_empty() {
+            put_between(text, b", ", i)
+        } else {
+            put_between(text, b"; ", i)
+        };
     }
     put_field_name(text, fields[i as usize].as_slice(), i)
 }
@@ -106,28 +113,17 @@ fn put_before_field(text: &mut Vec<u8>, fields: &[List<u8>], i: u64) -> Result<(
 fn put_field_name(text: &mut Vec<u8>, name: &[u8], i: u64) -> Result<(), Memory>
     ensures { OnOk result (text.new.items ≡ text.old.items ++ ((if i == 0 then [] else codes "; ") ++ (name.now ++ codes " = "))) }
 {
+    text.reserve(name.len() + 5)?;
     if i > 0 {
-        put(text, b"; ")?;
+        put_reserved(text, b"; ");
     }
-    put_name(text, name)?;
-    put(text, b" = ")
-}
-
-/// Puts a name: a short one byte by byte, for which nothing is called.
-#[inline(always)]
-fn put_name(text: &mut Vec<u8>, name: &[u8]) -> Result<(), Memory>
-    ensures { OnOk result (text.new.items ≡ text.old.items ++ name.now) }
-{
-    if name.len() > 8 {
-        return put(text, name);
-    }
-    for i in 0..name.len() {
-        text.push(name[i])?;
-    }
+    put_reserved(text, name);
+    put_reserved(text, b" = ");
     Ok(())
 }
 
 /// What stands around a block of this tag, which is object o.
+#[inline(always)]
 pub fn block_frame<'a>(
     heap: &Heap,
     o: u64,
@@ -148,6 +144,7 @@ pub fn block_frame<'a>(
 }
 
 /// What stands around the parts of a constructor, by the tag of its block.
+#[inline(always)]
 fn constructor_frame(constructors: &[ConstrNames], tag: u8) -> Frame<'_>
     ensures { frame_in result ≡ constr_frame (slice_get constructors.now tag) }
 {

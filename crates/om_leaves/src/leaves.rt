@@ -1,22 +1,23 @@
 //! Numbers.
 
-ghost use Rattle.std.specs.Prelude.{◌≡◌, ◌≤◌, ◌<◌, ◌++◌, OnOk, codes};
+ghost use Rattle.std.specs.Prelude.{◌≡◌, ◌≤◌, ◌<◌, ◌++◌, ◌+◌, OnOk, decimal, vec_len, vec_capacity};
 ghost use Rattle.std.specs.Fmt.{signed_decimal};
 ghost use Rattle.om_leaves.specs.Leaves.{below_text, int32_text, int64_text, native_text, float_text};
 
-use crate::bytes::put;
+use crate::bytes::{put, put_few};
 use crate::escape::put_char;
 use itoa::Buffer;
 use om_model::Memory;
 
 /// Puts an integer.
 #[inline(always)]
-#[tactic(auto, using(crate::proofs::NumberLemmas::signed_digit))]
 pub fn put_int(text: &mut Vec<u8>, n: i64) -> Result<(), Memory>
     ensures { OnOk result (text.new.items ≡ text.old.items ++ signed_decimal n) }
 {
-    if 0 <= n && n < 10 {
-        return Ok(text.push(b'0' + n as u8)?);
+    if 0 <= n && n < 100_000 {
+        text.reserve(5)?;
+        put_five(text, n as u64);
+        return Ok(());
     }
     put_long_int(text, n)
 }
@@ -27,6 +28,80 @@ fn put_long_int(text: &mut Vec<u8>, n: i64) -> Result<(), Memory>
     ensures { OnOk result (text.new.items ≡ text.old.items ++ signed_decimal n) }
 {
     put(text, Buffer::new().format(n).as_bytes())
+}
+
+/// Puts the digits of a number that has at most five, for which there is room.
+fn put_five(text: &mut Vec<u8>, n: u64)
+    requires few { n < 100000 }
+    requires room { vec_len text.old + 5 ≤ vec_capacity text.old }
+    ensures { text.new.items ≡ text.old.items ++ decimal n }
+{
+    if n < 10_000 {
+        put_four(text, n);
+    } else {
+        put_four(text, n / 10);
+        text.push_reserved(b'0' + (n % 10) as u8);
+    }
+}
+
+#[inline(always)]
+fn put_four(text: &mut Vec<u8>, n: u64)
+    requires few { n < 10000 }
+    requires room { vec_len text.old + 4 ≤ vec_capacity text.old }
+    ensures items { text.new.items ≡ text.old.items ++ decimal n }
+    ensures len { vec_len text.new ≤ vec_len text.old + 4 }
+    ensures capacity { vec_capacity text.new ≡ vec_capacity text.old }
+{
+    if n < 1000 {
+        put_three(text, n);
+    } else {
+        put_three(text, n / 10);
+        text.push_reserved(b'0' + (n % 10) as u8);
+    }
+}
+
+#[inline(always)]
+fn put_three(text: &mut Vec<u8>, n: u64)
+    requires few { n < 1000 }
+    requires room { vec_len text.old + 3 ≤ vec_capacity text.old }
+    ensures items { text.new.items ≡ text.old.items ++ decimal n }
+    ensures len { vec_len text.new ≤ vec_len text.old + 3 }
+    ensures capacity { vec_capacity text.new ≡ vec_capacity text.old }
+{
+    if n < 100 {
+        put_two(text, n);
+    } else {
+        put_two(text, n / 10);
+        text.push_reserved(b'0' + (n % 10) as u8);
+    }
+}
+
+#[inline(always)]
+fn put_two(text: &mut Vec<u8>, n: u64)
+    requires few { n < 100 }
+    requires room { vec_len text.old + 2 ≤ vec_capacity text.old }
+    ensures items { text.new.items ≡ text.old.items ++ decimal n }
+    ensures len { vec_len text.new ≤ vec_len text.old + 2 }
+    ensures capacity { vec_capacity text.new ≡ vec_capacity text.old }
+{
+    if n < 10 {
+        put_digit(text, n);
+    } else {
+        put_digit(text, n / 10);
+        text.push_reserved(b'0' + (n % 10) as u8);
+    }
+}
+
+#[inline(always)]
+#[tactic(auto, using(std::proofs::lemmas::Fmt::decimal_digit))]
+fn put_digit(text: &mut Vec<u8>, n: u64)
+    requires few { n < 10 }
+    requires room { vec_len text.old < vec_capacity text.old }
+    ensures items { text.new.items ≡ text.old.items ++ decimal n }
+    ensures len { vec_len text.new ≡ vec_len text.old + 1 }
+    ensures capacity { vec_capacity text.new ≡ vec_capacity text.old }
+{
+    text.push_reserved(b'0' + n as u8);
 }
 
 /// Puts an integer of 32 bits.
@@ -59,8 +134,8 @@ pub fn put_float(text: &mut Vec<u8>, bits: u64) -> Result<(), Memory>
 {
     let mut digits = [0; 16];
     hex::encode_to_slice(bits.to_be_bytes(), &mut digits).unwrap();
-    put(text, b"$")?;
-    put(text, &digits)
+    text.push(b'$')?;
+    put_few(text, &digits)
 }
 
 /// Puts a value of `char`, `bool` or `unit`, of which there are so many.

@@ -11,7 +11,7 @@ mod leaves;
 mod strings;
 
 pub use at_type::{put_int_at, put_object_at};
-pub use bytes::put;
+pub use bytes::{put, put_few};
 pub use dump::{put_object_line, put_root_line};
 pub use escape::{put_char, put_escaped, put_string};
 pub use frame::{Frame, block_frame, doubles_frame_of};

@@ -48,13 +48,13 @@ some_label objects o number is less = ⊎_elim
 
 -- ---- pieces one after the other
 
-agains-append : (ps qs : List Piece) → agains (ps ++ qs) ≡ agains ps ++ agains qs
+pub agains-append : (ps qs : List Piece) → agains (ps ++ qs) ≡ agains ps ++ agains qs
 agains-append [] qs = refl
 agains-append (Text bytes ∷ ps) qs = agains-append ps qs
 agains-append (First o ∷ ps) qs = agains-append ps qs
 agains-append (Again o ∷ ps) qs = ap (λ os. o ∷ os) (agains-append ps qs)
 
-firsts-append : (ps qs : List Piece) → firsts (ps ++ qs) ≡ firsts ps ++ firsts qs
+pub firsts-append : (ps qs : List Piece) → firsts (ps ++ qs) ≡ firsts ps ++ firsts qs
 firsts-append [] qs = refl
 firsts-append (Text bytes ∷ ps) qs = firsts-append ps qs
 firsts-append (First o ∷ ps) qs = ap (λ os. o ∷ os) (firsts-append ps qs)
@@ -71,7 +71,7 @@ filter_same p q same [] = refl
 filter_same p q same (x ∷ xs) =
     ap (λ b. cond b (x ∷ filter p xs) (filter p xs)) (same x) ∙ ap (λ ys. cond (q x) (x ∷ ys) ys) (filter_same p q same xs)
 
-append_associative : {A : Type 0} (xs ys zs : List A) → (xs ++ ys) ++ zs ≡ xs ++ (ys ++ zs)
+pub append_associative : {A : Type 0} (xs ys zs : List A) → (xs ++ ys) ++ zs ≡ xs ++ (ys ++ zs)
 append_associative [] ys zs = refl
 append_associative (x ∷ xs) ys zs = ap (λ vs. x ∷ vs) (append_associative xs ys zs)
 
@@ -100,7 +100,7 @@ module _ (table : TypeTable) (graph : List Obj) where
   markable n (steps.Before frame i) many is = tt
   markable n (steps.Closing frame) many is = tt
 
-  step_agains : (step : Step) → agains (step_pieces table graph step) ≡ agains_of step
+  pub step_agains : (step : Step) → agains (step_pieces table graph step) ≡ agains_of step
   step_agains (steps.Integer z t) = refl
   step_agains steps.Empty = refl
   step_agains (steps.Again o) = refl

@@ -26,7 +26,7 @@ use Rattle.om_print.specs.declared.block.OpenBlock.{OpenBlock}
 use Rattle.om_print.specs.declared.walk.Step.{Step}
 use Rattle.om_print.specs.declared.walk.Step.TheVariants as steps
 use Rattle.om_print.specs.declared.walk.Walk.{Walk}
-use Rattle.om_print.specs.Walking.{how_many, meet, parts_left, left_of, step_pieces, IsStep, IsPart, IsOpen, IsWalk, Goes}
+use Rattle.om_print.specs.Walking.{how_many, meet, parts_left, left_of, step_pieces, IsStep, IsPart, IsOpen, IsBegun, IsWalk, Goes}
 use Rattle.om_print.proofs.LeftLemmas.{value_left, block_left, closing_left, before_left}
 use Rattle.om_print.proofs.MarkLemmas.{reversed_more, marked_more, how_many_none, how_many_within, how_many_set, no_marks}
 use Rattle.om_print.proofs.TypedLemmas.{integer_fits, there, part_typed}
@@ -139,15 +139,7 @@ module _ (table : TypeTable) (graph : List Obj) where
       ∙ ap (met p) (sym later) in
       value_goes walk new (vals.Ref o) t (steps.Leaf o t) is marked.blocks marked.value meets marked.order (inside, number) (marked_walk walk new o is inside unmet marked)
 
-  -- the block is the one that opens
-  pub record IsBegun (o t tag : ℕ) (block : OpenBlock) : Type 0 where
-    pub object : block.object ≡ o
-    pub frame : frame_in block.frame ≡ frame_of (shape_in table t) (names_in table t) tag (fields_of (object_at graph o))
-    pub needs : needs_in block.needs ≡ or_none (needed_of graph (vals.Ref o) (shape_in table t))
-    pub next : block.next ≡ 0
-    pub is_open : IsOpen table graph block
-
-  opening_met : (k : ℕ) (seen : List ℕ) (o t tag : ℕ) (block : OpenBlock) → o < length graph → object_at graph o ≡ objects.Block tag (fields_of (object_at graph o)) → IsBegun o t tag block
+  opening_met : (k : ℕ) (seen : List ℕ) (o t tag : ℕ) (block : OpenBlock) → o < length graph → object_at graph o ≡ objects.Block tag (fields_of (object_at graph o)) → IsBegun table graph o t tag block
       → first_met k seen o t ≡ led_by (First o ∷ Text (frame_in block.frame).opening ∷ []) (parts_left table graph k block (o ∷ seen))
   opening_met k seen o t tag block inside is begun =
       let S = shape_in table in
@@ -162,7 +154,7 @@ module _ (table : TypeTable) (graph : List Obj) where
       ∙ ap (P (frame_in block.frame) block.object block.next) (sym begun.needs)
 
   pub opening_goes : (walk marked new : Walk) (block : OpenBlock) (o t tag : ℕ) → IsWalk table graph walk → o < length graph → get_or walk.marks.items o false ≡ false → IsMarked walk marked o
-      → object_at graph o ≡ objects.Block tag (fields_of (object_at graph o)) → IsBegun o t tag block
+      → object_at graph o ≡ objects.Block tag (fields_of (object_at graph o)) → IsBegun table graph o t tag block
       → new.value ≡ None → new.marks.items ≡ marked.marks.items → new.order.items ≡ marked.order.items → new.stack.items ≡ marked.stack.items ++ block ∷ []
       → Goes table graph (left_of table graph walk.stack.items (Some (vals.Ref o, t)) walk.order.items) walk.order.items (steps.Opening o block.frame) new
   opening_goes walk marked new block o t tag is inside unmet is_marked is_block begun value marks order blocks =

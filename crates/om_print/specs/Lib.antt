@@ -1,4 +1,5 @@
 pub mod Labels
+pub mod Plain
 pub mod Put
 pub mod Typed
 pub mod Walking

@@ -4,13 +4,13 @@ use Rattle.om_model.specs.declared.value.Val.{Val}
 use Rattle.om_model.specs.declared.value.Val.TheVariants as vals
 use Rattle.om_model.specs.declared.value.Obj.{Obj}
 use Rattle.om_model.specs.Graph.{IsValue, IsGraph}
-use Rattle.om_types.specs.Fitting.{fits_int}
+use Rattle.om_types.specs.Fitting.{fits_int, or_none, fields_of as needed_of}
 use Rattle.om_types.specs.Typing.{field_at as typed_field}
 use Rattle.om_type_table.specs.declared.table.TypeTable.{TypeTable}
 use Rattle.om_type_table.specs.Made.{table_of}
 use Rattle.om_heap.specs.Heap.{object_at, fields_of, field_at, word_of, IsFieldWord}
 use Rattle.om_fits.specs.Needs.{needs_in}
-use Rattle.om_leaves.specs.Frames.{before_part, int_text, object_text}
+use Rattle.om_leaves.specs.Frames.{frame_of, before_part, int_text, object_text}
 use Rattle.om_leaves.specs.FrameView.{frame_in}
 use Rattle.om_show.specs.Pieces.{Piece, Text, First, Again, has, firsts}
 use Rattle.om_show.specs.Shown.{Met, met, led_by, met_within, parts_from}
@@ -100,6 +100,14 @@ module _ (table : TypeTable) (graph : List Obj) where
     pub valid : All (IsFieldWord graph) block.fields.now
     pub parts : (k i t : ℕ) → slice_get (needs_in block.needs) k ≡ Some (i, t) → IsPart block.object i t
 
+  -- the block is that of an object, before its first part
+  pub record IsBegun (o t tag : ℕ) (block : OpenBlock) : Type 0 where
+    pub object : block.object ≡ o
+    pub frame : frame_in block.frame ≡ frame_of (shape_in table t) (names_in table t) tag (fields_of (object_at graph o))
+    pub needs : needs_in block.needs ≡ or_none (needed_of graph (vals.Ref o) (shape_in table t))
+    pub next : block.next ≡ 0
+    pub is_open : IsOpen block
+
   pub record IsWalk (walk : Walk) : Type 0 where
     pub is_graph : IsGraph graph
     pub value : IfSome walk.value (λ next. IsValue (length graph) next.0 × IsTypedAt (table_of table) graph next.0 next.1)
@@ -120,8 +128,3 @@ module _ (table : TypeTable) (graph : List Obj) where
   abbrev pub Gives : List Piece → List ℕ → Walk → Option Step → Type 0
   Gives left met_before new None = (left ≡ []) × (new.order.items ≡ met_before)
   Gives left met_before new (Some step) = Goes left met_before step new
-
-  -- the step of a value that comes next, if one does
-  abbrev pub GivesValue : Walk → Walk → Option Step → Type 0
-  GivesValue old new None = new ≡ old
-  GivesValue old new (Some step) = Goes (pieces_left old) old.order.items step new

@@ -4,6 +4,7 @@
 mod block;
 mod dumped;
 mod labels;
+mod plain;
 mod shown;
 mod sink;
 mod walk;

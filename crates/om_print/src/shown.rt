@@ -1,22 +1,23 @@
 //! The text of a value at a type.
 
-ghost use Rattle.std.specs.Prelude.{◌≡◌, ◌<◌, ◌≤◌, ◌++◌, List, None, [], length, true, All, IfSome, IfOk, OnOk, flat_map, vec_len};
+ghost use Rattle.std.specs.Prelude.{◌≡◌, ◌<◌, ◌++◌, None, [], length, All, IfSome, IfOk, OnOk, flat_map, vec_len};
 ghost use Rattle.om_model.specs.Graph.{IsValue};
 ghost use Rattle.om_types.specs.Table.{table_shapes};
 ghost use Rattle.om_types.specs.Typing.{HasType};
 ghost use Rattle.om_type_table.specs.Made.{table_of, IsLawful};
-ghost use Rattle.om_show.specs.Pieces.{Piece, piece_text};
+ghost use Rattle.om_show.specs.Pieces.{piece_text};
 ghost use Rattle.om_show.specs.Shown.{shown_text, pieces_of};
 ghost use Rattle.om_show.specs.Tables.{shape_in, names_in};
 ghost use Rattle.om_print.specs.Typed.{IsTypedAt};
-ghost use Rattle.om_print.specs.Labels.{AreLabels, AreCounted};
-ghost use Rattle.om_print.specs.Put.{IsGrown, IsPut};
-ghost use Rattle.om_print.specs.Walking.{IsStep, IsWalk, pieces_left, step_pieces};
+ghost use Rattle.om_print.specs.Labels.{AreLabels};
+ghost use Rattle.om_print.specs.Put.{IsPut};
+ghost use Rattle.om_print.specs.Walking.{IsStep, step_pieces};
 
 use crate::labels::{Labels, mark_again, objects_again, put_label};
+use crate::plain::{put_leaf, put_until_again};
 use crate::walk::{Step, Walk};
 use om_heap::Heap;
-use om_leaves::{put, put_int_at, put_object_at};
+use om_leaves::{put, put_int_at};
 use om_model::Memory;
 use om_model::value::Val;
 use om_type_table::TypeTable;
@@ -64,69 +65,16 @@ fn put_without_labels(
     ensures text { IfOk result (λ found. IsPut found text.old.items text.new.items (pieces_of (shape_in table.now) (names_in table.now) heap.now v at)) }
     ensures inside { IfOk result (λ found. IfSome found (λ objects. All (λ o. o < length heap.now) objects.items)) }
 {
-    let mut again = vec![in alloc; false; heap.count() as usize]?;
     let mut walk = Walk::new(alloc, heap, v, table, at)?;
-    let mut whole = put_value(true, text, &mut again, &mut walk, heap, table)?;
-    while let Some(step) = walk.go_on(heap, table) {
-        mark_again(&mut again, step);
-        whole = put_while(whole, text, heap, table, step)?;
-        whole = put_value(whole, text, &mut again, &mut walk, heap, table)?;
-    }
-    let objects = objects_again(alloc, walk.order(), &again)?;
-    if whole && objects.is_empty() {
+    if put_until_again(text, heap, table, &mut walk)? {
         return Ok(None);
     }
-    Ok(Some(objects))
-}
-
-// Marks and puts, as the loop does, what the value that comes next begins with, if one does.
-#[inline(always)]
-fn put_value<'a>(
-    whole: bool,
-    text: &mut Vec<u8>,
-    again: &mut Vec<bool>,
-    walk: &mut Walk<'a>,
-    heap: &'a Heap,
-    table: &'a TypeTable,
-) -> Result<bool, Memory>
-    requires walk { IsWalk table.now heap.now walk.old }
-    requires lawful { IsLawful (table_of table.now) }
-    requires named { length table.now.names ≡ length table.now.nodes }
-    requires many { vec_len again.old ≡ length heap.now }
-    ensures none { IfOk result (λ _. walk.new.value ≡ None) }
-    ensures counted { (all : List Piece) → AreCounted table.now heap.now all walk.old again.old.items → IfOk result (λ _. AreCounted table.now heap.now all walk.new again.new.items) }
-    ensures fewer { IfOk result (λ _. length (pieces_left table.now heap.now walk.new) ≤ length (pieces_left table.now heap.now walk.old)) }
-    ensures grown { IfOk result (λ _. IsGrown text.old.items text.new.items) }
-    ensures text { IfOk result (λ still. still ≡ true → (whole ≡ true)
-        × (text.new.items ++ flat_map (piece_text []) (pieces_left table.now heap.now walk.new) ≡ text.old.items ++ flat_map (piece_text []) (pieces_left table.now heap.now walk.old))) }
-{
-    let Some(step) = walk.next_value(heap, table)? else {
-        return Ok(whole);
-    };
-    mark_again(again, step);
-    let still = put_while(whole, text, heap, table, step)?;
-    Ok(still)
-}
-
-// Puts the pieces of a step while no object is met again, and tells whether it did.
-#[inline(always)]
-fn put_while(
-    whole: bool,
-    text: &mut Vec<u8>,
-    heap: &Heap,
-    table: &TypeTable,
-    step: Step<'_>,
-) -> Result<bool, Memory>
-    requires step { IsStep table.now heap.now step }
-    requires named { length table.now.names ≡ length table.now.nodes }
-    ensures grown { IfOk result (λ _. IsGrown text.old.items text.new.items) }
-    ensures text { IfOk result (λ still. still ≡ true → (whole ≡ true) × (text.new.items ≡ text.old.items ++ flat_map (piece_text []) (step_pieces table.now heap.now step.entry))) }
-{
-    if !whole || matches!(step, Step::Again(_)) {
-        return Ok(false);
+    let mut again = vec![in alloc; false; heap.count() as usize]?;
+    while let Some(step) = walk.next(heap, table)? {
+        mark_again(&mut again, step);
     }
-    put_plain(text, heap, table, step)?;
-    Ok(true)
+    let objects = objects_again(alloc, walk.order(), &again)?;
+    Ok(Some(objects))
 }
 
 // Puts the text with these labels.
@@ -201,7 +149,7 @@ fn put_plain(
         Step::Integer(z, at) => put_int_at(text, z, table.shape(at), table.names(at)),
         Step::Empty => put(text, b"[||]"),
         Step::Again(_) => put_label(text, 0),
-        Step::Leaf(o, at) => put_object_at(text, heap, o, table.shape(at), table.names(at)),
+        Step::Leaf(o, at) => put_leaf(text, heap, table, o, heap.word(Val::Ref(o)), at),
         Step::Opening(_, frame) => frame.put_opening(text),
         Step::Before(frame, i) => frame.put_before(text, i),
         Step::Closing(frame) => frame.put_closing(text),

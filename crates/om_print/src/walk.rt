@@ -12,7 +12,7 @@ ghost use Rattle.om_leaves.specs.FrameView.{frame_in};
 ghost use Rattle.om_show.specs.Tables.{shape_in, names_in};
 ghost use Rattle.om_type_table.specs.Made.{table_of, IsLawful};
 ghost use Rattle.om_print.specs.Typed.{IsTypedAt};
-ghost use Rattle.om_print.specs.Walking.{left_of, pieces_left, IsOpen, IsWalk, Goes, Gives, GivesValue};
+ghost use Rattle.om_print.specs.Walking.{left_of, pieces_left, IsOpen, IsWalk, Goes, Gives};
 
 use crate::block::OpenBlock;
 use om_fits::{Needs, known_needs};
@@ -46,12 +46,12 @@ pub enum Step<'a> {
 #[derive(Drop)]
 pub struct Walk<'a> {
     // the value that comes next and the number of its type, where a value does
-    value: Option<(Val, usize)>,
+    pub value: Option<(Val, usize)>,
     // the blocks that are open, the innermost last
-    stack: Vec<OpenBlock<'a>>,
+    pub stack: Vec<OpenBlock<'a>>,
     // which objects were met, by their numbers, and in which order
-    marks: Vec<bool>,
-    order: Vec<u64>,
+    pub marks: Vec<bool>,
+    pub order: Vec<u64>,
 }
 
 impl<'a> Walk<'a> {
@@ -88,26 +88,6 @@ impl<'a> Walk<'a> {
     {
         let Some((v, at)) = self.value else {
             return Ok(self.go_on(heap, table));
-        };
-        self.value = None;
-        Ok(Some(self.meet(heap, table, v, at)?))
-    }
-
-    /// The step of the value that comes next, if one does.
-    #[inline(always)]
-    pub fn next_value(
-        &mut self,
-        heap: &'a Heap,
-        table: &'a TypeTable,
-    ) -> Result<Option<Step<'a>>, Memory>
-        requires walk { IsWalk table.now heap.now self.old }
-        requires lawful { IsLawful (table_of table.now) }
-        requires named { length table.now.names ≡ length table.now.nodes }
-        ensures none { IfOk result (λ _. self.new.value ≡ None) }
-        ensures gives { IfOk result (GivesValue table.now heap.now self.old self.new) }
-    {
-        let Some((v, at)) = self.value else {
-            return Ok(None);
         };
         self.value = None;
         Ok(Some(self.meet(heap, table, v, at)?))
@@ -170,7 +150,7 @@ impl<'a> Walk<'a> {
         let Kind::Block(tag, _) = heap.kind(o) else {
             return Ok(Step::Leaf(o, at));
         };
-        let block = open_block(heap, table, o, tag, at);
+        let block = open_block(heap, table, o, heap.word(Val::Ref(o)), tag, at);
         self.stack.push(block)?;
         Ok(Step::Opening(o, block.frame))
     }
@@ -200,7 +180,7 @@ impl<'a> Walk<'a> {
 
 // The value of a field, by the words of all of them.
 #[inline(always)]
-fn value_at(heap: &Heap, fields: &[u64], i: u64) -> Val
+pub fn value_at(heap: &Heap, fields: &[u64], i: u64) -> Val
     requires valid { All (IsFieldWord heap.now) fields.now }
     requires inside { i < length fields.now }
     ensures word { slice_index fields.now i ≡ word_of heap.now result }
@@ -211,10 +191,18 @@ fn value_at(heap: &Heap, fields: &[u64], i: u64) -> Val
 
 // A block before its first part.
 #[inline(always)]
-fn open_block<'a>(heap: &'a Heap, table: &'a TypeTable, o: u64, tag: u8, at: usize) -> OpenBlock<'a>
+pub fn open_block<'a>(
+    heap: &'a Heap,
+    table: &'a TypeTable,
+    o: u64,
+    word: u64,
+    tag: u8,
+    at: usize,
+) -> OpenBlock<'a>
     requires graph { IsGraph heap.now }
     requires block { object_at heap.now o ≡ objects.Block tag (fields_of (object_at heap.now o)) }
     requires inside { o < length heap.now }
+    requires word { word ≡ word_of heap.now (vals.Ref o) }
     requires typed { IsTypedAt (table_of table.now) heap.now (vals.Ref o) at }
     requires lawful { IsLawful (table_of table.now) }
     requires named { length table.now.names ≡ length table.now.nodes }
@@ -227,7 +215,7 @@ fn open_block<'a>(heap: &'a Heap, table: &'a TypeTable, o: u64, tag: u8, at: usi
     let shape = table.shape(at);
     OpenBlock {
         object: o,
-        fields: heap.fields(o),
+        fields: heap.fields_at(word),
         frame: block_frame(heap, o, tag, shape, table.names(at)),
         needs: known_needs(heap, o, shape).unwrap_or(Needs::Nothing),
         next: 0,

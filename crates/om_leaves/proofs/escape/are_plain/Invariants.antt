@@ -1,7 +1,6 @@
-use Rattle.std.proofs.Common.{◌≡◌, take}
-use Rattle.std.specs.List.{flat_map}
+use Rattle.std.proofs.Common.{ℕ, ◌≡◌, ◌≤◌, ◌<◌, ◌∷◌, [], get_or}
 use Rattle.om_leaves.specs.Leaves.{escaped}
 use Rattle.om_leaves.proofs.escape.are_plain.Given as goal
 
 abbrev pub invariant-loop-i : goal.invariant-loop-i
-invariant-loop-i l = flat_map (escaped l.quote) (take l.i l.bytes) ≡ take l.i l.bytes
+invariant-loop-i l = (l.others ≤ l.i) × (l.others ≡ 0 → (j : ℕ) → j < l.i → escaped 34 (get_or l.bytes j 0) ≡ get_or l.bytes j 0 ∷ [])

@@ -14,10 +14,11 @@ returns-clause-open c =
     let needs : needs_in c.unwrap_or.result ≡ or_none (fields_of graph (vals.Ref c.args.o) (shape_in table c.args.at)) =
     first_of (search rules, grind (arith, common_steps)) in record {
       inside = c.requires.inside;
-      words = c.fields.ensures.words;
-      valid = c.fields.ensures.valid;
+      words = c.fields_at.ensures.words c.args.o c.requires.inside c.requires.word;
+      valid = c.fields_at.ensures.valid;
       parts = open_parts table graph c.args.o c.args.at (needs_in c.unwrap_or.result) c.requires.lawful c.requires.typed needs;
     }
 
-pub fields-requires : goal.fields-requires
-fields-requires c = some_fields c.args.table.now c.args.heap.now c.args.o c.args.tag c.requires.graph c.requires.inside c.requires.block
+pub fields_at-requires : goal.fields_at-requires
+fields_at-requires c =
+    (c.args.o, c.requires.inside, c.requires.word, some_fields c.args.table.now c.args.heap.now c.args.o c.args.tag c.requires.graph c.requires.inside c.requires.block)

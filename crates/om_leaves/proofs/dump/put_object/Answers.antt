@@ -1,0 +1,29 @@
+use Rattle.std.proofs.Common.{◌≡◌, ◌∙◌, ◌++◌, sym, ap, subst, append_assoc, take}
+use Rattle.std.specs.Int.{w64, to_le_bytes}
+use Rattle.std.specs.List.{flat_map}
+use Rattle.std.specs.Prelude.{OnOk, codes}
+use Rattle.om_heap.specs.Heap.{object_at, IsOfKind}
+use Rattle.om_leaves.specs.Leaves.{string_text}
+use Rattle.om_leaves.specs.Dumped.{text_of_kind}
+use Rattle.om_leaves.proofs.StringLemmas.{string_body}
+use Rattle.om_leaves.proofs.dump.put_object.Goals as goal
+
+pub put_string_of-requires : goal.put_string_of-requires
+put_string_of-requires c =
+    let object = object_at c.args.heap.now c.args.o in
+    let of = subst (λ kind. IsOfKind kind object) c.in-Bytes.is c.requires.kind in
+    (string_body c.args.heap.now object _ c.body_at.result.now c.in-Bytes.len (c.body_at.ensures.valid c.args.o c.requires.object c.word.ensures) of.0 (c.body_at.ensures.words c.args.o c.requires.object c.word.ensures) of.1).reach
+
+pub returns-in_ok-put-in-Bytes : goal.returns-in_ok-put-in-Bytes
+returns-in_ok-put-in-Bytes c =
+    let object = object_at c.args.heap.now c.args.o in
+    let of = subst (λ kind. IsOfKind kind object) c.in-Bytes.is c.requires.kind in
+    let body = string_body c.args.heap.now object _ c.body_at.result.now c.in-Bytes.len (c.body_at.ensures.valid c.args.o c.requires.object c.word.ensures) of.0 (c.body_at.ensures.words c.args.o c.requires.object c.word.ensures) of.1 in
+    let old = c.args.text.now.items in
+    let put = take c.in-Bytes.len (flat_map (to_le_bytes w64) c.body_at.result.now) in
+    subst (λ t. OnOk c.put_string_of.result (c.put_string_of.new.text.items ≡ t))
+    (ap (λ t. t ++ string_text put) c.in_ok-put-in-Bytes.ensures
+    ∙ append_assoc old (codes " string ") (string_text put)
+    ∙ ap (λ bytes. old ++ (codes " string " ++ string_text bytes)) body.are
+    ∙ ap (λ kind. old ++ text_of_kind kind object) (sym c.in-Bytes.is))
+    c.put_string_of.ensures

@@ -1,0 +1,223 @@
+//! The text of the values that are left, as long as no object is met again.
+
+ghost use Rattle.std.specs.Prelude.{◌≡◌, ◌<◌, ◌++◌, length, Some, None, [], true, false, slice_index, slice_index_or, IfOk, OnOk, vec_len};
+ghost use Rattle.om_model.specs.Graph.{IsValue, IsGraph};
+ghost use Rattle.om_model.specs.declared.value.Val.TheVariants as vals;
+ghost use Rattle.om_model.specs.declared.value.Obj.TheVariants as objects;
+ghost use Rattle.om_heap.specs.Heap.{object_at, fields_of, word_of};
+ghost use Rattle.om_leaves.specs.Frames.{object_text};
+ghost use Rattle.om_show.specs.Tables.{shape_in, names_in};
+ghost use Rattle.om_type_table.specs.Made.{table_of, IsLawful};
+ghost use Rattle.om_print.specs.Typed.{IsTypedAt};
+ghost use Rattle.om_print.specs.Walking.{left_of, pieces_left, IsWalk};
+ghost use Rattle.om_print.specs.Plain.{IsPutOn, IsOpened};
+
+use crate::block::OpenBlock;
+use crate::walk::{Walk, open_block, value_at};
+use om_heap::{Heap, Kind};
+use om_leaves::{put_few, put_int_at, put_object_at};
+use om_model::Memory;
+use om_model::value::Val;
+use om_type_table::TypeTable;
+
+/// Puts the text of the values that are left up to an object that is met again, and tells whether there was none.
+pub fn put_until_again<'a>(
+    text: &mut Vec<u8>,
+    heap: &'a Heap,
+    table: &'a TypeTable,
+    walk: &mut Walk<'a>,
+) -> Result<bool, Memory>
+    requires walk { IsWalk table.now heap.now walk.old }
+    requires lawful { IsLawful (table_of table.now) }
+    requires named { length table.now.names ≡ length table.now.nodes }
+    ensures put { IfOk result (λ _. IsPutOn table.now heap.now (pieces_left table.now heap.now walk.old) walk.old.order.items text.old.items text.new.items walk.new) }
+    ensures all { IfOk result (λ whole. whole ≡ true → pieces_left table.now heap.now walk.new ≡ []) }
+{
+    let mut fresh = put_next(text, heap, table, walk)?;
+    while fresh && !walk.stack.is_empty() {
+        fresh = put_part(text, heap, table, walk)?;
+    }
+    Ok(fresh)
+}
+
+// Puts what the value that comes next begins with, if one does and is no object that was met.
+fn put_next<'a>(
+    text: &mut Vec<u8>,
+    heap: &'a Heap,
+    table: &'a TypeTable,
+    walk: &mut Walk<'a>,
+) -> Result<bool, Memory>
+    requires walk { IsWalk table.now heap.now walk.old }
+    requires lawful { IsLawful (table_of table.now) }
+    requires named { length table.now.names ≡ length table.now.nodes }
+    ensures none { IfOk result (λ fresh. fresh ≡ true → walk.new.value ≡ None) }
+    ensures put { IfOk result (λ _. IsPutOn table.now heap.now (pieces_left table.now heap.now walk.old) walk.old.order.items text.old.items text.new.items walk.new) }
+{
+    let Some((v, at)) = walk.value else {
+        return Ok(true);
+    };
+    walk.value = None;
+    let fresh = put_value(text, heap, table, walk, v, heap.word(v), at)?;
+    Ok(fresh)
+}
+
+// Puts what stands before the next part of the innermost block and what this begins with, or what stands after the last.
+#[inline(always)]
+fn put_part<'a>(
+    text: &mut Vec<u8>,
+    heap: &'a Heap,
+    table: &'a TypeTable,
+    walk: &mut Walk<'a>,
+) -> Result<bool, Memory>
+    requires walk { IsWalk table.now heap.now walk.old }
+    requires none { walk.old.value ≡ None }
+    requires inside { 0 < vec_len walk.old.stack }
+    requires lawful { IsLawful (table_of table.now) }
+    requires named { length table.now.names ≡ length table.now.nodes }
+    ensures none { IfOk result (λ fresh. fresh ≡ true → walk.new.value ≡ None) }
+    ensures fewer { IfOk result (λ _. length (pieces_left table.now heap.now walk.new) < length (pieces_left table.now heap.now walk.old)) }
+    ensures put { IfOk result (λ _. IsPutOn table.now heap.now (pieces_left table.now heap.now walk.old) walk.old.order.items text.old.items text.new.items walk.new) }
+{
+    let last = walk.stack.len() - 1;
+    let block = walk.stack[last];
+    if block.next >= block.needs.len() {
+        walk.stack.truncate(last);
+        block.frame.put_closing(text)?;
+        return Ok(true);
+    }
+    let (i, at) = block.needs.get(block.next);
+    let v = value_at(heap, block.fields, i);
+    let word = word_at(block.fields, i);
+    block.frame.put_before(text, block.next)?;
+    walk.stack[last].next = block.next + 1;
+    let fresh = put_value(text, heap, table, walk, v, word, at)?;
+    Ok(fresh)
+}
+
+// The word of a field.
+#[inline(always)]
+fn word_at(fields: &[u64], i: u64) -> u64
+    requires { i < length fields.now }
+    ensures { result ≡ slice_index fields.now i }
+{
+    fields[i as usize]
+}
+
+// Puts what a value of this word begins with, if it is no object that was met: such a one comes next.
+#[inline(always)]
+fn put_value<'a>(
+    text: &mut Vec<u8>,
+    heap: &'a Heap,
+    table: &'a TypeTable,
+    walk: &mut Walk<'a>,
+    v: Val,
+    word: u64,
+    at: usize,
+) -> Result<bool, Memory>
+    requires walk { IsWalk table.now heap.now walk.old }
+    requires none { walk.old.value ≡ None }
+    requires value { IsValue (length heap.now) v }
+    requires word { word ≡ word_of heap.now v }
+    requires typed { IsTypedAt (table_of table.now) heap.now v at }
+    requires lawful { IsLawful (table_of table.now) }
+    requires named { length table.now.names ≡ length table.now.nodes }
+    ensures none { IfOk result (λ fresh. fresh ≡ true → walk.new.value ≡ None) }
+    ensures put { IfOk result (λ _. IsPutOn table.now heap.now (left_of table.now heap.now walk.old.stack.items (Some (v, at)) walk.old.order.items) walk.old.order.items text.old.items text.new.items walk.new) }
+{
+    match v {
+        Val::Int(z) => {
+            put_int_at(text, z, table.shape(at), table.names(at))?;
+            Ok(true)
+        }
+        Val::Atom(_) => {
+            put_few(text, b"[||]")?;
+            Ok(true)
+        }
+        Val::Ref(o) => {
+            if walk.marks[o as usize] {
+                walk.value = Some((v, at));
+                return Ok(false);
+            }
+            put_object(text, heap, table, walk, o, word, at)?;
+            Ok(true)
+        }
+    }
+}
+
+// Puts what an object that was not met begins with.
+#[inline(always)]
+fn put_object<'a>(
+    text: &mut Vec<u8>,
+    heap: &'a Heap,
+    table: &'a TypeTable,
+    walk: &mut Walk<'a>,
+    o: u64,
+    word: u64,
+    at: usize,
+) -> Result<(), Memory>
+    requires walk { IsWalk table.now heap.now walk.old }
+    requires none { walk.old.value ≡ None }
+    requires unmet { slice_index_or walk.old.marks.items o false ≡ false }
+    requires inside { o < length heap.now }
+    requires word { word ≡ word_of heap.now (vals.Ref o) }
+    requires typed { IsTypedAt (table_of table.now) heap.now (vals.Ref o) at }
+    requires lawful { IsLawful (table_of table.now) }
+    requires named { length table.now.names ≡ length table.now.nodes }
+    ensures none { OnOk result (walk.new.value ≡ None) }
+    ensures put { OnOk result (IsPutOn table.now heap.now (left_of table.now heap.now walk.old.stack.items (Some (vals.Ref o, at)) walk.old.order.items) walk.old.order.items text.old.items text.new.items walk.new) }
+{
+    walk.marks[o as usize] = true;
+    walk.order.push(o)?;
+    let Kind::Block(tag, _) = heap.kind_at(word) else {
+        put_leaf(text, heap, table, o, word, at)?;
+        return Ok(());
+    };
+    put_block(text, heap, table, &mut walk.stack, o, word, tag, at)?;
+    Ok(())
+}
+
+/// Puts an object without parts at the type of this number.
+#[inline(always)]
+pub fn put_leaf(
+    text: &mut Vec<u8>,
+    heap: &Heap,
+    table: &TypeTable,
+    o: u64,
+    word: u64,
+    at: usize,
+) -> Result<(), Memory>
+    requires inside { o < length heap.now }
+    requires word { word ≡ word_of heap.now (vals.Ref o) }
+    requires number { at < length table.now.nodes }
+    requires named { length table.now.names ≡ length table.now.nodes }
+    ensures { OnOk result (text.new.items ≡ text.old.items ++ object_text (shape_in table.now at) (names_in table.now at) (object_at heap.now o)) }
+{
+    put_object_at(text, heap, word, table.shape(at), table.names(at))
+}
+
+// Puts what stands before the parts of a block, and opens it.
+#[inline(never)]
+fn put_block<'a>(
+    text: &mut Vec<u8>,
+    heap: &'a Heap,
+    table: &'a TypeTable,
+    stack: &mut Vec<OpenBlock<'a>>,
+    o: u64,
+    word: u64,
+    tag: u8,
+    at: usize,
+) -> Result<(), Memory>
+    requires graph { IsGraph heap.now }
+    requires block { object_at heap.now o ≡ objects.Block tag (fields_of (object_at heap.now o)) }
+    requires inside { o < length heap.now }
+    requires word { word ≡ word_of heap.now (vals.Ref o) }
+    requires typed { IsTypedAt (table_of table.now) heap.now (vals.Ref o) at }
+    requires lawful { IsLawful (table_of table.now) }
+    requires named { length table.now.names ≡ length table.now.nodes }
+    ensures { OnOk result (IsOpened table.now heap.now o at tag stack.old.items stack.new.items text.old.items text.new.items) }
+{
+    let block = open_block(heap, table, o, word, tag, at);
+    block.frame.put_opening(text)?;
+    stack.push(block)?;
+    Ok(())
+}
