@@ -4,7 +4,7 @@ use Rattle.om_outcome.specs.declared.status.Status.{Status}
 use Rattle.std.specs.Borrow.{Bor}
 use Rattle.om_outcome.specs.Outcome.{IsUsage, Found, unfetched, Fetches, nothing, Given, Stop, usage, bad_path, out_of_memory, stops as stops_reply, stopped, ending_of, Request, get, edit, dump, compare, Asks, ReadsTypeOf, Prepares, RunReplies, dumps, compares}
 use Rattle.om_edge.specs.State.{ByteState, FilesState, Change, change}
-use Rattle.om_session.specs.declared.stop.Stop as codes
+use Rattle.om_stops.specs.declared.stop.Stop as codes
 use Rattle.om_path.specs.Answer.{IsAnswer, UnlessMemory}
 use Rattle.om_path.specs.declared.edits.Script.{Script}
 use Rattle.om_path.specs.declared.fault.PathFault.{PathFault}
@@ -19,7 +19,7 @@ use Rattle.om_edge.specs.Files.{File, contents_of}
 use Rattle.om_session.specs.Given.{Fetched, IsFoundOf}
 use Rattle.om_session.specs.Language.{declared_types}
 use Rattle.om_session.specs.Run.{AsksFor, AsksForScript, KeepFiles, FetchesFor, PutsLine, Completes, Breaks, Account}
-use Rattle.om_session.specs.Stops.{stop_of, Reports}
+use Rattle.om_stops.specs.Stops.{stop_of, Reports}
 use Rattle.om_session.specs.Telling.{AsksToTell, AsksToEdit}
 use Rattle.om_session.specs.Types.{type_over, IsPathStop, GivesType, GivesScript}
 use Rattle.om_session.specs.Values.{task_of}
@@ -261,7 +261,7 @@ module _ (words : List (List ℕ)) (r : Bor Requested) (script : List ℕ) (comp
     second = kept_by (change b c) script found fetched;
     asked = λ other u is. subst (λ n. Fetched (change a b) n asks.found) (one_typed declared_types words asks.file asks.type other u edit_asked is).0 asks.fetched;
     unasked = λ none. absurd (none asks.file asks.type edit_asked);
-    scripted = λ other is. subst (λ n. Fetched (change b c) n found) (one_script declared_types words (λ name. asks.found) script other script_asked is) fetched;
+    scripted = λ other is. subst (λ n. Fetched (change b c) n found) (one_script declared_types words (λ name. asks.found) (λ name. asks.found) script other script_asked is) fetched;
     unscripted = λ none. absurd (none script script_asked);
   }
 

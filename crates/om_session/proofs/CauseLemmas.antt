@@ -12,7 +12,7 @@ use Rattle.om_edge.specs.Files.{File, contents_of}
 use Rattle.om_edge.specs.Sink.{Puts, PutsPart}
 use Rattle.om_session.specs.Call.{Call}
 use Rattle.om_session.specs.Given.{IsFoundOf, TakesFrom, Fetched, IsMeasured, is_fault, has_open_fault, has_read_fault}
-use Rattle.om_session.specs.Run.{HasNoPath, AsksBadly, IsSaidFirst, PutsLine, Completes, Breaks, Account, AsksForFile, AsksForScript, IsSought, IsFoundIn, IsRefusedScript, HoldStop, AtInput, StopsBy, OnlyScript, OnlyCompat, CannotOpen, OnlyUsage, OnlyReadFault, OnlyWriteFault, OnlyOpenFault, OnlyTooLong, IfUsage, IsUnsaid, TellsWriteFault, TellsOpenFault, TellsReadFault, HasPath, AsksFor, IsRefusedType, OnlyTypes, FetchesFor, AreNotTwo, OnlyValue, HoldBadValue, IfMissing}
+use Rattle.om_session.specs.Run.{HasNoPath, AsksBadly, IsSaidFirst, PutsLine, Completes, Breaks, Account, AsksForFile, AsksForScript, IsSought, IsFoundIn, IsRefusedScript, HoldStop, HoldToEnd, AtInput, StopsBy, OnlyWell, OnlyNo, OnlyScript, OnlyCompat, CannotOpen, OnlyUsage, OnlyReadFault, OnlyWriteFault, OnlyOpenFault, OnlyTooLong, IfUsage, IsUnsaid, TellsWriteFault, TellsOpenFault, TellsReadFault, HasPath, AsksFor, IsRefusedType, OnlyTypes, FetchesFor, AreNotTwo, OnlyValue, HoldBadValue}
 use Rattle.std.proofs.lemmas.Option.{IfSome_then}
 use Rattle.om_model.specs.Bytes.{AreBytes}
 use Rattle.om_session.specs.Given.{TellsBytes}
@@ -88,16 +88,15 @@ pub record NoValue {D T E : Type 0} (language : Language D T E) (task : Task T E
   pub bad : HoldBadValue language task taken.bytes
   pub ends : (taken.until ≡ at_end) ⊎ ((refusal : ReadRefusal) × (bad.end ≡ refused refusal))
 
--- all that was taken are values, of which something is said, and a front of one more, which is empty at the input's end
+-- all that was taken are values, of which this is said, and a front of one more
 pub record NoRefusal {D T E : Type 0} (language : Language D T E) (task : Task T E) (taken : Taken) : Type 0 where
   pub trees : List Tree
+  pub said : List Said
+  pub all_say : AllSay language task.work 0 trees said
   pub end : End
   pub stream : Stream taken.bytes task.limit trees end
   pub unrefused : (refusal : ReadRefusal) → end ≢ refused refusal
   pub goes_on : (stop : Stop) → StopsAt language task.work task.limit trees stream.0 stop → ⊥
-  pub whole : taken.until ≡ at_end → end ≡ clean
-  pub few : task.work ≡ compares → length trees ≤ 2
-  pub both : taken.until ≡ at_end → task.work ≡ compares → length trees ≡ 2
 
 -- two values are compared, and a byte comes after two, or the input ends after fewer
 pub record NotTwo {T E : Type 0} (task : Task T E) (taken : Taken) : Type 0 where
@@ -114,8 +113,8 @@ pub record Held {D T E : Type 0} (language : Language D T E) (task : Task T E) (
 
 -- why a call ends with a status
 pub data Why {D T E : Type 0} (language : Language D T E) (words : List (List ℕ)) (call : Call) (given : Given) : Status → Type 0 where
-  all_well : (task : Task T E) → Prepares language words given.files (Ok task) → given.input.until ≡ at_end → NoRefusal language task given.input → Why language words call given statuses.Well
-  some_no : (task : Task T E) → Prepares language words given.files (Ok task) → given.input.until ≡ at_end → NoRefusal language task given.input → Why language words call given statuses.No
+  all_well : (task : Task T E) → Prepares language words given.files (Ok task) → given.input.until ≡ at_end → HoldToEnd language task given.input.bytes true → Why language words call given statuses.Well
+  some_no : (task : Task T E) → Prepares language words given.files (Ok task) → given.input.until ≡ at_end → HoldToEnd language task given.input.bytes false → Why language words call given statuses.No
   not_plain : IsUsage words → Why language words call given statuses.Usage
   badly_asked : AsksBadly language words → Why language words call given statuses.Usage
   not_two : (task : Task T E) → Prepares language words given.files (Ok task) → NotTwo task given.input → Why language words call given statuses.Usage
@@ -199,35 +198,37 @@ module _ {D T E : Type 0} (language : Language D T E) (words : List (List ℕ)) 
     abbrev Because : List Said → Reply → Type 0
     Because said last = Why language words call given (ending_of (replies said last)).status
 
-    well_why : given.input.until ≡ at_end → NoRefusal language task given.input → (b : Bool) → Why language words call given (if b then statuses.Well else statuses.No)
-    well_why e held true = all_well task p e held
-    well_why e held false = some_no task p e held
+    well_why : given.input.until ≡ at_end → (b : Bool) → HoldToEnd language task given.input.bytes b → Why language words call given (if b then statuses.Well else statuses.No)
+    well_why e true held = all_well task p e held
+    well_why e false held = some_no task p e held
 
     module _ (said : List Said) (trees : List Tree) (rest : List ℕ) (first : SayFirst language task given.input.bytes trees said rest)
         (goes_on : (stop : Stop) → StopsAt language task.work task.limit trees rest stop → ⊥) where
-      few : task.work ≡ compares → length trees ≤ 2
-      few e = let n = few_said language 0 trees said (omega arith) (subst (λ w. AllSay language w 0 trees said) e first.all_say) in omega (arith, n)
-
-      not_refused : (end : End) → IsTail task.limit rest end → ((refusal : ReadRefusal) → end ≢ refused refusal) → (given.input.until ≡ at_end → end ≡ clean)
-          → (given.input.until ≡ at_end → task.work ≡ compares → length trees ≡ 2) → NoRefusal language task given.input
-      not_refused end tail unrefused whole both =
-          record { trees = trees; end = end; stream = (rest, first.spelled, tail); unrefused = unrefused; goes_on = goes_on; whole = whole; few = few; both = both }
+      not_refused : (end : End) → IsTail task.limit rest end → ((refusal : ReadRefusal) → end ≢ refused refusal) → NoRefusal language task given.input
+      not_refused end tail unrefused = record { trees = trees; said = said; all_say = first.all_say; end = end; stream = (rest, first.spelled, tail); unrefused = unrefused; goes_on = goes_on }
 
       abbrev bad : (end : End) → IsTail task.limit rest end → end ≢ clean → HoldBadValue language task given.input.bytes
       bad end tail some = record { trees = trees; said = said; rest = rest; first = first; end = end; tail = tail; some = some; goes_on = goes_on }
 
       -- the input ends after values of which all is said
-      all_said_why : {work : Work T E} → task.work ≡ work → given.input.until ≡ at_end → rest ≡ [] → (work ≡ compares → ⊥) → (last : Reply) → last ≡ says nothing_said → Because said last
-      all_said_why is e none other last h =
-          subst (λ l. Because said l) (sym h)
-          (well_why e (not_refused clean none (λ refusal e. cc e) (λ e. refl) (λ e k. absurd (other (sym is ∙ k)))) (well_said (said ++ nothing_said ∷ [])))
+      all_said_why : {work : Work T E} → task.work ≡ work → given.input.until ≡ at_end → rest ≡ [] → (final : Said) (last : Reply) → Finishes language work trees last → last ≡ says final → Because said last
+      all_said_why {work} is e none final last h told =
+          subst (λ l. Because said l) (sym told)
+          (well_why e (well_said (said ++ final ∷ [])) (record {
+            trees = trees;
+            said = said;
+            first = subst (λ r. SayFirst language task given.input.bytes trees said r) none first;
+            final = final;
+            finishes = subst (λ w. Finishes language w trees (says final)) (sym is) (subst (λ l. Finishes language work trees l) told h);
+            is_well = refl;
+          }))
 
       -- the input ends after the values
       ends_why : (work : Work T E) → task.work ≡ work → given.input.until ≡ at_end → rest ≡ [] → (last : Reply) → Finishes language work trees last → Because said last
-      ends_why (tells saying t) is e none last h = all_said_why is e none (λ e. cc e) last h
+      ends_why (tells saying t) is e none last h = all_said_why is e none nothing_said last h h
       ends_why (edits type script compat) is e none last h = at (line_past language script (length trees)) refl where
         at : (line : Option E) → line_past language script (length trees) ≡ line → Because said last
-        at None past = all_said_why is e none (λ e. cc e) last (h ∙ ap (ends_script language) past)
+        at None past = all_said_why is e none nothing_said last h (h ∙ ap (ends_script language) past)
         at (Some line) past =
             let told : last ≡ stops (script_line (language.line_number line) (codes "NoValue")) = h ∙ ap (ends_script language) past in
             let finishes : Finishes language task.work trees (stops (script_line (language.line_number line) (codes "NoValue"))) =
@@ -237,7 +238,7 @@ module _ {D T E : Type 0} (language : Language D T E) (words : List (List ℕ)) 
               holds = record { type = type; script = script; compat = compat; work = is; trees = trees; said = said; rest = rest; first = first; why = inr (none, finishes) };
               ends = λ none. e;
             }))
-      ends_why dumps is e none last h = all_said_why is e none (λ e. cc e) last h
+      ends_why dumps is e none last h = all_said_why is e none nothing_said last h h
       ends_why compares is e none last h = counted trees refl h where
         fewer : (all : List Tree) → trees ≡ all → length all < 2 → Why language words call given statuses.Usage
         fewer all same less = not_two task p (record {
@@ -252,10 +253,9 @@ module _ {D T E : Type 0} (language : Language D T E) (words : List (List ℕ)) 
         counted [] same h = subst (λ l. Because said l) (sym h) (fewer [] same (omega arith))
         counted (t ∷ []) same h = subst (λ l. Because said l) (sym h) (fewer (t ∷ []) same (omega arith))
         counted (t ∷ u ∷ []) same (alike, decides, h) =
-            subst (λ l. Because said l) (sym h)
-            (well_why e (not_refused clean none (λ refusal e. cc e) (λ e. refl) (λ e k. ap length same)) (well_said (said ++ comparison alike ∷ [])))
+            all_said_why is e none (comparison alike) last (subst (λ ts. Finishes language compares ts last) (sym same) (alike, decides, h)) h
         counted (t ∷ u ∷ v ∷ more) same h =
-            let least = few is in
+            let least = few_said language 0 trees said (omega arith) (subst (λ w. AllSay language w 0 trees said) is first.all_say) in
             let size : length trees ≡ length (t ∷ u ∷ v ∷ more) = ap length same in absurd (omega (arith, least, size))
 
       closes_why : (u : InputEnd) (end : End) (last : Reply) → given.input.until ≡ u → IsTail task.limit rest end → Closes language task.work trees u end last → Because said last
@@ -277,10 +277,10 @@ module _ {D T E : Type 0} (language : Language D T E) (words : List (List ℕ)) 
       closes_why at_length (refused refusal) last e tail h = absurd h
       closes_why at_length clean last e tail h =
           subst (λ l. Because said l) (sym h)
-          (input_long task p e (not_refused clean tail (λ refusal e. cc e) (λ e. refl) (λ ends k. absurd (cc (sym ends ∙ e)))))
+          (input_long task p e (not_refused clean tail (λ refusal e. cc e)))
       closes_why at_length (cut n) last e tail h =
           subst (λ l. Because said l) (sym h)
-          (input_long task p e (not_refused (cut n) tail (λ refusal e. cc e) (λ ends. absurd (cc (sym ends ∙ e))) (λ ends k. absurd (cc (sym ends ∙ e)))))
+          (input_long task p e (not_refused (cut n) tail (λ refusal e. cc e)))
 
     -- a byte comes after two values, or a value that is not edited
     stops_why : (work : Work T E) → task.work ≡ work → (said : List Said) (trees : List Tree) (rest : List ℕ) → SayFirst language task given.input.bytes trees said rest → (stop : Stop)
@@ -787,6 +787,26 @@ module _ {D T E : Type 0} (language : Language D T E) (words : List (List ℕ)) 
         let i = whole_input tells (λ input. HoldStop language task input stop) h.holds (λ bytes rest are_bytes t. stop_of_all bytes rest are_bytes t task stop h) in
         (a.given.files, a.files, task, p, i.0, i.1, (stop, is, i.2))
 
+    -- values to the end of the input
+    end_held : (task : Task T E) → Prepares language words a.given.files (Ok task) → a.given.input.until ≡ at_end → (well : Bool) → HoldToEnd language task a.given.input.bytes well
+        → AtInput language words call (λ task input. HoldToEnd language task input well)
+    end_held task p e well h =
+        let i = whole_input tells (λ input. HoldToEnd language task input well) h (λ bytes rest are_bytes t. subst (λ b. HoldToEnd language task b well) (sym (all_of bytes rest are_bytes t e)) h) in
+        (a.given.files, a.files, task, p, i.0, i.1, i.2)
+
+    well_of : Why language words call a.given statuses.Well → AtInput language words call (λ task input. HoldToEnd language task input true)
+    well_of (all_well task p e h) = end_held task p e true h
+
+    pub only_well : OnlyWell language words call
+    only_well e = well_of (subst (λ s. Why language words call a.given s) e account_why)
+
+    no_of : Why language words call a.given statuses.No → AtInput language words call (λ task input. HoldToEnd language task input false) ⊎ StopsBy language words call statuses.No
+    no_of (some_no task p e h) = inl (end_held task p e false h)
+    no_of (untyped_edit task p k fault h) = inr (stop_held task p statuses.No (untyped_value k fault) refl h)
+
+    pub only_no : OnlyNo language words call
+    only_no e = no_of (subst (λ s. Why language words call a.given s) e account_why)
+
     compat_of : Why language words call a.given statuses.Compat → StopsBy language words call statuses.Compat
     compat_of (large_edit task p k refusal h) = stop_held task p statuses.Compat (large_value k refusal) refl h
 
@@ -849,5 +869,6 @@ module _ {D T E : Type 0} (language : Language D T E) (words : List (List ℕ)) 
         inl (missing_at f (a.given.files.file f) f_none (a.files.asked f t its).map text r))
         (λ f its text r. inr tt)
 
-  pub if_missing : IsLawful language → IfMissing language words call
-  if_missing lawful name is none = said_status (λ s. s ≡ statuses.OpenFault) (missing_says lawful name is none)
+  pub file_missing : IsLawful language → (name : List ℕ) → AsksForFile language words name → IsSomeAnd call.files.before.map (λ all. contents_of all name ≡ None)
+      → (call.status ≡ statuses.OpenFault) ⊎ IsUnsaid call.status
+  file_missing lawful name is none = said_status (λ s. s ≡ statuses.OpenFault) (missing_says lawful name is none)

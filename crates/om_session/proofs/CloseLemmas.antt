@@ -6,13 +6,13 @@ use Rattle.om_outcome.specs.declared.status.Status.TheVariants as statuses
 use Rattle.om_outcome.specs.Outcome.{Taken, Stop, out_of_memory, Said, says, stops, replies, texts_of, ending_of, ValuesReply}
 use Rattle.om_edge.specs.Sink.{Puts}
 use Rattle.om_edge.specs.State.{ByteState, Change, change}
-use Rattle.om_session.specs.declared.stop.Stop as codes
-use Rattle.om_session.specs.declared.stop.Halt.TheVariants as halts
+use Rattle.om_stops.specs.declared.stop.Stop as codes
+use Rattle.om_stops.specs.declared.stop.Halt.TheVariants as halts
 use Rattle.om_session.specs.declared.values.Work.{Work}
 use Rattle.om_session.specs.Ends.{ClosesValues, TakesValues}
 use Rattle.om_session.specs.Language.{declared_types}
 use Rattle.om_session.specs.Run.{PutsLine}
-use Rattle.om_session.specs.Stops.{stop_of, Reports}
+use Rattle.om_stops.specs.Stops.{stop_of, Reports}
 use Rattle.om_session.specs.Values.{EndsValues, PutsValues, task_of}
 use Rattle.om_session.proofs.PutLemmas.{puts_nothing}
 

@@ -1,16 +1,18 @@
 -- Words, files and an input have one outcome.
-use Rattle.std.proofs.Common.{◌≡◌, ◌⊎◌, ℕ, suc, ◌+◌, ◌≤◌, Bool, true, false, List, [], ◌∷◌, ◌++◌, drop, length, length-append, arith, None, Result, Ok, Err, inl, inr, refl, sym, ap, ◌∙◌, subst}
+use Rattle.std.proofs.Common.{◌≡◌, ◌⊎◌, ℕ, suc, ◌+◌, ◌<◌, ◌≤◌, Bool, true, false, List, [], ◌∷◌, ◌++◌, drop, length, length-append, arith, None, Result, Ok, Err, inl, inr, refl, sym, ap, ◌∙◌, subst}
 use Rattle.std.specs.Prelude.{MatchResult, ◌↔◌, IsTrue}
 use Rattle.om_session.proofs.ValueLemmas.{few_said}
+use Rattle.om_session.proofs.LengthLemmas.{spelled_some}
+use Rattle.om_outcome.specs.RefusalText.{refusal_text, truncated_text}
 use Rattle.om_model.specs.Bytes.{AreBytes}
 use Rattle.om_format.specs.Laws.{HasOneJudgement}
 use Rattle.om_format.specs.Tree.{Tree}
 use Rattle.om_format.specs.Stream.{SpellAll, End, clean, refused, cut, IsTail, Stream}
-use Rattle.om_outcome.specs.Outcome.{IsUsage, whole, at_end, Found, opened, missing, failed, unfetched, Fetches, Stop, fault_of, usage, bad_path, declarations, requested_type, script_line, stopped, Saying, the_verdict, the_text, the_part, Request, check, show, get, edit, dump, compare, Asks, Then, OrRefusal, Work, tells, edits, dumps, compares, Task, Language, ReadsFile, ReadsTypeOf, ReadsScriptOf, TellsAt, EditsBy, FindsWork, Prepares, Unedited, unedited_stop, lines_for, IsUnedited, Said, says, comparison, AreSame, stops, Reply, Replies, replies, line, ending_of, Says, AllSay, StopsAt, ValuesReply, Finishes, Closes, fetches_of, Outcome}
+use Rattle.om_outcome.specs.Outcome.{IsUsage, whole, at_end, Found, opened, missing, failed, unfetched, Fetches, Stop, fault_of, usage, bad_path, declarations, requested_type, value, script_line, stopped, Saying, the_verdict, the_text, the_part, Request, check, show, get, edit, dump, compare, Asks, Then, OrRefusal, Work, tells, edits, dumps, compares, Task, Language, ReadsFile, ReadsTypeOf, ReadsScriptOf, TellsAt, EditsBy, FindsWork, Prepares, Unedited, unedited_stop, lines_for, IsUnedited, Said, says, comparison, AreSame, stops, Reply, Replies, replies, line, ending_of, Says, AllSay, StopsAt, ValuesReply, Finishes, Closes, fetches_of, Outcome}
 use Rattle.om_edge.specs.Files.{File, contents_of}
 use Rattle.om_session.specs.Call.{Call}
 use Rattle.om_session.specs.Given.{TellsBytes}
-use Rattle.om_session.specs.Run.{Account, IsDecided}
+use Rattle.om_session.specs.Run.{Account, HoldBadValue, HoldStop, HoldToEnd, IsDecided}
 use Rattle.om_session.proofs.HeadlineLemmas.{headline}
 use Rattle.om_command_line.proofs.RequestLemmas.{one_request}
 use Rattle.om_session.proofs.CompleteLemmas.{IsGiven, IsGivenWork, IsLawful, types_once, prepares_once, prepares_given}
@@ -267,6 +269,41 @@ module _ {D T E : Type 0} (language : Language D T E) (lawful : IsLawful languag
         let here = subst (λ trees. Closes language task.work trees at_end end' other.last) (sym once.0) closes' in
         both (said_once task.work given 0 v.trees all.said other.said v.first.all_say said)
         (closes_once task.work v.trees end all.last other.last closes (subst (λ end. Closes language task.work v.trees at_end end other.last) (sym once.1) here))
+
+-- ---- what bytes hold is a reply to them all
+
+module _ {D T E : Type 0} (language : Language D T E) where
+  -- no run stops where no byte comes
+  pub none_at_end : (work : Work T E) (limit : ℕ) (trees : List Tree) (stop : Stop) → StopsAt language work limit trees [] stop → ⊥
+  none_at_end (tells saying t) limit trees stop at = at
+  none_at_end (edits t script compat) limit trees stop at =
+      let s = at.spelled in
+      let some : 0 < length s.0 = spelled_some limit s.0 at.tree s.3 in
+      let size : length {A = ℕ} [] ≡ length s.0 + length s.1 = ap length s.2 ∙ length-append s.0 s.1 in omega (arith, some, size)
+  none_at_end dumps limit trees stop at = at
+  none_at_end compares limit trees stop (two, some, is) = some refl
+
+  module _ (task : Task T E) (bytes : List ℕ) where
+    pub end_reply : (well : Bool) → (h : HoldToEnd language task bytes well) → ValuesReply language task (whole bytes) (replies h.said (says h.final))
+    end_reply well h = record { trees = h.trees; rest = []; first = h.first; last = inr (clean, refl, none_at_end task.work task.limit h.trees, h.finishes) }
+
+    pub stop_reply : (stop : Stop) → (h : HoldStop language task bytes stop) → ValuesReply language task (whole bytes) (replies h.said (stops stop))
+    stop_reply stop h = record { trees = h.trees; rest = h.rest; first = h.first; last = go h.why } where
+      go : StopsAt language task.work task.limit h.trees h.rest stop ⊎ ((h.rest ≡ []) × Finishes language task.work h.trees (stops stop))
+          → ((s : Stop) × StopsAt language task.work task.limit h.trees h.rest s × (fault_of at_end ≡ None) × (stops stop ≡ stops s))
+          ⊎ ((end : End) × IsTail task.limit h.rest end × ((s : Stop) → StopsAt language task.work task.limit h.trees h.rest s → ⊥) × Closes language task.work h.trees at_end end (stops stop))
+      go (inl at) = inl (stop, at, refl, refl)
+      go (inr (none, finishes)) =
+          inr (clean, none, subst (λ r. (s : Stop) → StopsAt language task.work task.limit h.trees r s → ⊥) (sym none) (none_at_end task.work task.limit h.trees), finishes)
+
+    pub bad_reply : (bad : HoldBadValue language task bytes) → (text : List ℕ) × ValuesReply language task (whole bytes) (replies bad.said (stops (value (length bad.trees) text)))
+    bad_reply bad = go bad.end refl where
+      go : (end : End) → bad.end ≡ end → (text : List ℕ) × ValuesReply language task (whole bytes) (replies bad.said (stops (value (length bad.trees) text)))
+      go clean is = absurd (bad.some is)
+      go (cut n) is =
+          (truncated_text n, record { trees = bad.trees; rest = bad.rest; first = bad.first; last = inr (cut n, subst (λ end. IsTail task.limit bad.rest end) is bad.tail, bad.goes_on, refl) })
+      go (refused refusal) is =
+          (refusal_text refusal, record { trees = bad.trees; rest = bad.rest; first = bad.first; last = inr (refused refusal, subst (λ end. IsTail task.limit bad.rest end) is bad.tail, bad.goes_on, refl) })
 
 -- ---- the whole run
 

@@ -40,14 +40,14 @@ use Rattle.om_outcome.specs.RefusalText.{compat_text}
 use Rattle.om_outcome.specs.Outcome.{Unedited, untyped, refused_line, too_large, line_past, says, nothing_said, ends_script}
 use Rattle.om_outcome.specs.Outcome as outcome
 use Rattle.om_session.specs.declared.edit.Edits.{Edits}
-use Rattle.om_session.specs.declared.stop.Halt.{Halt}
-use Rattle.om_session.specs.declared.stop.Halt.TheVariants as halts
-use Rattle.om_session.specs.declared.stop.Stop.{Stop}
-use Rattle.om_session.specs.declared.stop.Stop.TheVariants as stops
+use Rattle.om_stops.specs.declared.stop.Halt.{Halt}
+use Rattle.om_stops.specs.declared.stop.Halt.TheVariants as halts
+use Rattle.om_stops.specs.declared.stop.Stop.{Stop}
+use Rattle.om_stops.specs.declared.stop.Stop.TheVariants as stops
 use Rattle.om_session.specs.declared.types.Requested.{Requested}
 use Rattle.om_session.specs.Edits.{lines_at, ChecksType, Edit, EditsOn, IsReasonStop, IsRefusedLine, EditsLine, EditsAll, EditsLines, PutsBytes, PutsEdited, AnswersOf, IsPast}
 use Rattle.om_session.specs.Language.{declared_types, bytes_for, AreBytesOf}
-use Rattle.om_session.specs.Stops.{stop_of, text_of_compat}
+use Rattle.om_stops.specs.Stops.{stop_of, text_of_compat}
 use Rattle.om_session.specs.Types.{IsReady}
 use Rattle.om_session.specs.Values.{EndsScript}
 use Rattle.om_session.proofs.PutLemmas.{puts_nothing}

@@ -9,12 +9,12 @@ use Rattle.om_outcome.specs.Outcome as outcome
 use Rattle.om_outcome.specs.RefusalText.{refusal_text, truncated_text}
 use Rattle.om_edge.specs.State.{ByteState, change}
 use Rattle.om_edge.specs.Sink.{Puts}
-use Rattle.om_session.specs.declared.stop.Halt.{Halt}
-use Rattle.om_session.specs.declared.stop.Halt.TheVariants as halts
+use Rattle.om_stops.specs.declared.stop.Halt.{Halt}
+use Rattle.om_stops.specs.declared.stop.Halt.TheVariants as halts
 use Rattle.om_session.specs.declared.values.Values.{Values}
 use Rattle.om_session.specs.Language.{declared_types}
 use Rattle.om_session.specs.Run.{HoldNoStop, IsPaced}
-use Rattle.om_session.specs.Stops.{stop_of}
+use Rattle.om_stops.specs.Stops.{stop_of}
 use Rattle.om_session.specs.Values.{StopsIn, HaltsIn, MayTake, ReadsPiece, EndsAt, EndsValues, AreSaid, work_of, task_of, word_limit}
 use Rattle.om_session.proofs.PutLemmas.{puts_then}
 use Rattle.om_model.specs.Bytes.{AreBytes}

@@ -1,9 +1,9 @@
 -- Where a status has to come, from the account of a call.
-use Rattle.std.proofs.Common.{◌≡◌, ◌⊎◌, Bool, ℕ, ◌+◌, ◌-◌, ◌^◌, ◌<◌, ◌≤◌, List, [], ◌∷◌, ◌++◌, length, take, drop, take_all, Option, Some, None, IfSome, Ok, Err, inl, inr, refl, sym, ap, ◌∙◌, subst, arith}
+use Rattle.std.proofs.Common.{◌≡◌, ◌⊎◌, Bool, true, false, ℕ, ◌+◌, ◌-◌, ◌^◌, ◌<◌, ◌≤◌, List, [], ◌∷◌, ◌++◌, length, take, drop, take_all, Option, Some, None, IfSome, Ok, Err, inl, inr, refl, sym, ap, ◌∙◌, subst, arith}
 use Rattle.std.proofs.lemmas.List.{take-append-drop, take-append-le}
 use Rattle.std.proofs.lemmas.List.Elements.{All-take}
 use Rattle.std.proofs.Math.Seq.{take-append_seam, take-append-add}
-use Rattle.std.specs.Prelude.{IsSomeAnd, ◌↔◌, ◌≢◌}
+use Rattle.std.specs.Prelude.{IsSomeAnd, ◌↔◌, ◌≢◌, if◌then◌else◌}
 use Rattle.om_outcome.specs.declared.status.Status.{Status}
 use Rattle.om_outcome.specs.declared.status.Status.TheVariants as statuses
 use Rattle.om_model.specs.Bytes.{AreBytes}
@@ -11,15 +11,15 @@ use Rattle.om_model.specs.declared.refusal.ReadRefusal.{ReadRefusal}
 use Rattle.om_format.specs.Laws.{HasOneJudgement}
 use Rattle.om_format.specs.Stream.{SpellAll, IsTail, End, clean, refused as refused_end, cut, Stream}
 use Rattle.om_format.specs.Tree.{Tree}
-use Rattle.om_outcome.specs.Outcome.{IsUsage, Taken, InputEnd, at_end, at_fault, at_length, unasked, whole, Found, opened, missing, failed, unfetched, Fetches, Stop, stops, not_two_values, Saying, the_verdict, the_text, the_part, Request, check, show, get, edit, dump, compare, Asks, limit_of, Said, Work, edits, compares, StopsAt, Finishes, Task, Language, ReadsTypeOf, ReadsScriptOf, TellsAt, FindsWork, Prepares, found_of, script_of, fetches_of}
+use Rattle.om_outcome.specs.Outcome.{IsUsage, Taken, InputEnd, at_end, at_fault, at_length, unasked, whole, Found, opened, missing, failed, unfetched, Fetches, Stop, value, script_line, untyped_value, large_value, status_of, says, stops, not_two_values, Reply, Replies, replies, ending_of, ValuesReply, Saying, the_verdict, the_text, the_part, Request, check, show, get, edit, dump, compare, Asks, limit_of, Said, Work, edits, compares, StopsAt, Finishes, Task, Language, ReadsTypeOf, ReadsScriptOf, TellsAt, FindsWork, Prepares, found_of, script_of, fetches_of}
 use Rattle.om_edge.specs.Files.{File, contents_of}
 use Rattle.om_edge.specs.State.{FilesState, Change, change}
 use Rattle.om_session.specs.Call.{Call}
 use Rattle.om_session.specs.Given.{TellsBytes, IsFoundOf, TakesFrom, Fetched, IsMeasured}
-use Rattle.om_session.specs.Run.{HasNoPath, AsksBadly, HoldNoStop, HoldStop, Account, AsksForScript, IsFoundIn, IsRefusedScript, AsksFor, IsRefusedType, IsOutside, TellsFile, AreShort, AreNotTwo, HoldBadValue, IfTypes, IfNotTwo, IfTooLong, IfValue}
-use Rattle.om_session.proofs.DecidedLemmas.{few_of, no_more_said, stop_or_end}
+use Rattle.om_session.specs.Run.{HasNoPath, AsksBadly, HoldNoStop, HoldStop, HoldToEnd, Account, AsksForFile, AsksForScript, IsFoundIn, IsRefusedScript, AsksFor, IsRefusedType, IsOutside, TellsFile, AreShort, AreNotTwo, HoldBadValue, IfTypes, IfNotTwo, IfValue, IfStopsBy, IfToEnd}
+use Rattle.om_session.proofs.DecidedLemmas.{few_of, no_more_said, stop_or_end, values_once, end_reply, stop_reply, bad_reply}
 use Rattle.om_session.proofs.HeadlineLemmas.{all_taken, front_none, stops_more}
-use Rattle.om_session.proofs.ValueLemmas.{spell_after}
+use Rattle.om_session.proofs.ValueLemmas.{spell_after, first_after}
 use Rattle.om_command_line.proofs.RequestLemmas.{one_request}
 use Rattle.om_session.proofs.WordLemmas.{one_typed, unnamed, unscripted, script_asks}
 use Rattle.om_session.proofs.FindingLemmas.{Finding, finding, is_compared, asks_comparison, Suits, compared_is}
@@ -62,7 +62,7 @@ module _ {D T E : Type 0} (language : Language D T E) where
     pub found : file name ≡ opened (whole text)
     pub accepted : IsAccepted language text type
 
-  reads_accepted : (file : List ℕ → Found) (f u : List ℕ) (t : T) → ReadsTypeOf language file (f, u) (Ok t) → AcceptsFile file f u
+  pub reads_accepted : (file : List ℕ → Found) (f u : List ℕ) (t : T) → ReadsTypeOf language file (f, u) (Ok t) → AcceptsFile file f u
   reads_accepted file f u t (Err s, h, same) = absurd (cc same)
   reads_accepted file f u t (Ok text, h, (Err s, read, same)) = absurd (cc same)
   reads_accepted file f u t (Ok text, h, (Ok decls, read, typed)) = record { text = text; found = h; accepted = (decls, t, read, typed) }
@@ -86,7 +86,7 @@ module _ {D T E : Type 0} (language : Language D T E) where
     found (inr (has, inr (inl (f, u, script, compat, typed, scripted, (Ok t, reads, rest))))) = accepts f u (record { request = request; asks = asks; has_path = has; typed = typed }) t reads
 
   -- so is FILE where SCRIPT comes in its turn
-  script_accepts : (words : List (List ℕ)) (file : List ℕ → Found) (script : List ℕ) → (its : AsksForScript language words file script) → (name type : List ℕ) → AsksFor language words name type → AcceptsFile file name type
+  pub script_accepts : (words : List (List ℕ)) (file : List ℕ → Found) (script : List ℕ) → (its : AsksForScript language words file script) → (name type : List ℕ) → AsksFor language words name type → AcceptsFile file name type
   script_accepts words file script its name type is =
       let once = one_typed language words its.typed.0 its.typed.1 name type (script_asks language words file script its) is in
       subst (λ n. AcceptsFile file n type) once.0 (subst (λ t. AcceptsFile file its.typed.0 t) once.1 (reads_accepted file its.typed.0 its.typed.1 its.type its.reads))
@@ -116,6 +116,19 @@ module _ {D T E : Type 0} (language : Language D T E) where
         let both : ◌≡◌ {A = Option (List ℕ)} (Some script) (Some name) = sym scripted ∙ (ap script_of (one_request words request is.request asks is.asks) ∙ is.scripted) in
         let same : script ≡ name = cc both in
         subst (AcceptsScript files.script) same (lines_accepted files script lines read)
+
+  -- and comes in its turn
+  pub prepared_turn : (words : List (List ℕ)) (files : Fetches) (task : Task T E) → Prepares language words files (Ok task) → (file : List ℕ → Found) (name : List ℕ) → AsksForScript language words file name → AsksForScript language words files.file name
+  prepared_turn words files task (Err s, h, same) file name is = absurd (cc same)
+  prepared_turn words files task (Ok request, asks, (Err s, h, same)) file name is = absurd (cc same)
+  prepared_turn words files task (Ok request, asks, (Ok work, h, same)) file name is = found (finding language files request (Ok work) h) where
+    found : Finding language files request (Ok work) → AsksForScript language words files.file name
+    found (inl (none, e)) = absurd (cc e)
+    found (inr (has, inr (inr (none, other, e)))) = absurd (unnamed language words request asks none is.typed.0 is.typed.1 (script_asks language words file name is))
+    found (inr (has, inl (f, u, saying, typed, none, told))) = absurd (unscripted language words file request asks none name is)
+    found (inr (has, inr (inl (f, u, script, compat, typed, scripted, (Err s, reads, e))))) = absurd (cc e)
+    found (inr (has, inr (inl (f, u, script, compat, typed, scripted, (Ok t, reads, rest))))) =
+        record { request = request; asks = asks; scripted = ap script_of (one_request words request is.request asks is.asks) ∙ is.scripted; typed = (f, u); is_typed = typed; type = t; reads = reads }
 
   -- where there is a task, PATH is a path
   prepared_well : IsLawful language → (words : List (List ℕ)) (files : Fetches) (task : Task T E) → Prepares language words files (Ok task) → AsksBadly language words → ⊥
@@ -159,7 +172,7 @@ text_in failed = []
 text_in unfetched = []
 
 -- what a map that has a file whole says of it
-found_text : (contents : Option (List ℕ)) (text : List ℕ) → found_of contents ≡ opened (whole text) → contents ≡ Some text
+pub found_text : (contents : Option (List ℕ)) (text : List ℕ) → found_of contents ≡ opened (whole text) → contents ≡ Some text
 found_text None text e = absurd (cc e)
 found_text (Some bytes) text e = ap (λ b. Some b) (ap text_in e)
 
@@ -197,17 +210,17 @@ module _ {D T E : Type 0} (language : Language D T E) (lawful : IsLawful languag
 
   -- a cause that is none of the outside's is that of this status
   module _ (target : Status) (plain : ¬ IsUsage words) (path : AsksBadly language words → statuses.Usage ≡ target)
-      (unended : (task : Task T E) → IsTask task → a.given.input.until ≡ at_end → NoRefusal language task a.given.input → ⊥)
+      (ended : (task : Task T E) → IsTask task → a.given.input.until ≡ at_end → (well : Bool) → HoldToEnd language task a.given.input.bytes well → (if well then statuses.Well else statuses.No) ≡ target)
       (two : (task : Task T E) → IsTask task → NotTwo task a.given.input → statuses.Usage ≡ target)
       (types : (name type text : List ℕ) → AsksFor language words name type → a.given.files.file name ≡ opened (whole text) → IsRefusedType language text type → statuses.Types ≡ target)
-      (script : (name text : List ℕ) → a.given.files.script name ≡ opened (whole text) → IsRefusedScript language words a.given.files name text → ⊥)
-      (stopped : (task : Task T E) → IsTask task → (stop : Stop) → Held language task a.given.input stop → ⊥)
+      (script : (name text : List ℕ) → a.given.files.script name ≡ opened (whole text) → IsRefusedScript language words a.given.files name text → statuses.Script ≡ target)
+      (stopped : (task : Task T E) → IsTask task → (stop : Stop) → Held language task a.given.input stop → status_of stop ≡ target)
       (value : (task : Task T E) → IsTask task → NoValue language task a.given.input → statuses.Value ≡ target)
       (file : (name : List ℕ) (taken : Taken) → IsFoundIn language words a.given.files name (opened taken) → taken.until ≡ at_length → statuses.TooLong ≡ target)
       (input : (task : Task T E) → IsTask task → a.given.input.until ≡ at_length → NoRefusal language task a.given.input → statuses.TooLong ≡ target) where
-    cause_or_outside : (s : Status) → Cause s → (s ≡ target) ⊎ IsOutside s
-    cause_or_outside s (all_well task p e held) = absurd (unended task p e held)
-    cause_or_outside s (some_no task p e held) = absurd (unended task p e held)
+    pub cause_or_outside : (s : Status) → Cause s → (s ≡ target) ⊎ IsOutside s
+    cause_or_outside s (all_well task p e held) = inl (ended task p e true held)
+    cause_or_outside s (some_no task p e held) = inl (ended task p e false held)
     cause_or_outside s (not_plain none) = absurd (plain none)
     cause_or_outside s (badly_asked bad) = inl (path bad)
     cause_or_outside s (not_two task p n) = inl (two task p n)
@@ -216,16 +229,34 @@ module _ {D T E : Type 0} (language : Language D T E) (lawful : IsLawful languag
     cause_or_outside s (no_types n t x f e why) = inl (types n t x f e why)
     cause_or_outside s (file_fault n taken f u) = inr (inl refl)
     cause_or_outside s (file_long n taken f u) = inl (file n taken f u)
-    cause_or_outside s (no_script n x e refused) = absurd (script n x e refused)
-    cause_or_outside s (untyped_edit task p k fault h) = absurd (stopped task p _ h)
-    cause_or_outside s (refused_edit task p n refusal h) = absurd (stopped task p _ h)
-    cause_or_outside s (large_edit task p k refusal h) = absurd (stopped task p _ h)
+    cause_or_outside s (no_script n x e refused) = inl (script n x e refused)
+    cause_or_outside s (untyped_edit task p k fault h) = inl (stopped task p (untyped_value k fault) h)
+    cause_or_outside s (refused_edit task p n refusal h) = inl (stopped task p (script_line n refusal) h)
+    cause_or_outside s (large_edit task p k refusal h) = inl (stopped task p (large_value k refusal) h)
     cause_or_outside s (no_value task p v) = inl (value task p v)
     cause_or_outside s (input_fault e) = inr (inl refl)
     cause_or_outside s (input_long task p e held) = inl (input task p e held)
     cause_or_outside s (memory spent) = inr (inr (inr (inl refl)))
     cause_or_outside s (out_fault said first breaks) = inr (inr (inr (inr refl)))
     cause_or_outside s (err_fault unput) = inr (inr (inr (inr refl)))
+
+  module _ (files : List File) (map : call.files.before.map ≡ Some files) where
+    -- what was found whole is what the map has
+    pub whole_in_map : (name text : List ℕ) (o : Found) → IsFoundIn language words a.given.files name o → o ≡ opened (whole text) → contents_of files name ≡ Some text
+    whole_in_map name text o is e =
+        let f = fetch_of language words call a name o is in
+        let is_found : IsFoundOf (contents_of files name) o = rw (f.map ∙ map) at f.fetched.map in
+        contents_are language words call a (contents_of files name) text (subst (IsFoundOf (contents_of files name)) e is_found)
+
+    -- what was too long is so in the map
+    pub long_in_map : (name : List ℕ) (taken : Taken) → IsFoundIn language words a.given.files name (opened taken) → taken.until ≡ at_length → (text : List ℕ) × (contents_of files name ≡ Some text) × (2 ^ 48 ≤ length text)
+    long_in_map name taken is e =
+        let f = fetch_of language words call a name (opened taken) is in
+        let is_found : IsFoundOf (contents_of files name) (opened taken) = rw (f.map ∙ map) at f.fetched.map in
+        let long = (subst (λ u. IsMeasured u (length taken.bytes)) e f.fetched.measured).0 in at (contents_of files name) is_found long where
+          at : (contents : Option (List ℕ)) → IsFoundOf contents (opened taken) → 2 ^ 48 ≤ length taken.bytes → (text : List ℕ) × (contents ≡ Some text) × (2 ^ 48 ≤ length text)
+          at None never long = absurd never
+          at (Some text) (rest, t) long = (text, refl, longer text taken rest t long)
 
   -- what an accepted FILE that is told holds
   accepted_text : (name type text : List ℕ) → AcceptsFile language a.given.files.file name type → AsksFor language words name type → TellsFile call.files name text
@@ -264,9 +295,9 @@ module _ {D T E : Type 0} (language : Language D T E) (lawful : IsLawful languag
 
       types_cause : (s : Status) → Cause s → (s ≡ statuses.Types) ⊎ IsOutside s
       types_cause =
-          cause_or_outside statuses.Types (λ none. none is.request is.asks) (λ bad. absurd (for_or_badly language lawful words name type is bad)) (λ task p e held. not_accepted (task_accepts task p name type is))
-          (λ task p n. absurd (not_accepted (task_accepts task p name type is))) (λ n t x typed e why. refl) (λ n x e r. not_accepted (refused_accepts n x r name type is))
-          (λ task p stop h. not_accepted (task_accepts task p name type is)) (λ task p v. absurd (not_accepted (task_accepts task p name type is)))
+          cause_or_outside statuses.Types (λ none. none is.request is.asks) (λ bad. absurd (for_or_badly language lawful words name type is bad)) (λ task p e well held. absurd (not_accepted (task_accepts task p name type is)))
+          (λ task p n. absurd (not_accepted (task_accepts task p name type is))) (λ n t x typed e why. refl) (λ n x e r. absurd (not_accepted (refused_accepts n x r name type is)))
+          (λ task p stop h. absurd (not_accepted (task_accepts task p name type is))) (λ task p v. absurd (not_accepted (task_accepts task p name type is)))
           (λ n taken f u. absurd (not_long taken u (file_or_accepted n (opened taken) f))) (λ task p e held. absurd (not_accepted (task_accepts task p name type is)))
 
     module _ (long : 2 ^ 48 ≤ length text) where
@@ -279,9 +310,9 @@ module _ {D T E : Type 0} (language : Language D T E) (lawful : IsLawful languag
 
       file_cause : (s : Status) → Cause s → (s ≡ statuses.TooLong) ⊎ IsOutside s
       file_cause =
-          cause_or_outside statuses.TooLong (λ none. none is.request is.asks) (λ bad. absurd (for_or_badly language lawful words name type is bad)) (λ task p e held. unread (task_accepts task p name type is))
+          cause_or_outside statuses.TooLong (λ none. none is.request is.asks) (λ bad. absurd (for_or_badly language lawful words name type is bad)) (λ task p e well held. absurd (unread (task_accepts task p name type is)))
           (λ task p n. absurd (unread (task_accepts task p name type is))) (λ n t x typed e why. absurd (not_short x (file_or_accepted n (opened (whole x)) (inl ((t, typed), e)))))
-          (λ n x e r. unread (refused_accepts n x r name type is)) (λ task p stop h. unread (task_accepts task p name type is))
+          (λ n x e r. absurd (unread (refused_accepts n x r name type is))) (λ task p stop h. absurd (unread (task_accepts task p name type is)))
           (λ task p v. absurd (unread (task_accepts task p name type is))) (λ n taken f u. refl) (λ task p e held. refl)
 
   pub if_types : IfTypes language words call
@@ -321,6 +352,33 @@ module _ {D T E : Type 0} (language : Language D T E) (lawful : IsLawful languag
       go (inr (fewer, none)) =
           bad.some (sym (streams_once law task.limit bytes n.trees bad.trees clean bad.end are_bytes (n.rest, n.spelled, none) (bad.rest, bad.first.spelled, bad.tail)).1)
 
+    -- values to the end of what was taken are those of all
+    end_in_all : (task : Task T E) → a.given.input.until ≡ at_end → (well : Bool) → HoldToEnd language task a.given.input.bytes well → HoldToEnd language task bytes well
+    end_in_all task e well held = subst (λ b. HoldToEnd language task b well) (sym (all_of language words call a bytes taken_front.0 are_bytes taken_front.1 e)) held
+
+    -- two values that are compared to the end are not other than two
+    end_or_not_two : (task : Task T E) → task.work ≡ compares → (well : Bool) → HoldToEnd language task bytes well → AreNotTwo task.limit bytes → ⊥
+    end_or_not_two task is well held n = go n.why where
+      two_of : (trees : List Tree) → Finishes language compares trees (says held.final) → length trees ≡ 2
+      two_of [] h = absurd (cc h)
+      two_of (t ∷ []) h = absurd (cc h)
+      two_of (t ∷ u ∷ []) h = refl
+      two_of (t ∷ u ∷ v ∷ trees) h = absurd (cc h)
+
+      both : length held.trees ≡ 2
+      both = two_of held.trees (subst (λ w. Finishes language w held.trees (says held.final)) is held.finishes)
+
+      go : ((length n.trees ≡ 2) × (n.rest ≢ [])) ⊎ ((length n.trees < 2) × (n.rest ≡ [])) → ⊥
+      go (inl (two, some)) =
+          some (spell_once law task.limit bytes n.trees held.trees n.rest [] are_bytes (two ∙ sym both) n.spelled held.first.spelled).1
+      go (inr (fewer, none)) =
+          let same : length n.trees ≡ length held.trees = ap length (streams_once law task.limit bytes n.trees held.trees clean clean are_bytes (n.rest, n.spelled, none) ([], held.first.spelled, refl)).0 in
+          let pair = both in omega (arith, fewer, same, pair)
+
+    -- edited values are not compared
+    not_edited : (work : Work T E) (t : T) (script : List E) (compat : Bool) → work ≡ edits t script compat → work ≡ compares → ⊥
+    not_edited work t script compat is other = let same : ◌≡◌ {A = Work T E} (edits t script compat) compares = sym is ∙ other in cc same
+
     -- ---- other than two values
 
     module _ (most : ℕ) (asks : Asks words (compare most)) (two : AreNotTwo most (take (2 ^ 48) bytes)) (in_all : two.rest ≡ [] → length bytes < 2 ^ 48) where
@@ -349,26 +407,8 @@ module _ {D T E : Type 0} (language : Language D T E) (lawful : IsLawful languag
       not_two_task : (task : Task T E) → IsTask task → AreNotTwo task.limit bytes
       not_two_task task p = subst (λ limit. AreNotTwo limit bytes) (sym (compares_task task p).1) not_two_in_all
 
-      not_compared : (task : Task T E) → IsTask task → a.given.input.until ≡ at_end → NoRefusal language task a.given.input → ⊥
-      not_compared task p e held = go n.why where
-        n : AreNotTwo task.limit bytes
-        n = not_two_task task p
-
-        all : bytes ≡ a.given.input.bytes
-        all = all_of language words call a bytes taken_front.0 are_bytes taken_front.1 e
-
-        stream : Stream bytes task.limit held.trees clean
-        stream = subst (λ b. Stream b task.limit held.trees clean) (sym all) (subst (λ end. Stream a.given.input.bytes task.limit held.trees end) (held.whole e) held.stream)
-
-        both : length held.trees ≡ 2
-        both = held.both e (compares_task task p).0
-
-        go : ((length n.trees ≡ 2) × (n.rest ≢ [])) ⊎ ((length n.trees < 2) × (n.rest ≡ [])) → ⊥
-        go (inl (two, some)) =
-            some ((spell_once law task.limit bytes n.trees held.trees n.rest stream.0 are_bytes (two ∙ sym both) n.spelled stream.1).1 ∙ stream.2)
-        go (inr (fewer, none)) =
-            let same : length n.trees ≡ length held.trees = ap length (streams_once law task.limit bytes n.trees held.trees clean clean are_bytes (n.rest, n.spelled, none) stream).0 in
-            let pair = both in omega (arith, fewer, same, pair)
+      not_compared : (task : Task T E) → IsTask task → a.given.input.until ≡ at_end → (well : Bool) → HoldToEnd language task a.given.input.bytes well → ⊥
+      not_compared task p e well held = end_or_not_two task (compares_task task p).0 well (end_in_all task e well held) (not_two_task task p)
 
       not_too_many : (task : Task T E) → IsTask task → a.given.input.until ≡ at_length → NoRefusal language task a.given.input → ⊥
       not_too_many task p e held = go two.why where
@@ -384,10 +424,7 @@ module _ {D T E : Type 0} (language : Language D T E) (lawful : IsLawful languag
             stop_or_end language lawful law task.work task.limit a.given.input.bytes (All-take-front a.given.input.bytes taken_front.0 (subst AreBytes taken_front.1.front are_bytes))
             two.trees held.trees (two.rest ++ more) held.stream.0 held.end not_two_values spelled
             (subst (λ w. StopsAt language w task.limit two.trees (two.rest ++ more) not_two_values) (sym is.0) (both, (λ e. some (front_none two.rest more e)), refl))
-            held.stream.1 (let few = held.few is.0 in omega (arith, few, both)) held.stream.2 held.goes_on
-
-      not_edited : (work : Work T E) (t : T) (script : List E) (compat : Bool) → work ≡ edits t script compat → work ≡ compares → ⊥
-      not_edited work t script compat is other = let same : ◌≡◌ {A = Work T E} (edits t script compat) compares = sym is ∙ other in cc same
+            held.stream.1 (let few = few_of language lawful task.work held.trees held.said held.all_say is.0 in omega (arith, few, both)) held.stream.2 held.goes_on
 
       not_found : (n : List ℕ) (o : Found) → IsFoundIn language words a.given.files n o → ⊥
       not_found n o (inl (f, e)) = unnamed language words (compare most) asks refl n f.0 f.1
@@ -395,9 +432,9 @@ module _ {D T E : Type 0} (language : Language D T E) (lawful : IsLawful languag
 
       two_cause : (s : Status) → Cause s → (s ≡ statuses.Usage) ⊎ IsOutside s
       two_cause =
-          cause_or_outside statuses.Usage (λ none. none (compare most) asks) (λ bad. refl) (λ task p e held. not_compared task p e held) (λ task p n. refl)
-          (λ n t x typed e why. absurd (unnamed language words (compare most) asks refl n t typed)) (λ n x e r. unscripted language words a.given.files.file (compare most) asks refl n r.asks)
-          (λ task p stop h. not_edited task.work h.holds.type h.holds.script h.holds.compat h.holds.work (compares_task task p).0)
+          cause_or_outside statuses.Usage (λ none. none (compare most) asks) (λ bad. refl) (λ task p e well held. absurd (not_compared task p e well held)) (λ task p n. refl)
+          (λ n t x typed e why. absurd (unnamed language words (compare most) asks refl n t typed)) (λ n x e r. absurd (unscripted language words a.given.files.file (compare most) asks refl n r.asks))
+          (λ task p stop h. absurd (not_edited task.work h.holds.type h.holds.script h.holds.compat h.holds.work (compares_task task p).0))
           (λ task p v. absurd (bad_or_not_two task (compares_task task p).0 (bad_of language words call a bytes taken_front.0 are_bytes taken_front.1 task v) (not_two_task task p)))
           (λ n taken f u. absurd (not_found n (opened taken) f)) (λ task p e held. absurd (not_too_many task p e held))
 
@@ -420,10 +457,7 @@ module _ {D T E : Type 0} (language : Language D T E) (lawful : IsLawful languag
 
       -- what was found is what the map has
       file_in_map : (name text : List ℕ) (o : Found) → IsFoundIn language words a.given.files name o → o ≡ opened (whole text) → contents_of files name ≡ Some text
-      file_in_map name text o is e =
-          let f = fetch_of language words call a name o is in
-          let is_found : IsFoundOf (contents_of files name) o = rw (f.map ∙ map) at f.fetched.map in
-          contents_are language words call a (contents_of files name) text (subst (IsFoundOf (contents_of files name)) e is_found)
+      file_in_map name text o is e = whole_in_map files map name text o is e
 
       read_in_map : (f t : List ℕ) → AsksFor language words f t → (type : T) → ReadsTypeOf language a.given.files.file (f, t) (Ok type) → ReadsTypeOf language (fetches_of (contents_of files)).file (f, t) (Ok type)
       read_in_map f t is type (Err s, r, same) = absurd (cc same)
@@ -561,8 +595,25 @@ module _ {D T E : Type 0} (language : Language D T E) (lawful : IsLawful languag
 
         input_cause : (s : Status) → Cause s → (s ≡ statuses.TooLong) ⊎ IsOutside s
         input_cause =
-            cause_or_outside statuses.TooLong plain (λ bad. absurd (well_asked bad)) (λ other p e held. not_at_end e) (λ other p n. absurd (not_more other p n)) (λ n t x typed e why. absurd (not_refused n t x typed e why))
-            lines_not_refused none_held (λ other p v. absurd (not_stopped other p v)) (λ n taken f u. refl) (λ other p e held. refl)
+            cause_or_outside statuses.TooLong plain (λ bad. absurd (well_asked bad)) (λ other p e well held. absurd (not_at_end e)) (λ other p n. absurd (not_more other p n)) (λ n t x typed e why. absurd (not_refused n t x typed e why))
+            (λ n x e r. absurd (lines_not_refused n x e r)) (λ other p stop h. absurd (none_held other p stop h)) (λ other p v. absurd (not_stopped other p v)) (λ n taken f u. refl) (λ other p e held. refl)
+
+      -- no file is too long
+      sought_text : (name : List ℕ) (taken : Taken) → IsFoundIn language words a.given.files name (opened taken) → (text : List ℕ) × (contents_of files name ≡ Some text)
+      sought_text name taken (inl (is, found)) =
+          let here : AcceptsFile language (fetches_of (contents_of files)).file name is.0 = prepared_accepts language words (fetches_of (contents_of files)) task prepared name is.0 is.1 in
+          (here.text, found_text (contents_of files name) here.text here.found)
+      sought_text name taken (inr (is, found)) =
+          let here = prepared_script language words (fetches_of (contents_of files)) task prepared a.given.files.file name is in
+          (here.text, found_text (contents_of files name) here.text here.found)
+
+      file_short : AreShort files → (name : List ℕ) (taken : Taken) → IsFoundIn language words a.given.files name (opened taken) → taken.until ≡ at_length → ⊥
+      file_short short name taken is e =
+          let text = sought_text name taken is in
+          let f = fetch_of language words call a name (opened taken) is in
+          let told_file : TellsFile f.at name text.0 = rw (f.map ∙ map, text.1) in
+          let long = told_long f.at name text.0 told_file taken f.fetched e in
+          let few = short name text.0 text.1 in omega (arith, long, few)
 
       -- ---- a bad value
 
@@ -576,13 +627,12 @@ module _ {D T E : Type 0} (language : Language D T E) (lawful : IsLawful languag
           go (refused_end refusal) is =
               subst (HoldBadValue language task) (take-append-drop (2 ^ 48) bytes) (bad_after language task (take (2 ^ 48) bytes) (drop (2 ^ 48) bytes) (subst AreBytes (sym (take-append-drop (2 ^ 48) bytes)) are_bytes) bad refusal is)
 
-        ended : (other : Task T E) → IsTask other → a.given.input.until ≡ at_end → NoRefusal language other a.given.input → ⊥
-        ended other p e held =
-            let stream : Stream bytes task.limit held.trees held.end =
-            subst (λ b. Stream b task.limit held.trees held.end) (sym (all_of language words call a bytes taken_front.0 are_bytes taken_front.1 e))
-            (subst (λ limit. Stream a.given.input.bytes limit held.trees held.end) (alike other p).1 held.stream) in
+        ended : (other : Task T E) → IsTask other → a.given.input.until ≡ at_end → (well : Bool) → HoldToEnd language other a.given.input.bytes well → ⊥
+        ended other p e well held =
+            let here = end_in_all other e well held in
+            let stream : Stream bytes task.limit here.trees clean = ([], subst (λ limit. SpellAll limit bytes here.trees []) (alike other p).1 here.first.spelled, refl) in
             let b = bad_in_all in
-            b.some ((streams_once law task.limit bytes b.trees held.trees b.end held.end are_bytes (b.rest, b.first.spelled, b.tail) stream).1 ∙ held.whole e)
+            b.some (streams_once law task.limit bytes b.trees here.trees b.end clean are_bytes (b.rest, b.first.spelled, b.tail) stream).1
 
         too_many : (other : Task T E) → IsTask other → a.given.input.until ≡ at_length → NoRefusal language other a.given.input → ⊥
         too_many other p e held = go bad.end refl where
@@ -597,23 +647,6 @@ module _ {D T E : Type 0} (language : Language D T E) (lawful : IsLawful languag
               (refused_after task.limit (take (2 ^ 48) a.given.input.bytes) (drop (2 ^ 48) a.given.input.bytes) bad.trees refusal front) in
               let stream : Stream a.given.input.bytes task.limit held.trees held.end = subst (λ limit. Stream a.given.input.bytes limit held.trees held.end) (alike other p).1 held.stream in
               held.unrefused refusal (ends_once task.limit a.given.input.bytes taken_front.0 taken_front.1.front held.trees bad.trees held.end (refused_end refusal) stream all)
-
-        -- no file is too long
-        sought_text : (name : List ℕ) (taken : Taken) → IsFoundIn language words a.given.files name (opened taken) → (text : List ℕ) × (contents_of files name ≡ Some text)
-        sought_text name taken (inl (is, found)) =
-            let here : AcceptsFile language (fetches_of (contents_of files)).file name is.0 = prepared_accepts language words (fetches_of (contents_of files)) task prepared name is.0 is.1 in
-            (here.text, found_text (contents_of files name) here.text here.found)
-        sought_text name taken (inr (is, found)) =
-            let here = prepared_script language words (fetches_of (contents_of files)) task prepared a.given.files.file name is in
-            (here.text, found_text (contents_of files name) here.text here.found)
-
-        file_short : (name : List ℕ) (taken : Taken) → IsFoundIn language words a.given.files name (opened taken) → taken.until ≡ at_length → ⊥
-        file_short name taken is e =
-            let text = sought_text name taken is in
-            let f = fetch_of language words call a name (opened taken) is in
-            let told_file : TellsFile f.at name text.0 = rw (f.map ∙ map, text.1) in
-            let long = told_long f.at name text.0 told_file taken f.fetched e in
-            let few = short name text.0 text.1 in omega (arith, long, few)
 
         -- values that are edited hold no stop
         never_held : (stop : Stop) → HoldStop language task bytes stop → ⊥
@@ -640,17 +673,148 @@ module _ {D T E : Type 0} (language : Language D T E) (lawful : IsLawful languag
 
         value_cause : (s : Status) → Cause s → (s ≡ statuses.Value) ⊎ IsOutside s
         value_cause =
-            cause_or_outside statuses.Value plain (λ bad. absurd (well_asked bad)) (λ other p e held. ended other p e held) (λ other p n. absurd (only_one other p n)) (λ n t x typed e why. absurd (not_refused n t x typed e why))
-            lines_not_refused none_held_in_all (λ other p v. refl) (λ n taken f u. absurd (file_short n taken f u)) (λ other p e held. absurd (too_many other p e held))
+            cause_or_outside statuses.Value plain (λ bad. absurd (well_asked bad)) (λ other p e well held. absurd (ended other p e well held)) (λ other p n. absurd (only_one other p n)) (λ n t x typed e why. absurd (not_refused n t x typed e why))
+            (λ n x e r. absurd (lines_not_refused n x e r)) (λ other p stop h. absurd (none_held_in_all other p stop h)) (λ other p v. refl) (λ n taken f u. absurd (file_short short n taken f u)) (λ other p e held. absurd (too_many other p e held))
+
+      -- what was taken is of this work, and of all bytes
+      module _ (other : Task T E) (p : IsTask other) where
+        end_of_all : a.given.input.until ≡ at_end → (well : Bool) → HoldToEnd language other a.given.input.bytes well → HoldToEnd language task bytes well
+        end_of_all e well held = end_in_all task e well (subst (λ t. HoldToEnd language t a.given.input.bytes well) (same_task other p) held)
+
+        stop_of_task : (stop : Stop) → Held language other a.given.input stop → HoldStop language task bytes stop
+        stop_of_task stop h = stop_of_all language words call a bytes taken_front.0 are_bytes taken_front.1 task stop (subst (λ t. Held language t a.given.input stop) (same_task other p) h)
+
+        bad_of_task : NoValue language other a.given.input → HoldBadValue language task bytes
+        bad_of_task v = bad_of language words call a bytes taken_front.0 are_bytes taken_front.1 task (subst (λ t. NoValue language t a.given.input) (same_task other p) v)
+
+        two_of_task : NotTwo other a.given.input → (task.work ≡ compares) × AreNotTwo task.limit bytes
+        two_of_task n =
+            let here : NotTwo task a.given.input = subst (λ t. NotTwo t a.given.input) (same_task other p) n in
+            (here.is, not_two_of language words call a bytes taken_front.0 are_bytes taken_front.1 task here)
+
+      -- all bytes have one reply
+      one_reply : (all other : Replies) → ValuesReply language task (whole bytes) all → ValuesReply language task (whole bytes) other → all ≡ other
+      one_reply all other v w = values_once language lawful law task is_given bytes are_bytes all other v w
+
+      -- ---- a stop of values that are edited
+
+      module _ (short : AreShort files) (stop : Stop) (holds : HoldStop language task (take (2 ^ 48) bytes) stop) (in_all : holds.rest ≡ [] → length bytes < 2 ^ 48) where
+        -- of all bytes
+        stop_in_all : HoldStop language task bytes stop
+        stop_in_all = go holds.why where
+          longer_stop : StopsAt language task.work task.limit holds.trees holds.rest stop → HoldStop language task (take (2 ^ 48) bytes ++ drop (2 ^ 48) bytes) stop
+          longer_stop at = record {
+            type = holds.type;
+            script = holds.script;
+            compat = holds.compat;
+            work = holds.work;
+            trees = holds.trees;
+            said = holds.said;
+            rest = holds.rest ++ drop (2 ^ 48) bytes;
+            first = first_after language task (take (2 ^ 48) bytes) holds.trees holds.said holds.rest (drop (2 ^ 48) bytes) holds.first;
+            why = inl (stops_more language task.work task.limit holds.trees holds.rest (drop (2 ^ 48) bytes) stop at);
+          }
+
+          go : StopsAt language task.work task.limit holds.trees holds.rest stop ⊎ ((holds.rest ≡ []) × Finishes language task.work holds.trees (stops stop)) → HoldStop language task bytes stop
+          go (inl at) = subst (λ b. HoldStop language task b stop) (take-append-drop (2 ^ 48) bytes) (longer_stop at)
+          go (inr (none, finishes)) =
+              let few = in_all none in subst (λ b. HoldStop language task b stop) (take_all (2 ^ 48) bytes (omega (arith, few))) holds
+
+        -- it is the reply
+        stops_last : (said : List Said) (last : Reply) → ValuesReply language task (whole bytes) (replies said last) → last ≡ stops stop
+        stops_last said last v =
+            let here = stop_in_all in ap (λ all. all.last) (one_reply (replies said last) (replies here.said (stops stop)) v (stop_reply language task bytes stop here))
+
+        never_ended : (other : Task T E) → IsTask other → a.given.input.until ≡ at_end → (well : Bool) → HoldToEnd language other a.given.input.bytes well → ⊥
+        never_ended other p e well held =
+            let here = end_of_all other p e well held in
+            let same : says here.final ≡ stops stop = stops_last here.said (says here.final) (end_reply language task bytes well here) in cc same
+
+        stops_so : (other : Task T E) → IsTask other → (its : Stop) → Held language other a.given.input its → status_of its ≡ status_of stop
+        stops_so other p its h =
+            let here = stop_of_task other p its h in
+            let same : stops its ≡ stops stop = stops_last here.said (stops its) (stop_reply language task bytes its here) in
+            let is : its ≡ stop = cc same in ap status_of is
+
+        bad_so : (other : Task T E) → IsTask other → NoValue language other a.given.input → statuses.Value ≡ status_of stop
+        bad_so other p v =
+            let here = bad_of_task other p v in
+            let reply = bad_reply language task bytes here in
+            let same : stops (value (length here.trees) reply.0) ≡ stops stop = stops_last here.said (stops (value (length here.trees) reply.0)) reply.1 in
+            let is : value (length here.trees) reply.0 ≡ stop = cc same in ap status_of is
+
+        never_two : (other : Task T E) → IsTask other → NotTwo other a.given.input → ⊥
+        never_two other p n = not_edited task.work holds.type holds.script holds.compat holds.work (two_of_task other p n).0
+
+        -- it comes before too many bytes
+        never_many : (other : Task T E) → IsTask other → a.given.input.until ≡ at_length → NoRefusal language other a.given.input → ⊥
+        never_many other p e its = go holds.why where
+          go : StopsAt language task.work task.limit holds.trees holds.rest stop ⊎ ((holds.rest ≡ []) × Finishes language task.work holds.trees (stops stop)) → ⊥
+          go (inr (none, finishes)) = let short = in_all none in let long = long_of_many e in omega (arith, short, long)
+          go (inl at) =
+              let taken = a.given.input.bytes in
+              let taken_bytes = All-take-front taken taken_front.0 (subst AreBytes taken_front.1.front are_bytes) in
+              let more = drop (2 ^ 48) taken in
+              let held : NoRefusal language task a.given.input = subst (λ t. NoRefusal language t a.given.input) (same_task other p) its in
+              let spelled : SpellAll task.limit taken holds.trees (holds.rest ++ more) =
+              subst (λ b. SpellAll task.limit b holds.trees (holds.rest ++ more)) (take-append-drop (2 ^ 48) taken)
+              (spell_after task.limit (take (2 ^ 48) taken) holds.rest more holds.trees (subst (λ b. SpellAll task.limit b holds.trees holds.rest) (first_many e) holds.first.spelled)) in
+              let there = stops_more language task.work task.limit holds.trees holds.rest more stop at in
+              stop_or_end language lawful law task.work task.limit taken taken_bytes holds.trees held.trees (holds.rest ++ more) held.stream.0 held.end stop spelled there held.stream.1
+              (no_more_said language lawful law task.work is_given task.limit taken taken_bytes holds.trees held.trees (holds.rest ++ more) held.stream.0 stop held.said spelled there held.stream.1 held.all_say)
+              held.stream.2 held.goes_on
+
+        stop_cause : (s : Status) → Cause s → (s ≡ status_of stop) ⊎ IsOutside s
+        stop_cause =
+            cause_or_outside (status_of stop) plain (λ bad. absurd (well_asked bad)) (λ other p e well held. absurd (never_ended other p e well held)) (λ other p n. absurd (never_two other p n))
+            (λ n t x typed e why. absurd (not_refused n t x typed e why)) (λ n x e r. absurd (lines_not_refused n x e r)) stops_so bad_so (λ n taken f u. absurd (file_short short n taken f u))
+            (λ other p e held. absurd (never_many other p e held))
+
+      -- ---- values to the end
+
+      module _ (short : AreShort files) (few : length bytes < 2 ^ 48) (well : Bool) (held : HoldToEnd language task bytes well) where
+        -- all that is said is the reply
+        says_all : (all : Replies) → ValuesReply language task (whole bytes) all → all ≡ replies held.said (says held.final)
+        says_all all v = one_reply all (replies held.said (says held.final)) v (end_reply language task bytes well held)
+
+        never_stopped : (said : List Said) (stop : Stop) → ValuesReply language task (whole bytes) (replies said (stops stop)) → ⊥
+        never_stopped said stop v =
+            let same : stops stop ≡ says held.final = ap (λ all. all.last) (says_all (replies said (stops stop)) v) in cc same
+
+        ends_so : (other : Task T E) → IsTask other → a.given.input.until ≡ at_end → (its : Bool) → HoldToEnd language other a.given.input.bytes its
+            → (if its then statuses.Well else statuses.No) ≡ (if well then statuses.Well else statuses.No)
+        ends_so other p e its h =
+            let here = end_of_all other p e its h in
+            let same = says_all (replies here.said (says here.final)) (end_reply language task bytes its here) in
+            ap (λ w. if w then statuses.Well else statuses.No) (sym here.is_well) ∙ (ap (λ all. (ending_of all).status) same ∙ ap (λ w. if w then statuses.Well else statuses.No) held.is_well)
+
+        end_cause : (s : Status) → Cause s → (s ≡ (if well then statuses.Well else statuses.No)) ⊎ IsOutside s
+        end_cause =
+            cause_or_outside (if well then statuses.Well else statuses.No) plain (λ bad. absurd (well_asked bad)) ends_so
+            (λ other p n. let two = two_of_task other p n in absurd (end_or_not_two task two.0 well held two.1))
+            (λ n t x typed e why. absurd (not_refused n t x typed e why)) (λ n x e r. absurd (lines_not_refused n x e r))
+            (λ other p stop h. let here = stop_of_task other p stop h in absurd (never_stopped here.said stop (stop_reply language task bytes stop here)))
+            (λ other p v. let here = bad_of_task other p v in let reply = bad_reply language task bytes here in absurd (never_stopped here.said (value (length here.trees) reply.0) reply.1))
+            (λ n taken f u. absurd (file_short short n taken f u)) (λ other p e its. let long = long_of_many e in absurd (omega (arith, long, few)))
 
   pub if_not_two : HasOneJudgement → TellsBytes call.input → IfNotTwo words call
   if_not_two law tells bytes most asks told two in_all = two_cause bytes told law (rw told at tells) most asks two in_all call.status (account_why language words call a)
 
-  pub if_too_long : HasOneJudgement → TellsBytes call.input → IfTooLong language words call
-  if_too_long law tells = record {
-    file = λ name bytes is told long. file_cause name is.0 bytes is.1 told long call.status (account_why language words call a);
-    input = λ files task bytes said map prepared told long holds. input_cause bytes told law (rw told at tells) files task map prepared long said holds call.status (account_why language words call a);
-  }
+  pub file_too_long : (name bytes : List ℕ) → AsksForFile language words name → TellsFile call.files name bytes → 2 ^ 48 ≤ length bytes → (call.status ≡ statuses.TooLong) ⊎ IsOutside call.status
+  file_too_long name bytes is told long = file_cause name is.0 bytes is.1 told long call.status (account_why language words call a)
+
+  pub input_too_long : HasOneJudgement → TellsBytes call.input → (files : List File) (task : Task T E) (bytes : List ℕ) (said : List Said) → call.files.before.map ≡ Some files → Prepares language words (fetches_of (contents_of files)) (Ok task)
+      → call.input.before.bytes ≡ Some bytes → 2 ^ 48 ≤ length bytes → HoldNoStop language task (take (2 ^ 48 + 4095) bytes) said → (call.status ≡ statuses.TooLong) ⊎ IsOutside call.status
+  input_too_long law tells files task bytes said map prepared told long holds = input_cause bytes told law (rw told at tells) files task map prepared long said holds call.status (account_why language words call a)
 
   pub if_value : HasOneJudgement → TellsBytes call.input → IfValue language words call
   if_value law tells files task bytes map short prepared told bad in_all = value_cause bytes told law (rw told at tells) files task map prepared short bad in_all call.status (account_why language words call a)
+
+  pub if_stops_by : HasOneJudgement → TellsBytes call.input → (status : Status) → IfStopsBy language words call status
+  if_stops_by law tells status task bytes stop told is holds in_all =
+      subst (λ s. (call.status ≡ s) ⊎ IsOutside call.status) is
+      (stop_cause bytes told.input law (rw told.input at tells) told.files task told.map told.prepared told.short stop holds in_all call.status (account_why language words call a))
+
+  pub if_to_end : HasOneJudgement → TellsBytes call.input → (well : Bool) → IfToEnd language words call well (if well then statuses.Well else statuses.No)
+  if_to_end law tells well task bytes told few held =
+      end_cause bytes told.input law (rw told.input at tells) told.files task told.map told.prepared told.short few well held call.status (account_why language words call a)

@@ -19,6 +19,8 @@ pub mod CompleteLemmas
 pub mod LanguageLemmas
 pub mod DecidedLemmas
 pub mod ExactLemmas
+pub mod TurnLemmas
+pub mod CopyLemmas
 pub mod FrontLemmas
 pub mod PaceLemmas
 pub mod PromiseLemmas

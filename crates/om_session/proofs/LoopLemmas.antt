@@ -8,9 +8,9 @@ use Rattle.om_outcome.specs.Outcome.{at_end, at_fault, at_length, unasked, Said,
 use Rattle.om_edge.specs.Sink.{Puts}
 use Rattle.om_edge.specs.Source.{TakesFront}
 use Rattle.om_edge.specs.State.{ByteState, Change, change}
-use Rattle.om_session.specs.declared.stop.Stop.TheVariants as stops
-use Rattle.om_session.specs.declared.stop.Halt.{Halt}
-use Rattle.om_session.specs.declared.stop.Halt.TheVariants as halts
+use Rattle.om_stops.specs.declared.stop.Stop.TheVariants as stops
+use Rattle.om_stops.specs.declared.stop.Halt.{Halt}
+use Rattle.om_stops.specs.declared.stop.Halt.TheVariants as halts
 use Rattle.om_session.specs.declared.values.Values.{Values}
 use Rattle.om_session.specs.Given.{Gathers}
 use Rattle.om_session.specs.Values.{HasRead, ReadsSome, ReadsPiece, EndsAt, PutsValues}

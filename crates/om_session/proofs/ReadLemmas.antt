@@ -7,7 +7,7 @@ use Rattle.std.proofs.lemmas.List.Elements.{All-from_recursion}
 use Rattle.std.specs.declared.alloc.Global.{Global}
 use Rattle.om_edge.specs.Sink.{Puts, PutsPart}
 use Rattle.om_edge.specs.State.{ByteState, Change, change}
-use Rattle.om_session.specs.declared.stop.Halt.{Halt}
+use Rattle.om_stops.specs.declared.stop.Halt.{Halt}
 use Rattle.om_model.specs.declared.refusal.ReadRefusal.{ReadRefusal}
 use Rattle.om_format.specs.Front.{IsFront}
 use Rattle.om_format.specs.Tree.{Tree, root, objects_of}
@@ -34,13 +34,13 @@ use Rattle.om_outcome.specs.Outcome.{Said, Says, SayFirst, StopsAt, Finishes as 
 use Rattle.om_session.specs.declared.verdict.Speech.{Speech}
 use Rattle.om_session.specs.declared.verdict.Speech.TheVariants as speeches
 use Rattle.om_session.specs.declared.values.Values.{Values}
-use Rattle.om_session.specs.declared.stop.Halt.TheVariants as halts
-use Rattle.om_session.specs.declared.stop.Stop.TheVariants as stops
+use Rattle.om_stops.specs.declared.stop.Halt.TheVariants as halts
+use Rattle.om_stops.specs.declared.stop.Stop.TheVariants as stops
 use Rattle.om_session.specs.Language.{declared_types}
 use Rattle.om_session.specs.Verdict.{work_by, IsSaidOf}
 use Rattle.om_session.specs.Run.{HoldNoStop}
-use Rattle.om_session.specs.Stops.{stop_of}
-use Rattle.om_session.specs.declared.stop.Stop.{Stop}
+use Rattle.om_stops.specs.Stops.{stop_of}
+use Rattle.om_stops.specs.declared.stop.Stop.{Stop}
 use Rattle.om_format.specs.Front.{IsRefused}
 use Rattle.om_read.specs.Reading.{RefusedIn}
 use Rattle.om_read.proofs.ReadingLemmas.{unless_memory}

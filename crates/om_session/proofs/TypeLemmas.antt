@@ -17,8 +17,8 @@ use Rattle.om_decl.specs.Fault.{told, IsRefused}
 use Rattle.om_decl.specs.Read.{IsTypeOf}
 use Rattle.om_decl.specs.Text.{answer_text, lexer_text, placed_text}
 use Rattle.om_outcome.specs.Outcome.{at_end, Taken, Found, opened, missing, failed, Stop, cannot_open, declarations, requested_type, script_line, out_of_memory, fault_of}
-use Rattle.om_session.specs.declared.stop.Stop as codes_of
-use Rattle.om_session.specs.declared.stop.Stop.TheVariants as stops
+use Rattle.om_stops.specs.declared.stop.Stop as codes_of
+use Rattle.om_stops.specs.declared.stop.Stop.TheVariants as stops
 use Rattle.om_session.specs.declared.types.Requested.{Requested}
 use Rattle.om_path.specs.Answer.{IsAnswer, UnlessMemory}
 use Rattle.om_path.specs.declared.fault.PathFault.{PathFault}
@@ -28,7 +28,7 @@ use Rattle.om_path.specs.declared.edits.Script.{Script}
 use Rattle.om_path.specs.declared.edits.ScriptFault.{ScriptFault}
 use Rattle.om_path.specs.declared.edits.ScriptFault.TheVariants as script_faults
 use Rattle.om_session.specs.Language.{IsRefusal, ReadsPath, ReadsScript}
-use Rattle.om_session.specs.Stops.{stop_of, declared_text}
+use Rattle.om_stops.specs.Stops.{stop_of, declared_text}
 use Rattle.om_session.specs.Types.{StopsBy, IsDeclarationsStop, IsTypeStop, IsScriptStop, GivesDeclarations, GivesRequested, GivesType, GivesScript}
 
 -- ---- faults
@@ -85,24 +85,6 @@ type_told (faults.TagClash place) some = refl
 type_told (faults.HashClash place one two) some = refl
 type_told (faults.FloatInGroup place) some = refl
 type_told faults.Memory some = absurd (some refl)
-
--- its text is that of what it tells
-pub told_text : (fault : DeclFault) → fault ≢ faults.Memory → (text : List ℕ) → ((answer : Answer FileTree) → told fault ≡ Some answer → text ≡ answer_text answer) → text ≡ declared_text fault
-told_text (faults.Lex fault) some text is = is _ refl
-told_text (faults.Syntax place) some text is = is _ refl
-told_text (faults.TooDeep place) some text is = is _ refl
-told_text (faults.Twice place) some text is = is _ refl
-told_text (faults.UnknownName place) some text is = is _ refl
-told_text (faults.Arity place) some text is = is _ refl
-told_text (faults.UnboundVar place) some text is = is _ refl
-told_text (faults.Cyclic place) some text is = is _ refl
-told_text (faults.Irregular place) some text is = is _ refl
-told_text (faults.TooManyConstructors place) some text is = is _ refl
-told_text (faults.NotVariant place) some text is = is _ refl
-told_text (faults.TagClash place) some text is = is _ refl
-told_text (faults.HashClash place one two) some text is = is _ refl
-told_text (faults.FloatInGroup place) some text is = is _ refl
-told_text faults.Memory some text is = absurd (some refl)
 
 -- ---- stops
 

@@ -37,8 +37,8 @@ module _ {D T E : Type 0} (language : Language D T E) (words : List (List ℕ)) 
       let found : ◌≡◌ {A = Option (List ℕ)} None (Some name) = sym none ∙ (ap script_of (one_request words request is.request asks is.asks) ∙ is.scripted) in cc found
 
   -- one SCRIPT
-  pub one_script : (file : List ℕ → Found) (name other : List ℕ) → AsksForScript language words file name → AsksForScript language words file other → name ≡ other
-  one_script file name other is its =
+  pub one_script : (file from : List ℕ → Found) (name other : List ℕ) → AsksForScript language words file name → AsksForScript language words from other → name ≡ other
+  one_script file from name other is its =
       let found : ◌≡◌ {A = Option (List ℕ)} (Some name) (Some other) = sym is.scripted ∙ (ap script_of (one_request words is.request its.request is.asks its.asks) ∙ its.scripted) in cc found
 
   -- words with a SCRIPT have no PATH

@@ -19,12 +19,12 @@ use Rattle.om_path.specs.declared.edits.ScriptLine.{ScriptLine}
 use Rattle.om_read.specs.declared.value.Value.{Value}
 use Rattle.om_outcome.specs.Outcome.{Unedited, unedited_stop, untyped_value, script_line, out_of_memory, lines_for, line_past}
 use Rattle.om_session.specs.declared.edit.Edits.{Edits}
-use Rattle.om_session.specs.declared.stop.Halt.{Halt}
-use Rattle.om_session.specs.declared.stop.Halt.TheVariants as halts
-use Rattle.om_session.specs.declared.stop.Stop.{Stop}
+use Rattle.om_stops.specs.declared.stop.Halt.{Halt}
+use Rattle.om_stops.specs.declared.stop.Halt.TheVariants as halts
+use Rattle.om_stops.specs.declared.stop.Stop.{Stop}
 use Rattle.om_session.specs.declared.types.Requested.{Requested}
 use Rattle.om_session.specs.Language.{declared_types, AreBytesOf, IsBytesLine}
-use Rattle.om_session.specs.Stops.{stop_of}
+use Rattle.om_stops.specs.Stops.{stop_of}
 use Rattle.om_session.specs.Types.{type_over}
 
 -- the lines that edit value k

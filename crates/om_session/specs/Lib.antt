@@ -1,5 +1,6 @@
 pub mod Verdict
 pub mod Call
+pub mod Copied
 pub mod Edits
 pub mod Ends
 pub mod Fetch
@@ -7,7 +8,6 @@ pub mod Gathered
 pub mod Given
 pub mod Language
 pub mod Run
-pub mod Stops
 pub mod Telling
 pub mod Types
 pub mod Values

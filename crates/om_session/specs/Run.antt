@@ -1,13 +1,13 @@
 -- What is promised of a call of `run`. One account of the call carries all: what the outside gave, what is said of that,
 -- and how much of it was put. The others follow from it.
-use Rattle.std.specs.Prelude.{ℕ, suc, Bool, ◌+◌, ◌^◌, ◌<◌, ◌≤◌, ◌≡◌, ◌≢◌, ◌⊎◌, true, List, [], ◌∷◌, ◌++◌, length, take, Some, None, IsSomeAnd, IfSome, Ok, Err}
+use Rattle.std.specs.Prelude.{ℕ, suc, Bool, ◌+◌, ◌^◌, ◌<◌, ◌≤◌, ◌≡◌, ◌≢◌, ◌⊎◌, true, false, List, [], ◌∷◌, ◌++◌, length, take, Some, None, IsSomeAnd, IfSome, Ok, Err}
 use Rattle.om_outcome.specs.declared.status.Status.{Status}
-use Rattle.om_outcome.specs.declared.status.Status.TheVariants.{Well, Usage, ReadFault, WriteFault, OpenFault, Memory, TooLong, Types, Value, Script, Compat}
+use Rattle.om_outcome.specs.declared.status.Status.TheVariants.{Well, No, Usage, ReadFault, WriteFault, OpenFault, Memory, TooLong, Types, Value, Script, Compat}
 use Rattle.std.specs.List.{AllByRecursion}
 use Rattle.om_format.specs.Tree.{Tree}
 use Rattle.om_format.specs.Stream.{SpellAll, End, clean, cut, IsTail}
 use Rattle.om_format.specs.Front.{IsFront}
-use Rattle.om_outcome.specs.Outcome.{InputEnd, Taken, unasked, nothing, Found, opened, Fetches, fault_of, status_of, Given, Stop, Request, Language, Ending, ending_of, Said, says, stops, Reply, Replies, replies, all_said, texts_of, Work, tells, edits, dumps, compares, Task, compare, Asks, IsUsage, typed_by, path_of, script_of, ReadsTypeOf, Prepares, lines_for, line_past, StopsAt, Finishes, AreSame, SayFirst, fetches_of, RunReplies, SaysOfFirst, Outcome, out_of_memory, stop_text, err_line}
+use Rattle.om_outcome.specs.Outcome.{InputEnd, Taken, unasked, nothing, Found, opened, Fetches, fault_of, status_of, Given, Stop, Request, Language, Ending, ending_of, Said, says, stops, Reply, Replies, replies, all_said, all_well, texts_of, Work, tells, edits, dumps, compares, Task, compare, Asks, IsUsage, typed_by, path_of, script_of, ReadsTypeOf, Prepares, lines_for, line_past, StopsAt, Finishes, AreSame, SayFirst, fetches_of, RunReplies, SaysOfFirst, Outcome, out_of_memory, stop_text, err_line}
 use Rattle.om_edge.specs.Faults.{RoseOrLast, last_count}
 use Rattle.om_edge.specs.Files.{File, contents_of}
 use Rattle.om_edge.specs.Sink.{Puts, PutsPart}
@@ -207,6 +207,20 @@ IfNotTwo words call =
 abbrev pub TellsFile : Change FilesState → List ℕ → List ℕ → Type 0
 TellsFile files name bytes = IsSomeAnd files.before.map (λ all. contents_of all name ≡ Some bytes)
 
+-- SCRIPT comes in its turn: the files are told, and FILE, which is short enough, is accepted with TYPE
+pub record TellsTurn {D T E : Type 0} (language : Language D T E) (words : List (List ℕ)) (files : Change FilesState) (all : List File) (name : List ℕ) : Type 0 where
+  pub map : files.before.map ≡ Some all
+  pub asks : AsksForScript language words (fetches_of (contents_of all)).file name
+  pub short : (text : List ℕ) → contents_of all asks.typed.0 ≡ Some text → length text < 2 ^ 48
+
+-- the files and the input are told, and the files are short enough and accepted with the words, for this work
+pub record TellsTask {D T E : Type 0} (language : Language D T E) (words : List (List ℕ)) (call : Call) (task : Task T E) (bytes : List ℕ) : Type 0 where
+  pub files : List File
+  pub map : call.files.before.map ≡ Some files
+  pub short : AreShort files
+  pub prepared : Prepares language words (fetches_of (contents_of files)) (Ok task)
+  pub input : call.input.before.bytes ≡ Some bytes
+
 -- the declarations are refused, or the type
 abbrev pub IsRefusedType : {D T E : Type 0} → Language D T E → List ℕ → List ℕ → Type 0
 IsRefusedType {D} language text type =
@@ -242,12 +256,12 @@ pub record HoldBadValue {D T E : Type 0} (language : Language D T E) (task : Tas
   pub some : end ≢ clean
   pub goes_on : (stop : Stop) → StopsAt language task.work task.limit trees rest stop → ⊥
 
--- 4: only where the words, FILE and TYPE are accepted, and the whole input holds a bad value
+-- 4: only where the words and the files are accepted, and the whole input holds a bad value
 abbrev pub OnlyValue : {D T E : Type 0} → Language D T E → List (List ℕ) → Call → Type 0
 OnlyValue language words call = call.status ≡ Value
     → AtInput language words call (λ task input. HoldBadValue language task input)
 
--- and where they are, FILE is short enough, and the first 2^48 bytes of the input, which is told, hold one, in all where it
+-- and where they are, the files are short enough, and the first 2^48 bytes of the input, which is told, hold one, in all where it
 -- ends within it
 abbrev pub IfValue : {D T E : Type 0} → Language D T E → List (List ℕ) → Call → Type 0
 IfValue {D} {T} {E} language words call =
@@ -278,13 +292,16 @@ IsSought language words files name =
     AsksForFile language words name
     ⊎ ((found : Fetches) × FetchesFor language words files found × AsksForScript language words found.file name)
 
--- 8: only where FILE could not be opened, or SCRIPT in its turn; and where the map is told and does not have FILE
+-- 8: only where FILE could not be opened, or SCRIPT in its turn; and where the map is told and does not have FILE, or, in its
+-- turn, SCRIPT
 abbrev pub OnlyOpenFault : {D T E : Type 0} → Language D T E → List (List ℕ) → Call → Type 0
 OnlyOpenFault language words call = call.status ≡ OpenFault → (name : List ℕ) × IsSought language words call.files name × CannotOpen call.files name
 
-abbrev pub IfMissing : {D T E : Type 0} → Language D T E → List (List ℕ) → Call → Type 0
-IfMissing language words call = (name : List ℕ) → AsksForFile language words name → IsSomeAnd call.files.before.map (λ all. contents_of all name ≡ None)
-    → (call.status ≡ OpenFault) ⊎ IsUnsaid call.status
+pub record IfMissing {D T E : Type 0} (language : Language D T E) (words : List (List ℕ)) (call : Call) : Type 0 where
+  pub file : (name : List ℕ) → AsksForFile language words name → IsSomeAnd call.files.before.map (λ all. contents_of all name ≡ None)
+      → (call.status ≡ OpenFault) ⊎ IsUnsaid call.status
+  pub script : (all : List File) (name : List ℕ) → TellsTurn language words call.files all name → contents_of all name ≡ None
+      → (call.status ≡ OpenFault) ⊎ ((call.status ≡ ReadFault) ⊎ IsUnsaid call.status)
 
 -- 10: only where the input, FILE, or SCRIPT in its turn, has 2^48 bytes or more, where they are told
 abbrev pub OnlyTooLong : {D T E : Type 0} → Language D T E → List (List ℕ) → Call → Type 0
@@ -292,10 +309,11 @@ OnlyTooLong language words call = call.status ≡ TooLong
     → IfSome call.input.before.bytes (λ bytes. 2 ^ 48 ≤ length bytes)
     ⊎ ((name : List ℕ) × IsSought language words call.files name × IfSome call.files.before.map (λ all. IsSomeAnd (contents_of all name) (λ bytes. 2 ^ 48 ≤ length bytes)))
 
--- and where FILE is told and has so many; or the words, FILE and TYPE are accepted, and the input is told and has so many,
--- with no stop in those that are taken of it at most
+-- and where FILE is told and has so many, or SCRIPT in its turn; or the words and the files are accepted, and the input is
+-- told and has so many, with no stop in those that are taken of it at most
 pub record IfTooLong {D T E : Type 0} (language : Language D T E) (words : List (List ℕ)) (call : Call) : Type 0 where
   pub file : (name bytes : List ℕ) → AsksForFile language words name → TellsFile call.files name bytes → 2 ^ 48 ≤ length bytes → (call.status ≡ TooLong) ⊎ IsOutside call.status
+  pub script : (all : List File) (name bytes : List ℕ) → TellsTurn language words call.files all name → contents_of all name ≡ Some bytes → 2 ^ 48 ≤ length bytes → (call.status ≡ TooLong) ⊎ IsOutside call.status
   pub input : (files : List File) (task : Task T E) (bytes : List ℕ) (said : List Said) → call.files.before.map ≡ Some files → Prepares language words (fetches_of (contents_of files)) (Ok task)
       → call.input.before.bytes ≡ Some bytes → 2 ^ 48 ≤ length bytes → HoldNoStop language task (take (2 ^ 48 + 4095) bytes) said → (call.status ≡ TooLong) ⊎ IsOutside call.status
 
@@ -336,6 +354,13 @@ pub record HoldStop {D T E : Type 0} (language : Language D T E) (task : Task T 
 abbrev pub StopsBy : {D T E : Type 0} → Language D T E → List (List ℕ) → Call → Status → Type 0
 StopsBy language words call status = AtInput language words call (λ task input. (stop : Stop) × (status_of stop ≡ status) × HoldStop language task input stop)
 
+-- and where the input that is told holds one: in its first 2^48 bytes, or in all where it comes at their end
+abbrev pub IfStopsBy : {D T E : Type 0} → Language D T E → List (List ℕ) → Call → Status → Type 0
+IfStopsBy {D} {T} {E} language words call status =
+    (task : Task T E) (bytes : List ℕ) (stop : Stop) → TellsTask language words call task bytes → status_of stop ≡ status
+    → (holds : HoldStop language task (take (2 ^ 48) bytes) stop) → (holds.rest ≡ [] → length bytes < 2 ^ 48)
+    → (call.status ≡ status) ⊎ IsOutside call.status
+
 -- 5: only where what SCRIPT holds is refused, in its turn; or a line of it is refused at its value, or edits no value
 abbrev pub OnlyScript : {D T E : Type 0} → Language D T E → List (List ℕ) → Call → Type 0
 OnlyScript language words call = call.status ≡ Script
@@ -343,9 +368,45 @@ OnlyScript language words call = call.status ≡ Script
     × IsRefusedScript language words found name text)
     ⊎ StopsBy language words call Script
 
+-- and where SCRIPT in its turn is told, is short enough, and is refused; or the input that is told holds such a line
+pub record IfScript {D T E : Type 0} (language : Language D T E) (words : List (List ℕ)) (call : Call) : Type 0 where
+  pub text : (all : List File) (name text : List ℕ) (refusal : ℕ × List ℕ) → TellsTurn language words call.files all name → contents_of all name ≡ Some text → length text < 2 ^ 48
+      → language.ReadsScript text (Err refusal) → (call.status ≡ Script) ⊎ IsOutside call.status
+  pub line : IfStopsBy language words call Script
+
 -- 11: only where an edited value is too large for a reader on 32 bits, and that was asked for
 abbrev pub OnlyCompat : {D T E : Type 0} → Language D T E → List (List ℕ) → Call → Type 0
 OnlyCompat language words call = call.status ≡ Compat → StopsBy language words call Compat
+
+-- ---- nothing stops the run
+
+-- the bytes are values; this is said of them, and at their end; and whether nothing is wrong with any of it
+pub record HoldToEnd {D T E : Type 0} (language : Language D T E) (task : Task T E) (bytes : List ℕ) (well : Bool) : Type 0 where
+  pub trees : List Tree
+  pub said : List Said
+  pub first : SayFirst language task bytes trees said []
+  pub final : Said
+  pub finishes : Finishes language task.work trees (says final)
+  pub is_well : all_well (said ++ final ∷ []) ≡ well
+
+-- the input that is told, and is short enough, is values with all of which nothing is wrong, or not so
+abbrev pub IfToEnd : {D T E : Type 0} → Language D T E → List (List ℕ) → Call → Bool → Status → Type 0
+IfToEnd {D} {T} {E} language words call well status =
+    (task : Task T E) (bytes : List ℕ) → TellsTask language words call task bytes → length bytes < 2 ^ 48 → HoldToEnd language task bytes well → (call.status ≡ status) ⊎ IsOutside call.status
+
+-- 0: only where the words and the files are accepted, and the whole input is values with which nothing is wrong
+abbrev pub OnlyWell : {D T E : Type 0} → Language D T E → List (List ℕ) → Call → Type 0
+OnlyWell language words call = call.status ≡ Well → AtInput language words call (λ task input. HoldToEnd language task input true)
+
+-- 1: only where something is wrong with them, at the input's end, or a value that is to be edited has not the type
+abbrev pub OnlyNo : {D T E : Type 0} → Language D T E → List (List ℕ) → Call → Type 0
+OnlyNo language words call = call.status ≡ No
+    → AtInput language words call (λ task input. HoldToEnd language task input false) ⊎ StopsBy language words call No
+
+-- and where they are told, and are so
+pub record IfNo {D T E : Type 0} (language : Language D T E) (words : List (List ℕ)) (call : Call) : Type 0 where
+  pub values : IfToEnd language words call false No
+  pub untyped : IfStopsBy language words call No
 
 -- ---- where the input or a file failed, or was too long
 
@@ -471,6 +532,12 @@ pub record Promises {D T E : Type 0} (language : Language D T E) (words : List (
   pub complete : IsComplete language words call
   -- unless memory runs out, an honest call has the status of each outcome: each comes exactly where an outcome has it
   pub decided : IsDecided language words call
+  -- 0: the whole input is values with which nothing is wrong
+  pub well_only : OnlyWell language words call
+  pub well_if : IfToEnd language words call true Well
+  -- 1: something is wrong with them; or a value that is to be edited has not the type
+  pub no_only : OnlyNo language words call
+  pub no_if : IfNo language words call
   -- 2: the words ask for nothing, PATH is no path, or `same` finds other than two values
   pub usage_only : OnlyUsage language words call
   pub usage_if : IfUsage language words call
@@ -481,9 +548,12 @@ pub record Promises {D T E : Type 0} (language : Language D T E) (words : List (
   -- 4: the input holds a value that is refused or cut
   pub value_only : OnlyValue language words call
   pub value_if : IfValue language words call
-  -- 5: what SCRIPT holds is refused, or a line of it, or it edits no value; 11: a value is too large for a reader on 32 bits
+  -- 5: what SCRIPT holds is refused, or a line of it, or it edits no value
   pub script_only : OnlyScript language words call
+  pub script_if : IfScript language words call
+  -- 11: a value is too large for a reader on 32 bits
   pub compat_only : OnlyCompat language words call
+  pub compat_if : IfStopsBy language words call Compat
   -- 6: a call on the input failed, or a read of a file
   pub read_fault_only : OnlyReadFault call
   -- 7: a call on out or err failed

@@ -14,11 +14,11 @@ use Rattle.om_path.specs.declared.fault.PathFault.{PathFault}
 use Rattle.om_path.specs.declared.fault.PathFault.TheVariants as path_faults
 use Rattle.om_path.specs.declared.edits.Script.{Script}
 use Rattle.om_path.specs.declared.edits.ScriptFault.{ScriptFault}
-use Rattle.om_session.specs.declared.stop.Stop.{Stop}
+use Rattle.om_stops.specs.declared.stop.Stop.{Stop}
 use Rattle.om_session.specs.declared.types.Requested.{Requested}
 use Rattle.om_session.specs.Given.{Fetched}
 use Rattle.om_session.specs.Language.{TypeOver, declared_types, ReadsDeclarations, ReadsType, script_refusal}
-use Rattle.om_session.specs.Stops.{stop_of}
+use Rattle.om_stops.specs.Stops.{stop_of}
 
 -- the type, over its declarations
 abbrev pub type_over : Requested → TypeOver

@@ -17,9 +17,9 @@ use Rattle.om_outcome.specs.Outcome as outcome
 use Rattle.om_edge.specs.Sink.{Puts, PutsPart}
 use Rattle.om_edge.specs.State.{ByteState, Change, change}
 use Rattle.om_path.specs.declared.edits.ScriptLine.{ScriptLine}
-use Rattle.om_session.specs.declared.stop.Stop.{Stop}
-use Rattle.om_session.specs.declared.stop.Halt.{Halt}
-use Rattle.om_session.specs.declared.stop.Halt.TheVariants as halts
+use Rattle.om_stops.specs.declared.stop.Stop.{Stop}
+use Rattle.om_stops.specs.declared.stop.Halt.{Halt}
+use Rattle.om_stops.specs.declared.stop.Halt.TheVariants as halts
 use Rattle.om_session.specs.declared.values.Values.{Values}
 use Rattle.om_session.specs.declared.values.Work.{Work}
 use Rattle.om_session.specs.declared.values.Work.TheVariants as works
@@ -28,7 +28,7 @@ use Rattle.om_session.specs.Language.{TypeOver, declared_types}
 use Rattle.om_session.specs.Run.{HoldNoStop, IsPaced, PutsPartAfter}
 use Rattle.om_session.specs.declared.edit.Edits.{Edits}
 use Rattle.om_session.specs.Edits.{OrMemory}
-use Rattle.om_session.specs.Stops.{stop_of}
+use Rattle.om_stops.specs.Stops.{stop_of}
 use Rattle.om_session.specs.Types.{type_over, IsReady}
 use Rattle.om_session.specs.Verdict.{work_by, IsReadySpeech}
 

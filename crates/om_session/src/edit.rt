@@ -7,7 +7,6 @@ ghost use Rattle.om_session.specs.Edits.{ChecksType, EditsLine, EditsLines, Puts
 ghost use Rattle.om_edit.specs.Reasons.{Reason, literal_reason, reason_of};
 ghost use Rattle.om_session.specs.Types.{IsReady};
 
-use crate::stop::{Halt, Stop};
 use crate::types::Requested;
 use crate::verdict::{find_verdict, put_no};
 use om_check::Verdict;
@@ -20,6 +19,7 @@ use om_model::list::List;
 use om_model::value::Val;
 use om_path::{Script, ScriptLine};
 use om_read::Value;
+use om_stops::stop::{Halt, Stop};
 use om_table::tables_decide;
 use om_type_table::laws::tables_are_lawful;
 use om_write::{Write32Error, write, write32};

@@ -4,6 +4,7 @@ ghost use Rattle.std.specs.Prelude.{List, ℕ};
 ghost use Rattle.om_outcome.specs.Outcome.{Asks, get as get_of, edit as edit_of};
 ghost use Rattle.om_edge.specs.State.{FilesState, change};
 ghost use Rattle.om_session.specs.Call.{call};
+ghost use Rattle.om_session.specs.Copied.{LeavesCanonical};
 ghost use Rattle.om_session.specs.Ends.{TakesValues};
 ghost use Rattle.om_session.specs.Language.{declared_types};
 ghost use Rattle.om_session.specs.Run.{Account, Promises};
@@ -14,7 +15,6 @@ ghost use Rattle.om_session.specs.Verdict.{saying_of};
 ghost use Rattle.om_command_line.specs.Requests.{texts, request_of};
 
 use crate::edit::Edits;
-use crate::stop::{Halt, Stop, report_stop};
 use crate::types::{Requested, find_script, find_type, path_stop};
 use crate::values::{Work, put_values};
 use crate::verdict::{Saying, Speech};
@@ -26,6 +26,7 @@ use om_edit::edits_have_one_answer;
 use om_format::laws::one_judgement;
 use om_outcome::status::Status;
 use om_path::{one_answer as one_path, one_script_answer, read_path};
+use om_stops::stop::{Halt, Stop, report_stop};
 use om_table::type_or_fault;
 use std::alloc::Global;
 
@@ -257,7 +258,10 @@ pub fn run<S: Source, O: Opener, K: Sink, E: Sink>(
     out: &mut K,
     err: &mut E,
 ) -> Status
-    ensures { Promises declared_types (texts words.now)
+    ensures promises { Promises declared_types (texts words.now)
+        (call (change (S.state input.old) (S.state input.new)) (change (O.state files.old) (O.state files.new))
+        (change (K.state out.old) (K.state out.new)) (change (E.state err.old) (E.state err.new)) result) }
+    ensures canonical { LeavesCanonical (texts words.now)
         (call (change (S.state input.old) (S.state input.new)) (change (O.state files.old) (O.state files.new))
         (change (K.state out.old) (K.state out.new)) (change (E.state err.old) (E.state err.new)) result) }
 {

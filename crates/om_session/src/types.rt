@@ -9,11 +9,11 @@ ghost use Rattle.om_session.specs.Types.{IsDeclarationsStop, IsTypeStop, IsPathS
 
 use crate::fetch::{Fetch, fetch_file};
 use crate::gather::{Gathered, InputEnd};
-use crate::stop::Stop;
 use om_decl::{DeclFault, read_decls, read_type};
 use om_edge::Opener;
 use om_model::list::List;
 use om_path::{PathFault, Script, ScriptFault, read_script};
+use om_stops::stop::Stop;
 use om_type_table::TypeTable;
 use om_typeintern::{TypeFault, build};
 use om_types::decl::Decl;

@@ -11,7 +11,6 @@ ghost use Rattle.om_session.specs.Values.{IsReadyWork, IsStopOf, AreValues, IsFu
 
 use crate::edit::{Edits, edit_value, line_past};
 use crate::gather::LENGTH_LIMIT;
-use crate::stop::{Halt, Stop};
 use crate::verdict::{Speech, line_of};
 use om_edge::{Sink, Source, put_all};
 use om_iso::same;
@@ -19,6 +18,7 @@ use om_model::Memory;
 use om_model::bytes::skip;
 use om_model::refusal::ReadRefusal;
 use om_read::{Reader, Truncated, Value};
+use om_stops::stop::{Halt, Stop};
 use std::alloc::Global;
 use std::mem;
 

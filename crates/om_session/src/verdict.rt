@@ -11,7 +11,6 @@ ghost use Rattle.om_session.specs.declared.verdict.Speech.TheVariants as speeche
 ghost use Rattle.om_check.specs.declared.verdict.Verdict.TheVariants.{No};
 ghost use Rattle.om_outcome.specs.Outcome.{the_part};
 
-use crate::put::put;
 use crate::types::Requested;
 use om_check::{Steps, Verdict, check};
 use om_equal::table::tables_have_the_faults;
@@ -24,6 +23,7 @@ use om_model::path::Path;
 use om_model::value::Val;
 use om_print::{put_dump, put_shown_at};
 use om_show::laws::roots_show_alike;
+use om_stops::put::put;
 use om_table::tables_decide;
 use om_type_table::laws::tables_are_lawful;
 use om_types::fault::Fault;

@@ -1,6 +1,6 @@
 use Rattle.std.proofs.Common.{refl}
 use Rattle.om_outcome.specs.Outcome.{opened, missing, failed}
-use Rattle.om_session.specs.declared.stop.Stop.TheVariants.{CannotOpen}
+use Rattle.om_stops.specs.declared.stop.Stop.TheVariants.{CannotOpen}
 use Rattle.om_session.specs.Gathered.{taken_of}
 use Rattle.om_session.proofs.TypeLemmas.{reads_missing, reads_failed}
 use Rattle.om_session.proofs.types.find_type.Goals as goal

@@ -1,6 +1,6 @@
 use Rattle.std.proofs.Common.{Ok, Err, ap, subst}
 use Rattle.om_outcome.specs.Outcome.{fault_of}
-use Rattle.om_session.specs.declared.stop.Stop.TheVariants as stops
+use Rattle.om_stops.specs.declared.stop.Stop.TheVariants as stops
 use Rattle.om_session.specs.Gathered.{taken_of, until_of}
 use Rattle.om_session.specs.Types.{GivesDeclarations, GivesRequested}
 use Rattle.om_session.proofs.TypeLemmas.{reads_fault, reads_declarations, reads_type}

@@ -1,7 +1,7 @@
 use Rattle.std.proofs.Common.{Ok, Err, ap, subst}
 use Rattle.om_outcome.specs.Outcome.{fault_of}
 use Rattle.om_path.specs.ScriptAnswer.{IsScriptAnswer, UnlessMemory}
-use Rattle.om_session.specs.declared.stop.Stop.TheVariants as stops
+use Rattle.om_stops.specs.declared.stop.Stop.TheVariants as stops
 use Rattle.om_session.specs.Gathered.{taken_of, until_of}
 use Rattle.om_session.proofs.TypeLemmas.{script_fault, script_read, script_refused}
 use Rattle.om_session.proofs.types.read_lines.Goals as goal

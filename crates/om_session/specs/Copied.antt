@@ -1,0 +1,49 @@
+-- Canonical values that are edited by no line are put as they came.
+use Rattle.std.specs.Prelude.{ℕ, ◌≡◌, ◌≢◌, Bool, true, List, [], map, None, Ok}
+use Rattle.std.specs.List.{concat, AllByRecursion}
+use Rattle.om_types.specs.Equal.{declared_shapes}
+use Rattle.om_types.specs.Typing.{HasType}
+use Rattle.om_format.specs.Canonical.{canon}
+use Rattle.om_format.specs.Compat.{too_large_for_32}
+use Rattle.om_format.specs.Spelled.{SpelledUnder}
+use Rattle.om_format.specs.Tree.{Tree, root, objects_of}
+use Rattle.om_outcome.specs.declared.status.Status.TheVariants.{Well, Memory}
+use Rattle.om_outcome.specs.Outcome.{edit, Asks, ReadsTypeOf, ReadsScriptOf, fetches_of}
+use Rattle.om_edge.specs.Files.{File, contents_of}
+use Rattle.om_edge.specs.Sink.{Puts}
+use Rattle.om_session.specs.Call.{Call}
+use Rattle.om_session.specs.Language.{TypeOver, declared_types}
+use Rattle.om_session.specs.Run.{IsHonest}
+
+-- the canonical bytes of the tree keep the limit; its value has the type, and where it is asked for a reader on 32 bits can
+-- hold it
+pub record IsCanonical (t : TypeOver) (compat : Bool) (limit : ℕ) (tree : Tree) : Type 0 where
+  pub spelled : SpelledUnder limit (canon tree) tree
+  pub has : HasType (declared_shapes t.decls) (objects_of tree 0) (root tree 0) t.type
+  pub fits : compat ≡ true → too_large_for_32 tree ≡ None
+
+-- the words ask to edit by a SCRIPT that has no line, FILE and TYPE are accepted, and the input is canonical values
+pub record IsLeftAlone (words : List (List ℕ)) (input : List ℕ) (files : List File) : Type 0 where
+  pub file : List ℕ
+  pub type : List ℕ
+  pub script : List ℕ
+  pub compat : Bool
+  pub limit : ℕ
+  pub asks : Asks words (edit file type script compat limit)
+  pub type_is : TypeOver
+  pub typed : ReadsTypeOf declared_types (fetches_of (contents_of files)).file (file, type) (Ok type_is)
+  pub no_line : ReadsScriptOf declared_types (fetches_of (contents_of files)).script script (Ok [])
+  pub trees : List Tree
+  pub bytes : input ≡ concat (map canon trees)
+  pub canonical : AllByRecursion (IsCanonical type_is compat limit) trees
+
+-- out has the input, byte for byte
+pub record PutsInput (call : Call) (input : List ℕ) : Type 0 where
+  pub out : Puts call.out input
+  pub err : Puts call.err []
+  pub status : call.status ≡ Well
+
+-- unless memory runs out, an honest call leaves such an input as it is
+abbrev pub LeavesCanonical : List (List ℕ) → Call → Type 0
+LeavesCanonical words call =
+    (input : List ℕ) (files : List File) → IsHonest call input files → call.status ≢ Memory → IsLeftAlone words input files → PutsInput call input
