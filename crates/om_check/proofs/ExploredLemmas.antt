@@ -13,7 +13,8 @@ use Rattle.om_types.specs.Table.{Table, table_shapes, node_or_none}
 use Rattle.om_typing.proofs.PathLemmas.{OneOfThree, value_at-push}
 use Rattle.om_typing.proofs.SearchedLemmas.{before_transitive, never_before_itself}
 use Rattle.om_check.specs.Explored.{ComesBefore, needs_at, IsMetNeed, IsLedTo, AreExplored}
-use Rattle.om_check.proofs.OrderLemmas.{both_pushed, pushed_less, root_before, needs_increase, need_is_named}
+use Rattle.om_check.proofs.OrderLemmas.{both_pushed, pushed_less, root_before, need_is_named}
+use Rattle.om_scan.proofs.IncreaseLemmas.{numbers_compare, needs_increase}
 use Rattle.om_scan.proofs.PlaceLemmas.{slice_get-append_left, slice_get-push_cases}
 
 -- ---- the order of needs
@@ -24,16 +25,6 @@ comes_later k j n r (inr same) = inr (same.0, omega (arith, same.1))
 
 abbrev IsThis : ℕ → ℕ → ℕ → ℕ → Type 0
 IsThis k j n r = (k ≡ n) × (j ≡ r)
-
-numbers_compare : (m n : ℕ) → (m < n) ⊎ ((m ≡ n) ⊎ (n < m))
-numbers_compare zero zero = inr (inl refl)
-numbers_compare zero (suc n) = inl (omega arith)
-numbers_compare (suc m) zero = inr (inr (omega arith))
-numbers_compare (suc m) (suc n) = more (numbers_compare m n) where
-  more : (m < n) ⊎ ((m ≡ n) ⊎ (n < m)) → (suc m < suc n) ⊎ ((suc m ≡ suc n) ⊎ (suc n < suc m))
-  more (inl less) = inl (omega arith)
-  more (inr (inl same)) = inr (inl (ap suc same))
-  more (inr (inr greater)) = inr (inr (omega arith))
 
 pub needs_compare : (k j n r : ℕ) → OneOfThree (ComesBefore k j n r) (IsThis k j n r) (ComesBefore n r k j)
 needs_compare k j n r = by_place (numbers_compare k n) (numbers_compare j r) where

@@ -4,6 +4,7 @@ pub mod NotedLemmas
 pub mod ClashLemmas
 pub mod VisitLemmas
 pub mod SpentLemmas
+pub mod SeenLemmas
 pub mod VerdictLemmas
 pub mod TestLemmas
 pub mod DecideLemmas

@@ -11,7 +11,7 @@ use Rattle.om_types.specs.Typing.{HasType}
 use Rattle.om_typing.specs.StepLaws.{AreApart, key_of}
 use Rattle.om_scan.specs.Scanned.{IsScanned}
 use Rattle.om_check.specs.Verdict.{IsYes}
-use Rattle.om_check.proofs.OrderLemmas.{numbered}
+use Rattle.om_scan.proofs.IncreaseLemmas.{numbered}
 use Rattle.om_check.proofs.SpentLemmas.{mapped_at}
 
 -- number k stands at place k

@@ -13,11 +13,13 @@ use Rattle.om_check.specs.Visits.{listed, AreLinked}
 use Rattle.om_check.specs.Explored.{IsExplored}
 use Rattle.om_check.specs.Search.{counted, cost_or_none, cost_at, spent, TestsVisit, IsSearching}
 use Rattle.om_scan.specs.Scanned as scans
-use Rattle.om_scan.specs.Scanned.{AreTaken}
+use Rattle.om_scan.specs.declared.taken.Taken.{Taken}
+use Rattle.om_scan.specs.Taken.{types_in}
+use Rattle.om_scan.specs.Scanned.{AreTaken, left_of}
 use Rattle.om_check.proofs.VisitLemmas.{grows_twice}
 use Rattle.om_check.proofs.SpentLemmas.{spent_next, spent-append, spent_few}
 
-module _ (table : Table) (graph : List Obj) (taken : List ℕ) where
+module _ (table : Table) (graph : List Obj) (taken : Taken) where
   pub cost_is : (all : List Visit) (n : ℕ) (v : Visit) → slice_get all n ≡ Some v → cost_at table graph taken all n ≡ counted table graph taken v
   cost_is all n v at_n = ap (cost_or_none table graph taken) at_n
 
@@ -26,7 +28,7 @@ module _ (table : Table) (graph : List Obj) (taken : List ℕ) where
   pub search_few :
       (all : List Visit) (n start steps more : ℕ) → IsLawful table → AreTaken table graph taken → IsExplored table graph all n 0 → n < length all
       → steps ≤ start + spent table graph taken all n → more ≤ steps + cost_at table graph taken all n
-      → more + scans.cost_of table graph taken + 1 ≤ start + most_steps table graph
+      → more + scans.cost_of graph (types_in taken) + 1 ≤ start + left_of graph taken + most_steps table graph
   search_few all n start steps more lawful are x inside few cost =
       let v = slice_get_there all n inside in
       let is = cost_is all n v.0 v.1 in
@@ -36,7 +38,7 @@ module _ (table : Table) (graph : List Obj) (taken : List ℕ) where
 
   pub searched_few :
       (all : List Visit) (n start steps : ℕ) → IsLawful table → AreTaken table graph taken → IsExplored table graph all n 0
-      → steps ≤ start + spent table graph taken all n → steps + scans.cost_of table graph taken + 1 ≤ start + most_steps table graph
+      → steps ≤ start + spent table graph taken all n → steps + scans.cost_of graph (types_in taken) + 1 ≤ start + left_of graph taken + most_steps table graph
   searched_few all n start steps lawful are x few =
       let bound = spent_few table graph taken all n 0 n lawful are x in omega (arith, few, bound)
 

@@ -1,5 +1,5 @@
 -- What the search and its parts answer.
-use Rattle.std.specs.Prelude.{ℕ, zero, suc, ◌≡◌, ◌<◌, ◌≤◌, ◌+◌, ◌==◌, if◌then◌else◌, Bool, false, List, [], ◌∷◌, ◌++◌, length, map, Option, Some, None, slice_get, slice_index, MatchBool, MatchOption}
+use Rattle.std.specs.Prelude.{ℕ, zero, suc, ◌≡◌, ◌<◌, ◌≤◌, ◌+◌, ◌-◌, ◌^◌, ◌==◌, Contains, if◌then◌else◌, Bool, false, List, [], ◌∷◌, ◌++◌, length, map, Option, Some, None, slice_get, slice_index, MatchBool, MatchOption}
 use Rattle.om_model.specs.declared.value.Val.{Val}
 use Rattle.om_model.specs.declared.value.Val.TheVariants as vals
 use Rattle.om_model.specs.declared.value.Obj.{Obj}
@@ -8,6 +8,10 @@ use Rattle.om_types.specs.declared.fault.Fault.TheVariants.{Misfit}
 use Rattle.om_types.specs.Fault.{field_of}
 use Rattle.om_types.specs.LeastFault.{IsLeastFault}
 use Rattle.om_types.specs.Table.{Table, table_shapes}
+use Rattle.om_heap.specs.Heap as heap
+use Rattle.om_scan.specs.declared.taken.Taken.{Taken}
+use Rattle.om_scan.specs.Taken.{types_in, seen_of, size_of, rest_of}
+use Rattle.om_scan.specs.Scanned.{IsSeen}
 use Rattle.om_check.specs.declared.visits.Visit.{Visit}
 use Rattle.om_check.specs.declared.search.Need.{Need}
 use Rattle.om_check.specs.declared.visits.Visits.{Visits}
@@ -65,28 +69,30 @@ pub record TestsVisit (table : Table) (graph : List Obj) (old new : List Visit) 
 abbrev pub visit_needs : Table → List Obj → Visit → List (ℕ × ℕ)
 visit_needs table graph v = (table_shapes table).needs graph (vals.Ref v.object) v.ty
 
--- one step for a visit, and one for each of its needs
-abbrev pub cost_of : Table → List Obj → Visit → ℕ
-cost_of table graph v = 1 + length (visit_needs table graph v)
+-- a scan saw what the visit's object needs at the fields below a number
+abbrev pub AreSeen : Table → List Obj → Taken → Visit → ℕ → Type 0
+AreSeen table graph taken v seen =
+    (i a : ℕ) → i < seen → Contains (visit_needs table graph v) (i, a) → IsSeen table graph taken v.object i (heap.field_at graph v.object i) a
 
 -- the type is of the class of the one that is told
 abbrev pub is_of_class : Table → Option ℕ → ℕ → Bool
 is_of_class table None t = false
 is_of_class table (Some u) t = slice_index table.classes u == slice_index table.classes t
 
--- a scan that took the first objects at these types took the visit's object at an equal one
-abbrev pub is_taken : Table → List ℕ → Visit → Bool
-is_taken table taken v = is_of_class table (slice_get taken v.object) v.ty
+-- a scan took the visit's object at an equal type
+abbrev pub is_taken : Table → Taken → Visit → Bool
+is_taken table taken v = is_of_class table (slice_get (types_in taken) v.object) v.ty
 
--- what a scan took was counted there
-abbrev pub counted : Table → List Obj → List ℕ → Visit → ℕ
-counted table graph taken v = if is_taken table taken v then 0 else cost_of table graph v
+-- one step for the visit, and one for each field of its object; where a scan took it, one for each field that was not seen
+abbrev pub counted : Table → List Obj → Taken → Visit → ℕ
+counted table graph taken v =
+    if is_taken table taken v then rest_of (size_of graph v.object) (seen_of taken v.object) else 1 + size_of graph v.object
 
-abbrev pub cost_or_none : Table → List Obj → List ℕ → Option Visit → ℕ
+abbrev pub cost_or_none : Table → List Obj → Taken → Option Visit → ℕ
 cost_or_none table graph taken None = 0
 cost_or_none table graph taken (Some v) = counted table graph taken v
 
-abbrev pub cost_at : Table → List Obj → List ℕ → List Visit → ℕ → ℕ
+abbrev pub cost_at : Table → List Obj → Taken → List Visit → ℕ → ℕ
 cost_at table graph taken all n = cost_or_none table graph taken (slice_get all n)
 
 -- ---- all visits
@@ -97,7 +103,7 @@ pub record Searches (table : Table) (graph : List Obj) (old new : List Visit) (m
   pub tested : MatchOption misfit (IsExplored table graph new (length new) 0) (λ at. IsMisfitAt table graph new at.0 at.1)
 
 -- the steps of the first n visits
-abbrev pub spent : Table → List Obj → List ℕ → List Visit → ℕ → ℕ
+abbrev pub spent : Table → List Obj → Taken → List Visit → ℕ → ℕ
 spent table graph taken [] n = 0
 spent table graph taken (v ∷ all) zero = 0
 spent table graph taken (v ∷ all) (suc n) = counted table graph taken v + spent table graph taken all n
@@ -108,14 +114,18 @@ pairs_of all = map (λ (v : Visit). (v.object, v.ty)) all
 
 -- ---- loops
 
--- The first r needs of visit n were tested, in at most so many steps.
-pub record IsTestingVisit (table : Table) (graph : List Obj) (old now : Visits) (n r start steps : ℕ) : Type 0 where
+-- The first r needs of visit n were tested, up to the fields below `reached`, in a step for each field that no scan saw.
+pub record IsTestingVisit (table : Table) (graph : List Obj) (old now : Visits) (v : Visit) (n r seen start steps : ℕ) : Type 0 where
   pub linked : AreLinked table (length graph) now
   pub testing : IsTesting table graph (listed old) (listed now) n r
-  pub few : steps ≤ start + r
+  pub reached : ℕ
+  pub inside : reached ≤ size_of graph v.object
+  pub small : reached < 2 ^ 64
+  pub later : (j i a : ℕ) → r ≤ j → slice_get (visit_needs table graph v) j ≡ Some (i, a) → reached ≤ i
+  pub few : steps ≤ start + (reached - seen)
 
 -- The needs of the first n visits were tested, in at most so many steps.
-pub record IsSearching (table : Table) (graph : List Obj) (taken : List ℕ) (old now : Visits) (n start steps : ℕ) : Type 0 where
+pub record IsSearching (table : Table) (graph : List Obj) (taken : Taken) (old now : Visits) (n start steps : ℕ) : Type 0 where
   pub linked : AreLinked table (length graph) now
   pub grows : Grows (listed old) (listed now)
   pub explored : IsExplored table graph (listed now) n 0

@@ -7,7 +7,8 @@ ghost use Rattle.om_types.specs.Table.{table_shapes};
 ghost use Rattle.om_types.specs.Steps.{most_steps};
 ghost use Rattle.om_type_table.specs.Made.{table_of, IsLawful};
 ghost use Rattle.om_scan.specs.Rows.{AreRows};
-ghost use Rattle.om_scan.specs.Scanned.{AreTaken, cost_of};
+ghost use Rattle.om_scan.specs.Taken.{types_in};
+ghost use Rattle.om_scan.specs.Scanned.{AreTaken, cost_of, left_of};
 ghost use Rattle.om_check.specs.Told.{AreOrdered, IsClashOf};
 ghost use Rattle.om_check.specs.Visits.{listed};
 ghost use Rattle.om_check.specs.Verdict.{IsVerdict};
@@ -79,7 +80,7 @@ fn check_object(
     }
 }
 
-/// The same by a search of the heap, which has so many objects, after a scan took and counted these.
+/// The same by a search of the heap, which has so many objects, after a scan took these.
 fn search_object(
     alloc: Global,
     heap: &Heap,
@@ -98,7 +99,7 @@ fn search_object(
     requires fits { (table_shapes (table_of table.now)).fits heap.now (vals.Ref object) 0 }
     requires taken { AreTaken (table_of table.now) heap.now taken.now }
     ensures verdict { IfOk result (IsVerdict (table_of table.now) heap.now (vals.Ref object)) }
-    ensures steps { steps.new + cost_of (table_of table.now) heap.now taken.now + 1 ≤ steps.old + most_steps (table_of table.now) heap.now }
+    ensures steps { steps.new + cost_of heap.now (types_in taken.now) + 1 ≤ steps.old + left_of heap.now taken.now + most_steps (table_of table.now) heap.now }
 {
     let mut visits = Visits::new(alloc, objects, table, object)?;
     if let Some((n, step)) = search(heap, table, rows, &mut visits, taken, steps)? {

@@ -1,6 +1,7 @@
 //! Breadth first, each object is taken once at each class, and what it needs there is tested.
 
-ghost use Rattle.std.specs.Prelude.{ℕ, ◌≡◌, ◌<◌, ◌≤◌, ◌+◌, ◌↔◌, length, All, IfOk, OnOk, IsTrue, Some, slice_get};
+ghost use Rattle.std.specs.Prelude.{ℕ, ◌≡◌, ◌≢◌, ◌<◌, ◌≤◌, ◌+◌, ◌%◌, ◌↔◌, length, All, IfOk, OnOk, IsTrue, Some, slice_get};
+ghost use Rattle.std.specs.Bool.{OnTrue};
 ghost use Rattle.om_model.specs.Graph.{IsValue, IsGraph};
 ghost use Rattle.om_model.specs.declared.value.Val.{Val};
 ghost use Rattle.om_model.specs.declared.value.Val.TheVariants as vals;
@@ -10,11 +11,12 @@ ghost use Rattle.om_fits.specs.Needs.{needs_in};
 ghost use Rattle.om_types.specs.Steps.{most_steps};
 ghost use Rattle.om_type_table.specs.Made.{table_of, IsLawful};
 ghost use Rattle.om_scan.specs.Rows.{AreRows};
+ghost use Rattle.om_scan.specs.Taken.{types_in, seen_of, size_of, rest_of};
 ghost use Rattle.om_scan.specs.Scanned as scans;
-ghost use Rattle.om_scan.specs.Scanned.{AreTaken};
+ghost use Rattle.om_scan.specs.Scanned.{AreTaken, IsSeen, IsSeenObject, left_of};
 ghost use Rattle.om_check.specs.Visits.{listed, AreLinked};
 ghost use Rattle.om_check.specs.Explored.{IsExplored};
-ghost use Rattle.om_check.specs.Search.{FitAll, TestsNeed, TestsVisit, Searches, cost_of, cost_at, is_taken, visit_needs};
+ghost use Rattle.om_check.specs.Search.{FitAll, TestsNeed, TestsVisit, Searches, AreSeen, cost_at, is_taken, visit_needs};
 
 use crate::visits::{Visit, Visits, is_at};
 use om_fits::{Needs, Row, known_needs};
@@ -34,7 +36,7 @@ pub struct Need {
 }
 
 /// Tests what each visit needs, and enters the objects that are met. The answer is the first misfit: the place of a
-/// visit, and the number of its field that does not fit. What a scan took was counted there, and is not counted again.
+/// visit, and the number of its field that does not fit. What a scan tested was counted there, and is not tested again.
 pub fn search(
     heap: &Heap,
     table: &TypeTable,
@@ -51,7 +53,7 @@ pub fn search(
     requires taken { AreTaken (table_of table.now) heap.now taken.now }
     ensures linked { OnOk result (AreLinked (table_of table.now) (length heap.now) visits.new) }
     ensures searches { IfOk result (Searches (table_of table.now) heap.now (listed visits.old) (listed visits.new)) }
-    ensures steps { steps.new + scans.cost_of (table_of table.now) heap.now taken.now + 1 ≤ steps.old + most_steps (table_of table.now) heap.now }
+    ensures steps { steps.new + scans.cost_of heap.now (types_in taken.now) + 1 ≤ steps.old + left_of heap.now taken.now + most_steps (table_of table.now) heap.now }
 {
     let mut n = 0;
     while visits.has(n) {
@@ -85,20 +87,18 @@ fn test_visit(
     ensures steps { steps.new ≤ steps.old + cost_at (table_of table.now) heap.now taken.now (listed visits.old) n }
 {
     let visit = visits.get(n);
-    let known = was_taken(table, taken, visit);
-    let mut tested = Steps::new();
-    let found = take_visit(heap, table, rows, visits, n, visit, &mut tested);
-    if !known {
-        steps.raise_by(tested.taken());
+    if was_taken(table, taken, visit) {
+        return take_seen(heap, table, rows, visits, taken, n, visit, steps);
     }
-    found
+    steps.raise();
+    take_visit(heap, table, rows, visits, taken, n, visit, 0, steps)
 }
 
 /// Whether a scan took the visit's object at an equal type.
 #[inline(always)]
 fn was_taken(table: &TypeTable, taken: &Taken, visit: Visit) -> bool
     requires ty { visit.ty < length table.now.classes }
-    requires types { (o t : ℕ) → slice_get taken.now o ≡ Some t → t < length table.now.classes }
+    requires types { (o t : ℕ) → slice_get (types_in taken.now) o ≡ Some t → t < length table.now.classes }
     ensures { result ≡ is_taken (table_of table.now) taken.now visit }
 {
     match taken.type_of(visit.object as usize) {
@@ -107,12 +107,14 @@ fn was_taken(table: &TypeTable, taken: &Taken, visit: Visit) -> bool
     }
 }
 
-/// Tests what visit n needs, in a step for the visit and one for each need.
-fn take_visit(
+/// Tests what visit n needs, whose object a scan took at an equal type.
+#[inline(never)]
+fn take_seen(
     heap: &Heap,
     table: &TypeTable,
     rows: &[Row],
     visits: &mut Visits,
+    taken: &Taken,
     n: usize,
     visit: Visit,
     steps: &mut Steps,
@@ -123,11 +125,41 @@ fn take_visit(
     requires lawful { IsLawful (table_of table.now) }
     requires linked { AreLinked (table_of table.now) (length heap.now) visits.old }
     requires explored { IsExplored (table_of table.now) heap.now (listed visits.old) n 0 }
+    requires taken { AreTaken (table_of table.now) heap.now taken.now }
+    requires equal { IsTrue (is_taken (table_of table.now) taken.now visit) }
     ensures linked { OnOk result (AreLinked (table_of table.now) (length heap.now) visits.new) }
     ensures tests { IfOk result (TestsVisit (table_of table.now) heap.now (listed visits.old) (listed visits.new) n) }
-    ensures steps { steps.new ≤ steps.old + cost_of (table_of table.now) heap.now visit }
+    ensures steps { steps.new ≤ steps.old + rest_of (size_of heap.now visit.object) (seen_of taken.now visit.object) }
 {
-    steps.raise();
+    let seen = taken.seen_of(visit.object);
+    take_visit(heap, table, rows, visits, taken, n, visit, seen, steps)
+}
+
+/// Tests what visit n needs, in a step for each need. A scan saw the needs at fields below a number.
+#[inline(always)]
+fn take_visit(
+    heap: &Heap,
+    table: &TypeTable,
+    rows: &[Row],
+    visits: &mut Visits,
+    taken: &Taken,
+    n: usize,
+    visit: Visit,
+    seen: u64,
+    steps: &mut Steps,
+) -> Result<Option<u64>, Memory>
+    requires visit { slice_get (listed visits.old) n ≡ Some visit }
+    requires graph { IsGraph heap.now }
+    requires rows { AreRows table.now.nodes rows.now }
+    requires lawful { IsLawful (table_of table.now) }
+    requires linked { AreLinked (table_of table.now) (length heap.now) visits.old }
+    requires explored { IsExplored (table_of table.now) heap.now (listed visits.old) n 0 }
+    requires taken { AreTaken (table_of table.now) heap.now taken.now }
+    requires seen { AreSeen (table_of table.now) heap.now taken.now visit seen }
+    ensures linked { OnOk result (AreLinked (table_of table.now) (length heap.now) visits.new) }
+    ensures tests { IfOk result (TestsVisit (table_of table.now) heap.now (listed visits.old) (listed visits.new) n) }
+    ensures steps { steps.new ≤ steps.old + rest_of (size_of heap.now visit.object) seen }
+{
     let Some(needs) = known_needs(heap, visit.object, table.shape(visit.ty)) else {
         return Ok(None);
     };
@@ -138,13 +170,19 @@ fn take_visit(
                 table,
                 rows,
                 visits,
+                taken,
                 n,
                 visit,
                 Needs::Listed(types),
+                seen,
                 steps,
             )
         }
-        _ => test_needs(heap, table, rows, visits, n, visit, needs, steps),
+        _ => {
+            test_needs(
+                heap, table, rows, visits, taken, n, visit, needs, seen, steps,
+            )
+        }
     }
 }
 
@@ -155,9 +193,11 @@ fn test_needs(
     table: &TypeTable,
     rows: &[Row],
     visits: &mut Visits,
+    taken: &Taken,
     n: usize,
     visit: Visit,
     needs: Needs<'_>,
+    seen: u64,
     steps: &mut Steps,
 ) -> Result<Option<u64>, Memory>
     requires visit { slice_get (listed visits.old) n ≡ Some visit }
@@ -167,9 +207,11 @@ fn test_needs(
     requires lawful { IsLawful (table_of table.now) }
     requires linked { AreLinked (table_of table.now) (length heap.now) visits.old }
     requires explored { IsExplored (table_of table.now) heap.now (listed visits.old) n 0 }
+    requires taken { AreTaken (table_of table.now) heap.now taken.now }
+    requires seen { AreSeen (table_of table.now) heap.now taken.now visit seen }
     ensures linked { OnOk result (AreLinked (table_of table.now) (length heap.now) visits.new) }
     ensures tests { IfOk result (TestsVisit (table_of table.now) heap.now (listed visits.old) (listed visits.new) n) }
-    ensures steps { steps.new ≤ steps.old + length (visit_needs (table_of table.now) heap.now visit) }
+    ensures steps { steps.new ≤ steps.old + rest_of (size_of heap.now visit.object) seen }
 {
     if needs.len() == 0 {
         return Ok(None);
@@ -178,21 +220,23 @@ fn test_needs(
     let mut next = visit.object.wrapping_add(1);
     for k in 0..needs.len() {
         let (step, ty) = needs.get(k);
-        steps.raise();
         let need = Need {
             parent: n,
             object: visit.object,
             step,
             ty,
         };
-        if !test_need(
+        if !take_need(
             heap,
             table,
             rows,
             visits,
+            taken,
             need,
             words[step as usize],
+            seen,
             &mut next,
+            steps,
         )? {
             return Ok(Some(step));
         }
@@ -200,20 +244,23 @@ fn test_needs(
     Ok(None)
 }
 
-/// Tests a need, whose field has this word, and enters the object that is met. That is often object `next`; from then on
-/// the one after it may be the next.
+/// Tests a need, in a step where no scan saw it.
 #[inline(always)]
-fn test_need(
+fn take_need(
     heap: &Heap,
     table: &TypeTable,
     rows: &[Row],
     visits: &mut Visits,
+    taken: &Taken,
     need: Need,
     word: u64,
+    seen: u64,
     next: &mut u64,
+    steps: &mut Steps,
 ) -> Result<bool, Memory>
     requires graph { IsGraph heap.now }
     requires rows { AreRows table.now.nodes rows.now }
+    requires lawful { IsLawful (table_of table.now) }
     requires object { need.object < length heap.now }
     requires field { need.step < length (fields_of (object_at heap.now need.object)) }
     requires word { word ≡ word_of heap.now (field_at heap.now need.object need.step) }
@@ -222,11 +269,52 @@ fn test_need(
     requires types { All (λ visit. visit.ty < length table.now.classes) (listed visits.old) }
     requires linked { AreLinked (table_of table.now) (length heap.now) visits.old }
     requires fit { FitAll (table_of table.now) heap.now (listed visits.old) }
+    requires taken { AreTaken (table_of table.now) heap.now taken.now }
+    requires seen { need.step < seen → IsSeen (table_of table.now) heap.now taken.now need.object need.step (field_at heap.now need.object need.step) need.ty }
+    ensures linked { OnOk result (AreLinked (table_of table.now) (length heap.now) visits.new) }
+    ensures tests { IfOk result (TestsNeed (table_of table.now) heap.now (listed visits.old) (listed visits.new) need) }
+    ensures steps { steps.new ≤ steps.old + 1 }
+    ensures counted { need.step < seen → steps.new ≡ steps.old }
+{
+    if need.step < seen {
+        return test_need(heap, table, rows, visits, taken, need, word, true, next);
+    }
+    steps.raise();
+    test_need(heap, table, rows, visits, taken, need, word, false, next)
+}
+
+/// Tests a need, whose field has this word, and enters the object that is met. That is often object `next`; from then on
+/// the one after it may be the next. What a scan saw of the need is not tested again.
+#[inline(always)]
+fn test_need(
+    heap: &Heap,
+    table: &TypeTable,
+    rows: &[Row],
+    visits: &mut Visits,
+    taken: &Taken,
+    need: Need,
+    word: u64,
+    seen: bool,
+    next: &mut u64,
+) -> Result<bool, Memory>
+    requires graph { IsGraph heap.now }
+    requires rows { AreRows table.now.nodes rows.now }
+    requires lawful { IsLawful (table_of table.now) }
+    requires object { need.object < length heap.now }
+    requires field { need.step < length (fields_of (object_at heap.now need.object)) }
+    requires word { word ≡ word_of heap.now (field_at heap.now need.object need.step) }
+    requires node { need.ty < length table.now.nodes }
+    requires class { need.ty < length table.now.classes }
+    requires types { All (λ visit. visit.ty < length table.now.classes) (listed visits.old) }
+    requires linked { AreLinked (table_of table.now) (length heap.now) visits.old }
+    requires fit { FitAll (table_of table.now) heap.now (listed visits.old) }
+    requires taken { AreTaken (table_of table.now) heap.now taken.now }
+    requires seen { OnTrue seen (IsSeen (table_of table.now) heap.now taken.now need.object need.step (field_at heap.now need.object need.step) need.ty) }
     ensures linked { OnOk result (AreLinked (table_of table.now) (length heap.now) visits.new) }
     ensures tests { IfOk result (TestsNeed (table_of table.now) heap.now (listed visits.old) (listed visits.new) need) }
 {
     if word % 8 != 0 {
-        return Ok(fits_type(heap, table, rows, need.ty, word));
+        return Ok(value_fits(heap, table, rows, taken, need, word, seen));
     }
     let object = number_near(heap, *next, word);
     *next = object.wrapping_add(1);
@@ -234,11 +322,72 @@ fn test_need(
     if is_at(first, need.ty) {
         return Ok(true);
     }
-    if !fits_type(heap, table, rows, need.ty, word) {
+    if !object_fits(heap, table, rows, taken, object, need.ty, word, seen) {
         return Ok(false);
     }
     visits.enter(table, object, need.ty, need.parent, need.step, first)?;
     Ok(true)
+}
+
+/// Whether the value of a need's field, which is no object and has this word, fits: where a scan saw it, that is known.
+#[inline(always)]
+fn value_fits(
+    heap: &Heap,
+    table: &TypeTable,
+    rows: &[Row],
+    taken: &Taken,
+    need: Need,
+    word: u64,
+    seen: bool,
+) -> bool
+    requires graph { IsGraph heap.now }
+    requires rows { AreRows table.now.nodes rows.now }
+    requires object { need.object < length heap.now }
+    requires field { need.step < length (fields_of (object_at heap.now need.object)) }
+    requires word { word ≡ word_of heap.now (field_at heap.now need.object need.step) }
+    requires value { word % 8 ≢ 0 }
+    requires node { need.ty < length table.now.nodes }
+    requires seen { OnTrue seen (IsSeen (table_of table.now) heap.now taken.now need.object need.step (field_at heap.now need.object need.step) need.ty) }
+    ensures { IsTrue result ↔ (table_shapes (table_of table.now)).fits heap.now (field_at heap.now need.object need.step) need.ty }
+{
+    if seen {
+        return !taken.is_unfit_field(need.object, need.step);
+    }
+    fits_type(heap, table, rows, need.ty, word)
+}
+
+/// Whether an object, which has this word, fits a type at which it is met. Where a scan saw it at the type, that is known
+/// if the scan took the object, or found it unfit.
+#[inline(always)]
+fn object_fits(
+    heap: &Heap,
+    table: &TypeTable,
+    rows: &[Row],
+    taken: &Taken,
+    object: u64,
+    ty: usize,
+    word: u64,
+    seen: bool,
+) -> bool
+    requires graph { IsGraph heap.now }
+    requires rows { AreRows table.now.nodes rows.now }
+    requires lawful { IsLawful (table_of table.now) }
+    requires object { object < length heap.now }
+    requires word { word ≡ word_of heap.now (vals.Ref object) }
+    requires node { ty < length table.now.nodes }
+    requires taken { AreTaken (table_of table.now) heap.now taken.now }
+    requires seen { OnTrue seen (IsSeenObject (table_of table.now) heap.now taken.now object ty) }
+    ensures { IsTrue result ↔ (table_shapes (table_of table.now)).fits heap.now (vals.Ref object) ty }
+{
+    if seen {
+        if let Some(_) = taken.type_of(object as usize) {
+            return true;
+        }
+        if taken.is_unfit_object(object) {
+            return false;
+        }
+    }
+    fits_type(heap, table, rows, ty, word)
 }
 
 /// The number of the object that a reference's word names, which is often `guess`.

@@ -9,7 +9,6 @@ ghost use Rattle.om_check.specs.ByHand.{IsTable};
 use crate::{Steps, Verdict, check};
 use om_heap::{Heap, Kind};
 use om_model::list::List;
-use om_model::path::Path;
 use om_model::value::Val;
 use om_store::Types;
 use om_type_table::TypeTable;
@@ -100,18 +99,21 @@ fn fill(heap: &mut Heap, block: u64, field: u64, v: Val) -> Result<(), Fail> {
     Ok(())
 }
 
-// A record of one block of an integer twice, and of this number.
-fn boxed(heap: &mut Heap, number: Val) -> Result<Val, Fail> {
-    let shared = heap.add_block(0, 1)?;
-    let root = heap.add_block(0, 3)?;
-    fill(heap, root, 0, Val::Ref(shared))?;
-    fill(heap, root, 1, Val::Ref(shared))?;
-    fill(heap, root, 2, number)?;
-    Ok(Val::Ref(root))
+// Puts two blocks and a number into the fields of a record.
+fn fill_record(
+    heap: &mut Heap,
+    record: u64,
+    changed: u64,
+    kept: u64,
+    number: Val,
+) -> Result<(), Fail> {
+    fill(heap, record, 0, Val::Ref(changed))?;
+    fill(heap, record, 1, Val::Ref(kept))?;
+    fill(heap, record, 2, number)
 }
 
-// Why the value does not have the type.
-fn fault_of(alloc: Global, heap: &Heap, root: Val, table: &TypeTable) -> Result<Fault, Fail>
+// Why the value does not have the type, and in how many steps that is found.
+fn fault_of(alloc: Global, heap: &Heap, root: Val, table: &TypeTable) -> Result<(Fault, u64), Fail>
     requires { IsLawful (table_of table.now) }
 {
     if !is_value(heap, root) {
@@ -120,13 +122,8 @@ fn fault_of(alloc: Global, heap: &Heap, root: Val, table: &TypeTable) -> Result<
     let mut steps = Steps::new();
     match check(alloc, heap, root, table, &mut steps)? {
         Verdict::Yes(_) => Err("it has the type".into()),
-        Verdict::No(fault) => Ok(fault),
+        Verdict::No(fault) => Ok((fault, steps.taken())),
     }
-}
-
-// Whether the path is that to a field of the root.
-fn is_field(path: &Path, field: u64) -> bool {
-    path.len() == 1 && path.step(0) == field
 }
 
 // How many steps it takes to find that the value has the type.
@@ -178,32 +175,62 @@ fn what_a_scan_took_is_counted_once(rt: HostRuntime) -> Result<(), Fail> {
     Ok(())
 }
 
-// One block of an integer is a reference at the first field, and a record that stays at the second.
-#[test]
-fn a_clash_has_two_paths(rt: HostRuntime) -> Result<(), Fail> {
-    let table = boxes(rt.alloc())?;
-    let mut heap = Heap::new(rt.alloc());
-    let number = heap.add_double(0)?;
-    let root = boxed(&mut heap, Val::Ref(number))?;
-    match fault_of(rt.alloc(), &heap, root, &table)? {
-        Fault::Clash(one, other) => {
-            assert!(rt; is_field(&one, 0));
-            assert!(rt; is_field(&other, 1));
-        }
-        Fault::Misfit(_) => return Err("no clash".into()),
+// A record as object 0: its first field is object 1, a block of an integer, its second one object 1 or 2, a block of so
+// many integers, and its third one this number. Object 3 is a float.
+fn record_first(alloc: Global, kept: u64, size: u64, number: Val) -> Result<Heap, Fail> {
+    if size == 0 || size > 2 {
+        return Err("no such record".into());
     }
+    let mut heap = Heap::new(alloc);
+    let root = heap.add_block(0, 3)?;
+    let changed = heap.add_block(0, 1)?;
+    heap.add_block(0, size)?;
+    heap.add_double(0)?;
+    fill_record(&mut heap, root, changed, kept, number)?;
+    Ok(heap)
+}
+
+// The field of the root that does not fit, and in how many steps that is found.
+fn misfit_of(alloc: Global, heap: &Heap, table: &TypeTable) -> Result<(u64, u64), Fail>
+    requires { IsLawful (table_of table.now) }
+{
+    let (fault, steps) = fault_of(alloc, heap, Val::Ref(0), table)?;
+    let Fault::Misfit(path) = fault else {
+        return Err("no misfit".into());
+    };
+    if path.len() != 1 {
+        return Err("no field of the root".into());
+    }
+    Ok((path.step(0), steps))
+}
+
+// The second field is met at another type than the first: a scan stops there, after one need, and a search tests the two
+// others and takes the block at two types.
+#[test]
+fn a_scan_stops_amid_the_fields(rt: HostRuntime) -> Result<(), Fail> {
+    let table = boxes(rt.alloc())?;
+    let heap = record_first(rt.alloc(), 1, 1, Val::Ref(3))?;
+    let (_, steps) = fault_of(rt.alloc(), &heap, Val::Ref(0), &table)?;
+    assert_eq!(rt; steps, 10);
     Ok(())
 }
 
-// The same with an integer at the third field, where a float belongs.
+// A scan finds that an integer is no float: the root, the record and its three fields were taken.
 #[test]
-fn a_misfit_is_told_before_a_clash(rt: HostRuntime) -> Result<(), Fail> {
+fn a_field_that_a_scan_finds_unfit_is_tested_once(rt: HostRuntime) -> Result<(), Fail> {
     let table = boxes(rt.alloc())?;
-    let mut heap = Heap::new(rt.alloc());
-    let root = boxed(&mut heap, Val::Int(0))?;
-    match fault_of(rt.alloc(), &heap, root, &table)? {
-        Fault::Misfit(path) => assert!(rt; is_field(&path, 2)),
-        Fault::Clash(_, _) => return Err("no misfit".into()),
-    }
+    let heap = record_first(rt.alloc(), 2, 1, Val::Int(0))?;
+    let (field, steps) = misfit_of(rt.alloc(), &heap, &table)?;
+    assert!(rt; field == 2 && steps == 5);
+    Ok(())
+}
+
+// A scan takes the record and the first block, with four needs, and finds that the second block has a field too many.
+#[test]
+fn an_object_that_a_scan_finds_unfit_is_tested_once(rt: HostRuntime) -> Result<(), Fail> {
+    let table = boxes(rt.alloc())?;
+    let heap = record_first(rt.alloc(), 2, 2, Val::Ref(3))?;
+    let (field, steps) = misfit_of(rt.alloc(), &heap, &table)?;
+    assert!(rt; field == 1 && steps == 7);
     Ok(())
 }

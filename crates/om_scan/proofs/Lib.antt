@@ -1,6 +1,9 @@
 pub mod PlaceLemmas
+pub mod IncreaseLemmas
 pub mod RowLemmas
 pub mod FieldLemmas
 pub mod NeedLemmas
 pub mod MarkLemmas
 pub mod ScanLemmas
+pub mod StopLemmas
+pub mod SizeLemmas

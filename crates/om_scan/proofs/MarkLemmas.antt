@@ -1,8 +1,9 @@
 -- Marks that grow, and what they tell.
 use Rattle.std.proofs.Common.{ℕ, zero, suc, ◌+◌, ◌%◌, ◌<◌, ◌≡◌, ◌≢◌, ◌∙◌, ◌⊎◌, inl, inr, ⊎_elim, Bool, true, false, List, length, Some, refl, sym, ap, subst, arith}
 use Rattle.std.specs.Bool.{OnTrue}
-use Rattle.std.specs.Prelude.{slice_get, slice_index, slice_set, replicate}
+use Rattle.std.specs.Prelude.{slice_get, slice_index, slice_set, replicate, not, ◌==◌, IsTrue}
 use Rattle.std.proofs.lemmas.List.{get_or-set_same, get_or-set_other, length-set, length-replicate}
+use Rattle.std.proofs.lemmas.Bool.{false≢true}
 use Rattle.std.proofs.lemmas.Option.{same_Some}
 use Rattle.om_model.specs.declared.value.Val.{Val}
 use Rattle.om_model.specs.declared.value.Val.TheVariants as vals
@@ -13,7 +14,7 @@ use Rattle.om_heap.specs.Heap.{key_of, field_at, word_of, IsFieldWord}
 use Rattle.om_heap.proofs.ReadLemmas.{word_of-inj}
 use Rattle.om_fits.proofs.RowLemmas.{is_reference}
 use Rattle.om_scan.specs.Scanned.{object_needs}
-use Rattle.om_scan.specs.Scan.{AreMarks, AreKept, IsMet, AreMet, IsMeeting, IsTaken}
+use Rattle.om_scan.specs.Scan.{AreMarks, AreKept, IsMet, IsUnfit, AreMet, IsMeeting, IsTaken}
 
 -- ---- numbers
 
@@ -114,3 +115,14 @@ marked_met table graph marks word key t u graph' field even keys marked same v v
     let named : v ≡ vals.Ref r.0 = word_of-inj graph v (vals.Ref r.0) graph' valid r.1 (sym is ∙ r.2) in
     subst (λ w. IsMet table graph marks w t) (sym named)
     (u, ap (slice_index marks) (sym (keys r.0 r.1 r.2)) ∙ marked, same)
+
+odd_word : (word : ℕ) → IsTrue (not (word % 8 == 0)) → word % 8 ≢ 0
+odd_word word odd even = false≢true (sym (ap (λ n. not (n == 0)) even) ∙ odd)
+
+-- a word that names no object, of a value that does not fit
+pub word_unfit :
+    (table : Table) (graph : List Obj) (v : Val) (t word : ℕ) → word ≡ word_of graph v → IsTrue (not (word % 8 == 0))
+    → (word % 8 ≢ 0 → ¬ (table_shapes table).fits graph v t) → IsUnfit table graph v t
+word_unfit table graph (vals.Int z) t word is odd unfit = unfit (odd_word word odd)
+word_unfit table graph (vals.Atom tag) t word is odd unfit = unfit (odd_word word odd)
+word_unfit table graph (vals.Ref o) t word is odd unfit = absurd (odd_word word odd (omega (arith, is)))

@@ -1,5 +1,5 @@
 -- What is known of the needs of an object at a type.
-use Rattle.std.proofs.Common.{ℕ, ◌<◌, ◌≡◌, ◌∙◌, List, length, Option, Some, None, sym, ap, subst, arith}
+use Rattle.std.proofs.Common.{ℕ, zero, suc, ◌<◌, ◌≤◌, ◌≡◌, ◌∙◌, refl, List, length, Option, Some, None, sym, ap, subst, arith}
 use Rattle.std.specs.Prelude.{slice_get, option_map, IsSome, All, Contains, pos}
 use Rattle.std.proofs.lemmas.Bool.{false≢true}
 use Rattle.std.proofs.lemmas.List.Elements.{All-contains}
@@ -20,7 +20,9 @@ use Rattle.om_equal.proofs.ReachedLemmas.{needs_named}
 use Rattle.om_table.proofs.FieldLemmas.{needs_there}
 use Rattle.om_fits.specs.declared.needs.Needs.{Needs}
 use Rattle.om_fits.specs.Needs.{needs_in}
+use Rattle.om_scan.specs.Taken.{size_of}
 use Rattle.om_scan.specs.Scanned.{object_needs}
+use Rattle.om_scan.proofs.IncreaseLemmas.{Increase, place_within, needs_increase}
 use Rattle.om_scan.proofs.FieldLemmas.{fields_are_values}
 
 module _ (table : Table) (graph : List Obj) where
@@ -39,6 +41,21 @@ module _ (table : Table) (graph : List Obj) where
   some_fields o t inside some =
       let first = slice_get_there (object_needs table graph o t) 0 some in
       let field = need_field o t 0 first.0.0 first.0.1 inside first.1 in omega (arith, field)
+
+  -- the numbers of what is needed increase
+  pub increase : (o t : ℕ) → Increase (object_needs table graph o t)
+  increase o t = needs_increase (node_or_none (slice_get table.nodes t)) graph (vals.Ref o)
+
+  -- no more is needed than there are fields
+  pub needs_few : (o t : ℕ) → o < length graph → length (object_needs table graph o t) ≤ size_of graph o
+  needs_few o t inside = by_length (length (object_needs table graph o t)) refl where
+    by_length : (n : ℕ) → length (object_needs table graph o t) ≡ n → n ≤ size_of graph o
+    by_length zero is = omega arith
+    by_length (suc n) is =
+        let last = slice_get_there (object_needs table graph o t) n (omega (arith, is)) in
+        let place = place_within (object_needs table graph o t) (increase o t) n last.0.0 last.0.1 last.1 in
+        let field = need_field o t n last.0.0 last.0.1 inside last.1 in
+        omega (arith, place, field)
 
   -- what is needed is a type of the table
   pub need_node : IsLawful table → (o t k i a : ℕ) → t < length table.nodes → slice_get (object_needs table graph o t) k ≡ Some (i, a) → a < length table.nodes

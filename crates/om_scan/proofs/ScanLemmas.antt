@@ -14,16 +14,17 @@ use Rattle.om_types.specs.Steps.{most_steps}
 use Rattle.om_types.specs.Table.{Table, table_shapes}
 use Rattle.om_types.specs.Typing.{IsHeld, IsTyping}
 use Rattle.om_typing.specs.StepLaws.{key_of, AreEntries}
-use Rattle.om_typing.proofs.StepLemmas.{steps_are_few}
 use Rattle.om_heap.specs.Heap as heap
 use Rattle.om_heap.specs.Heap.{field_at}
 use Rattle.om_type_table.specs.Made.{IsLawful}
-use Rattle.om_scan.specs.Scanned.{object_needs, IsScanned, AreTaken, cost_of}
+use Rattle.om_scan.specs.Taken.{size_of}
+use Rattle.om_scan.specs.Scanned.{object_needs, IsScanned, cost_of}
 use Rattle.om_scan.specs.Scan.{mark_of, AreMarks, AreKept, IsMet, AreMet, IsTaken, IsScanning}
 use Rattle.om_scan.proofs.PlaceLemmas.{place_of, slice_get-push_cases}
 use Rattle.om_scan.proofs.FieldLemmas.{field_there, field_valid}
-use Rattle.om_scan.proofs.NeedLemmas.{need_field}
+use Rattle.om_scan.proofs.NeedLemmas.{need_field, needs_few}
 use Rattle.om_scan.proofs.MarkLemmas.{taken_kept}
+use Rattle.om_scan.proofs.SizeLemmas.{sizes_are_few}
 
 -- ---- numbered types
 
@@ -63,21 +64,21 @@ pair_there ts o t at_o =
     let same : 0 + o ≡ o = omega arith in
     slice_get-Contains (numbered_from 0 ts) o (o, t) (numbered_there 0 ts o t at_o ∙ ap (λ n. Some (n, t)) same)
 
+pub cost_more : (graph : List Obj) (types : List ℕ) (t : ℕ) → cost_of graph (types ++ t ∷ []) ≡ cost_of graph types + (1 + size_of graph (length types))
+cost_more graph types t =
+    let cost : ℕ × ℕ → ℕ = λ entry. 1 + size_of graph entry.0 in
+    let same : 0 + length types ≡ length types = omega arith in
+    ap (sum_by cost) (numbered-push 0 types t ∙ ap (λ n. numbered_from 0 types ++ (n, t) ∷ []) same) ∙ sum_by_push cost (numbered_from 0 types) (length types, t)
+
 module _ (table : Table) (graph : List Obj) where
   -- ---- one object more
 
-  cost_more : (types : List ℕ) (t : ℕ) → cost_of table graph (types ++ t ∷ []) ≡ cost_of table graph types + (1 + length (object_needs table graph (length types) t))
-  cost_more types t =
-      let cost : ℕ × ℕ → ℕ = λ entry. 1 + length (object_needs table graph entry.0 entry.1) in
-      let same : 0 + length types ≡ length types = omega arith in
-      ap (sum_by cost) (numbered-push 0 types t ∙ ap (λ n. numbered_from 0 types ++ (n, t) ∷ []) same) ∙ sum_by_push cost (numbered_from 0 types) (length types, t)
-
   pub scanning_more :
-      (old new types : List ℕ) (o t steps more : ℕ) → IsScanning table graph old types o steps → AreMarks table graph new → AreKept old new
+      (old new types : List ℕ) (o t steps more : ℕ) → o < length graph → IsScanning table graph old types o steps → AreMarks table graph new → AreKept old new
       → mark_of graph old o ≡ suc t → (table_shapes table).fits graph (vals.Ref o) t
       → AreMet table graph new o t (length (object_needs table graph o t))
       → more ≤ steps + (1 + length (object_needs table graph o t)) → IsScanning table graph new (types ++ t ∷ []) (o + 1) more
-  scanning_more old new types o t steps more scanning valid kept marked fits met few =
+  scanning_more old new types o t steps more inside scanning valid kept marked fits met few =
       let own : IsTaken table graph new o t = record { marked = kept (heap.key_of graph o) (omega (arith, marked)) ∙ marked; fits = fits; met = met } in
       record {
         valid = valid;
@@ -88,23 +89,32 @@ module _ (table : Table) (graph : List Obj) where
             (λ last. subst (λ n. IsTaken table graph new n u) (sym (last.0 ∙ scanning.many)) (subst (IsTaken table graph new o) last.1 own))
             (slice_get-push_cases types t k u at_k);
         few =
-            let cost = cost_more types t in
-            let own_cost = ap (λ n. length (object_needs table graph n t)) scanning.many in
+            let cost = cost_more graph types t in
+            let own_cost = ap (size_of graph) scanning.many in
+            let own_needs = needs_few table graph o t inside in
             let before = scanning.few in
-            omega (arith, few, cost, own_cost, before);
+            omega (arith, few, cost, own_cost, own_needs, before);
       }
+
+  -- the same with more marks
+  pub scanning_kept :
+      (old new types : List ℕ) (n steps : ℕ) → IsScanning table graph old types n steps → AreMarks table graph new → AreKept old new
+      → IsScanning table graph new types n steps
+  scanning_kept old new types n steps scanning valid kept = record {
+    valid = valid;
+    root = kept (heap.key_of graph 0) (let is = scanning.root in omega (arith, is)) ∙ scanning.root;
+    many = scanning.many;
+    taken = λ k u at_k. taken_kept table graph old new k u kept (scanning.taken k u at_k);
+    few = scanning.few;
+  }
 
   -- ---- the first objects
 
-  pub first_taken : (marks types : List ℕ) (n steps : ℕ) → n ≤ length graph → IsScanning table graph marks types n steps → AreTaken table graph types
-  first_taken marks types n steps inside scanning = record {
-    many = let many = scanning.many in omega (arith, many, inside);
-    within = λ o t at_o.
-        let marked = (scanning.taken o t at_o).marked in
-        let small = scanning.valid.small (heap.key_of graph o) in
-        omega (arith, marked, small);
-    fits = λ o t at_o. (scanning.taken o t at_o).fits;
-  }
+  pub scanned_within : (marks types : List ℕ) (n steps o t : ℕ) → IsScanning table graph marks types n steps → slice_get types o ≡ Some t → t < length table.nodes
+  scanned_within marks types n steps o t scanning at_o =
+      let marked = (scanning.taken o t at_o).marked in
+      let small = scanning.valid.small (heap.key_of graph o) in
+      omega (arith, marked, small)
 
   place_first : (i : ℕ) (ts : List ℕ) (k : ℕ) (x : ℕ × Option ℕ) → slice_get (map (key_of table) (numbered_from i ts)) k ≡ Some x → x.0 ≡ i + k
   place_first i [] k x at_k = absurd (none-some x at_k)
@@ -112,24 +122,16 @@ module _ (table : Table) (graph : List Obj) where
       let same = ap (λ (p : ℕ × Option ℕ). p.0) (same_Some (key_of table (i, t)) x at_k) in omega (arith, same)
   place_first i (t ∷ ts) (suc k) x at_k = let rest = place_first (suc i) ts k x at_k in omega (arith, rest)
 
-  pub taken_entries : (types : List ℕ) → IsLawful table → AreTaken table graph types → AreEntries table graph (numbered_from 0 types)
-  taken_entries types lawful taken = record {
-    objects = λ o t among. let within = slice_get_within types o t (pair_at types o t among) in let many = taken.many in omega (arith, within, many);
-    types = λ o t among. let less = taken.within o t (pair_at types o t among) in let classed = lawful.classed in omega (arith, less, classed);
+  pub types_entries :
+      (types : List ℕ) → IsLawful table → length types ≤ length graph → ((o t : ℕ) → slice_get types o ≡ Some t → t < length table.nodes)
+      → AreEntries table graph (numbered_from 0 types)
+  types_entries types lawful many typed = record {
+    objects = λ o t among. let within = slice_get_within types o t (pair_at types o t among) in omega (arith, within, many);
+    types = λ o t among. let less = typed o t (pair_at types o t among) in let classed = lawful.classed in omega (arith, less, classed);
     apart = λ j k x at_j at_k.
         let one = place_first 0 types j x at_j in
         let other = place_first 0 types k x at_k in
         omega (arith, one, other);
-  }
-
-  pub taken_few : (types : List ℕ) → IsLawful table → AreTaken table graph types → 1 + cost_of table graph types ≤ most_steps table graph
-  taken_few types lawful taken = steps_are_few table graph (numbered_from 0 types) (taken_entries types lawful taken)
-
-  pub none_taken : AreTaken table graph []
-  none_taken = record {
-    many = omega arith;
-    within = λ o t at_o. absurd (none-some t at_o);
-    fits = λ o t at_o. absurd (none-some t at_o);
   }
 
   -- ---- all objects
@@ -189,6 +191,7 @@ module _ (table : Table) (graph : List Obj) where
 
     pub all_few : 1 + steps ≤ most_steps table graph
     all_few =
-        let most = taken_few types lawful (first_taken marks types (length graph) steps (omega arith) scanning) in
+        let many : length types ≤ length graph = let is = scanning.many in omega (arith, is) in
+        let most = sizes_are_few table graph (numbered_from 0 types) (types_entries types lawful many within_of) in
         let few = scanning.few in
         omega (arith, most, few)

@@ -1,10 +1,13 @@
 -- What a scan knows on its way.
-use Rattle.std.specs.Prelude.{ℕ, suc, ◌≡◌, ◌<◌, ◌≤◌, List, length, Some, slice_get, slice_index}
+use Rattle.std.specs.Prelude.{ℕ, suc, ◌+◌, ◌^◌, ◌≡◌, ◌<◌, ◌≤◌, List, length, take, Option, Some, None, slice_get, slice_index, IsTrue}
 use Rattle.om_model.specs.declared.value.Val.{Val}
 use Rattle.om_model.specs.declared.value.Val.TheVariants as vals
 use Rattle.om_model.specs.declared.value.Obj.{Obj}
 use Rattle.om_types.specs.Table.{Table, table_shapes}
 use Rattle.om_heap.specs.Heap.{key_of, field_at}
+use Rattle.om_scan.specs.declared.straight.Unmet.{Unmet}
+use Rattle.om_scan.specs.declared.straight.Stop.{Stop}
+use Rattle.om_scan.specs.declared.straight.Stop.TheVariants as stops
 use Rattle.om_scan.specs.Scanned.{object_needs, cost_of}
 
 -- ---- marks
@@ -30,6 +33,12 @@ IsMet table graph marks (vals.Int z) t = (table_shapes table).fits graph (vals.I
 IsMet table graph marks (vals.Atom tag) t = (table_shapes table).fits graph (vals.Atom tag) t
 IsMet table graph marks (vals.Ref o) t = (u : ℕ) × (mark_of graph marks o ≡ suc u) × (table_shapes table).equal u t
 
+-- a value that is no object does not fit the type
+abbrev pub IsUnfit : Table → List Obj → Val → ℕ → Type 0
+IsUnfit table graph (vals.Int z) t = ¬ (table_shapes table).fits graph (vals.Int z) t
+IsUnfit table graph (vals.Atom tag) t = ¬ (table_shapes table).fits graph (vals.Atom tag) t
+IsUnfit table graph (vals.Ref o) t = ⊥
+
 -- the values of the first r needs of an object at a type are met
 abbrev pub AreMet : Table → List Obj → List ℕ → ℕ → ℕ → ℕ → Type 0
 AreMet table graph marks o t r =
@@ -40,6 +49,14 @@ pub record IsMeeting (table : Table) (graph : List Obj) (old new : List ℕ) (o 
   pub marks : AreMarks table graph new
   pub kept : AreKept old new
   pub met : AreMet table graph new o t r
+
+-- This need of an object is the first that is not met.
+pub record IsUnmet (table : Table) (graph : List Obj) (marks : List ℕ) (o t : ℕ) (unmet : Unmet) : Type 0 where
+  pub type : ℕ
+  pub at : slice_get (object_needs table graph o t) unmet.place ≡ Some (unmet.field, type)
+  pub met : AreMet table graph marks o t unmet.place
+  pub unfit : IsTrue unmet.unfit → IsUnfit table graph (field_at graph o unmet.field) type
+  pub small : unmet.field + 1 < 2 ^ 64
 
 -- ---- objects
 
@@ -55,4 +72,16 @@ pub record IsScanning (table : Table) (graph : List Obj) (marks types : List ℕ
   pub root : mark_of graph marks 0 ≡ 1
   pub many : length types ≡ n
   pub taken : (o t : ℕ) → slice_get types o ≡ Some t → IsTaken table graph marks o t
-  pub few : steps ≤ cost_of table graph types
+  pub few : steps ≤ cost_of graph types
+
+-- The object's turn ends the scan, since it is marked with a type that it does not fit, or since it fits and a need is not met.
+abbrev pub Stops : Table → List Obj → List ℕ → ℕ → Stop → Type 0
+Stops table graph marks o stops.Unmarked = Unit {0}
+Stops table graph marks o stops.Misfits = (t : ℕ) × (mark_of graph marks o ≡ suc t) × ¬ (table_shapes table).fits graph (vals.Ref o) t
+Stops table graph marks o (stops.Needs t unmet) =
+    (mark_of graph marks o ≡ suc t) × ((table_shapes table).fits graph (vals.Ref o) t × IsUnmet table graph marks o t unmet)
+
+-- The object is taken too, or ends the scan.
+abbrev pub IsTurned : Table → List Obj → List ℕ → List ℕ → ℕ → ℕ → Option Stop → Type 0
+IsTurned table graph marks types o steps None = IsScanning table graph marks (take (o + 1) types) (o + 1) steps
+IsTurned table graph marks types o steps (Some stop) = IsScanning table graph marks (take o types) o steps × Stops table graph marks o stop

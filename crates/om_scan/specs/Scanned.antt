@@ -1,14 +1,18 @@
 -- What a scan answers.
-use Rattle.std.specs.Prelude.{ℕ, ◌≡◌, ◌<◌, ◌≤◌, ◌+◌, List, length, Some, Result, Ok, Err, slice_get, sum_by}
+use Rattle.std.specs.Prelude.{ℕ, ◌≡◌, ◌<◌, ◌≤◌, ◌+◌, ◌-◌, List, length, Some, Result, Ok, Err, slice_get, sum_by, Contains, IsTrue, MatchBool}
 use Rattle.om_model.specs.declared.out_of_memory.Memory.{Memory}
+use Rattle.om_model.specs.declared.value.Val.{Val}
 use Rattle.om_model.specs.declared.value.Val.TheVariants as vals
 use Rattle.om_model.specs.declared.value.Obj.{Obj}
 use Rattle.om_types.specs.Fitting.{numbered_from}
 use Rattle.om_types.specs.Steps.{most_steps}
 use Rattle.om_types.specs.Table.{Table, table_shapes}
 use Rattle.om_types.specs.Typing.{IsTyping}
+use Rattle.om_heap.specs.Heap.{field_at}
 use Rattle.om_scan.specs.declared.straight.Scanned.{Scanned}
 use Rattle.om_scan.specs.declared.straight.Scanned.TheVariants as answers
+use Rattle.om_scan.specs.declared.taken.Taken.{Taken}
+use Rattle.om_scan.specs.Taken.{types_in, seen_of, is_unfit_field, is_unfit_object, size_of, rest_of}
 
 -- what an object needs at a type
 abbrev pub object_needs : Table → List Obj → ℕ → ℕ → List (ℕ × ℕ)
@@ -21,24 +25,46 @@ pub record IsScanned (table : Table) (graph : List Obj) (types : List ℕ) : Typ
   pub root : slice_get types 0 ≡ Some 0
   pub typing : IsTyping (table_shapes table) graph (numbered_from 0 types)
 
--- The first objects, each at a type that it fits.
-pub record AreTaken (table : Table) (graph : List Obj) (types : List ℕ) : Type 0 where
-  pub many : length types ≤ length graph
-  pub within : (o t : ℕ) → slice_get types o ≡ Some t → t < length table.nodes
-  pub fits : (o t : ℕ) → slice_get types o ≡ Some t → (table_shapes table).fits graph (vals.Ref o) t
+-- ---- where the scan stopped
+
+-- An object that was seen at a type: where it was taken it was at an equal one, and where it was found unfit it does not fit.
+pub record IsSeenObject (table : Table) (graph : List Obj) (taken : Taken) (o t : ℕ) : Type 0 where
+  pub taken_at : (u : ℕ) → slice_get (types_in taken) o ≡ Some u → (table_shapes table).equal u t
+  pub unfit : IsTrue (is_unfit_object taken.unfit o) → ¬ (table_shapes table).fits graph (vals.Ref o) t
+
+-- Field i of object o was seen at a type: where it is no object it fits, unless it was found unfit.
+abbrev pub IsSeen : Table → List Obj → Taken → ℕ → ℕ → Val → ℕ → Type 0
+IsSeen table graph taken o i (vals.Int z) t =
+    MatchBool (is_unfit_field taken.unfit o i) (¬ (table_shapes table).fits graph (vals.Int z) t) ((table_shapes table).fits graph (vals.Int z) t)
+IsSeen table graph taken o i (vals.Atom tag) t =
+    MatchBool (is_unfit_field taken.unfit o i) (¬ (table_shapes table).fits graph (vals.Atom tag) t) ((table_shapes table).fits graph (vals.Atom tag) t)
+IsSeen table graph taken o i (vals.Ref p) t = IsSeenObject table graph taken p t
+
+-- The first objects, each at a type that it fits; what it needs there was seen, of the last one at the first fields.
+pub record AreTaken (table : Table) (graph : List Obj) (taken : Taken) : Type 0 where
+  pub many : length (types_in taken) ≤ length graph
+  pub within : (o t : ℕ) → slice_get (types_in taken) o ≡ Some t → t < length table.nodes
+  pub fits : (o t : ℕ) → slice_get (types_in taken) o ≡ Some t → (table_shapes table).fits graph (vals.Ref o) t
+  pub seen :
+      (o t i a : ℕ) → slice_get (types_in taken) o ≡ Some t → i < seen_of taken o → Contains (object_needs table graph o t) (i, a)
+      → IsSeen table graph taken o i (field_at graph o i) a
 
 -- the type of each object, or of the first ones
 abbrev pub Tells : Table → List Obj → Scanned → Type 0
 Tells table graph (answers.Told types) = IsScanned table graph types
-Tells table graph (answers.Stopped types) = AreTaken table graph types
+Tells table graph (answers.Stopped taken) = AreTaken table graph taken
 
--- one for each object, and one for each of its needs
-abbrev pub cost_of : Table → List Obj → List ℕ → ℕ
-cost_of table graph types = sum_by (λ (entry : ℕ × ℕ). 1 + length (object_needs table graph entry.0 entry.1)) (numbered_from 0 types)
+-- one for each object, and one for each of its fields
+abbrev pub cost_of : List Obj → List ℕ → ℕ
+cost_of graph types = sum_by (λ (entry : ℕ × ℕ). 1 + size_of graph entry.0) (numbered_from 0 types)
 
--- Where the scan has told the types, its steps and one more are no more than the most; where it stopped, they are those of
--- the objects taken.
+-- the fields of the last object that were not seen
+abbrev pub left_of : List Obj → Taken → ℕ
+left_of graph taken = rest_of (size_of graph (taken.objects - 1)) taken.seen
+
+-- Where the scan has told the types, its steps and one more are no more than the most; where it stopped, they and what is left
+-- of the last object are no more than the objects taken and their fields.
 abbrev pub AreCounted : Table → List Obj → ℕ → ℕ → Result Scanned Memory → Type 0
 AreCounted table graph old new (Ok (answers.Told types)) = new + 1 ≤ old + most_steps table graph
-AreCounted table graph old new (Ok (answers.Stopped types)) = new ≤ old + cost_of table graph types
+AreCounted table graph old new (Ok (answers.Stopped taken)) = new + left_of graph taken ≤ old + cost_of graph (types_in taken)
 AreCounted table graph old new (Err memory) = new ≡ old

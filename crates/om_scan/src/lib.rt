@@ -13,4 +13,4 @@ pub use fitting::fits_type;
 pub use rows::rows_of;
 pub use steps::Steps;
 pub use straight::{Scanned, scan};
-pub use taken::Taken;
+pub use taken::{Taken, Unfit};

@@ -3,8 +3,8 @@ use Rattle.om_model.specs.declared.value.Val.TheVariants as vals
 use Rattle.om_types.specs.Table.{table_shapes}
 use Rattle.om_types.specs.Typing.{HasType}
 use Rattle.om_type_table.specs.Made.{table_of}
-use Rattle.om_scan.specs.Scanned.{AreTaken, Tells}
-use Rattle.om_scan.proofs.ScanLemmas.{none_taken}
+use Rattle.om_scan.specs.Scanned.{Tells}
+use Rattle.om_check.proofs.SeenLemmas.{none_taken}
 use Rattle.om_check.specs.Verdict.{IsYes}
 use Rattle.om_check.proofs.ScannedLemmas.{scanned_yes}
 use Rattle.om_check.proofs.decide.check_object.Goals as goal
@@ -19,4 +19,8 @@ returns-in-Told-clause-verdict c =
     (scanned_yes table graph c.in-Told.types scanned))
 
 pub search_object-requires-clause-taken : goal.search_object-requires-clause-taken
-search_object-requires-clause-taken c = subst (AreTaken (table_of c.args.table.now) c.args.heap.now) (sym c.in_ok-none.ensures) (none_taken (table_of c.args.table.now) c.args.heap.now)
+search_object-requires-clause-taken c = none_taken (table_of c.args.table.now) c.args.heap.now c.in_ok-none.none c.in_ok-none.ensures.none
+
+pub scan-requires-clause-root : goal.scan-requires-clause-root
+scan-requires-clause-root c =
+    subst (λ o. (table_shapes (table_of c.args.table.now)).fits c.args.heap.now (vals.Ref o) 0) c.if-object-ne0.false c.requires.fits

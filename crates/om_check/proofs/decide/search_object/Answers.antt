@@ -4,7 +4,7 @@ use Rattle.om_model.specs.declared.value.Val.TheVariants as vals
 use Rattle.om_types.specs.Table.{table_shapes}
 use Rattle.om_types.specs.Typing.{HasType}
 use Rattle.om_type_table.specs.Made.{table_of}
-use Rattle.om_scan.proofs.ScanLemmas.{taken_few}
+use Rattle.om_check.proofs.SpentLemmas.{taken_few}
 use Rattle.om_check.specs.Clash.{NoneClash, IsFirstClash}
 use Rattle.om_check.specs.Search.{Searches}
 use Rattle.om_check.specs.Verdict.{IsYes}

@@ -5,6 +5,8 @@ use Rattle.om_type_table.specs.Made.{table_of}
 use Rattle.om_heap.specs.Heap.{field_at}
 use Rattle.om_heap.proofs.ReadLemmas.{word_of-inj}
 use Rattle.om_model.specs.declared.value.Val.TheVariants as vals
+use Rattle.om_types.specs.Table.{table_shapes}
+use Rattle.om_scan.specs.Scanned.{IsSeen}
 use Rattle.om_check.specs.Visits.{listed}
 use Rattle.om_scan.proofs.PlaceLemmas.{read_at}
 use Rattle.om_check.proofs.NotedLemmas.{met_first, later_in}
@@ -31,15 +33,17 @@ returns-then-is_at-clause-tests c =
     (enters_named t all all need v o same
     (inl (met_first t all c.args.visits.now.first (later_in c.args.visits.now.later) c.requires.linked.noted o need.ty met, refl)))
 
-pub returns-then-not-fits_type-clause-tests : goal.returns-then-not-fits_type-clause-tests
-returns-then-not-fits_type-clause-tests c =
+pub returns-then-not-object_fits-clause-tests : goal.returns-then-not-object_fits-clause-tests
+returns-then-not-object_fits-clause-tests c =
     let graph = c.args.heap.now in
     let need = c.args.need in
     let v = field_at graph need.object need.step in
     let valid = field_valid graph need.object need.step c.requires.object c.requires.field c.requires.graph in
+    let same : v ≡ vals.Ref c.number_near-object.result = word_of-inj graph v (vals.Ref c.number_near-object.result) c.requires.graph valid c.number_near-object.ensures.in_range
+    (sym c.requires.word ∙ c.number_near-object.ensures.named) in
     tests_false (table_of c.args.table.now) graph (listed c.args.visits.now) need v valid
     (field_there graph need.object need.step c.requires.object c.requires.field)
-    (λ fits. false≢true (sym c.if-not-fits_type.true ∙ (c.fits_type-2.ensures v valid c.requires.word).1 fits))
+    (λ fits. false≢true (sym c.if-not-object_fits.true ∙ c.object_fits.ensures.1 (subst (λ u. (table_shapes (table_of c.args.table.now)).fits graph u need.ty) same fits)))
 
 pub returns-clause-tests : goal.returns-clause-tests
 returns-clause-tests c =
@@ -54,5 +58,17 @@ returns-clause-tests c =
     (sym c.requires.word ∙ c.number_near-object.ensures.named) in
     tests_true t graph all (listed c.enter.new.self) need v valid
     (field_there graph need.object need.step c.requires.object c.requires.field)
-    ((c.fits_type-2.ensures v valid c.requires.word).0 c.if-not-fits_type.false)
+    (subst (λ u. (table_shapes t).fits graph u need.ty) (sym same) (c.object_fits.ensures.0 c.if-not-object_fits.false))
     (enters_named t all (listed c.enter.new.self) need v o same c.in_ok-enter.ensures.enters)
+
+pub object_fits-requires-clause-seen : goal.object_fits-requires-clause-seen
+object_fits-requires-clause-seen c =
+    let t = table_of c.args.table.now in
+    let graph = c.args.heap.now in
+    let need = c.args.need in
+    let o = c.number_near-object.result in
+    let v = field_at graph need.object need.step in
+    let valid = field_valid graph need.object need.step c.requires.object c.requires.field c.requires.graph in
+    let same : v ≡ vals.Ref o = word_of-inj graph v (vals.Ref o) c.requires.graph valid c.number_near-object.ensures.in_range
+    (sym c.requires.word ∙ c.number_near-object.ensures.named) in
+    subst (λ u. OnTrue c.args.seen (IsSeen t graph c.args.taken.now need.object need.step u need.ty)) same c.requires.seen

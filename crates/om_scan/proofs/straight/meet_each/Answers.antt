@@ -1,15 +1,16 @@
-use Rattle.std.proofs.Common.{◌≡◌, ◌∙◌, length, refl, ap, subst, arith}
-use Rattle.std.specs.Bool.{OnTrue}
+use Rattle.std.proofs.Common.{◌≡◌, ◌≢◌, ◌%◌, ◌∙◌, length, refl, ap, subst, arith}
+use Rattle.std.specs.Bool.{OnTrue, OnFalse}
 use Rattle.std.specs.Prelude.{slice_get, slice_index}
 use Rattle.om_model.specs.Graph.{IsValue}
 use Rattle.om_model.specs.declared.value.Val.{Val}
 use Rattle.om_type_table.specs.Made.{table_of}
+use Rattle.om_types.specs.Table.{table_shapes}
 use Rattle.om_heap.specs.Heap.{field_at, word_of}
 use Rattle.om_fits.specs.Needs.{needs_in}
 use Rattle.om_scan.specs.Scan.{IsMet}
 use Rattle.om_scan.proofs.FieldLemmas.{word_inside, field_word, field_valid}
 use Rattle.om_scan.proofs.NeedLemmas.{need_field, need_node, some_fields}
-use Rattle.om_scan.proofs.MarkLemmas.{meeting_more}
+use Rattle.om_scan.proofs.MarkLemmas.{meeting_more, all_kept, word_unfit}
 use Rattle.om_scan.proofs.straight.meet_each.Goals as goal
 
 pub fields_at-words-requires : goal.fields_at-words-requires
@@ -64,3 +65,25 @@ pub returns-clause-met : goal.returns-clause-met
 returns-clause-met c =
     let many : length (needs_in c.args.needs) ≡ c.loop-k.k = omega (arith, c.len-k-end.ensures, c.loop-k.auto.k-end, c.loop-k-test.false) in
     λ j i a less at_j. c.loop-k.invariant.met j i a (omega (arith, less, ap length c.requires.needs, many)) at_j
+
+pub returns-then-not-branch-clause-met : goal.returns-then-not-branch-clause-met
+returns-then-not-branch-clause-met c =
+    let t = table_of c.args.table.now in
+    let graph = c.args.heap.now in
+    let i = c.get-step.result.0 in
+    let a = c.get-step.result.1 in
+    let words = c.fields_at-words.result.now in
+    let at_k = ap (λ needs. slice_get needs c.loop-k.k) c.requires.needs ∙ c.get-step.ensures in
+    let short = need_field t graph c.args.o c.args.ty c.loop-k.k i a c.requires.object at_k in
+    let inside = word_inside graph c.args.o i words (c.fields_at-words.ensures.words c.args.o c.requires.object c.requires.word) short in
+    let word = field_word graph c.args.o i c.requires.object short words _ (c.fields_at-words.ensures.words c.args.o c.requires.object c.requires.word) refl in
+    let unmet = subst (λ test. OnFalse test (slice_index words i % 8 ≢ 0 → (v : Val) → IsValue (length graph) v → slice_index words i ≡ word_of graph v → ¬ (table_shapes t).fits graph v a))
+    c.if-not-branch.true c.in_ok-meet.ensures.unmet in
+    record {
+      type = a;
+      at = at_k;
+      met = all_kept t graph c.loop-k.marks c.meet.new.marks c.args.o c.args.ty c.loop-k.k c.in_ok-meet.ensures.kept c.loop-k.invariant.met;
+      unfit = λ odd. word_unfit t graph (field_at graph c.args.o i) a (slice_index words i) word odd (λ is.
+          unmet is (field_at graph c.args.o i) (field_valid graph c.args.o i c.requires.object short c.requires.graph) word);
+      small = omega (arith, inside, c.fields_at-words.type_inv);
+    }

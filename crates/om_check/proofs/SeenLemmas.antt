@@ -1,0 +1,111 @@
+-- What a scan saw of the needs of a visit.
+use Rattle.std.proofs.Common.{ℕ, ◌+◌, ◌-◌, ◌%◌, ◌^◌, ◌<◌, ◌≤◌, ◌≡◌, ◌≢◌, ◌∙◌, inl, ⊎_elim, Bool, true, false, List, [], length, Some, refl, sym, ap, subst, arith, eqb-true}
+use Rattle.std.specs.Prelude.{slice_get, slice_index, IsTrue, not, ◌==◌, ◌↔◌, if◌then◌else◌, MatchBool}
+use Rattle.std.proofs.lemmas.Bool.{false≢true}
+use Rattle.std.proofs.lemmas.Option.{none-some}
+use Rattle.om_model.specs.declared.value.Val.{Val}
+use Rattle.om_model.specs.declared.value.Val.TheVariants as vals
+use Rattle.om_model.specs.declared.value.Obj.{Obj}
+use Rattle.om_types.specs.Table.{Table, table_shapes}
+use Rattle.om_heap.specs.Heap.{field_at, word_of}
+use Rattle.om_type_table.specs.Made.{IsLawful}
+use Rattle.om_scan.specs.declared.taken.Taken.{Taken}
+use Rattle.om_scan.specs.Taken.{types_in, all_fields, seen_of, is_unfit_field, size_of, rest_of}
+use Rattle.om_scan.specs.Scanned.{IsSeen, IsSeenObject, AreTaken}
+use Rattle.om_scan.proofs.PlaceLemmas.{read_at}
+use Rattle.om_check.specs.declared.visits.Visit.{Visit}
+use Rattle.om_check.specs.Search.{AreSeen, is_taken, counted}
+use Rattle.om_check.proofs.ClashLemmas.{less_or}
+use Rattle.om_check.proofs.SpentLemmas.{taken_at}
+
+-- ---- steps
+
+-- a need more, in a step where it was not seen
+pub reach_more :
+    (reached i seen start steps more : ℕ) → reached ≤ i → steps ≤ start + (reached - seen) → more ≤ steps + 1 → (i < seen → more ≡ steps)
+    → more ≤ start + (i + 1 - seen)
+reach_more reached i seen start steps more before few one known = ⊎_elim
+    (λ less. let same = known less in omega (arith, before, few, less, same))
+    (λ late. omega (arith, before, few, one, late))
+    (less_or i seen)
+
+-- the fields that were reached are among those of the object
+pub few_rest :
+    (size reached seen start steps : ℕ) → reached ≤ size → reached < 2 ^ 64 → steps ≤ start + (reached - seen) → steps ≤ start + rest_of size seen
+few_rest size reached seen start steps inside small few = by_test (seen == all_fields) refl where
+  by_test : (test : Bool) → (seen == all_fields) ≡ test → steps ≤ start + (if test then 0 else size - seen)
+  by_test true is = let all = eqb-true seen all_fields is in omega (arith, small, few, all)
+  by_test false is = omega (arith, inside, few)
+
+pub need_few :
+    (size reached i seen start steps more : ℕ) → reached ≤ i → i < size → i + 1 < 2 ^ 64 → steps ≤ start + (reached - seen) → more ≤ steps + 1
+    → (i < seen → more ≡ steps) → more ≤ start + rest_of size seen
+need_few size reached i seen start steps more before inside small few one known =
+    few_rest size (i + 1) seen start more (omega (arith, inside)) small (reach_more reached i seen start steps more before few one known)
+
+module _ (table : Table) (graph : List Obj) (taken : Taken) where
+  pub counted_taken : (v : Visit) → is_taken table taken v ≡ true → counted table graph taken v ≡ rest_of (size_of graph v.object) (seen_of taken v.object)
+  counted_taken v is = ap (λ (b : Bool). if b then rest_of (size_of graph v.object) (seen_of taken v.object) else 1 + size_of graph v.object) is
+
+  pub counted_fresh : (v : Visit) → is_taken table taken v ≡ false → counted table graph taken v ≡ 1 + size_of graph v.object
+  counted_fresh v is = ap (λ (b : Bool). if b then rest_of (size_of graph v.object) (seen_of taken v.object) else 1 + size_of graph v.object) is
+
+  -- ---- needs
+
+  pub value_seen :
+      (o i : ℕ) (v : Val) (a word : ℕ) (unfit : Bool) → word ≡ word_of graph v → word % 8 ≢ 0 → unfit ≡ is_unfit_field taken.unfit o i
+      → IsSeen table graph taken o i v a → IsTrue (not unfit) ↔ (table_shapes table).fits graph v a
+  value_seen o i v a word unfit is odd same seen = by_value v is seen where
+    by_test : (w : Val) (test : Bool) → MatchBool test (¬ (table_shapes table).fits graph w a) ((table_shapes table).fits graph w a) → IsTrue (not test) ↔ (table_shapes table).fits graph w a
+    by_test w true none = (λ no. absurd (false≢true no), λ fits. absurd (none fits))
+    by_test w false fits = (λ yes. fits, λ also. refl)
+
+    by_value : (w : Val) → word ≡ word_of graph w → IsSeen table graph taken o i w a → IsTrue (not unfit) ↔ (table_shapes table).fits graph w a
+    by_value (vals.Int z) named told = by_test (vals.Int z) unfit
+        (subst (λ b. MatchBool b (¬ (table_shapes table).fits graph (vals.Int z) a) ((table_shapes table).fits graph (vals.Int z) a)) (sym same) told)
+    by_value (vals.Atom tag) named told = by_test (vals.Atom tag) unfit
+        (subst (λ b. MatchBool b (¬ (table_shapes table).fits graph (vals.Atom tag) a) ((table_shapes table).fits graph (vals.Atom tag) a)) (sym same) told)
+    by_value (vals.Ref p) named told = absurd (odd (omega (arith, named)))
+
+  module _ (lawful : IsLawful table) where
+    pub object_taken : (o u a : ℕ) → AreTaken table graph taken → slice_get (types_in taken) o ≡ Some u → IsSeenObject table graph taken o a → (table_shapes table).fits graph (vals.Ref o) a
+    object_taken o u a are at_o seen = lawful.lawful.fits graph (vals.Ref o) u a (inl tt) (seen.taken_at u at_o) (are.fits o u at_o)
+
+    -- what was seen at a type was seen at each equal one
+    seen_equal : (o i : ℕ) (v : Val) (a b : ℕ) → (table_shapes table).equal a b → IsSeen table graph taken o i v a → IsSeen table graph taken o i v b
+    seen_equal o i v a b equal = by_value v where
+      by_test :
+          (w : Val) (test : Bool) → MatchBool test (¬ (table_shapes table).fits graph w a) ((table_shapes table).fits graph w a)
+          → MatchBool test (¬ (table_shapes table).fits graph w b) ((table_shapes table).fits graph w b)
+      by_test w true none = λ fits. none (lawful.lawful.fits graph w b a (inl tt) (sym equal) fits)
+      by_test w false fits = lawful.lawful.fits graph w a b (inl tt) equal fits
+
+      by_value : (w : Val) → IsSeen table graph taken o i w a → IsSeen table graph taken o i w b
+      by_value (vals.Int z) told = by_test (vals.Int z) (is_unfit_field taken.unfit o i) told
+      by_value (vals.Atom tag) told = by_test (vals.Atom tag) (is_unfit_field taken.unfit o i) told
+      by_value (vals.Ref p) told = record {
+        taken_at = λ u at_p. told.taken_at u at_p ∙ equal;
+        unfit = λ found fits. told.unfit found (lawful.lawful.fits graph (vals.Ref p) b a (inl tt) (sym equal) fits);
+      }
+
+    -- a scan that took the visit's object at an equal type saw what it needs
+    pub visit_seen : (v : Visit) → AreTaken table graph taken → v.ty < length table.classes → is_taken table taken v ≡ true → AreSeen table graph taken v (seen_of taken v.object)
+    visit_seen v are typed is i a less needed =
+        let at_o = taken_at table graph taken v is in
+        let within = are.within v.object at_o.0 at_o.1 in
+        let equal : (table_shapes table).equal v.ty at_o.0 =
+        read_at table.classes v.ty (slice_index table.classes v.ty) typed refl
+        ∙ ap Some (sym at_o.2) ∙ sym (read_at table.classes at_o.0 (slice_index table.classes at_o.0) (omega (arith, within, lawful.classed)) refl) in
+        let own = lawful.lawful.needs graph (vals.Ref v.object) v.ty at_o.0 i a (inl tt) equal needed in
+        seen_equal v.object i (field_at graph v.object i) own.0 a (sym own.2) (are.seen v.object at_o.0 i own.0 at_o.1 less own.1)
+
+  -- nothing was taken
+  pub none_taken : types_in taken ≡ [] → AreTaken table graph taken
+  none_taken none = record {
+    many = let long = ap length none in omega (arith, long);
+    within = λ o t at_o. absurd (nowhere o t at_o);
+    fits = λ o t at_o. absurd (nowhere o t at_o);
+    seen = λ o t i a at_o less needed. absurd (nowhere o t at_o);
+  } where
+    nowhere : (o t : ℕ) → slice_get (types_in taken) o ≡ Some t → ⊥
+    nowhere o t at_o = none-some t (sym (ap (λ ts. slice_get ts o) none) ∙ at_o)

@@ -1,0 +1,34 @@
+-- What a scan took before it stopped, and what it saw of the needs.
+use Rattle.std.specs.Prelude.{ℕ, suc, ◌-◌, ◌==◌, nat_lt, if◌then◌else◌, ◌&&◌, Bool, false, List, length, take}
+use Rattle.om_model.specs.declared.value.Obj.{Obj}
+use Rattle.om_heap.specs.Heap.{object_at, fields_of}
+use Rattle.om_scan.specs.declared.taken.Taken.{Taken}
+use Rattle.om_scan.specs.declared.taken.Unfit.{Unfit}
+use Rattle.om_scan.specs.declared.taken.Unfit.TheVariants as unfits
+
+abbrev pub types_in : Taken → List ℕ
+types_in taken = take taken.objects taken.types
+
+-- more than the number of each field
+abbrev pub all_fields : ℕ
+all_fields = 18446744073709551615
+
+-- the needs of a taken object were tested at the fields below this number
+abbrev pub seen_of : Taken → ℕ → ℕ
+seen_of taken o = if nat_lt (suc o) taken.objects then all_fields else taken.seen
+
+abbrev pub is_unfit_field : Unfit → ℕ → ℕ → Bool
+is_unfit_field (unfits.Field o i) object field = (o == object) && (i == field)
+is_unfit_field unfit object field = false
+
+abbrev pub is_unfit_object : Unfit → ℕ → Bool
+is_unfit_object (unfits.Object o) object = o == object
+is_unfit_object unfit object = false
+
+-- how many fields an object has
+abbrev pub size_of : List Obj → ℕ → ℕ
+size_of graph o = length (fields_of (object_at graph o))
+
+-- of so many fields those that were not seen
+abbrev pub rest_of : ℕ → ℕ → ℕ
+rest_of size seen = if seen == all_fields then 0 else size - seen
