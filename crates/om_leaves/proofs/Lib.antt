@@ -5,4 +5,5 @@ pub mod ReadBackLemmas
 pub mod RowLemmas
 pub mod StringLemmas
 mod FrameLemmas
+mod NameLemmas
 mod NumberLemmas

@@ -7,7 +7,7 @@ ghost use Rattle.om_leaves.specs.Leaves.{below_text, float_text};
 ghost use Rattle.om_leaves.specs.Frames.{int_text, object_text, natural, tag_text, row_from, row_text};
 ghost use Rattle.om_leaves.specs.FrameView.{frame_in};
 
-use crate::bytes::{put, put_few};
+use crate::bytes::{put, put_name};
 use crate::frame::{Frame, doubles_frame_of, name_of_tag};
 use crate::leaves::{put_below, put_float, put_int, put_int32, put_int64, put_native};
 use crate::strings::put_string_of;
@@ -57,7 +57,7 @@ fn put_constant(text: &mut Vec<u8>, many: u64, z: i64, constants: &[List<u8>]) -
     if z as usize >= constants.len() {
         return Ok(());
     }
-    put_few(text, constants[z as usize].as_slice())
+    put_name(text, constants[z as usize].as_slice())
 }
 
 /// Puts the tag of this hash.

@@ -25,6 +25,38 @@ pub fn put_reserved(text: &mut Vec<u8>, bytes: &[u8])
     }
 }
 
+/// Puts a name for which there is room. One of four to eight bytes is put as its first four and its last four.
+#[inline(always)]
+pub fn put_name_reserved(text: &mut Vec<u8>, name: &[u8])
+    requires { vec_len text.old + length name.now ≤ vec_capacity text.old }
+    ensures items { text.new.items ≡ text.old.items ++ name.now }
+    ensures len { vec_len text.new ≡ vec_len text.old + length name.now }
+    ensures capacity { vec_capacity text.new ≡ vec_capacity text.old }
+{
+    let len = name.len();
+    if len < 4 || 8 < len {
+        put_reserved(text, name);
+        return;
+    }
+    let middle = text.len() + len - 4;
+    put_reserved(text, &[name[0], name[1], name[2], name[3]]);
+    text.truncate(middle);
+    put_reserved(
+        text,
+        &[name[len - 4], name[len - 3], name[len - 2], name[len - 1]],
+    );
+}
+
+/// Puts a name.
+#[inline(always)]
+pub fn put_name(text: &mut Vec<u8>, name: &[u8]) -> Result<(), Memory>
+    ensures { OnOk result (text.new.items ≡ text.old.items ++ name.now) }
+{
+    text.reserve(name.len())?;
+    put_name_reserved(text, name);
+    Ok(())
+}
+
 /// Puts a few bytes, one by one.
 #[inline(always)]
 pub fn put_few(text: &mut Vec<u8>, bytes: &[u8]) -> Result<(), Memory>

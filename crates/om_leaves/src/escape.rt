@@ -92,14 +92,16 @@ fn other(byte: u8) -> u8
     OTHERS[usize::from(byte)]
 }
 
-/// Whether each of these bytes stands for itself in a string.
+/// Whether each of the first k bytes of a word stands for itself in a string. All bytes are looked at, so that no branch is on k.
 #[inline(always)]
-fn are_plain(bytes: &[u8]) -> bool
-    ensures { OnTrue result (flat_map (escaped 34) bytes.now ≡ bytes.now) }
+fn are_plain(bytes: &[u8; 8], k: usize) -> bool
+    requires { k ≤ 8 }
+    ensures { OnTrue result (flat_map (escaped 34) (take k bytes.now) ≡ take k bytes.now) }
 {
     let mut others = 0;
-    for i in 0..bytes.len() {
-        others += u64::from(other(bytes[i]));
+    for i in 0..8 {
+        let byte_other = other(bytes[i]);
+        others += u64::from(if i < k { byte_other } else { 0 });
     }
     others == 0
 }
@@ -110,7 +112,7 @@ pub fn put_word(text: &mut Vec<u8>, bytes: &[u8; 8], k: usize) -> Result<(), Mem
     requires { k ≤ 8 }
     ensures { OnOk result (text.new.items ≡ text.old.items ++ flat_map (escaped 34) (take k bytes.now)) }
 {
-    if !are_plain(&bytes[..k]) {
+    if !are_plain(bytes, k) {
         return put_escaped(text, b'"', &bytes[..k]);
     }
     text.reserve(8)?;

@@ -7,7 +7,7 @@ ghost use Rattle.om_heap.specs.Heap.{object_at, fields_of};
 ghost use Rattle.om_leaves.specs.Frames.{frame_of, doubles_frame, named_frame, constr_frame, is_hash, before_part, tag_of_values};
 ghost use Rattle.om_leaves.specs.FrameView.{frame_in};
 
-use crate::bytes::{put, put_few, put_reserved};
+use crate::bytes::{put, put_few, put_name_reserved, put_reserved};
 use om_heap::{Heap, Kind};
 use om_model::Memory;
 use om_model::list::List;
@@ -18,8 +18,10 @@ use om_types::shape::ShapeOf;
 /// What stands before, between and after parts.
 #[derive(Clone, Copy)]
 pub enum Frame<'a> {
-    /// A name, which may be empty, and the names of the fields, where they have names.
-    Named(&'a [u8], &'a [List<u8>]),
+    /// A constructor's name, and the names of its fields, where they have names.
+    Constructor(&'a ConstrNames),
+    /// The names of the fields, where they have names.
+    Fields(&'a [List<u8>]),
     /// A tag's name without its backquote.
     Tagged(&'a [u8]),
     Array,
@@ -32,9 +34,12 @@ impl<'a> Frame<'a> {
         ensures { OnOk result (text.new.items ≡ text.old.items ++ (frame_in self.now).opening) }
     {
         match *self {
-            Frame::Named(name, fields) => {
-                put_ended(text, name, if fields.is_empty() { b'(' } else { b'{' })
-            }
+            Frame::Constructor(names) => put_ended(
+                text,
+                names.name.as_slice(),
+                opening(names.fields.as_slice()),
+            ),
+            Frame::Fields(fields) => Ok(text.push(opening(fields))?),
             Frame::Tagged(name) => {
                 put(text, b"`")?;
                 put(text, name)?;
@@ -51,7 +56,8 @@ impl<'a> Frame<'a> {
         ensures { OnOk result (text.new.items ≡ text.old.items ++ before_part (frame_in self.now) i) }
     {
         match *self {
-            Frame::Named(_, fields) => put_before_field(text, fields, i),
+            Frame::Constructor(names) => put_before_field(text, names.fields.as_slice(), i),
+            Frame::Fields(fields) => put_before_field(text, fields, i),
             Frame::Tagged(_) => put_between(text, b", ", i),
             Frame::Array => put_between(text, b"; ", i),
         }
@@ -63,11 +69,28 @@ impl<'a> Frame<'a> {
         ensures { OnOk result (text.new.items ≡ text.old.items ++ (frame_in self.now).closing) }
     {
         match *self {
-            Frame::Named(_, fields) => Ok(text.push(if fields.is_empty() { b')' } else { b'}' })?),
+            Frame::Constructor(names) => Ok(text.push(closing(names.fields.as_slice()))?),
+            Frame::Fields(fields) => Ok(text.push(closing(fields))?),
             Frame::Tagged(_) => Ok(text.push(b')')?),
             Frame::Array => put_few(text, b"|]"),
         }
     }
+}
+
+/// The byte before fields of these names.
+#[inline(always)]
+fn opening(fields: &[List<u8>]) -> u8
+    ensures { (name : List ℕ) → (named_frame name fields.now).opening ≡ name ++ result ∷ [] }
+{
+    if fields.is_empty() { b'(' } else { b'{' }
+}
+
+/// The byte after fields of these names.
+#[inline(always)]
+fn closing(fields: &[List<u8>]) -> u8
+    ensures { (name : List ℕ) → (named_frame name fields.now).closing ≡ result ∷ [] }
+{
+    if fields.is_empty() { b')' } else { b'}' }
 }
 
 /// Puts a name and one byte after it.
@@ -76,7 +99,7 @@ fn put_ended(text: &mut Vec<u8>, name: &[u8], end: u8) -> Result<(), Memory>
     ensures { OnOk result (text.new.items ≡ text.old.items ++ (name.now ++ end ∷ [])) }
 {
     text.reserve(name.len() + 1)?;
-    put_reserved(text, name);
+    put_name_reserved(text, name);
     text.push_reserved(end);
     Ok(())
 }
@@ -114,10 +137,19 @@ fn put_field_name(text: &mut Vec<u8>, name: &[u8], i: u64) -> Result<(), Memory>
     ensures { OnOk result (text.new.items ≡ text.old.items ++ ((if i == 0 then [] else codes "; ") ++ (name.now ++ codes " = "))) }
 {
     text.reserve(name.len() + 5)?;
-    if i > 0 {
+    // A name of one byte takes no loop, and the length of the text is changed once.
+    if name.len() == 1 {
+        if i > 0 {
+            put_reserved(text, &[b';', b' ', name[0], b' ', b'=', b' ']);
+        } else {
+            put_reserved(text, &[name[0], b' ', b'=', b' ']);
+        }
+        return Ok(());
+    }
+    if i != 0 {
         put_reserved(text, b"; ");
     }
-    put_reserved(text, name);
+    put_name_reserved(text, name);
     put_reserved(text, b" = ");
     Ok(())
 }
@@ -137,7 +169,7 @@ pub fn block_frame<'a>(
 {
     match shape {
         ShapeOf::Sum(_, _) => constructor_frame(names.constructors.as_slice(), tag),
-        ShapeOf::Product(_, _) => Frame::Named(b"", names.fields.as_slice()),
+        ShapeOf::Product(_, _) => Frame::Fields(names.fields.as_slice()),
         ShapeOf::Poly(_) => Frame::Tagged(name_of_tag(names.tags.as_slice(), first_int(heap, o))),
         _ => Frame::Array,
     }
@@ -149,10 +181,9 @@ fn constructor_frame(constructors: &[ConstrNames], tag: u8) -> Frame<'_>
     ensures { frame_in result ≡ constr_frame (slice_get constructors.now tag) }
 {
     if tag as usize >= constructors.len() {
-        return Frame::Named(b"", &[]);
+        return Frame::Fields(&[]);
     }
-    let names = &constructors[tag as usize];
-    Frame::Named(names.name.as_slice(), names.fields.as_slice())
+    Frame::Constructor(&constructors[tag as usize])
 }
 
 /// The name of the tag of this hash, if there is one.
@@ -184,7 +215,7 @@ pub fn doubles_frame_of<'a>(shape: &ShapeOf<usize>, names: &'a Names) -> Frame<'
     ensures { frame_in result ≡ doubles_frame shape.now names.now }
 {
     match shape {
-        ShapeOf::FlatFloats(_, _) => Frame::Named(b"", names.fields.as_slice()),
+        ShapeOf::FlatFloats(_, _) => Frame::Fields(names.fields.as_slice()),
         _ => Frame::Array,
     }
 }

@@ -14,9 +14,13 @@ use om_model::Memory;
 pub fn put_int(text: &mut Vec<u8>, n: i64) -> Result<(), Memory>
     ensures { OnOk result (text.new.items ≡ text.old.items ++ signed_decimal n) }
 {
-    if 0 <= n && n < 100_000 {
-        text.reserve(5)?;
-        put_five(text, n as u64);
+    if 0 <= n && n < 100_000_000 {
+        text.reserve(8)?;
+        if n < 10 {
+            put_digit(text, n as u64);
+        } else {
+            put_eight(text, n as u64);
+        }
         return Ok(());
     }
     put_long_int(text, n)
@@ -30,11 +34,59 @@ fn put_long_int(text: &mut Vec<u8>, n: i64) -> Result<(), Memory>
     put(text, Buffer::new().format(n).as_bytes())
 }
 
-/// Puts the digits of a number that has at most five, for which there is room.
+/// Puts the digits of a number that has at most eight, for which there is room.
+fn put_eight(text: &mut Vec<u8>, n: u64)
+    requires few { n < 100000000 }
+    requires room { vec_len text.old + 8 ≤ vec_capacity text.old }
+    ensures { text.new.items ≡ text.old.items ++ decimal n }
+{
+    if n < 10_000_000 {
+        put_seven(text, n);
+    } else {
+        put_seven(text, n / 10);
+        text.push_reserved(b'0' + (n % 10) as u8);
+    }
+}
+
+#[inline(always)]
+fn put_seven(text: &mut Vec<u8>, n: u64)
+    requires few { n < 10000000 }
+    requires room { vec_len text.old + 7 ≤ vec_capacity text.old }
+    ensures items { text.new.items ≡ text.old.items ++ decimal n }
+    ensures len { vec_len text.new ≤ vec_len text.old + 7 }
+    ensures capacity { vec_capacity text.new ≡ vec_capacity text.old }
+{
+    if n < 1_000_000 {
+        put_six(text, n);
+    } else {
+        put_six(text, n / 10);
+        text.push_reserved(b'0' + (n % 10) as u8);
+    }
+}
+
+#[inline(always)]
+fn put_six(text: &mut Vec<u8>, n: u64)
+    requires few { n < 1000000 }
+    requires room { vec_len text.old + 6 ≤ vec_capacity text.old }
+    ensures items { text.new.items ≡ text.old.items ++ decimal n }
+    ensures len { vec_len text.new ≤ vec_len text.old + 6 }
+    ensures capacity { vec_capacity text.new ≡ vec_capacity text.old }
+{
+    if n < 100_000 {
+        put_five(text, n);
+    } else {
+        put_five(text, n / 10);
+        text.push_reserved(b'0' + (n % 10) as u8);
+    }
+}
+
+#[inline(always)]
 fn put_five(text: &mut Vec<u8>, n: u64)
     requires few { n < 100000 }
     requires room { vec_len text.old + 5 ≤ vec_capacity text.old }
-    ensures { text.new.items ≡ text.old.items ++ decimal n }
+    ensures items { text.new.items ≡ text.old.items ++ decimal n }
+    ensures len { vec_len text.new ≤ vec_len text.old + 5 }
+    ensures capacity { vec_capacity text.new ≡ vec_capacity text.old }
 {
     if n < 10_000 {
         put_four(text, n);

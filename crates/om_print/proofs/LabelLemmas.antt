@@ -132,7 +132,7 @@ module _ (table : TypeTable) (graph : List Obj) where
 
   -- ---- which objects are met again
 
-  pub counted_more : (all : List Piece) (walk new : Walk) (again : List Bool) (step : Step) → AreCounted table graph all walk again → Goes table graph (pieces_left table graph walk) walk.order.items step new
+  pub counted_more : (all : List Piece) (walk new : Walk) (again : List Bool) (step : Step) → AreCounted table graph all walk again → Goes table graph (pieces_left table graph walk) walk.order step new
       → AreCounted table graph all new (marks_after step again)
   counted_more all walk new again step are goes =
       let now = step_pieces table graph step in
@@ -148,19 +148,19 @@ module _ (table : TypeTable) (graph : List Obj) where
             ∙ or_turns (get_or again x false) (has (agains_of step) x) (has (agains later) x)
             ∙ ap (λ b. b || has (agains later) x) (sym (marks_more step again x inside));
         met_first =
-            are.met_first ∙ ap (λ ps. walk.order.items ++ firsts ps) goes.pieces ∙ ap (λ os. walk.order.items ++ os) (firsts-append now later)
-            ∙ sym (append_associative walk.order.items (firsts now) (firsts later)) ∙ ap (λ os. os ++ firsts later) (sym goes.order);
+            are.met_first ∙ ap (λ ps. walk.order ++ firsts ps) goes.pieces ∙ ap (λ os. walk.order ++ os) (firsts-append now later)
+            ∙ sym (append_associative walk.order (firsts now) (firsts later)) ∙ ap (λ os. os ++ firsts later) (sym goes.order);
       }
 
   -- ---- at the start
 
-  pub first_left : (walk : Walk) (v : Val) (t : ℕ) → walk.value ≡ Some (v, t) → walk.stack.items ≡ [] → walk.order.items ≡ []
+  pub first_left : (walk : Walk) (v : Val) (t : ℕ) → walk.value ≡ Some (v, t) → walk.stack.items ≡ [] → walk.order ≡ []
       → pieces_left table graph walk ≡ left_of table graph [] (Some (v, t)) []
   first_left walk v t value blocks order =
-      ap (λ bs. left_of table graph bs walk.value walk.order.items) blocks ∙ ap (λ x. left_of table graph [] x walk.order.items) value
+      ap (λ bs. left_of table graph bs walk.value walk.order) blocks ∙ ap (λ x. left_of table graph [] x walk.order) value
       ∙ ap (λ os. left_of table graph [] (Some (v, t)) os) order
 
-  pub counted_none : (walk : Walk) (v : Val) (t : ℕ) (again : List Bool) → IsWalk table graph walk → walk.value ≡ Some (v, t) → walk.stack.items ≡ [] → walk.order.items ≡ []
+  pub counted_none : (walk : Walk) (v : Val) (t : ℕ) (again : List Bool) → IsWalk table graph walk → walk.value ≡ Some (v, t) → walk.stack.items ≡ [] → walk.order ≡ []
       → again ≡ replicate (length graph) false → AreCounted table graph (left_of table graph [] (Some (v, t)) []) walk again
   counted_none walk v t again is value blocks order marks =
       let left = first_left walk v t value blocks order in record {
@@ -173,14 +173,14 @@ module _ (table : TypeTable) (graph : List Obj) where
       }
 
   -- where no value comes next, that is what is left
-  pub none_next : (walk : Walk) → walk.value ≡ None → left_of table graph walk.stack.items None walk.order.items ≡ pieces_left table graph walk
-  none_next walk none = ap (λ value. left_of table graph walk.stack.items value walk.order.items) (sym none)
+  pub none_next : (walk : Walk) → walk.value ≡ None → left_of table graph walk.stack.items None walk.order ≡ pieces_left table graph walk
+  none_next walk none = ap (λ value. left_of table graph walk.stack.items value walk.order) (sym none)
 
   -- at the end they are those of the pieces with labels
-  pub counted_all : (all : List Piece) (walk : Walk) (again : List Bool) (order : List ℕ) → AreCounted table graph all walk again → pieces_left table graph walk ≡ [] → order ≡ walk.order.items
+  pub counted_all : (all : List Piece) (walk : Walk) (again : List Bool) (order : List ℕ) → AreCounted table graph all walk again → pieces_left table graph walk ≡ [] → order ≡ walk.order
       → filter (λ o. get_or again o false) order ≡ labelled all
   counted_all all walk again order are none is =
-      let first : firsts all ≡ order = are.met_first ∙ ap (λ ps. walk.order.items ++ firsts ps) none ∙ append-nil walk.order.items ∙ sym is in
+      let first : firsts all ≡ order = are.met_first ∙ ap (λ ps. walk.order ++ firsts ps) none ∙ append-nil walk.order ∙ sym is in
       filter_same (λ o. get_or again o false) (has (agains all)) (λ x. or_none (get_or again x false) ∙ sym (are.met_again x ∙ ap (λ ps. get_or again x false || has (agains ps) x) none)) order
       ∙ ap (filter (has (agains all))) (sym first) where
         or_none : (b : Bool) → b ≡ (b || false)

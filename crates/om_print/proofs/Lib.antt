@@ -3,6 +3,7 @@ pub mod LabelLemmas
 pub mod LeftLemmas
 pub mod MarkLemmas
 pub mod PlainLemmas
+pub mod RowLemmas
 pub mod ShownLemmas
 pub mod TypedLemmas
 pub mod WalkLemmas

@@ -48,7 +48,7 @@ module _ (table : TypeTable) (graph : List Obj) where
   }
 
   pub put_then : (left : List Piece) (met_before old text all : List ℕ) (between new : Walk) → IsPutOn table graph left met_before old text between
-      → IsPutOn table graph (pieces_left table graph between) between.order.items text all new → IsPutOn table graph left met_before old all new
+      → IsPutOn table graph (pieces_left table graph between) between.order text all new → IsPutOn table graph left met_before old all new
   put_then left met_before old text all between new first then = record {
     now = first.now ++ then.now;
     pieces = first.pieces ∙ ap (λ ps. first.now ++ ps) then.pieces ∙ sym (append_associative first.now then.now (pieces_left table graph new));
@@ -60,11 +60,11 @@ module _ (table : TypeTable) (graph : List Obj) where
   }
 
   -- nothing is put
-  pub put_none : (walk : Walk) (text : List ℕ) → IsWalk table graph walk → IsPutOn table graph (pieces_left table graph walk) walk.order.items text text walk
+  pub put_none : (walk : Walk) (text : List ℕ) → IsWalk table graph walk → IsPutOn table graph (pieces_left table graph walk) walk.order text text walk
   put_none walk text is = record {
     now = [];
     pieces = refl;
-    order = sym (append-nil walk.order.items);
+    order = sym (append-nil walk.order);
     fresh = refl;
     put = sym (append-nil text);
     walk = is;
@@ -74,7 +74,7 @@ module _ (table : TypeTable) (graph : List Obj) where
   pub record IsSame (walk new : Walk) : Type 0 where
     pub blocks : new.stack.items ≡ walk.stack.items
     pub marks : new.marks.items ≡ walk.marks.items
-    pub order : new.order.items ≡ walk.order.items
+    pub order : new.order ≡ walk.order
 
   pub same_walk : (walk new : Walk) → IsWalk table graph walk → IsSame walk new → IfSome new.value (λ next. IsValue (length graph) next.0 × IsTypedAt (table_of table) graph next.0 next.1) → IsWalk table graph new
   same_walk walk new is same value = record {
@@ -102,8 +102,8 @@ module _ (table : TypeTable) (graph : List Obj) where
       )
 
   -- what was met and what is left are all, and none was met again
-  pub counted_put : (walk new : Walk) (v : Val) (t : ℕ) (again : List Bool) (old text : List ℕ) → walk.value ≡ Some (v, t) → walk.stack.items ≡ [] → walk.order.items ≡ [] → again ≡ replicate (length graph) false
-      → IsPutOn table graph (pieces_left table graph walk) walk.order.items old text new → AreCounted table graph (left_of table graph [] (Some (v, t)) []) new again
+  pub counted_put : (walk new : Walk) (v : Val) (t : ℕ) (again : List Bool) (old text : List ℕ) → walk.value ≡ Some (v, t) → walk.stack.items ≡ [] → walk.order ≡ [] → again ≡ replicate (length graph) false
+      → IsPutOn table graph (pieces_left table graph walk) walk.order old text new → AreCounted table graph (left_of table graph [] (Some (v, t)) []) new again
   counted_put walk new v t again old text value blocks order marks put =
       let left = first_left table graph walk v t value blocks order in
       let all = left_of table graph [] (Some (v, t)) [] in
@@ -120,7 +120,7 @@ module _ (table : TypeTable) (graph : List Obj) where
 
   -- the whole text, where nothing is left
   pub whole_put : (walk new : Walk) (old text : List ℕ) (all pieces : List Piece) → all ≡ pieces → pieces_left table graph walk ≡ all → pieces_left table graph new ≡ []
-      → IsPutOn table graph (pieces_left table graph walk) walk.order.items old text new → text ≡ old ++ text_of pieces
+      → IsPutOn table graph (pieces_left table graph walk) walk.order old text new → text ≡ old ++ text_of pieces
   whole_put walk new old text all pieces are start none put =
       let whole : pieces ≡ put.now = sym are ∙ sym start ∙ put.pieces ∙ ap (λ ps. put.now ++ ps) none ∙ append-nil put.now in
       put.put ∙ ap (λ ps. old ++ flat_map (piece_text []) ps) (sym whole)

@@ -41,13 +41,13 @@ module _ (table : TypeTable) (graph : List Obj) where
 
   -- the step of a value that opens no block
   pub value_goes : (walk new : Walk) (v : Val) (t : ℕ) (step : Step) → IsWalk table graph walk → new.stack.items ≡ walk.stack.items → new.value ≡ None
-      → meet table graph (suc (length graph - length walk.stack.items)) (reverse walk.order.items) v t ≡ led_by (step_pieces table graph step) (met [] (reverse new.order.items))
-      → new.order.items ≡ walk.order.items ++ firsts (step_pieces table graph step) → IsStep table graph step → IsWalk table graph new
-      → Goes table graph (left_of table graph walk.stack.items (Some (v, t)) walk.order.items) walk.order.items step new
+      → meet table graph (suc (length graph - length walk.stack.items)) (reverse walk.order) v t ≡ led_by (step_pieces table graph step) (met [] (reverse new.order))
+      → new.order ≡ walk.order ++ firsts (step_pieces table graph step) → IsStep table graph step → IsWalk table graph new
+      → Goes table graph (left_of table graph walk.stack.items (Some (v, t)) walk.order) walk.order step new
   value_goes walk new v t step is blocks none meets order valid is_new = record {
-    pieces = value_left table graph walk.stack.items v t walk.order.items new.order.items (step_pieces table graph step) (few_blocks walk is) meets
-        ∙ ap (λ bs. step_pieces table graph step ++ left_of table graph bs None new.order.items) (sym blocks)
-        ∙ ap (λ value. step_pieces table graph step ++ left_of table graph new.stack.items value new.order.items) (sym none);
+    pieces = value_left table graph walk.stack.items v t walk.order new.order (step_pieces table graph step) (few_blocks walk is) meets
+        ∙ ap (λ bs. step_pieces table graph step ++ left_of table graph bs None new.order) (sym blocks)
+        ∙ ap (λ value. step_pieces table graph step ++ left_of table graph new.stack.items value new.order) (sym none);
     order = order;
     valid = valid;
     walk = is_new;
@@ -56,19 +56,19 @@ module _ (table : TypeTable) (graph : List Obj) where
   -- ---- values that are no objects, and objects that are met again
 
   pub integer_goes : (walk : Walk) (v : Val) (z : ℤ) (t : ℕ) → v ≡ vals.Int z → IsWalk table graph walk → walk.value ≡ None → IsTypedAt (table_of table) graph v t
-      → Goes table graph (left_of table graph walk.stack.items (Some (v, t)) walk.order.items) walk.order.items (steps.Integer z t) walk
+      → Goes table graph (left_of table graph walk.stack.items (Some (v, t)) walk.order) walk.order (steps.Integer z t) walk
   integer_goes walk v z t v_is is none typed =
-      let meets : meet table graph (suc (length graph - length walk.stack.items)) (reverse walk.order.items) v t ≡ met (Text (int_text (shape_in table t) (names_in table t) z) ∷ []) (reverse walk.order.items) =
-      ap (λ x. meet table graph (suc (length graph - length walk.stack.items)) (reverse walk.order.items) x t) v_is in
-      value_goes walk walk v t (steps.Integer z t) is refl none meets (sym (append-nil walk.order.items))
+      let meets : meet table graph (suc (length graph - length walk.stack.items)) (reverse walk.order) v t ≡ met (Text (int_text (shape_in table t) (names_in table t) z) ∷ []) (reverse walk.order) =
+      ap (λ x. meet table graph (suc (length graph - length walk.stack.items)) (reverse walk.order) x t) v_is in
+      value_goes walk walk v t (steps.Integer z t) is refl none meets (sym (append-nil walk.order))
       (typed.number, integer_fits (table_of table) graph z t (subst (λ x. IsTypedAt (table_of table) graph x t) v_is typed)) is
 
   pub atom_goes : (walk : Walk) (v : Val) (tag t : ℕ) → v ≡ vals.Atom tag → IsWalk table graph walk → walk.value ≡ None
-      → Goes table graph (left_of table graph walk.stack.items (Some (v, t)) walk.order.items) walk.order.items steps.Empty walk
+      → Goes table graph (left_of table graph walk.stack.items (Some (v, t)) walk.order) walk.order steps.Empty walk
   atom_goes walk v tag t v_is is none =
-      let meets : meet table graph (suc (length graph - length walk.stack.items)) (reverse walk.order.items) v t ≡ met (Text (codes "[||]") ∷ []) (reverse walk.order.items) =
-      ap (λ x. meet table graph (suc (length graph - length walk.stack.items)) (reverse walk.order.items) x t) v_is in
-      value_goes walk walk v t steps.Empty is refl none meets (sym (append-nil walk.order.items)) tt is
+      let meets : meet table graph (suc (length graph - length walk.stack.items)) (reverse walk.order) v t ≡ met (Text (codes "[||]") ∷ []) (reverse walk.order) =
+      ap (λ x. meet table graph (suc (length graph - length walk.stack.items)) (reverse walk.order) x t) v_is in
+      value_goes walk walk v t steps.Empty is refl none meets (sym (append-nil walk.order)) tt is
 
   -- what is met where an object is met first
   abbrev first_met : ℕ → List ℕ → ℕ → ℕ → Met
@@ -81,13 +81,13 @@ module _ (table : TypeTable) (graph : List Obj) where
   met_unmarked k seen o t unmarked = ap (λ b. cond b (met (Again o ∷ []) seen) (first_met k seen o t)) unmarked
 
   pub again_goes : (walk : Walk) (v : Val) (o t : ℕ) → v ≡ vals.Ref o → IsWalk table graph walk → walk.value ≡ None → o < length graph → get_or walk.marks.items o false ≡ true
-      → Goes table graph (left_of table graph walk.stack.items (Some (v, t)) walk.order.items) walk.order.items (steps.Again o) walk
+      → Goes table graph (left_of table graph walk.stack.items (Some (v, t)) walk.order) walk.order (steps.Again o) walk
   again_goes walk v o t v_is is none inside marked =
       let k = length graph - length walk.stack.items in
-      let seen = reverse walk.order.items in
+      let seen = reverse walk.order in
       let meets : meet table graph (suc k) seen v t ≡ met (Again o ∷ []) seen =
       ap (λ x. meet table graph (suc k) seen x t) v_is ∙ met_marked k seen o t (sym (is.marked o) ∙ marked) in
-      value_goes walk walk v t (steps.Again o) is refl none meets (sym (append-nil walk.order.items)) inside is
+      value_goes walk walk v t (steps.Again o) is refl none meets (sym (append-nil walk.order)) inside is
 
   -- ---- objects that are met first
 
@@ -95,19 +95,19 @@ module _ (table : TypeTable) (graph : List Obj) where
     pub value : new.value ≡ None
     pub blocks : new.stack.items ≡ walk.stack.items
     pub marks : new.marks.items ≡ set walk.marks.items o true
-    pub order : new.order.items ≡ walk.order.items ++ o ∷ []
+    pub order : new.order ≡ walk.order ++ o ∷ []
 
   pub marked_walk : (walk new : Walk) (o : ℕ) → IsWalk table graph walk → o < length graph → get_or walk.marks.items o false ≡ false → IsMarked walk new o → IsWalk table graph new
   marked_walk walk new o is inside unmet marked =
       let there : o < length walk.marks.items = omega (arith, is.many) in
-      let one_more : length (walk.order.items ++ o ∷ []) ≡ suc (length walk.order.items) = omega (arith, length-append walk.order.items (o ∷ [])) in record {
+      let one_more : length (walk.order ++ o ∷ []) ≡ suc (length walk.order) = omega (arith, length-append walk.order (o ∷ [])) in record {
         is_graph = is.is_graph;
         value = rw marked.value tt;
         blocks = subst (All (IsOpen table graph)) (sym marked.blocks) is.blocks;
         many = ap length marked.marks ∙ length-set walk.marks.items o true ∙ is.many;
-        marked = rw (marked.marks, marked.order) (marked_more walk.marks.items walk.order.items o there is.marked);
+        marked = rw (marked.marks, marked.order) (marked_more walk.marks.items walk.order o there is.marked);
         counted = ap how_many marked.marks ∙ how_many_set walk.marks.items o there unmet ∙ ap suc is.counted ∙ sym (ap length marked.order ∙ one_more);
-        inside = subst (All (λ x. x < length graph)) (sym marked.order) (All-push (λ x. x < length graph) walk.order.items o is.inside inside);
+        inside = subst (All (λ x. x < length graph)) (sym marked.order) (All-push (λ x. x < length graph) walk.order o is.inside inside);
         depth = omega (arith, is.depth, ap length marked.blocks, ap length marked.order, one_more);
       }
 
@@ -126,13 +126,13 @@ module _ (table : TypeTable) (graph : List Obj) where
 
   pub leaf_goes : (walk new : Walk) (o t : ℕ) → IsWalk table graph walk → o < length graph → t < length table.nodes → get_or walk.marks.items o false ≡ false → IsMarked walk new o
       → ((tag : ℕ) (values : List Val) → object_at graph o ≡ objects.Block tag values → ⊥)
-      → Goes table graph (left_of table graph walk.stack.items (Some (vals.Ref o, t)) walk.order.items) walk.order.items (steps.Leaf o t) new
+      → Goes table graph (left_of table graph walk.stack.items (Some (vals.Ref o, t)) walk.order) walk.order (steps.Leaf o t) new
   leaf_goes walk new o t is inside number unmet marked no_block =
       let k = length graph - length walk.stack.items in
-      let seen = reverse walk.order.items in
+      let seen = reverse walk.order in
       let p : List Piece = First o ∷ Text (object_text (shape_in table t) (names_in table t) (object_at graph o)) ∷ [] in
-      let later : reverse new.order.items ≡ o ∷ seen = ap reverse marked.order ∙ reversed_more walk.order.items o in
-      let meets : meet table graph (suc k) seen (vals.Ref o) t ≡ met p (reverse new.order.items) =
+      let later : reverse new.order ≡ o ∷ seen = ap reverse marked.order ∙ reversed_more walk.order o in
+      let meets : meet table graph (suc k) seen (vals.Ref o) t ≡ met p (reverse new.order) =
       met_unmarked k seen o t (sym (is.marked o) ∙ unmet)
       ∙ ap (object_met (shape_in table) (names_in table) graph (meet table graph k) (o ∷ seen) o t) (object_there o inside)
       ∙ leaf_met (meet table graph k) (o ∷ seen) o t (object_at graph o) no_block
@@ -155,21 +155,21 @@ module _ (table : TypeTable) (graph : List Obj) where
 
   pub opening_goes : (walk marked new : Walk) (block : OpenBlock) (o t tag : ℕ) → IsWalk table graph walk → o < length graph → get_or walk.marks.items o false ≡ false → IsMarked walk marked o
       → object_at graph o ≡ objects.Block tag (fields_of (object_at graph o)) → IsBegun table graph o t tag block
-      → new.value ≡ None → new.marks.items ≡ marked.marks.items → new.order.items ≡ marked.order.items → new.stack.items ≡ marked.stack.items ++ block ∷ []
-      → Goes table graph (left_of table graph walk.stack.items (Some (vals.Ref o, t)) walk.order.items) walk.order.items (steps.Opening o block.frame) new
+      → new.value ≡ None → new.marks.items ≡ marked.marks.items → new.order ≡ marked.order → new.stack.items ≡ marked.stack.items ++ block ∷ []
+      → Goes table graph (left_of table graph walk.stack.items (Some (vals.Ref o, t)) walk.order) walk.order (steps.Opening o block.frame) new
   opening_goes walk marked new block o t tag is inside unmet is_marked is_block begun value marks order blocks =
       let k = length graph - length walk.stack.items in
-      let seen = reverse walk.order.items in
+      let seen = reverse walk.order in
       let p : List Piece = First o ∷ Text (frame_in block.frame).opening ∷ [] in
-      let all : new.order.items ≡ walk.order.items ++ o ∷ [] = order ∙ is_marked.order in
-      let later : reverse new.order.items ≡ o ∷ seen = ap reverse all ∙ reversed_more walk.order.items o in
-      let meets : meet table graph (suc k) seen (vals.Ref o) t ≡ led_by p (parts_left table graph k block (reverse new.order.items)) =
+      let all : new.order ≡ walk.order ++ o ∷ [] = order ∙ is_marked.order in
+      let later : reverse new.order ≡ o ∷ seen = ap reverse all ∙ reversed_more walk.order o in
+      let meets : meet table graph (suc k) seen (vals.Ref o) t ≡ led_by p (parts_left table graph k block (reverse new.order)) =
       met_unmarked k seen o t (sym (is.marked o) ∙ unmet) ∙ opening_met k seen o t tag block inside is_block begun ∙ ap (λ s. led_by p (parts_left table graph k block s)) (sym later) in
       let m = marked_walk walk marked o is inside unmet is_marked in
       let deeper : new.stack.items ≡ walk.stack.items ++ block ∷ [] = blocks ∙ ap (λ bs. bs ++ block ∷ []) is_marked.blocks in record {
-        pieces = block_left table graph walk.stack.items block (vals.Ref o) t walk.order.items new.order.items p (few_blocks walk is) meets
-            ∙ ap (λ bs. p ++ left_of table graph bs None new.order.items) (sym deeper)
-            ∙ ap (λ x. p ++ left_of table graph new.stack.items x new.order.items) (sym value);
+        pieces = block_left table graph walk.stack.items block (vals.Ref o) t walk.order new.order p (few_blocks walk is) meets
+            ∙ ap (λ bs. p ++ left_of table graph bs None new.order) (sym deeper)
+            ∙ ap (λ x. p ++ left_of table graph new.stack.items x new.order) (sym value);
         order = all;
         valid = inside;
         walk = record {
@@ -180,7 +180,7 @@ module _ (table : TypeTable) (graph : List Obj) where
           marked = rw (marks, order) m.marked;
           counted = ap how_many marks ∙ m.counted ∙ sym (ap length order);
           inside = subst (All (λ x. x < length graph)) (sym order) m.inside;
-          depth = omega (arith, is.depth, ap length deeper, length-append walk.stack.items (block ∷ []), ap length all, length-append walk.order.items (o ∷ []));
+          depth = omega (arith, is.depth, ap length deeper, length-append walk.stack.items (block ∷ []), ap length all, length-append walk.order (o ∷ []));
         };
       }
 
@@ -202,7 +202,7 @@ module _ (table : TypeTable) (graph : List Obj) where
     pub value : new.value ≡ None
     pub blocks : walk.stack.items ≡ new.stack.items ++ block ∷ []
     pub marks : new.marks.items ≡ walk.marks.items
-    pub order : new.order.items ≡ walk.order.items
+    pub order : new.order ≡ walk.order
 
   pub block_open : (walk : Walk) (outer : List OpenBlock) (block : OpenBlock) → IsWalk table graph walk → walk.stack.items ≡ outer ++ block ∷ [] → All (IsOpen table graph) outer × IsOpen table graph block
   block_open walk outer block is blocks = All-pop (IsOpen table graph) walk.stack.items outer (Some block) blocks is.blocks
@@ -211,16 +211,16 @@ module _ (table : TypeTable) (graph : List Obj) where
   one_less walk outer block is blocks = omega (arith, few_blocks walk is, ap length blocks, length-append outer (block ∷ []))
 
   pub closing_goes : (walk new : Walk) (block : OpenBlock) → IsWalk table graph walk → IsClosed walk new block → length (needs_in block.needs) ≤ block.next
-      → Goes table graph (left_of table graph walk.stack.items None walk.order.items) walk.order.items (steps.Closing block.frame) new
+      → Goes table graph (left_of table graph walk.stack.items None walk.order) walk.order (steps.Closing block.frame) new
   closing_goes walk new block is closed past =
       let outer = new.stack.items in
       let p : List Piece = Text (frame_in block.frame).closing ∷ [] in
       let less = one_less walk outer block is closed.blocks in record {
-        pieces = ap (λ bs. left_of table graph bs None walk.order.items) closed.blocks
-            ∙ closing_left table graph outer block walk.order.items (omega arith) (drop_all block.next (needs_in block.needs) past)
+        pieces = ap (λ bs. left_of table graph bs None walk.order) closed.blocks
+            ∙ closing_left table graph outer block walk.order (omega arith) (drop_all block.next (needs_in block.needs) past)
             ∙ ap (λ o. p ++ left_of table graph outer None o) (sym closed.order)
-            ∙ ap (λ x. p ++ left_of table graph outer x new.order.items) (sym closed.value);
-        order = closed.order ∙ sym (append-nil walk.order.items);
+            ∙ ap (λ x. p ++ left_of table graph outer x new.order) (sym closed.value);
+        order = closed.order ∙ sym (append-nil walk.order);
         valid = tt;
         walk = record {
           is_graph = is.is_graph;
@@ -273,7 +273,7 @@ module _ (table : TypeTable) (graph : List Obj) where
     pub value : new.value ≡ Some (v, t)
     pub blocks : new.stack.items ≡ outer ++ next ∷ []
     pub marks : new.marks.items ≡ walk.marks.items
-    pub order : new.order.items ≡ walk.order.items
+    pub order : new.order ≡ walk.order
     pub need : slice_get (needs_in block.needs) block.next ≡ Some (i, t)
     pub part : v ≡ field_at graph block.object i
     pub object : next.object ≡ block.object
@@ -292,17 +292,17 @@ module _ (table : TypeTable) (graph : List Obj) where
 
   pub part_goes : (walk new : Walk) (outer : List OpenBlock) (block next : OpenBlock) (i t : ℕ) (v : Val) → IsWalk table graph walk → walk.stack.items ≡ outer ++ block ∷ [] → IsValue (length graph) v
       → IsAdvanced walk new outer block next i t v
-      → Goes table graph (left_of table graph walk.stack.items None walk.order.items) walk.order.items (steps.Before block.frame block.next) new
+      → Goes table graph (left_of table graph walk.stack.items None walk.order) walk.order (steps.Before block.frame block.next) new
   part_goes walk new outer block next i t v is blocks value advanced =
       let p : List Piece = Text (before_part (frame_in block.frame) block.next) ∷ [] in
       let both = block_open walk outer block is blocks in
       let part = both.1.parts block.next i t advanced.need in record {
-        pieces = ap (λ bs. left_of table graph bs None walk.order.items) blocks
-            ∙ before_left table graph outer block next walk.order.items i t v (one_less walk outer block is blocks) advanced.need (part.field ∙ ap Some (sym advanced.part)) advanced.object advanced.frame advanced.needs advanced.number
-            ∙ ap (λ bs. p ++ left_of table graph bs (Some (v, t)) walk.order.items) (sym advanced.blocks)
+        pieces = ap (λ bs. left_of table graph bs None walk.order) blocks
+            ∙ before_left table graph outer block next walk.order i t v (one_less walk outer block is blocks) advanced.need (part.field ∙ ap Some (sym advanced.part)) advanced.object advanced.frame advanced.needs advanced.number
+            ∙ ap (λ bs. p ++ left_of table graph bs (Some (v, t)) walk.order) (sym advanced.blocks)
             ∙ ap (λ o. p ++ left_of table graph new.stack.items (Some (v, t)) o) (sym advanced.order)
-            ∙ ap (λ x. p ++ left_of table graph new.stack.items x new.order.items) (sym advanced.value);
-        order = advanced.order ∙ sym (append-nil walk.order.items);
+            ∙ ap (λ x. p ++ left_of table graph new.stack.items x new.order) (sym advanced.value);
+        order = advanced.order ∙ sym (append-nil walk.order);
         valid = tt;
         walk = record {
           is_graph = is.is_graph;
@@ -318,7 +318,7 @@ module _ (table : TypeTable) (graph : List Obj) where
 
   -- ---- the first step
 
-  pub first_walk : (walk : Walk) (v : Val) (t : ℕ) → walk.value ≡ Some (v, t) → walk.stack.items ≡ [] → walk.marks.items ≡ replicate (length graph) false → walk.order.items ≡ []
+  pub first_walk : (walk : Walk) (v : Val) (t : ℕ) → walk.value ≡ Some (v, t) → walk.stack.items ≡ [] → walk.marks.items ≡ replicate (length graph) false → walk.order ≡ []
       → IsGraph graph → IsValue (length graph) v → IsTypedAt (table_of table) graph v t → IsWalk table graph walk
   first_walk walk v t value blocks marks order is_graph is_value typed = record {
     is_graph = is_graph;

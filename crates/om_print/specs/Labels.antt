@@ -36,4 +36,4 @@ pub record AreCounted (table : TypeTable) (graph : List Obj) (all : List Piece) 
   pub is_walk : IsWalk table graph walk
   pub many : length again ≡ length graph
   pub met_again : (x : ℕ) → has (agains all) x ≡ (slice_index_or again x false || has (agains (pieces_left table graph walk)) x)
-  pub met_first : firsts all ≡ walk.order.items ++ firsts (pieces_left table graph walk)
+  pub met_first : firsts all ≡ walk.order ++ firsts (pieces_left table graph walk)

@@ -1,5 +1,6 @@
 pub mod Labels
 pub mod Plain
 pub mod Put
+pub mod Row
 pub mod Typed
 pub mod Walking

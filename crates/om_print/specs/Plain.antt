@@ -13,7 +13,7 @@ module _ (table : TypeTable) (graph : List Obj) where
   pub record IsPutOn (left : List Piece) (met_before old text : List ℕ) (new : Walk) : Type 0 where
     pub now : List Piece
     pub pieces : left ≡ now ++ pieces_left table graph new
-    pub order : new.order.items ≡ met_before ++ firsts now
+    pub order : new.order ≡ met_before ++ firsts now
     pub fresh : agains now ≡ []
     pub put : text ≡ old ++ flat_map (piece_text []) now
     pub walk : IsWalk table graph new

@@ -65,7 +65,7 @@ module _ (table : TypeTable) (graph : List Obj) where
       (after_inner (length graph + 1) blocks (value_met (length graph + 1 - length blocks) value (reverse order))).pieces
 
   abbrev pub pieces_left : Walk → List Piece
-  pieces_left walk = left_of walk.stack.items walk.value walk.order.items
+  pieces_left walk = left_of walk.stack.items walk.value walk.order
 
   -- ---- steps
 
@@ -113,18 +113,18 @@ module _ (table : TypeTable) (graph : List Obj) where
     pub value : IfSome walk.value (λ next. IsValue (length graph) next.0 × IsTypedAt (table_of table) graph next.0 next.1)
     pub blocks : All IsOpen walk.stack.items
     pub many : length walk.marks.items ≡ length graph
-    pub marked : AreMarked walk.marks.items walk.order.items
-    pub counted : how_many walk.marks.items ≡ length walk.order.items
-    pub inside : All (λ o. o < length graph) walk.order.items
-    pub depth : length walk.stack.items ≤ length walk.order.items
+    pub marked : AreMarked walk.marks.items walk.order
+    pub counted : how_many walk.marks.items ≡ length walk.order
+    pub inside : All (λ o. o < length graph) walk.order
+    pub depth : length walk.stack.items ≤ length walk.order
 
   -- a step takes its pieces from those that were left
   pub record Goes (left : List Piece) (met_before : List ℕ) (step : Step) (new : Walk) : Type 0 where
     pub pieces : left ≡ step_pieces step ++ pieces_left new
-    pub order : new.order.items ≡ met_before ++ firsts (step_pieces step)
+    pub order : new.order ≡ met_before ++ firsts (step_pieces step)
     pub valid : IsStep step
     pub walk : IsWalk new
 
   abbrev pub Gives : List Piece → List ℕ → Walk → Option Step → Type 0
-  Gives left met_before new None = (left ≡ []) × (new.order.items ≡ met_before)
+  Gives left met_before new None = (left ≡ []) × (new.order ≡ met_before)
   Gives left met_before new (Some step) = Goes left met_before step new

@@ -1,5 +1,8 @@
 //! Blocks whose parts are being met.
 
+ghost use Rattle.std.specs.Prelude.{◌≡◌, ◌<◌, ◌+◌, ◌^◌, slice_get, IfSome};
+ghost use Rattle.om_fits.specs.Needs.{needs_in};
+
 use om_fits::Needs;
 use om_leaves::Frame;
 
@@ -11,4 +14,32 @@ pub struct OpenBlock<'a> {
     pub frame: Frame<'a>,
     pub needs: Needs<'a>,
     pub next: u64,
+}
+
+impl OpenBlock<'_> {
+    /// The field that is the next part and the number of its type, if there is one.
+    #[inline(always)]
+    pub fn next_need(&self) -> Option<(u64, usize)>
+        ensures need { result ≡ slice_get (needs_in self.now.needs) self.now.next }
+        ensures more { IfSome result (λ _. self.now.next + 1 < 2 ^ 64) }
+    {
+        // The most common case is told from the others once.
+        match self.needs {
+            Needs::Listed(types) => need_at(Needs::Listed(types), self.next),
+            needs => need_at(needs, self.next),
+        }
+    }
+}
+
+// Need k, if there is one.
+#[inline(always)]
+fn need_at(needs: Needs<'_>, k: u64) -> Option<(u64, usize)>
+    ensures need { result ≡ slice_get (needs_in needs.entry) k }
+    ensures more { IfSome result (λ _. k + 1 < 2 ^ 64) }
+{
+    if k < needs.len() {
+        Some(needs.get(k))
+    } else {
+        None
+    }
 }

@@ -4,6 +4,7 @@
 mod block;
 mod dumped;
 mod labels;
+mod order;
 mod plain;
 mod shown;
 mod sink;

@@ -30,7 +30,7 @@ pub fn put_until_again<'a>(
     requires walk { IsWalk table.now heap.now walk.old }
     requires lawful { IsLawful (table_of table.now) }
     requires named { length table.now.names ≡ length table.now.nodes }
-    ensures put { IfOk result (λ _. IsPutOn table.now heap.now (pieces_left table.now heap.now walk.old) walk.old.order.items text.old.items text.new.items walk.new) }
+    ensures put { IfOk result (λ _. IsPutOn table.now heap.now (pieces_left table.now heap.now walk.old) walk.old.order text.old.items text.new.items walk.new) }
     ensures all { IfOk result (λ whole. whole ≡ true → pieces_left table.now heap.now walk.new ≡ []) }
 {
     let mut fresh = put_next(text, heap, table, walk)?;
@@ -51,7 +51,7 @@ fn put_next<'a>(
     requires lawful { IsLawful (table_of table.now) }
     requires named { length table.now.names ≡ length table.now.nodes }
     ensures none { IfOk result (λ fresh. fresh ≡ true → walk.new.value ≡ None) }
-    ensures put { IfOk result (λ _. IsPutOn table.now heap.now (pieces_left table.now heap.now walk.old) walk.old.order.items text.old.items text.new.items walk.new) }
+    ensures put { IfOk result (λ _. IsPutOn table.now heap.now (pieces_left table.now heap.now walk.old) walk.old.order text.old.items text.new.items walk.new) }
 {
     let Some((v, at)) = walk.value else {
         return Ok(true);
@@ -76,19 +76,18 @@ fn put_part<'a>(
     requires named { length table.now.names ≡ length table.now.nodes }
     ensures none { IfOk result (λ fresh. fresh ≡ true → walk.new.value ≡ None) }
     ensures fewer { IfOk result (λ _. length (pieces_left table.now heap.now walk.new) < length (pieces_left table.now heap.now walk.old)) }
-    ensures put { IfOk result (λ _. IsPutOn table.now heap.now (pieces_left table.now heap.now walk.old) walk.old.order.items text.old.items text.new.items walk.new) }
+    ensures put { IfOk result (λ _. IsPutOn table.now heap.now (pieces_left table.now heap.now walk.old) walk.old.order text.old.items text.new.items walk.new) }
 {
     let last = walk.stack.len() - 1;
-    let block = walk.stack[last];
-    if block.next >= block.needs.len() {
-        walk.stack.truncate(last);
+    let block = &walk.stack[last];
+    let Some((i, at)) = block.next_need() else {
         block.frame.put_closing(text)?;
+        walk.stack.truncate(last);
         return Ok(true);
-    }
-    let (i, at) = block.needs.get(block.next);
-    let v = value_at(heap, block.fields, i);
-    let word = word_at(block.fields, i);
+    };
     block.frame.put_before(text, block.next)?;
+    let v = value_at(heap, block.fields, i, walk.order.next());
+    let word = word_at(block.fields, i);
     walk.stack[last].next = block.next + 1;
     let fresh = put_value(text, heap, table, walk, v, word, at)?;
     Ok(fresh)
@@ -122,7 +121,7 @@ fn put_value<'a>(
     requires lawful { IsLawful (table_of table.now) }
     requires named { length table.now.names ≡ length table.now.nodes }
     ensures none { IfOk result (λ fresh. fresh ≡ true → walk.new.value ≡ None) }
-    ensures put { IfOk result (λ _. IsPutOn table.now heap.now (left_of table.now heap.now walk.old.stack.items (Some (v, at)) walk.old.order.items) walk.old.order.items text.old.items text.new.items walk.new) }
+    ensures put { IfOk result (λ _. IsPutOn table.now heap.now (left_of table.now heap.now walk.old.stack.items (Some (v, at)) walk.old.order) walk.old.order text.old.items text.new.items walk.new) }
 {
     match v {
         Val::Int(z) => {
@@ -164,7 +163,7 @@ fn put_object<'a>(
     requires lawful { IsLawful (table_of table.now) }
     requires named { length table.now.names ≡ length table.now.nodes }
     ensures none { OnOk result (walk.new.value ≡ None) }
-    ensures put { OnOk result (IsPutOn table.now heap.now (left_of table.now heap.now walk.old.stack.items (Some (vals.Ref o, at)) walk.old.order.items) walk.old.order.items text.old.items text.new.items walk.new) }
+    ensures put { OnOk result (IsPutOn table.now heap.now (left_of table.now heap.now walk.old.stack.items (Some (vals.Ref o, at)) walk.old.order) walk.old.order text.old.items text.new.items walk.new) }
 {
     walk.marks[o as usize] = true;
     walk.order.push(o)?;

@@ -73,7 +73,8 @@ fn put_without_labels(
     while let Some(step) = walk.next(heap, table)? {
         mark_again(&mut again, step);
     }
-    let objects = objects_again(alloc, walk.order(), &again)?;
+    let order = walk.order.numbers(alloc)?;
+    let objects = objects_again(alloc, order.as_slice(), &again)?;
     Ok(Some(objects))
 }
 

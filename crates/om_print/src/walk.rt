@@ -1,6 +1,6 @@
 //! The pieces of a value at a type, depth first and parts from left to right.
 
-ghost use Rattle.std.specs.Prelude.{◌≡◌, ◌<◌, length, Some, None, All, IfOk, [], false, slice_index, slice_index_or};
+ghost use Rattle.std.specs.Prelude.{◌≡◌, ◌<◌, option_map, length, Some, None, All, IfOk, [], false, slice_index, slice_index_or};
 ghost use Rattle.om_model.specs.Graph.{IsValue, IsGraph};
 ghost use Rattle.om_model.specs.declared.value.Val.TheVariants as vals;
 ghost use Rattle.om_model.specs.declared.value.Obj.TheVariants as objects;
@@ -15,6 +15,7 @@ ghost use Rattle.om_print.specs.Typed.{IsTypedAt};
 ghost use Rattle.om_print.specs.Walking.{left_of, pieces_left, IsOpen, IsWalk, Goes, Gives};
 
 use crate::block::OpenBlock;
+use crate::order::Order;
 use om_fits::{Needs, known_needs};
 use om_heap::{Heap, Kind};
 use om_leaves::{Frame, block_frame};
@@ -51,7 +52,7 @@ pub struct Walk<'a> {
     pub stack: Vec<OpenBlock<'a>>,
     // which objects were met, by their numbers, and in which order
     pub marks: Vec<bool>,
-    pub order: Vec<u64>,
+    pub order: Order,
 }
 
 impl<'a> Walk<'a> {
@@ -68,13 +69,13 @@ impl<'a> Walk<'a> {
         ensures walk { IfOk result (IsWalk table.now heap.now) }
         ensures value { IfOk result (λ walk. walk.value ≡ Some (v, at)) }
         ensures blocks { IfOk result (λ walk. walk.stack.items ≡ []) }
-        ensures order { IfOk result (λ walk. walk.order.items ≡ []) }
+        ensures order { IfOk result (λ walk. walk.order ≡ []) }
     {
         Ok(Walk {
             value: Some((v, at)),
             stack: Vec::new(alloc),
             marks: vec![in alloc; false; heap.count() as usize]?,
-            order: Vec::new(alloc),
+            order: Order::new(alloc, first_object(v)),
         })
     }
 
@@ -84,20 +85,13 @@ impl<'a> Walk<'a> {
         requires walk { IsWalk table.now heap.now self.old }
         requires lawful { IsLawful (table_of table.now) }
         requires named { length table.now.names ≡ length table.now.nodes }
-        ensures { IfOk result (Gives table.now heap.now (pieces_left table.now heap.now self.old) self.old.order.items self.new) }
+        ensures { IfOk result (Gives table.now heap.now (pieces_left table.now heap.now self.old) self.old.order self.new) }
     {
         let Some((v, at)) = self.value else {
             return Ok(self.go_on(heap, table));
         };
         self.value = None;
         Ok(Some(self.meet(heap, table, v, at)?))
-    }
-
-    /// The objects that were met, in the order of first meetings.
-    pub fn order(&self) -> &[u64]
-        ensures { result.now ≡ self.now.order.items }
-    {
-        &self.order
     }
 
     // The step of a value that comes next.
@@ -116,7 +110,7 @@ impl<'a> Walk<'a> {
         requires lawful { IsLawful (table_of table.now) }
         requires named { length table.now.names ≡ length table.now.nodes }
         ensures none { IfOk result (λ _. self.new.value ≡ None) }
-        ensures goes { IfOk result (λ step. Goes table.now heap.now (left_of table.now heap.now self.old.stack.items (Some (v, at)) self.old.order.items) self.old.order.items step self.new) }
+        ensures goes { IfOk result (λ step. Goes table.now heap.now (left_of table.now heap.now self.old.stack.items (Some (v, at)) self.old.order) self.old.order step self.new) }
     {
         match v {
             Val::Int(z) => Ok(Step::Integer(z, at)),
@@ -143,7 +137,7 @@ impl<'a> Walk<'a> {
         requires lawful { IsLawful (table_of table.now) }
         requires named { length table.now.names ≡ length table.now.nodes }
         ensures none { IfOk result (λ _. self.new.value ≡ None) }
-        ensures goes { IfOk result (λ step. Goes table.now heap.now (left_of table.now heap.now self.old.stack.items (Some (vals.Ref o, at)) self.old.order.items) self.old.order.items step self.new) }
+        ensures goes { IfOk result (λ step. Goes table.now heap.now (left_of table.now heap.now self.old.stack.items (Some (vals.Ref o, at)) self.old.order) self.old.order step self.new) }
     {
         self.marks[o as usize] = true;
         self.order.push(o)?;
@@ -160,7 +154,7 @@ impl<'a> Walk<'a> {
     pub fn go_on(&mut self, heap: &Heap, table: &TypeTable) -> Option<Step<'a>>
         requires walk { IsWalk table.now heap.now self.old }
         requires none { self.old.value ≡ None }
-        ensures { Gives table.now heap.now (left_of table.now heap.now self.old.stack.items None self.old.order.items) self.old.order.items self.new result }
+        ensures { Gives table.now heap.now (left_of table.now heap.now self.old.stack.items None self.old.order) self.old.order self.new result }
     {
         if self.stack.is_empty() {
             return None;
@@ -172,21 +166,33 @@ impl<'a> Walk<'a> {
             return Some(Step::Closing(block.frame));
         }
         let (i, at) = block.needs.get(block.next);
-        self.value = Some((value_at(heap, block.fields, i), at));
+        self.value = Some((value_at(heap, block.fields, i, self.order.next()), at));
         self.stack[last].next = block.next + 1;
         Some(Step::Before(block.frame, block.next))
     }
 }
 
-// The value of a field, by the words of all of them.
+// The object that a value is, if it is one.
+fn first_object(v: Val) -> u64 {
+    match v {
+        Val::Ref(o) => o,
+        _ => 0,
+    }
+}
+
+// The value of a field, by the words of all of them. It is found soonest where it is the object of this number.
 #[inline(always)]
-pub fn value_at(heap: &Heap, fields: &[u64], i: u64) -> Val
+pub fn value_at(heap: &Heap, fields: &[u64], i: u64, near: u64) -> Val
     requires valid { All (IsFieldWord heap.now) fields.now }
     requires inside { i < length fields.now }
     ensures word { slice_index fields.now i ≡ word_of heap.now result }
     ensures valid { IsValue (length heap.now) result }
 {
-    heap.value_of(fields[i as usize])
+    let word = fields[i as usize];
+    if word % 2 == 0 && near < heap.count() && word == heap.word(Val::Ref(near)) {
+        return Val::Ref(near);
+    }
+    heap.value_of(word)
 }
 
 // A block before its first part.
@@ -217,7 +223,21 @@ pub fn open_block<'a>(
         object: o,
         fields: heap.fields_at(word),
         frame: block_frame(heap, o, tag, shape, table.names(at)),
-        needs: known_needs(heap, o, shape).unwrap_or(Needs::Nothing),
+        needs: needs_or_none(known_needs(heap, o, shape)),
         next: 0,
+    }
+}
+
+// These needs, or none. Each case is named so that its parts are copied one by one.
+#[inline(always)]
+fn needs_or_none(needs: Option<Needs<'_>>) -> Needs<'_>
+    ensures { needs_in result ≡ or_none (option_map needs_in needs.entry) }
+{
+    match needs {
+        Some(Needs::Listed(types)) => Needs::Listed(types),
+        Some(Needs::Each(size, ty)) => Needs::Each(size, ty),
+        Some(Needs::Argument(ty)) => Needs::Argument(ty),
+        Some(Needs::Nothing) => Needs::Nothing,
+        None => Needs::Nothing,
     }
 }

@@ -2,6 +2,6 @@ use Rattle.std.proofs.Common.{arith}
 use Rattle.om_leaves.proofs.NumberLemmas.{digit_more}
 use Rattle.om_leaves.proofs.leaves.put_five.Goals as goal
 
-pub returns-else-n-lt10000 : goal.returns-else-n-lt10000
-returns-else-n-lt10000 c =
+pub returns-else-n-lt10000-clause-items : goal.returns-else-n-lt10000-clause-items
+returns-else-n-lt10000-clause-items c =
     digit_more c.args.n c.args.text.now.items c.put_four-else-n-lt10000.new.text.items c.push_reserved.new.self.items (omega arith) (omega arith) c.put_four-else-n-lt10000.ensures.items c.push_reserved.ensures.items

@@ -8,7 +8,7 @@ use Rattle.om_print.proofs.plain.put_until_again.Goals as goal
 
 pub loop-fresh-preserved : goal.loop-fresh-preserved
 loop-fresh-preserved c = (
-  put_then c.args.table.now c.args.heap.now (pieces_left c.args.table.now c.args.heap.now c.args.walk.now) c.args.walk.now.order.items c.args.text.now.items c.loop-fresh.text.items c.put_part.new.text.items
+  put_then c.args.table.now c.args.heap.now (pieces_left c.args.table.now c.args.heap.now c.args.walk.now) c.args.walk.now.order c.args.text.now.items c.loop-fresh.text.items c.put_part.new.text.items
       c.loop-fresh.walk c.put_part.new.walk c.loop-fresh.invariant.0 c.in_ok-fresh-2.ensures.put,
   c.in_ok-fresh-2.ensures.none,
 )
@@ -17,4 +17,4 @@ pub returns-else-not-is_empty-clause-all : goal.returns-else-not-is_empty-clause
 returns-else-not-is_empty-clause-all c fresh =
     let walk = c.loop-fresh.walk in
     let nothing : walk.stack.items ≡ [] = first_of (search rules, grind (arith, common_steps)) in
-    sym (none_next c.args.table.now c.args.heap.now walk (c.loop-fresh.invariant.1 fresh)) ∙ none_left c.args.table.now c.args.heap.now walk.stack.items walk.order.items nothing
+    sym (none_next c.args.table.now c.args.heap.now walk (c.loop-fresh.invariant.1 fresh)) ∙ none_left c.args.table.now c.args.heap.now walk.stack.items walk.order nothing

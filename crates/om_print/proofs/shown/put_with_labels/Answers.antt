@@ -12,7 +12,7 @@ loop-walk-preserved c =
     let graph = c.args.heap.now in
     let walk = c.loop-walk.walk in
     let left = pieces_left table graph walk in
-    let goes = subst (Gives table graph left walk.order.items c.next.new.self) c.in-Some.is c.in_ok-step.ensures in (
+    let goes = subst (Gives table graph left walk.order c.next.new.self) c.in-Some.is c.in_ok-step.ensures in (
       goes.walk,
       text_more c.args.labels.now.objects.items left (step_pieces table graph c.in-Some.step) (pieces_left table graph c.next.new.self) c.loop-walk.text.items c.put_step.new.text.items _
           goes.pieces c.in_ok-put_step.ensures c.loop-walk.invariant.1,
@@ -24,6 +24,6 @@ returns c =
     let graph = c.args.heap.now in
     let walk = c.loop-walk.walk in
     let left = pieces_left table graph walk in
-    let ends = subst (Gives table graph left walk.order.items c.next.new.self) c.in_default.is c.in_ok-step.ensures in
+    let ends = subst (Gives table graph left walk.order c.next.new.self) c.in_default.is c.in_ok-step.ensures in
     text_all c.args.labels.now.objects.items left (left_of table graph [] (Some (c.args.v, c.args.at)) []) (pieces_of (shape_in table) (names_in table) graph c.args.v c.args.at)
     c.args.text.now.items c.loop-walk.text.items ends.0 (start_left table graph c.args.v c.args.at) c.loop-walk.invariant.1

@@ -37,7 +37,7 @@ loop-again-preserved c =
     let graph = c.args.heap.now in
     let walk = c.loop-again.walk in
     let all = left_of table graph [] (Some (c.args.v, c.args.at)) [] in
-    let goes = subst (Gives table graph (pieces_left table graph walk) walk.order.items c.next.new.self) c.in-Some.is c.in_ok-step.ensures in
+    let goes = subst (Gives table graph (pieces_left table graph walk) walk.order c.next.new.self) c.in-Some.is c.in_ok-step.ensures in
     subst (AreCounted table graph all c.next.new.self) (sym c.mark_again.ensures.marks)
     (counted_more table graph all walk c.next.new.self c.loop-again.again.items c.in-Some.step c.loop-again.invariant goes)
 
@@ -48,10 +48,10 @@ returns-clause-text c =
     let walk = c.loop-again.walk in
     let all = left_of table graph [] (Some (c.args.v, c.args.at)) [] in
     let put = c.in_ok-put_until_again.ensures.put in
-    let ends = subst (Gives table graph (pieces_left table graph walk) walk.order.items c.next.new.self) c.in_default.is c.in_ok-step.ensures in (
+    let ends = subst (Gives table graph (pieces_left table graph walk) walk.order c.next.new.self) c.in_default.is c.in_ok-step.ensures in (
       c.in_ok-objects.ensures
-          ∙ ap (λ marks. filter (λ o. get_or marks o false) c.order.result.now) c.deref.ensures.value
-          ∙ counted_all table graph all walk c.loop-again.again.items c.order.result.now c.loop-again.invariant ends.0 (c.order.ensures ∙ ends.1)
+          ∙ ap (λ marks. filter (λ o. get_or marks o false) c.as_slice.result.now) c.deref.ensures.value
+          ∙ counted_all table graph all walk c.loop-again.again.items c.as_slice.result.now c.loop-again.invariant ends.0 (c.as_slice.ensures.value ∙ c.in_ok-order.ensures ∙ ends.1)
           ∙ ap labelled (start_left table graph c.args.v c.args.at),
       (flat_map (piece_text []) put.now, put.put),
     )
@@ -61,7 +61,7 @@ returns-clause-inside c =
     let table = c.args.table.now in
     let graph = c.args.heap.now in
     let walk = c.loop-again.walk in
-    let ends = subst (Gives table graph (pieces_left table graph walk) walk.order.items c.next.new.self) c.in_default.is c.in_ok-step.ensures in
-    let order : c.order.result.now ≡ walk.order.items = c.order.ensures ∙ ends.1 in
+    let ends = subst (Gives table graph (pieces_left table graph walk) walk.order c.next.new.self) c.in_default.is c.in_ok-step.ensures in
+    let order : c.as_slice.result.now ≡ walk.order = c.as_slice.ensures.value ∙ c.in_ok-order.ensures ∙ ends.1 in
     subst (All (λ o. o < length graph)) (sym (c.in_ok-objects.ensures ∙ ap (filter (λ o. get_or c.deref.result.now o false)) order))
-    (All-filter (λ o. get_or c.deref.result.now o false) (λ o. o < length graph) walk.order.items c.loop-again.invariant.is_walk.inside)
+    (All-filter (λ o. get_or c.deref.result.now o false) (λ o. o < length graph) walk.order c.loop-again.invariant.is_walk.inside)

@@ -11,12 +11,12 @@ pub returns-clause-open : goal.returns-clause-open
 returns-clause-open c =
     let table = c.args.table.now in
     let graph = c.args.heap.now in
-    let needs : needs_in c.unwrap_or.result ≡ or_none (fields_of graph (vals.Ref c.args.o) (shape_in table c.args.at)) =
+    let needs : needs_in c.needs_or_none.result ≡ or_none (fields_of graph (vals.Ref c.args.o) (shape_in table c.args.at)) =
     first_of (search rules, grind (arith, common_steps)) in record {
       inside = c.requires.inside;
       words = c.fields_at.ensures.words c.args.o c.requires.inside c.requires.word;
       valid = c.fields_at.ensures.valid;
-      parts = open_parts table graph c.args.o c.args.at (needs_in c.unwrap_or.result) c.requires.lawful c.requires.typed needs;
+      parts = open_parts table graph c.args.o c.args.at (needs_in c.needs_or_none.result) c.requires.lawful c.requires.typed needs;
     }
 
 pub fields_at-requires : goal.fields_at-requires

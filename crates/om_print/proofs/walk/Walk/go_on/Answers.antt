@@ -10,7 +10,7 @@ use Rattle.om_print.proofs.walk.Walk.go_on.Goals as goal
 pub returns-then-is_empty : goal.returns-then-is_empty
 returns-then-is_empty c =
     let nothing : c.args.self.now.stack.items ≡ [] = first_of (search rules, grind (arith, common_steps)) in
-    (none_left c.args.table.now c.args.heap.now c.args.self.now.stack.items c.args.self.now.order.items nothing, refl)
+    (none_left c.args.table.now c.args.heap.now c.args.self.now.stack.items c.args.self.now.order nothing, refl)
 
 pub returns-then-block-len : goal.returns-then-block-len
 returns-then-block-len c =
