@@ -1,0 +1,6 @@
+use Rattle.std.proofs.Common.{length}
+use Rattle.om_model.specs.Graph.{IsValue}
+use Rattle.om_edit.proofs.tests.put_lines.Given as goal
+
+abbrev pub invariant-loop-line : goal.invariant-loop-line
+invariant-loop-line l = IsValue (length l.heap) l.root
