@@ -4,7 +4,5 @@
 mod command_set;
 pub mod laws;
 mod read;
-#[cfg(test)]
-mod tests;
 
 pub use read::{Request, Unread, read_words};

@@ -20,6 +20,3 @@ mod text;
 pub use fault::LiteralFault;
 pub use laws::{one_literal_answer, worked_literals_fit};
 pub use read::read_literal;
-
-#[cfg(test)]
-mod tests;
