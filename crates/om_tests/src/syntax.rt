@@ -1,0 +1,1 @@
+//! Tests of lexemes, paths, scripts and literals.

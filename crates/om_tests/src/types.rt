@@ -1,0 +1,1 @@
+//! Tests of types, their shapes and tables.
