@@ -17,18 +17,3 @@ pub fn ident(bytes: [u8; 3]) -> Option<CustomKind>
         _ => None,
     }
 }
-
-#[cfg(test)]
-mod tests {
-    use super::*;
-
-    #[test]
-    fn knows_three_identifiers(rt: HostRuntime) {
-        assert_eq!(rt; ident([0x5f, 0x69, 0]), Some(CustomKind::Int32));
-        assert_eq!(rt; ident([0x5f, 0x6a, 0]), Some(CustomKind::Int64));
-        assert_eq!(rt; ident([0x5f, 0x6e, 0]), Some(CustomKind::Native));
-        for other in [[0x5f, 0x78, 0], [0x5f, 0x6a, 1], [0x5e, 0x6a, 0]] {
-            assert_eq!(rt; ident(other), None, "of {other:?}");
-        }
-    }
-}

@@ -6,7 +6,7 @@ ghost use Rattle.om_customs.specs.Data.{number_step, native_step, IsStep};
 use om_model::bytes::signed;
 
 /// What the first bytes of a `Nativeint`'s data say: that more of them are missing, or which number it is.
-#[derive(Clone, Copy, Debug, PartialEq, Eq)]
+#[derive(Clone, Copy)]
 pub enum NativeStep {
     /// How many bytes are missing to the kind byte's end, or after it to the number's.
     More(usize),
@@ -39,34 +39,5 @@ fn number(bytes: &[u8], size: usize) -> NativeStep
         NativeStep::More(size - bytes.len())
     } else {
         NativeStep::Value(signed(&bytes[..size]))
-    }
-}
-
-#[cfg(test)]
-mod tests {
-    use super::*;
-
-    // By hand: numbers at the ends of their ranges, and the fronts of one.
-    #[test]
-    fn reads_native_integers(rt: HostRuntime) {
-        assert_eq!(rt; read_native(&[1, 0, 0, 0, 5, 9]), NativeStep::Value(5));
-        assert_eq!(rt;
-            read_native(&[1, 0x80, 0, 0, 0]),
-            NativeStep::Value(-2147483648)
-        );
-        let least = [2, 0x80, 0, 0, 0, 0, 0, 0, 0];
-        assert_eq!(rt;
-            read_native(&least),
-            NativeStep::Value(-9223372036854775808)
-        );
-        assert_eq!(rt; read_native(&[3, 0, 0, 0, 5]), NativeStep::BadNative(3));
-        for (taken, missing) in [(0, 1), (1, 8), (8, 1)] {
-            assert_eq!(rt;
-                read_native(&least[..taken]),
-                NativeStep::More(missing),
-                "at {taken}"
-            );
-        }
-        assert_eq!(rt; read_native(&[1]), NativeStep::More(4));
     }
 }

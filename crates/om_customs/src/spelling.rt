@@ -64,33 +64,3 @@ fn native(number: i64) -> ([u8; 13], usize)
         13,
     )
 }
-
-#[cfg(test)]
-mod tests {
-    use super::*;
-
-    // From OCaml's `Marshal.to_string`, after the header.
-    #[test]
-    fn spells_customs(rt: HostRuntime) {
-        let (bytes, n) = spell(Custom::I32(-2));
-        assert_eq!(rt;
-            &bytes[..n],
-            [0x19, 0x5f, 0x69, 0, 0xff, 0xff, 0xff, 0xfe].as_slice()
-        );
-        let (bytes, n) = spell(Custom::I64(5));
-        assert_eq!(rt;
-            &bytes[..n],
-            [0x19, 0x5f, 0x6a, 0, 0, 0, 0, 0, 0, 0, 0, 5].as_slice()
-        );
-        let (bytes, n) = spell(Custom::Native(5));
-        assert_eq!(rt;
-            &bytes[..n],
-            [0x19, 0x5f, 0x6e, 0, 1, 0, 0, 0, 5].as_slice()
-        );
-        let (bytes, n) = spell(Custom::Native(2147483648));
-        assert_eq!(rt;
-            &bytes[..n],
-            [0x19, 0x5f, 0x6e, 0, 2, 0, 0, 0, 0, 0x80, 0, 0, 0].as_slice()
-        );
-    }
-}

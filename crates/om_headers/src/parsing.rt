@@ -9,7 +9,7 @@ use om_model::bytes::big_endian;
 use om_model::header::Head;
 
 /// What the first bytes of a value say of its header: that more of them are missing, or what it states.
-#[derive(Clone, Copy, Debug, PartialEq, Eq)]
+#[derive(Clone, Copy)]
 pub enum HeaderStep {
     /// How many bytes are missing to the magic's end, or after it to the header's.
     More(usize),
@@ -18,7 +18,7 @@ pub enum HeaderStep {
 }
 
 /// Why the first four bytes begin no header.
-#[derive(Clone, Copy, Debug, PartialEq, Eq)]
+#[derive(Clone, Copy)]
 pub enum HeadFault {
     /// They are no magic.
     BadMagic(u32),
@@ -70,67 +70,5 @@ fn big_header(bytes: &[u8]) -> Head
         objects: big_endian(&bytes[16..24]),
         w32: 0,
         w64: big_endian(&bytes[24..32]),
-    }
-}
-
-#[cfg(test)]
-mod tests {
-    use super::*;
-
-    const CONS: [u8; 22] = [
-        0x84, 0x95, 0xa6, 0xbe, 0, 0, 0, 5, 0, 0, 0, 2, 0, 0, 0, 7, 0, 0, 0, 6, 0xa0, 0x41,
-    ];
-
-    const BIG: [u8; 33] = [
-        0x84, 0x95, 0xa6, 0xbf, 0, 0, 0, 42, 0, 0, 0, 1, 0, 0, 0, 3, 0, 0, 0, 0, 0, 0, 1, 0, 0, 0,
-        0, 0, 0, 0, 0, 9, 0x41,
-    ];
-
-    #[test]
-    fn reads_headers(rt: HostRuntime) {
-        let small = Head {
-            big: false,
-            length: 5,
-            objects: 2,
-            w32: 7,
-            w64: 6,
-        };
-        assert_eq!(rt; parse(&CONS), Ok(HeaderStep::Head(small)));
-        let big = Head {
-            big: true,
-            length: 4294967299,
-            objects: 256,
-            w32: 0,
-            w64: 9,
-        };
-        assert_eq!(rt; parse(&BIG), Ok(HeaderStep::Head(big)));
-    }
-
-    #[test]
-    fn asks_for_more(rt: HostRuntime) {
-        for (taken, missing) in [(0, 4), (3, 1), (4, 16), (19, 1)] {
-            assert_eq!(rt;
-                parse(&CONS[..taken]),
-                Ok(HeaderStep::More(missing)),
-                "at {taken}"
-            );
-        }
-        for (taken, missing) in [(3, 1), (4, 28), (31, 1)] {
-            assert_eq!(rt;
-                parse(&BIG[..taken]),
-                Ok(HeaderStep::More(missing)),
-                "at {taken}"
-            );
-        }
-    }
-
-    #[test]
-    fn refuses_other_magics(rt: HostRuntime) {
-        let compressed = [0x84, 0x95, 0xa6, 0xbd, 0x14];
-        assert_eq!(rt; parse(&compressed), Err(HeadFault::Compressed));
-        assert_eq!(rt;
-            parse(&compressed[1..]),
-            Err(HeadFault::BadMagic(2510732564))
-        );
     }
 }

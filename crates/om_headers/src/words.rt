@@ -19,26 +19,3 @@ pub fn words_of(measure: Measure) -> (u64, u64)
         Measure::Custom(bytes32, bytes64) => (2 + (bytes32 + 3) / 4, 2 + (bytes64 + 7) / 8),
     }
 }
-
-#[cfg(test)]
-mod tests {
-    use super::*;
-
-    // What the headers state that OCaml 4.13 writes for such a value alone.
-    #[test]
-    fn counts_words(rt: HostRuntime) {
-        let sizes = [
-            (Measure::Block(2), (3, 3)),
-            (Measure::Bytes(3), (2, 2)),
-            (Measure::Bytes(4), (3, 2)),
-            (Measure::Double, (3, 2)),
-            (Measure::Doubles(2), (5, 3)),
-            (Measure::Custom(4, 4), (3, 3)),
-            (Measure::Custom(8, 8), (4, 3)),
-            (Measure::Custom(4, 8), (3, 3)),
-        ];
-        for (measure, words) in sizes {
-            assert_eq!(rt; words_of(measure), words, "of {measure:?}");
-        }
-    }
-}

@@ -5,8 +5,6 @@ mod heap;
 mod kind;
 mod objects;
 mod strings;
-#[cfg(test)]
-mod tests;
 mod words;
 
 pub use heap::Heap;

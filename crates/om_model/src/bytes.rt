@@ -64,25 +64,3 @@ pub fn skip(bytes: &[u8], n: usize) -> &[u8]
         &bytes[bytes.len()..]
     }
 }
-
-#[cfg(test)]
-mod tests {
-    use super::*;
-
-    // By hand: the magic, integers at the ends of their ranges, and 1.0.
-    #[test]
-    fn reads_numbers(rt: HostRuntime) {
-        let magic = [0x84, 0x95, 0xa6, 0xbe];
-        assert_eq!(rt; big_endian(&magic), 2224400062);
-        assert_eq!(rt; little_endian(&magic), 3198588292);
-        let least = [0xc0, 0, 0, 0, 0, 0, 0, 0];
-        assert_eq!(rt; signed(&[0xff]), -1);
-        assert_eq!(rt; signed(&[0, 0x80]), 128);
-        assert_eq!(rt; signed(&[0x3f, 0xff, 0xff, 0xff]), 1073741823);
-        assert_eq!(rt; signed(&least), -4611686018427387904);
-        let one = 4607182418800017408;
-        assert_eq!(rt; double(&[0x3f, 0xf0, 0, 0, 0, 0, 0, 0], false), one);
-        assert_eq!(rt; double(&[0, 0, 0, 0, 0, 0, 0xf0, 0x3f], true), one);
-        assert_eq!(rt; skip(&magic, 3), [0xbe].as_slice());
-    }
-}

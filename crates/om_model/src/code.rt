@@ -2,7 +2,7 @@
 
 /// The kind of a token, by its code. A number is what the code itself carries, or how many bytes the token's
 /// number, header word or length takes; a bool says little endian.
-#[derive(Clone, Copy, Debug, PartialEq, Eq)]
+#[derive(Clone, Copy)]
 pub enum CodeKind {
     /// A block or an atom: tag and size.
     SmallBlock(u8, u8),
@@ -27,7 +27,7 @@ pub enum CodeKind {
 }
 
 /// Why a code begins no token.
-#[derive(Clone, Copy, Debug, PartialEq, Eq)]
+#[derive(Clone, Copy)]
 pub enum CodeFault {
     BadCode,
     PointerCode,
@@ -35,7 +35,7 @@ pub enum CodeFault {
 }
 
 /// A custom that is read, by its identifier.
-#[derive(Clone, Copy, Debug, PartialEq, Eq)]
+#[derive(Clone, Copy, PartialEq, Eq)]
 pub enum CustomKind {
     Int32,
     Int64,
@@ -52,7 +52,7 @@ pub enum Custom {
 
 /// How large an object is: the fields of a block, the bytes of a string, the elements of a double array, and the
 /// sizes of a custom's data in bytes on 32 and on 64 bits.
-#[derive(Clone, Copy, Debug, PartialEq, Eq)]
+#[derive(Clone, Copy)]
 pub enum Measure {
     Block(u64),
     Bytes(u64),

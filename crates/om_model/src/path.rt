@@ -89,21 +89,3 @@ fn put_step(text: &mut Vec<u8>, alloc: Global, step: u64) -> Result<(), AllocErr
     text.extend_from_slice(b".")?;
     text.extend_from_slice(number.as_bytes())
 }
-
-#[cfg(test)]
-mod tests {
-    use super::*;
-    use std::test::Fail;
-
-    #[test]
-    fn a_path_has_a_text(rt: HostRuntime) -> Result<(), Fail> {
-        let mut path = Path::new(rt.alloc());
-        assert_eq!(rt; path.text(rt.alloc())?.as_slice(), b".".as_slice());
-        path.push(1)?;
-        path.push(10)?;
-        assert_eq!(rt; path.len(), 2);
-        assert_eq!(rt; path.step(1), 10);
-        assert_eq!(rt; path.text(rt.alloc())?.as_slice(), b".1.10".as_slice());
-        Ok(())
-    }
-}

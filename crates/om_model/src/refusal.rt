@@ -21,7 +21,7 @@ pub enum WordSum {
 }
 
 /// Why bytes are no value. The first number is the place, counted from the header's first byte, where there is one.
-#[derive(Clone, Copy, Debug, PartialEq, Eq)]
+#[derive(Clone, Copy, Debug)]
 pub enum ReadRefusal {
     /// The first four bytes.
     BadMagic(u32),

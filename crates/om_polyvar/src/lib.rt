@@ -2,7 +2,5 @@
 #![tactic(auto)]
 
 mod hashing;
-#[cfg(test)]
-mod tests;
 
 pub use hashing::hash;

@@ -18,6 +18,3 @@ mod value;
 
 pub use reader::{Fed, Reader, Truncated};
 pub use value::Value;
-
-#[cfg(test)]
-mod tests;

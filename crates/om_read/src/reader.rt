@@ -11,14 +11,14 @@ use om_model::refusal::ReadRefusal;
 use std::alloc::Global;
 
 /// How many bytes of a piece were taken, and whether they complete the value.
-#[derive(Clone, Copy, Debug, PartialEq, Eq)]
+#[derive(Clone, Copy)]
 pub struct Fed {
     pub taken: usize,
     pub done: bool,
 }
 
 /// The input ends inside a value, after so many of its bytes.
-#[derive(Clone, Copy, Debug, PartialEq, Eq)]
+#[derive(Clone, Copy)]
 pub struct Truncated {
     pub taken: u64,
 }

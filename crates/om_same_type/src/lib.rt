@@ -3,7 +3,5 @@
 #![tactic(auto)]
 
 mod laws;
-#[cfg(test)]
-mod tests;
 
 pub use laws::{the_same_has_the_same_fault, the_same_has_the_same_types};
