@@ -7,7 +7,7 @@ use om_model::list::List;
 use std::alloc::{AllocError, AllocFailed};
 
 /// A reserved word.
-#[derive(Clone, Copy, Debug, PartialEq, Eq)]
+#[derive(Clone, Copy)]
 pub enum Keyword {
     Type,
     And,
@@ -16,7 +16,7 @@ pub enum Keyword {
 }
 
 /// The letter after an integer's digits: none, `l`, `L` or `n`.
-#[derive(Clone, Copy, Debug, PartialEq, Eq)]
+#[derive(Clone, Copy)]
 pub enum Suffix {
     Absent,
     Int32,
@@ -25,7 +25,7 @@ pub enum Suffix {
 }
 
 /// An integer as written: `-0` differs from `0`.
-#[derive(Clone, Copy, Debug, PartialEq, Eq)]
+#[derive(Clone, Copy)]
 pub struct Integer {
     pub minus: bool,
     pub value: i64,
@@ -33,7 +33,7 @@ pub struct Integer {
 }
 
 /// A symbol.
-#[derive(Clone, Copy, Debug, PartialEq, Eq)]
+#[derive(Clone, Copy)]
 pub enum Symbol {
     OpenArray,
     CloseArray,
@@ -71,7 +71,7 @@ pub enum LexemeKind {
 }
 
 /// Where a lexeme stands: the place of its first byte, and how many bytes it has.
-#[derive(Clone, Copy, Debug, PartialEq, Eq)]
+#[derive(Clone, Copy)]
 pub struct Span {
     pub first: usize,
     pub len: usize,
@@ -85,7 +85,7 @@ pub struct Lexeme {
 }
 
 /// Why a text has no lexemes: the first fault from the left, with its place.
-#[derive(Clone, Copy, Debug, PartialEq, Eq)]
+#[derive(Clone, Copy)]
 pub enum LexFault {
     /// No lexeme begins here, or no escape goes on here.
     BadByte(usize),

@@ -12,6 +12,3 @@ mod symbols;
 mod words;
 
 pub use scan::{one_outcome, tokens};
-
-#[cfg(test)]
-mod tests;
