@@ -4,7 +4,7 @@ use om_model::list::List;
 use om_types::ty::Node;
 
 /// An item of a bracket, by the node of the bracket that it is the last one of.
-#[derive(Clone, Copy, Debug, PartialEq, Eq)]
+#[derive(Clone, Copy)]
 pub struct BracketItem {
     /// The number of its first lexeme.
     pub place: usize,

@@ -15,7 +15,7 @@ use om_types::decl::Decl;
 use std::alloc::Global;
 
 /// A rule that is broken, and the lexeme.
-#[derive(Clone, Copy, Debug, PartialEq, Eq)]
+#[derive(Clone, Copy)]
 pub struct Broken {
     pub rule: NameRule,
     pub place: usize,

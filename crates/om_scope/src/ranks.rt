@@ -103,10 +103,7 @@ pub fn ranks(alloc: Global, graph: &[List<usize>]) -> Result<Vec<Mark>, Memory>
     ensures { IfOk result (λ marks. AreRanks graph.now marks.items) }
 {
     let mut marks = vec![in alloc; Mark::New; graph.len()]?;
-    let mut stack = Vec::new(alloc);
-    for node in 0..graph.len() {
-        stack.push(node)?;
-    }
+    let mut stack: Vec<usize> = (0..graph.len()).collect(alloc)?;
     for turn in 0..usize::MAX {
         match stack.pop() {
             Some(node) => visit(graph, node, turn, &mut marks, &mut stack)?,

@@ -1,7 +1,7 @@
 //! Rules of scope on names.
 
 /// A rule on names.
-#[derive(Clone, Copy, Debug, PartialEq, Eq)]
+#[derive(Clone, Copy)]
 pub enum NameRule {
     /// No type name, parameter, field, constructor or tag is written twice.
     Twice,
@@ -20,7 +20,7 @@ pub enum NameRule {
 }
 
 /// A rule on the use of a name.
-#[derive(Clone, Copy, Debug, PartialEq, Eq)]
+#[derive(Clone, Copy)]
 pub enum UseRule {
     UnknownName,
     Arity,
