@@ -1,6 +1,7 @@
 //! One lexeme of a file, outside of types.
 
-ghost use Rattle.std.specs.Prelude.{◌≡◌, ◌++◌, ◌∷◌, [], length, IfOk};
+ghost use Rattle.std.specs.Prelude.{◌≡◌, ◌++◌, ◌∷◌, [], Some, length, IfOk};
+ghost use Rattle.om_parse.specs.declared.so_far.FilePhase.TheVariants as files;
 ghost use Rattle.om_parse.specs.FileCode.{decl_code, after_decl_code, after_constr_code, after_record_code, after_field_code, listed_code, after_type_code, begin_file_code, begin_decl_code, take_param_code, after_param_code, take_decl_name_code, take_equals_code, take_upper_code, after_upper_code, close_record_code, begin_field_code, take_field_name_code, take_colon_code};
 
 use crate::names::copied;
@@ -110,20 +111,17 @@ pub fn after_record(fields: Fields, kind: &LexemeKind) -> Result<Option<FilePhas
 }
 
 /// What comes after a field.
-fn after_field(fields: Fields, field: Field, kind: &LexemeKind) -> Result<Option<FilePhase>, Memory>
+fn after_field(
+    mut fields: Fields,
+    field: Field,
+    kind: &LexemeKind,
+) -> Result<Option<FilePhase>, Memory>
     ensures { IfOk result (λ phase. phase ≡ after_field_code fields field kind.now) }
 {
-    let Fields { place, mut fields } = fields;
-    fields.push(field)?;
+    fields.fields.push(field)?;
     match kind {
-        LexemeKind::Symbol(Symbol::Semicolon) => Ok(Some(FilePhase::FieldDue(Fields {
-            place,
-            fields,
-        }))),
-        LexemeKind::Symbol(Symbol::CloseBrace) => Ok(Some(FilePhase::RecordRead(Fields {
-            place,
-            fields,
-        }))),
+        LexemeKind::Symbol(Symbol::Semicolon) => Ok(Some(FilePhase::FieldDue(fields))),
+        LexemeKind::Symbol(Symbol::CloseBrace) => Ok(Some(FilePhase::RecordRead(fields))),
         _ => Ok(None),
     }
 }
@@ -309,6 +307,19 @@ pub fn after_upper(
     }
 }
 
+/// A field's name was read.
+fn field_named(
+    alloc: Global,
+    fields: Fields,
+    mutable: bool,
+    name: &List<u8>,
+) -> Result<Option<FilePhase>, Memory>
+    ensures { IfOk result (λ phase. phase ≡ Some (files.FieldNamed fields mutable name.now)) }
+{
+    let name = copied(alloc, name)?;
+    Ok(Some(FilePhase::FieldNamed(fields, mutable, name)))
+}
+
 /// A field begins, or a record ends after a semicolon.
 pub fn begin_field(
     alloc: Global,
@@ -319,11 +330,7 @@ pub fn begin_field(
 {
     match kind {
         LexemeKind::Keyword(Keyword::Mutable) => Ok(Some(FilePhase::MutableRead(fields))),
-        LexemeKind::Lower(name) => Ok(Some(FilePhase::FieldNamed(
-            fields,
-            false,
-            copied(alloc, name)?,
-        ))),
+        LexemeKind::Lower(name) => field_named(alloc, fields, false, name),
         LexemeKind::Symbol(Symbol::CloseBrace) => Ok(close_record(fields)),
         _ => Ok(None),
     }
@@ -348,11 +355,7 @@ pub fn take_field_name(
     ensures { IfOk result (λ phase. phase ≡ take_field_name_code fields kind.now) }
 {
     match kind {
-        LexemeKind::Lower(name) => Ok(Some(FilePhase::FieldNamed(
-            fields,
-            true,
-            copied(alloc, name)?,
-        ))),
+        LexemeKind::Lower(name) => field_named(alloc, fields, true, name),
         _ => Ok(None),
     }
 }

@@ -8,7 +8,7 @@ use om_lex::lexeme::Lexeme;
 use om_model::Memory;
 
 /// Why lexemes are no text, with the number of the lexeme that is refused.
-#[derive(Clone, Copy, Debug, PartialEq, Eq)]
+#[derive(Clone, Copy)]
 pub enum Fault {
     /// The first lexeme at which no text goes on, or how many there are if that is their end.
     Syntax(usize),

@@ -3,6 +3,9 @@
 ghost use Rattle.std.specs.Prelude.{List as Seq, ◌≡◌, ◌++◌, ◌∷◌, [], max, length, IfOk, OnOk};
 ghost use Rattle.om_parse.specs.TypeCode.{deeper, part, reads, begin_item_code, begin_code, item_node, item_depth_code, after_items_code, after_item_code, after_group_code, after_argument_code, close_type_code, after_single_code, after_tuple_code, outermost_code, close_part_code, after_part_code, parts_nodes, parts_node, take_name_code, after_tag_code, step_code, Steps};
 ghost use Rattle.om_parse.specs.declared.open.Frame.{Frame as AFrame};
+ghost use Rattle.om_types.specs.declared.ty.Node.{Node as ANode};
+ghost use Rattle.om_lex.specs.declared.lexeme.LexemeKind.TheVariants as kinds;
+ghost use Rattle.om_lex.specs.declared.lexeme.Symbol.TheVariants as symbols;
 
 use crate::names::copied;
 use crate::open::{Frame, Item, Part, Phase, Step};
@@ -54,6 +57,31 @@ fn part(nodes: &mut Vec<Node>, node: Node, depth: usize) -> Result<Part, Memory>
     Ok(Part { node, depth })
 }
 
+/// A bar may stand before the first item.
+fn begin_bar(frames: &mut Stack) -> Result<Step, Memory>
+    ensures { (ns : Seq ANode) → Steps result ns frames.new (begin_item_code ns frames.old (kinds.Symbol symbols.Bar)) }
+{
+    match frames.pop() {
+        Some(Frame::Opened(false, bracket)) => {
+            frames.push(Frame::Opened(true, bracket))?;
+            Ok(Step::Goes(Phase::Due))
+        }
+        _ => Ok(Step::Stops),
+    }
+}
+
+/// A tag may begin an item.
+fn begin_tag(alloc: Global, frames: &Stack, name: &List<u8>) -> Result<Step, Memory>
+    ensures { (ns : Seq ANode) → Steps result ns frames.now (begin_item_code ns frames.now (kinds.Tag name.now)) }
+{
+    match frames.top() {
+        Some(Frame::Opened(_, _) | Frame::Items(_)) => Ok(Step::Goes(Phase::TagRead(copied(
+            alloc, name,
+        )?))),
+        _ => Ok(Step::Stops),
+    }
+}
+
 /// An item may begin.
 fn begin_item(
     alloc: Global,
@@ -63,19 +91,9 @@ fn begin_item(
 ) -> Result<Step, Memory>
     ensures { Steps result nodes.new.items frames.new (begin_item_code nodes.old.items frames.old kind.now) }
 {
-    match (frames.pop(), kind) {
-        (Some(Frame::Opened(false, bracket)), LexemeKind::Symbol(Symbol::Bar)) => {
-            frames.push(Frame::Opened(true, bracket))?;
-            Ok(Step::Goes(Phase::Due))
-        }
-        (Some(Frame::Opened(bar, bracket)), LexemeKind::Tag(name)) => {
-            frames.push(Frame::Opened(bar, bracket))?;
-            Ok(Step::Goes(Phase::TagRead(copied(alloc, name)?)))
-        }
-        (Some(Frame::Items(bracket)), LexemeKind::Tag(name)) => {
-            frames.push(Frame::Items(bracket))?;
-            Ok(Step::Goes(Phase::TagRead(copied(alloc, name)?)))
-        }
+    match kind {
+        LexemeKind::Symbol(Symbol::Bar) => begin_bar(frames),
+        LexemeKind::Tag(name) => begin_tag(alloc, frames, name),
         _ => Ok(Step::Stops),
     }
 }
