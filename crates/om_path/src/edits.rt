@@ -38,7 +38,7 @@ pub struct Script {
 }
 
 /// Why a text is no script, by its first faulty line, counted from 1.
-#[derive(Clone, Copy, Debug, PartialEq, Eq)]
+#[derive(Clone, Copy)]
 pub enum ScriptFault {
     /// Some part of the line is no lexeme.
     Lex(usize, LexFault),

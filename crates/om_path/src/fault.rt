@@ -8,7 +8,7 @@ use om_lex::lexeme::LexFault;
 use om_model::Memory;
 
 /// Why a text is no path.
-#[derive(Clone, Copy, Debug, PartialEq, Eq)]
+#[derive(Clone, Copy)]
 pub enum PathFault {
     /// The text has no lexemes.
     Lex,

@@ -14,6 +14,3 @@ pub use fault::PathFault;
 pub use laws::{one_answer, one_script_answer};
 pub use read::read_path;
 pub use text::read_script;
-
-#[cfg(test)]
-mod tests;
