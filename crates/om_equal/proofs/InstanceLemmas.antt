@@ -140,7 +140,7 @@ module _ (value : List ℕ → Ty) where
     abbrev outer : Ty → Ty
     outer t = instance (argument_for ps (map (instance value) ts)) t
 
-    instance-instance : (t : Ty) → VariablesAmong ps t → outer t ≡ instance value (inner t)
+    pub instance-instance : (t : Ty) → VariablesAmong ps t → outer t ≡ instance value (inner t)
     instance-instance (variable x) among = argument_for-instance ps ts x many among
     instance-instance (named n) among = refl
     instance-instance tuple among = refl

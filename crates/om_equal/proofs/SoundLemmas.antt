@@ -571,7 +571,7 @@ module _ (decls : List Decl) (well : AreWellFormed decls) where
 
   -- ---- shapes whose tags are known by hashes
 
-  abbrev HashedShape : ShapeOf Ty → Type 0
+  abbrev pub HashedShape : ShapeOf Ty → Type 0
   HashedShape (shapes.Poly tags) = AreHashed tags
   HashedShape s = Unit {0}
 
@@ -628,6 +628,10 @@ module _ (decls : List Decl) (well : AreWellFormed decls) where
   head_shape_hashed (heads.Tuple ts) hashed distinct = tt
   head_shape_hashed (heads.Variants tags) hashed distinct = tags_hashed tags hashed distinct
   head_shape_hashed heads.Absent hashed distinct = tt
+
+  -- where the shape of a sound type is a bracket's, its tags are known by their hashes
+  pub shape_hashed : (t : Ty) → Sound t → HashedShape (shape decls t)
+  shape_hashed t s = head_shape_hashed (head decls t) (head_hashed t s) (head_distinct decls t)
 
   -- ---- reached types
 

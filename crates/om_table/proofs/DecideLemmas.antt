@@ -114,10 +114,10 @@ module _ (decls : List Decl) (types : List Ty) (table : Table) (made : IsTableOf
   abbrev typed : ℕ × ℕ → Option (ℕ × Ty)
   typed pair = type_if pair.0 (slice_get types pair.1)
 
-  abbrev all_typed : List (ℕ × ℕ) → List (ℕ × Ty)
+  abbrev pub all_typed : List (ℕ × ℕ) → List (ℕ × Ty)
   all_typed pairs = filter_map typed pairs
 
-  typed_has : (pairs : List (ℕ × ℕ)) (o i : ℕ) (u : Ty) → Contains pairs (o, i) → Is i u
+  pub typed_has : (pairs : List (ℕ × ℕ)) (o i : ℕ) (u : Ty) → Contains pairs (o, i) → Is i u
       → Contains (all_typed pairs) (o, u)
   typed_has pairs o i u among is =
       Contains-filter_mapped typed pairs (o, i) (o, u) among (ap (type_if o) is)
@@ -129,7 +129,7 @@ module _ (decls : List Decl) (types : List Ty) (table : Table) (made : IsTableOf
       let pair = same_Some (p, w) (o, u) is in
       (ap (λ (x : ℕ × Ty). x.0) pair, ap (λ (x : ℕ × Ty). Some x.1) pair)
 
-  typed_is : (pairs : List (ℕ × ℕ)) (o : ℕ) (u : Ty) → Contains (all_typed pairs) (o, u) → (i : ℕ)
+  pub typed_is : (pairs : List (ℕ × ℕ)) (o : ℕ) (u : Ty) → Contains (all_typed pairs) (o, u) → (i : ℕ)
       × Contains pairs (o, i) × Is i u
   typed_is pairs o u among =
       let source = filter_mapped_is typed pairs (o, u) among in
@@ -174,7 +174,7 @@ module _ (decls : List Decl) (types : List Ty) (table : Table) (made : IsTableOf
         (λ v held. held_too v number.0 a number.2 held) (typing.held o source.0 k number.0 source.1
         number.1)
 
-    typing_too : IsTyping (declared_shapes decls) graph (all_typed pairs)
+    pub typing_too : IsTyping (declared_shapes decls) graph (all_typed pairs)
     typing_too = record {
       fits = λ o u among. let source =
           typed_is pairs o u among in fits decls types table made graph (vals.Ref o) source.0 u
