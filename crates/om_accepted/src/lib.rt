@@ -2,8 +2,6 @@
 #![tactic(auto)]
 
 mod laws;
-#[cfg(test)]
-mod tests;
 
 pub use laws::{
     accepted_are_well_formed, accepted_types_are_sound, brackets_follow, names_follow, ranks_follow,

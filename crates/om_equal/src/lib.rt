@@ -5,5 +5,3 @@ pub mod classes;
 pub mod equal;
 pub mod sound;
 pub mod table;
-#[cfg(test)]
-mod tests;

@@ -2,7 +2,5 @@
 #![tactic(auto)]
 
 mod laws;
-#[cfg(test)]
-mod tests;
 
 pub use laws::{least_faults_have_least_ways, tables_decide, type_or_fault};

@@ -1,6 +1,6 @@
 -- Classes of types by numbers: what a refinement of classes keeps, and what it comes to (after
 -- Hopcroft 1971).
-use Rattle.std.specs.Prelude.{ℕ, ◌<◌, ◌≡◌, ◌↔◌, ◌⊎◌, Contains}
+use Rattle.std.specs.Prelude.{ℕ, ◌<◌, ◌≡◌, ◌⊎◌, Contains}
 use Rattle.om_types.specs.declared.head.HeadOf.{HeadOf}
 use Rattle.om_types.specs.Reached.{parts_of}
 use Rattle.om_types.specs.Equal.{HeadsAgree, EqualBy}
@@ -24,14 +24,6 @@ IsStable n head class =
 abbrev pub KeepsTogether : ℕ → (ℕ → HeadOf ℕ) → (ℕ → ℕ) → Type 0
 KeepsTogether n head class =
     (i j : ℕ) → i < n → j < n → EqualBy head i j → AreTogether n class i j
-
--- ---- all classes at once
-
--- the new classes part the old ones by what the heads say of the old ones
-abbrev pub IsRefined : ℕ → (ℕ → HeadOf ℕ) → (ℕ → ℕ) → (ℕ → ℕ) → Type 0
-IsRefined n head old new =
-    (i j : ℕ) → AreTogether n new i j
-    ↔ (AreTogether n old i j × HeadsAgree (AreTogether n old) (head i) (head j))
 
 -- ---- one class at a time
 

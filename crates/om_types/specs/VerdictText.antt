@@ -1,5 +1,5 @@
 -- The line of a verdict: `yes`, or `no` and the least fault.
-use Rattle.std.specs.Prelude.{ℕ, ◌≡◌, List, [], ◌++◌, length, Option, Some, None, slice_get, codes, decimal, Bool, true, false}
+use Rattle.std.specs.Prelude.{ℕ, ◌≡◌, List, [], ◌++◌, length, Option, Some, None, slice_get, codes, decimal}
 use Rattle.std.specs.Fmt.{signed_decimal}
 use Rattle.om_model.specs.declared.value.Val.{Val}
 use Rattle.om_model.specs.declared.value.Val.TheVariants as vals
@@ -9,7 +9,6 @@ use Rattle.om_types.specs.declared.fault.Fault.{Fault}
 use Rattle.om_types.specs.declared.fault.Fault.TheVariants.{Misfit, Clash}
 use Rattle.om_model.specs.PathText.{path_text}
 use Rattle.om_types.specs.Shapes.{Shapes}
-use Rattle.om_types.specs.Typing.{HasType}
 use Rattle.om_types.specs.Fault.{value_at}
 use Rattle.om_types.specs.LeastFault.{IsLeastFault}
 
@@ -58,8 +57,3 @@ pub record IsNoLine {T : Type 0} (shapes : Shapes T) (type_text : T → List ℕ
   pub least : IsLeastFault shapes graph v t fault
   pub is_text : IsFaultText shapes type_text graph v t fault text
   pub spelled : line ≡ codes "no " ++ text
-
--- the line of a verdict, and whether the value has the type: `yes`, or else the least fault
-abbrev pub IsLine : {T : Type 0} → Shapes T → (T → List ℕ) → List Obj → Val → T → List ℕ → Bool → Type 0
-IsLine shapes type_text graph v t line true = HasType shapes graph v t × (line ≡ codes "yes")
-IsLine shapes type_text graph v t line false = IsNoLine shapes type_text graph v t line

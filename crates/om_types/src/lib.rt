@@ -7,6 +7,4 @@ pub mod fault;
 pub mod head;
 pub mod names;
 pub mod shape;
-#[cfg(test)]
-mod tests;
 pub mod ty;

@@ -3,7 +3,5 @@
 #![tactic(auto)]
 
 mod laws;
-#[cfg(test)]
-mod tests;
 
 pub use laws::{checks_take_few_steps, searches_find_the_least};
