@@ -62,7 +62,6 @@ impl Types {
 }
 
 ghost use Rattle.om_types.specs.Nodes.{type_of};
-ghost use Rattle.om_types.specs.declared.ty.Node.{Node as Written};
 
 /// Adds the instances of these nodes, and answers the number of the last.
 fn grow(

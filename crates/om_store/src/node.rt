@@ -1,7 +1,7 @@
 //! One type as a node over numbers: as it is stored, and as it is lent.
 
 /// A node whose names and parts are numbers.
-#[derive(Clone, Copy, Debug, PartialEq, Eq, Hash)]
+#[derive(Clone, Copy, PartialEq, Eq, Hash)]
 pub enum Node {
     Variable(usize),
     Named(usize),
@@ -14,7 +14,7 @@ pub enum Node {
 }
 
 /// What a type is made of: a name, or numbers of earlier types.
-#[derive(Clone, Copy, Debug)]
+#[derive(Clone, Copy)]
 pub enum TypeNode<'a> {
     /// A variable, without its quote.
     Variable(&'a [u8]),

@@ -1,6 +1,6 @@
 //! The store of types.
 
-ghost use Rattle.std.specs.Prelude.{◌≡◌, ◌<◌, ◌≤◌, [], Some, length, slice_get, map, take, All, IfOk, OnErr, OnOk};
+ghost use Rattle.std.specs.Prelude.{◌≡◌, ◌<◌, ◌≤◌, [], Some, length, slice_get, take, IfOk, OnErr};
 ghost use Rattle.om_types.specs.Ty.{variable, named, tuple, bracket, part, tag, tag_of, including};
 ghost use Rattle.om_types.specs.Nodes.{type_at, type_of_node, IsBelow};
 ghost use Rattle.om_store.specs.Held.{Adds, Holds, AreDistinct};

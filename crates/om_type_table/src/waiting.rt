@@ -9,7 +9,7 @@ use om_model::Memory;
 use om_store::{TypeNode, Types};
 
 /// Bytes, or the last part of a type: of a tuple in parentheses, where the bool asks for them.
-#[derive(Clone, Copy, Debug)]
+#[derive(Clone, Copy)]
 pub(crate) enum Waiting<'a> {
     Text(&'a [u8]),
     Added(usize, bool),
