@@ -10,6 +10,3 @@ mod step;
 pub use laws::{firsts_in_range, literal_or_syntax, one_literal, worked_literals};
 pub use node::{Form, Node, Tree, TreeFault};
 pub use read::read_literal_tree;
-
-#[cfg(test)]
-mod tests;

@@ -7,7 +7,7 @@ use om_model::Memory;
 use std::marker::Model;
 
 /// What a node is. Its own lexemes say with which value.
-#[derive(Clone, Copy, Debug, PartialEq, Eq)]
+#[derive(Clone, Copy)]
 pub enum Form {
     Integer,
     Character,
@@ -26,7 +26,7 @@ pub enum Form {
 }
 
 /// A node: its form, its label or the one that it uses, the number of its first lexeme, and how many parts it has.
-#[derive(Clone, Copy, Debug, PartialEq, Eq)]
+#[derive(Clone, Copy)]
 pub struct Node {
     pub form: Form,
     pub label: Option<u64>,
@@ -66,7 +66,7 @@ impl Tree {
 }
 
 /// Why lexemes are no literal.
-#[derive(Clone, Copy, Debug, PartialEq, Eq)]
+#[derive(Clone, Copy)]
 pub enum TreeFault {
     /// The number of the first lexeme at which no literal goes on, or how many there are.
     Syntax(usize),
