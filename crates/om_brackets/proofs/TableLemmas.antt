@@ -75,9 +75,6 @@ split_next xs i x y below read there = Contains-push_cases (take i xs) x y
 
 -- ---- arguments
 
-bor_of : List ℕ → Bor (List ℕ)
-bor_of name = record { ref_ptr = (0, 0); now = name }
-
 pub arguments_added :
     (seen : List (TagOf ℕ)) (tag : TagOf ℕ) (before after : ArgumentTable) (key : List ℕ)
     → key ≡ tag.name

@@ -13,7 +13,7 @@ use om_types::head::TagOf;
 use std::alloc::Global;
 
 /// Two names of tags that have one hash, and the first lexeme of the item that brings the other one.
-#[derive(Clone, Copy, Debug)]
+#[derive(Clone, Copy)]
 pub struct Collision<'a> {
     pub place: usize,
     pub one: &'a [u8],
