@@ -2,7 +2,7 @@
 use Rattle.std.proofs.Common.{ℕ, ◌+◌, ◌<◌, ◌≡◌, ◌∙◌, Bool, false, List, [], ◌∷◌, Option, Some, length, get_or, refl, sym, ap, subst}
 use Rattle.std.specs.Prelude.{slice_get, Contains, IsTrue, ◌↔◌}
 use Rattle.std.proofs.lemmas.Bool.{false≢true}
-use Rattle.std.proofs.lemmas.List.Elements.{All-head, All-tail, All-weaker, All-get_or, All-contains}
+use Rattle.std.proofs.lemmas.List.Elements.{All-head, All-tail, All-get_or, All-contains}
 use Rattle.std.proofs.lemmas.Option.{slice_get-get_or, get_or_from_slice_get, slice_get_within}
 use Rattle.om_model.proofs.Options.{Contains-map, map-Contains}
 use Rattle.om_types.specs.declared.decl.Decl.{Decl}
@@ -64,11 +64,6 @@ within_kept : (old new : List Ty) (i : NumberedItem) → Grows old new → IsWit
 within_kept old new i grown below =
     slice_get_within new i.number (type_at old i.number)
     (there_kept old new i.number (type_at old i.number) grown (slice_get-get_or old i.number tuple below))
-
-pub are_within_kept :
-    (old new : List Ty) (items : List NumberedItem) → Grows old new → AreWithin old items → AreWithin new items
-are_within_kept old new items grown within =
-    All-weaker (IsWithin old) (IsWithin new) (λ i. within_kept old new i grown) items within
 
 pub items_kept :
     (old new : List Ty) (items : List NumberedItem) → Grows old new → AreWithin old items

@@ -1,6 +1,6 @@
 //! Brackets by the numbers of their items.
 
-ghost use Rattle.std.specs.Prelude.{◌≡◌, ◌++◌, All, IfOk, OnOk, List as Seq};
+ghost use Rattle.std.specs.Prelude.{◌++◌, All, IfOk, OnOk, List as Seq};
 ghost use Rattle.std.specs.List.{flat_map};
 ghost use Rattle.om_types.specs.Nodes.{types_of, AreOrdered};
 ghost use Rattle.om_types.specs.Occurrence.{PlacedItem};

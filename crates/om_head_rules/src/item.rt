@@ -2,7 +2,7 @@
 
 ghost use Rattle.std.specs.Prelude.{◌≡◌, ◌<◌, Some, length, slice_get, IfOk};
 ghost use Rattle.om_types.specs.Ty.{bracket, tag, tag_of, including};
-ghost use Rattle.om_types.specs.Nodes.{type_at, type_of_node, types_of, AreOrdered, IsBelow};
+ghost use Rattle.om_types.specs.Nodes.{type_at, types_of, AreOrdered};
 ghost use Rattle.om_scope.specs.Brackets.{item_of, item_told};
 ghost use Rattle.om_store.specs.Held.{Grows};
 ghost use Rattle.om_store.specs.Instance.{HasNumbers};
@@ -14,7 +14,7 @@ use om_store::Types;
 use om_types::ty::Node;
 
 /// An item of a bracket.
-#[derive(Clone, Copy, Debug, PartialEq, Eq)]
+#[derive(Clone, Copy)]
 pub struct NumberedItem {
     /// The number of its first lexeme.
     pub place: usize,

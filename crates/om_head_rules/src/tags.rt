@@ -3,14 +3,13 @@
 ghost use Rattle.std.specs.Prelude.{◌≡◌, ◌<◌, Some, length, map, slice_get, IfOk};
 ghost use Rattle.om_types.specs.Nodes.{type_at};
 ghost use Rattle.om_types.specs.Accepted.{AreSound};
-ghost use Rattle.om_types.specs.Reached.{AreDistinct};
 ghost use Rattle.om_types.specs.Scope.{tags_of_item};
 ghost use Rattle.om_types.specs.Table.{tag_with_part};
 ghost use Rattle.om_scope.specs.Breaks.{names_of_decls};
 ghost use Rattle.om_scope.specs.Names.{number_of, ArePlaces};
 ghost use Rattle.om_store.specs.Held.{Grows};
 ghost use Rattle.om_brackets.specs.Trees.{typed_item, written_item};
-ghost use Rattle.om_head_rules.specs.Rules.{AreWithin, AreAllWithin, AreTagged, item_at, items_at, brackets_at};
+ghost use Rattle.om_head_rules.specs.Rules.{AreWithin, AreAllWithin, AreTagged, items_at, brackets_at};
 
 use crate::item::NumberedItem;
 use om_brackets::Item;
