@@ -1,8 +1,6 @@
 //! What stands where in what a name is declared to be.
 
 ghost use Rattle.std.specs.Prelude.{◌≡◌, ◌++◌, ◌∷◌, [], IfOk, OnOk, drop, false};
-ghost use Rattle.om_types.specs.declared.decl.Constructor.{Constructor as Declared};
-ghost use Rattle.om_types.specs.Ty.{Ty as Tree};
 ghost use Rattle.om_sites.specs.Counted.{in_type};
 ghost use Rattle.om_sites.specs.CountedFile.{along, count_all, type_count, field_count, in_field};
 ghost use Rattle.om_sites.specs.CountedFile.{names_of_fields, record_in_arguments, in_arguments, arguments_count};
