@@ -17,7 +17,7 @@ use Rattle.om_types.specs.Shape.{any_mutable, is_flat, types_of_fields, record_s
 use Rattle.om_types.specs.Table.{constr_with}
 use Rattle.om_store.specs.Held.{Grows, Holds}
 use Rattle.om_store.specs.Instance.{HasNumbers, HoldsEach, argument_at}
-use Rattle.om_store.proofs.HeldLemmas.{Grows-held, Grows-none}
+use Rattle.om_store.proofs.HeldLemmas.{Grows-held}
 use Rattle.om_store.proofs.InstanceLemmas.{types_at-kept, below_kept}
 use Rattle.om_layout.specs.Layout.{instance_at, IsShapeAt, HasBlocks, HasBlock}
 use Rattle.om_layout.proofs.LoopLemmas.{filtered_some, filtered_none}
@@ -52,12 +52,6 @@ module _ (old now : List Ty) (grown : Grows old now) (decl : Decl) (arguments : 
       };
     }
 
-pub no_numbers : (types : List Ty) → HoldsEach types types [] []
-no_numbers types = record {
-  grown = Grows-none types;
-  has = record { below = All-nil (λ i. i < length types); are = refl };
-}
-
 -- a record that does not lie flat
 pub boxed_record :
     (decls : List Decl) (types : List Ty) (inst : Ty → Ty) (fields : List Field) (numbers : List ℕ) → is_flat decls fields ≡ false
@@ -68,9 +62,6 @@ boxed_record decls types inst fields numbers boxed has =
     (product_at types (map inst (types_of_fields fields)) numbers (any_mutable fields) has)
 
 -- ---- blocks
-
-pub no_blocks : (types : List Ty) → HasBlocks types [] []
-no_blocks types = record { within = All-nil (λ (block : Constr ℕ). All (λ i. i < length types) block.fields); are = refl }
 
 abbrev IsWithin : List Ty → Constr ℕ → Type 0
 IsWithin types block = All (λ i. i < length types) block.fields

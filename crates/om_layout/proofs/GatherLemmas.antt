@@ -2,6 +2,7 @@
 use Rattle.std.proofs.Common.{ℕ, suc, ◌+◌, ◌<◌, ◌≤◌, ◌≡◌, ◌∙◌, Bool, true, false, cond, List, [], ◌∷◌, ◌++◌, length, map, reverse, Option, Some, None, refl, sym, ap, subst, All, length-append, arith}
 use Rattle.std.specs.Prelude.{not, ◌||◌, slice_get, option_map, IfSome}
 use Rattle.std.specs.Str.{bytes_eq}
+use Rattle.std.specs.Global.{Vec}
 use Rattle.std.proofs.lemmas.List.{append-nil, map-append, reverse-append}
 use Rattle.std.proofs.lemmas.List.Elements.{All-head, All-tail, All-push, All-nil}
 use Rattle.std.proofs.lemmas.List.Sums.{fold-append}
@@ -26,9 +27,9 @@ use Rattle.om_layout.specs.Plain.{IsBracketed, IsPlainHead}
 use Rattle.om_layout.specs.Unfolded.{HasHeadOf}
 use Rattle.om_layout.specs.declared.bracket.Step.{Step}
 use Rattle.om_layout.specs.declared.bracket.Step.TheVariants as steps
-use Rattle.om_layout.specs.Tags.{has_bracket, before_item, items, tags_of_item, with_item, with_items, tags_at, IsTagWithin, has_name, with_tag, IsHeadOf}
+use Rattle.om_layout.specs.Tags.{has_bracket, before_item, items, tags_of_item, with_item, with_items, tags_at, tags_of_entries, IsTagWithin, has_name, with_tag, IsHeadOf}
 use Rattle.om_layout.specs.Work.{work, written_work}
-use Rattle.om_layout.specs.Steps.{BringsNone, IsSettled, AreSettled, AreLeft, AreGathered, item_work, steps_work}
+use Rattle.om_layout.specs.Steps.{BringsNone, IsSettled, AreSettled, AreLeft, AreGathered, AreAll, IsStepWithin, item_work, steps_work}
 use Rattle.om_layout.proofs.BracketLemmas.{none_new_more, joined_none, joined-plain, joined-no_bracket, head_as_written, head_of_bracket, head_of_no_bracket}
 
 -- ---- a tag more
@@ -357,11 +358,29 @@ tags_of_item-none head types (lent.Including whole included) no_tag no_tag_of no
 -- ---- the first items, and the end
 
 pub none_gathered :
-    (decls : List Decl) (types : List Ty) (t : Ty) (waiting : List Step)
+    (decls : List Decl) (types : List Ty) (t : Ty) (entries : List (Vec ℕ × Option ℕ)) (waiting : List Step) → entries ≡ []
     → AreLeft decls types [] waiting (with_items (head decls) [] (items t))
-    → AreGathered decls types [] [] waiting (with_items (head decls) [] (items t))
-none_gathered decls types t waiting left =
-    record { found_within = All-nil (IsTagWithin types); brought = All-nil (IsSettled decls []); left = left }
+    → AreGathered decls types (tags_of_entries entries) [] waiting (with_items (head decls) [] (items t))
+none_gathered decls types t entries waiting none left =
+    subst (λ (es : List (Vec ℕ × Option ℕ)). AreGathered decls types (tags_of_entries es) [] waiting (with_items (head decls) [] (items t)))
+    (sym none)
+    (record { found_within = All-nil (IsTagWithin types); brought = All-nil (IsSettled decls []); left = left })
+
+pub nothing_left :
+    (decls : List Decl) (types : List Ty) (found : List (TagOf ℕ)) (settled : List ℕ) (waiting : List Step) (all : List (TagOf Ty))
+    → waiting ≡ [] → AreGathered decls types found settled waiting all → AreAll types found all
+nothing_left decls types found settled waiting all none gathered = record {
+  found_within = gathered.found_within;
+  are = subst (λ (ss : List Step). AreLeft decls types (tags_at types found) ss all) none gathered.left;
+}
+
+-- the first step that waits
+pub step_within :
+    (decls : List Decl) (types : List Ty) (tags all : List (TagOf Ty)) (step : Step) (rest : List Step)
+    → AreLeft decls types tags (step ∷ rest) all → IsStepWithin decls types step
+step_within decls types tags all (steps.Item i) rest left = left.0
+step_within decls types tags all (steps.Included n) rest left = left.0
+step_within decls types tags all (steps.Settle d) rest left = left.0
 
 argument_numbered : (types : List Ty) (argument : Option ℕ) → IfSome argument (λ i. i < length types)
     → option_map (slice_get types) argument ≡ option_map (λ (t : Ty). Some t) (option_map (type_at types) argument)
@@ -378,13 +397,11 @@ tags_numbered types (item ∷ tags) within =
     (tags_numbered types tags (All-tail (IsTagWithin types) item tags within))
 
 module _ (decls : List Decl) (sound : AreSound decls) (types : List Ty) (t : Ty) (bracketed : IsBracketed t) where
-  pub all_gathered : (found : List (TagOf ℕ)) (settled : List ℕ) (waiting : List Step) → waiting ≡ [] → has_bracket t ≡ true
-      → AreGathered decls types found settled waiting (with_items (head decls) [] (items t))
+  pub all_gathered : (found : List (TagOf ℕ)) → has_bracket t ≡ true → AreAll types found (with_items (head decls) [] (items t))
       → IsHeadOf decls types t (heads.Variants found)
-  all_gathered found settled waiting none is gathered =
-      let same = subst (λ (ss : List Step). AreLeft decls types (tags_at types found) ss (with_items (head decls) [] (items t))) none gathered.left in
+  all_gathered found is all =
       ap (λ (tags : List (TagOf (Option Ty))). heads.Variants tags)
-      (tags_numbered types found gathered.found_within ∙ ap (map (tag_with_part (λ (u : Ty). Some u))) same)
+      (tags_numbered types found all.found_within ∙ ap (map (tag_with_part (λ (u : Ty). Some u))) all.are)
       ∙ ap (head_with_parts (λ (u : Ty). Some u)) (sym (head_of_bracket decls sound t bracketed is))
 
   pub nothing_gathered : has_bracket t ≡ false → IsHeadOf decls types t heads.Absent

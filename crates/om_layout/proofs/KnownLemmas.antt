@@ -1,5 +1,5 @@
 -- What is known of abbreviations, with one more.
-use Rattle.std.proofs.Common.{ℕ, suc, ◌<◌, ◌≤◌, ◌≡◌, ◌∙◌, arith, Bool, true, false, cond, List, [], ◌∷◌, length, Option, Some, None, refl, sym, ap, subst, All, nat_eq}
+use Rattle.std.proofs.Common.{ℕ, suc, ◌<◌, ◌≤◌, ◌≡◌, ◌∙◌, Bool, true, false, cond, List, [], ◌∷◌, length, Option, Some, None, refl, sym, ap, subst, All, nat_eq}
 use Rattle.std.specs.Prelude.{slice_get, get_or, option_map, IfSome, is_some}
 use Rattle.std.specs.Map.{keys_of}
 use Rattle.std.proofs.lemmas.Bool.{eqb-true}
@@ -47,10 +47,6 @@ some_below n m (Some x) below is = subst (λ y. y < m) (sym is) below
 pub more_at : (before after : ℕ) (o : Option ℕ) (x : ℕ) → o ≡ Some x → IsMore before after o → before < after
 more_at before after None x is more = absurd (none-some x is)
 more_at before after (Some y) x is more = more
-
-pub same_or_more : (before after : ℕ) (o : Option ℕ) → IsMore before after o → before ≤ after
-same_or_more before after None more = more
-same_or_more before after (Some y) more = omega (arith, more)
 
 pub abbreviation_found :
     (decls : List Decl) (t : Ty) (name : List ℕ) (number : ℕ) (d : Decl) (body : Ty) (numbers : List ℕ → Option ℕ)

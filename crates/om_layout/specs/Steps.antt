@@ -71,6 +71,11 @@ pub record AreGathered (decls : List Decl) (types : List Ty) (found : List (TagO
   pub brought : AreSettled decls (tags_at types found) settled
   pub left : AreLeft decls types (tags_at types found) waiting all
 
+-- these are all, by the numbers of types
+pub record AreAll (types : List Ty) (found : List (TagOf ℕ)) (all : List (TagOf Ty)) : Type 0 where
+  pub found_within : All (IsTagWithin types) found
+  pub are : tags_at types found ≡ all
+
 -- ---- how much is to be done
 
 abbrev pub item_work : (Ty → ℕ) → Ty → ℕ

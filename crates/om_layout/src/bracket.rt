@@ -1,6 +1,6 @@
 //! The head of a bracket: its tags, with those of what it includes.
 
-ghost use Rattle.std.specs.Prelude.{ℕ, ◌≡◌, ◌<◌, ◌≤◌, ◌+◌, suc, ◌∷◌, None, List, length, reverse, IfOk, IfSome, OnOk, option_map};
+ghost use Rattle.std.specs.Prelude.{ℕ, ◌≡◌, ◌<◌, ◌≤◌, ◌+◌, suc, ◌∷◌, [], None, List, length, reverse, IfOk, IfSome, OnOk, option_map};
 ghost use Rattle.om_types.specs.declared.decl.Decl.{Decl as Declaration};
 ghost use Rattle.om_types.specs.declared.head.TagOf.{TagOf as Tag};
 ghost use Rattle.om_types.specs.Ty.{Ty};
@@ -16,7 +16,7 @@ ghost use Rattle.om_layout.specs.declared.bracket.Step.TheVariants as steps;
 ghost use Rattle.om_layout.specs.Tags.{has_bracket, before_item, items, with_items, with_tag, tags_of_entries, IsHeadOf};
 ghost use Rattle.om_layout.specs.Way.{AreKnown};
 ghost use Rattle.om_layout.specs.Work.{work, written_work};
-ghost use Rattle.om_layout.specs.Steps.{AreLeft, AreGathered, IsStepWithin, steps_work};
+ghost use Rattle.om_layout.specs.Steps.{AreLeft, AreGathered, AreAll, IsStepWithin, steps_work};
 
 use crate::known::{Known, abbreviation, none_known};
 use crate::replaced::nearer;
@@ -63,10 +63,48 @@ pub fn bracket_head(
         return Ok(HeadOf::Absent);
     }
     let mut tags: Tags = IndexMap::new(alloc);
-    let mut settled: Settled = IndexSet::new(alloc);
-    let mut known = none_known(alloc);
+    gather_tags(alloc, types, decls, table, number, &mut tags)?;
+    Ok(HeadOf::Variants(List::of(listed(alloc, tags)?)))
+}
+
+/// Adds the tags of a bracket.
+fn gather_tags(
+    alloc: Global,
+    types: &mut Types,
+    decls: &[Decl],
+    table: &Table<'_>,
+    number: usize,
+    tags: &mut Tags,
+) -> Result<(), Memory>
+    requires places { ArePlaces (names_of_decls decls.now) (length decls.now) (number_of table.now) }
+    requires number { number < length types.old }
+    requires sound { AreSound decls.now }
+    requires none { tags.old.entries ≡ [] }
+    ensures gathered { OnOk result (AreAll types.new (tags_of_entries tags.new.entries) (with_items (head decls.now) [] (items (type_at types.old number)))) }
+    ensures grown { Grows types.old types.new }
+{
     let mut waiting = Vec::new(alloc);
     push_items(types, number, &mut waiting)?;
+    gather_all(alloc, types, decls, table, tags, &mut waiting)
+}
+
+/// Takes all steps.
+fn gather_all(
+    alloc: Global,
+    types: &mut Types,
+    decls: &[Decl],
+    table: &Table<'_>,
+    tags: &mut Tags,
+    waiting: &mut Vec<Step>,
+) -> Result<(), Memory>
+    requires places { ArePlaces (names_of_decls decls.now) (length decls.now) (number_of table.now) }
+    requires sound { AreSound decls.now }
+    requires gathered { (all : List (Tag Ty)) × AreGathered decls.now types.old (tags_of_entries tags.old.entries) [] (reverse waiting.old.items) all }
+    ensures gathered { OnOk result ((all : List (Tag Ty)) → AreGathered decls.now types.old (tags_of_entries tags.old.entries) [] (reverse waiting.old.items) all → AreAll types.new (tags_of_entries tags.new.entries) all) }
+    ensures grown { Grows types.old types.new }
+{
+    let mut settled: Settled = IndexSet::new(alloc);
+    let mut known = none_known(alloc);
     'step: while let Some(step) = waiting.pop() {
         gather(
             alloc,
@@ -75,12 +113,12 @@ pub fn bracket_head(
             table,
             step,
             &mut known,
-            &mut tags,
+            tags,
             &mut settled,
-            &mut waiting,
+            waiting,
         )?;
     }
-    Ok(HeadOf::Variants(List::of(listed(alloc, tags)?)))
+    Ok(())
 }
 
 /// Takes a step.

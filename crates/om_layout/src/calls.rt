@@ -1,9 +1,11 @@
 //! Shapes, expansions and flat records of types as they are written.
 
-ghost use Rattle.std.specs.Prelude.{◌≡◌, IfOk};
+ghost use Rattle.std.specs.Prelude.{◌≡◌, length, IfOk};
 ghost use Rattle.om_types.specs.Declarations.{IsExpanded};
 ghost use Rattle.om_types.specs.Shape.{shape, is_flat_body};
 ghost use Rattle.om_types.specs.Accepted.{AreSound};
+ghost use Rattle.om_scope.specs.Breaks.{names_of_decls};
+ghost use Rattle.om_scope.specs.Names.{number_of, ArePlaces};
 
 use crate::datatype::is_flat;
 use crate::layout::layout_of;
@@ -11,6 +13,7 @@ use crate::replaced::expanded;
 use crate::trees::trees_of_shape;
 use om_model::Memory;
 use om_scope::declared::table_of;
+use om_scope::table::Table;
 use om_store::Types;
 use om_types::decl::{Body, Decl};
 use om_types::shape::ShapeOf;
@@ -23,9 +26,18 @@ pub fn shape(alloc: Global, decls: &[Decl], t: &Ty) -> Result<ShapeOf<Ty>, Memor
     ensures { IfOk result (λ found. found ≡ shape decls.now t.now) }
 {
     let table = table_of(alloc, decls)?;
+    shape_by(alloc, decls, &table, t)
+}
+
+/// The same, by the table of the declarations.
+fn shape_by(alloc: Global, decls: &[Decl], table: &Table<'_>, t: &Ty) -> Result<ShapeOf<Ty>, Memory>
+    requires places { ArePlaces (names_of_decls decls.now) (length decls.now) (number_of table.now) }
+    requires sound { AreSound decls.now }
+    ensures { IfOk result (λ found. found ≡ shape decls.now t.now) }
+{
     let mut types = Types::new(alloc);
     let number = types.add(alloc, t)?;
-    let layout = layout_of(alloc, &mut types, decls, &table, number)?;
+    let layout = layout_of(alloc, &mut types, decls, table, number)?;
     trees_of_shape(alloc, &types, &layout.shape)
 }
 
@@ -35,9 +47,18 @@ pub fn expand(alloc: Global, decls: &[Decl], t: &Ty) -> Result<Ty, Memory>
     ensures { IfOk result (IsExpanded decls.now t.now) }
 {
     let table = table_of(alloc, decls)?;
+    expand_by(alloc, decls, &table, t)
+}
+
+/// The same, by the table of the declarations.
+fn expand_by(alloc: Global, decls: &[Decl], table: &Table<'_>, t: &Ty) -> Result<Ty, Memory>
+    requires places { ArePlaces (names_of_decls decls.now) (length decls.now) (number_of table.now) }
+    requires sound { AreSound decls.now }
+    ensures { IfOk result (IsExpanded decls.now t.now) }
+{
     let mut types = Types::new(alloc);
     let number = types.add(alloc, t)?;
-    let end = expanded(alloc, &mut types, decls, &table, number)?;
+    let end = expanded(alloc, &mut types, decls, table, number)?;
     types.tree(alloc, end)
 }
 

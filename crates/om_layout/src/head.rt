@@ -1,6 +1,6 @@
 //! The head of a type, by numbers.
 
-ghost use Rattle.std.specs.Prelude.{◌≡◌, ◌<◌, length, IfOk};
+ghost use Rattle.std.specs.Prelude.{◌<◌, length, IfOk};
 ghost use Rattle.om_types.specs.Nodes.{type_at};
 ghost use Rattle.om_types.specs.Accepted.{AreSound};
 ghost use Rattle.om_scope.specs.Breaks.{names_of_decls};

@@ -4,7 +4,7 @@ ghost use Rattle.std.specs.Prelude.{ℕ, ◌≡◌, ◌<◌, List, Option, Some,
 ghost use Rattle.std.specs.Str.{bytes_eq};
 ghost use Rattle.indexmap.specs.IndexMap.{get, index_map_len};
 ghost use Rattle.om_types.specs.declared.decl.Decl.{Decl as Declaration};
-ghost use Rattle.om_types.specs.Ty.{variable, parts};
+ghost use Rattle.om_types.specs.Ty.{parts};
 ghost use Rattle.om_types.specs.Nodes.{type_at};
 ghost use Rattle.om_scope.specs.Breaks.{names_of_decls};
 ghost use Rattle.om_scope.specs.Names.{number_of, ArePlaces};

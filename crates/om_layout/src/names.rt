@@ -1,6 +1,6 @@
 //! The names of a type's constructors, fields or tags.
 
-ghost use Rattle.std.specs.Prelude.{◌≡◌, List, length, map, IfOk};
+ghost use Rattle.std.specs.Prelude.{◌≡◌, ◌++◌, ◌∷◌, [], List, length, map, IfOk, OnOk};
 ghost use Rattle.std.specs.List.{filter_map};
 ghost use Rattle.om_types.specs.Ty.{Ty};
 ghost use Rattle.om_types.specs.Names.{no_names, body_names, head_names, predeclared_type_names, field_names, constant_name, constr_names, plain_constr};
@@ -74,19 +74,37 @@ fn names_of_predeclared(alloc: Global, base: Predeclared) -> Result<Names, Memor
     ensures { IfOk result (λ names. names ≡ predeclared_type_names base) }
 {
     let mut names = no_names(alloc);
-    match base {
-        Predeclared::List => {
-            names.constants.push(text(alloc, b"[]")?)?;
-            names.constructors.push(plain_constr(alloc, b"::")?)?;
-        }
-        Predeclared::Option => {
-            names.constants.push(text(alloc, b"None")?)?;
-            names.constructors.push(plain_constr(alloc, b"Some")?)?;
-        }
-        Predeclared::Ref => names.constructors.push(plain_constr(alloc, b"ref")?)?,
-        _ => {}
-    }
+    put_predeclared(alloc, &mut names, base)?;
     Ok(names)
+}
+
+/// Adds the names of a predeclared type.
+fn put_predeclared(alloc: Global, names: &mut Names, base: Predeclared) -> Result<(), Memory>
+    requires { names.old ≡ no_names }
+    ensures { OnOk result (names.new ≡ predeclared_type_names base) }
+{
+    match base {
+        Predeclared::List => put_both(alloc, names, b"[]", b"::"),
+        Predeclared::Option => put_both(alloc, names, b"None", b"Some"),
+        Predeclared::Ref => put_constr(alloc, names, b"ref"),
+        _ => Ok(()),
+    }
+}
+
+/// Adds a constant, and a constructor with arguments.
+fn put_both(alloc: Global, names: &mut Names, constant: &[u8], constr: &[u8]) -> Result<(), Memory>
+    ensures { OnOk result (names.new ≡ record names.old { constants = names.old.constants ++ constant.now ∷ []; constructors = names.old.constructors ++ plain_constr constr.now ∷ [] }) }
+{
+    names.constants.push(text(alloc, constant)?)?;
+    put_constr(alloc, names, constr)
+}
+
+/// Adds a constructor with arguments.
+fn put_constr(alloc: Global, names: &mut Names, constr: &[u8]) -> Result<(), Memory>
+    ensures { OnOk result (names.new ≡ record names.old { constructors = names.old.constructors ++ plain_constr constr.now ∷ [] }) }
+{
+    names.constructors.push(plain_constr(alloc, constr)?)?;
+    Ok(())
 }
 
 /// A constructor with arguments and without an inline record.

@@ -1,6 +1,6 @@
 //! Abbreviations at the head of a type, replaced.
 
-ghost use Rattle.std.specs.Prelude.{ℕ, ◌≡◌, ◌<◌, Option, None, length, IfOk, OnErr, OnOk, MatchOption, option_copied};
+ghost use Rattle.std.specs.Prelude.{ℕ, ◌≡◌, ◌<◌, Option, None, length, IfOk, OnErr, OnOk, MatchOption};
 ghost use Rattle.om_types.specs.Nodes.{type_at};
 ghost use Rattle.om_types.specs.Declarations.{unfolded, IsExpanded};
 ghost use Rattle.om_types.specs.Accepted.{AreSound};

@@ -1,6 +1,6 @@
 //! Abbreviations whose tags are all there, at any arguments.
 
-ghost use Rattle.std.specs.Prelude.{◌≡◌, ◌<◌, ◌≤◌, ◌+◌, None, List, length, All, IfOk, OnOk, IsTrue};
+ghost use Rattle.std.specs.Prelude.{◌<◌, ◌≤◌, ◌+◌, None, List, length, All, IfOk, OnOk, IsTrue};
 ghost use Rattle.om_types.specs.declared.decl.Decl.{Decl as Declaration};
 ghost use Rattle.om_types.specs.declared.head.TagOf.{TagOf as Tag};
 ghost use Rattle.om_types.specs.Ty.{Ty};
@@ -10,9 +10,9 @@ ghost use Rattle.om_scope.specs.Breaks.{names_of_decls};
 ghost use Rattle.om_scope.specs.Names.{number_of, ArePlaces};
 ghost use Rattle.om_store.specs.Held.{Grows};
 ghost use Rattle.om_layout.specs.Tags.{tags_at, tags_of_entries};
-ghost use Rattle.om_layout.specs.Way.{AreKnown, IsAbbreviation};
+ghost use Rattle.om_layout.specs.Way.{AreKnown};
 ghost use Rattle.om_layout.specs.Work.{work};
-ghost use Rattle.om_layout.specs.Steps.{BringsNone, AreSettled, IsSettledAt, EachBringsNone, EachItemBringsNone, AreEachThere, numbers_work, item_work};
+ghost use Rattle.om_layout.specs.Steps.{AreSettled, IsSettledAt, EachBringsNone, EachItemBringsNone, AreEachThere, numbers_work, item_work};
 
 use crate::bracket::{Tags, before_item, has_bracket};
 use crate::known::{Known, abbreviation, known_end};

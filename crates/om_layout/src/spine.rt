@@ -1,6 +1,6 @@
 //! The name at the head of a type, and its parts.
 
-ghost use Rattle.std.specs.Prelude.{◌≡◌, ◌<◌, ◌≤◌, [], length, map, reverse, All, IfOk, option_copied};
+ghost use Rattle.std.specs.Prelude.{◌≡◌, ◌<◌, ◌≤◌, length, map, reverse, All, IfOk, option_copied};
 ghost use Rattle.om_types.specs.Ty.{name_of, parts};
 ghost use Rattle.om_types.specs.Nodes.{type_at};
 ghost use Rattle.om_layout.specs.Plain.{root_of};
