@@ -83,9 +83,6 @@ ready_more waiting todo new class ready within is = record {
       (Contains-push_cases todo class d (subst (λ l. Contains l d) is among));
 }
 
-pub there_more : (todo new : List ℕ) (class : ℕ) → new ≡ todo ++ class ∷ [] → Contains new class
-there_more todo new class is = subst (λ l. Contains l class) (sym is) (Contains-push todo class)
-
 -- a list that is not empty has a number
 pub not_empty : (waiting : List (Vec ℕ)) (todo : List ℕ) (class : ℕ) (v : Vec ℕ) → IsReady waiting todo
     → slice_get waiting class ≡ Some v → 0 < length v.items → Contains todo class

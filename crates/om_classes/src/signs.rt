@@ -1,6 +1,6 @@
 //! Signs, each once.
 
-ghost use Rattle.std.specs.Prelude.{◌≡◌, ◌<◌, [], Some, length, slice_get, IfOk, OnErr};
+ghost use Rattle.std.specs.Prelude.{◌≡◌, ◌<◌, [], Some, length, slice_get, IfOk};
 ghost use Rattle.om_store.specs.Held.{Adds};
 
 use indexmap::IndexSet;
