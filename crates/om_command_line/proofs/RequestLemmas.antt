@@ -1,5 +1,5 @@
 -- What accepted words ask for is one thing.
-use Rattle.std.proofs.Common.{◌≡◌, ◌≢◌, ◌∙◌, ℕ, Bool, true, false, List, [], Option, Some, Err, codes, refl, sym, ap, ap₂, subst, inl, inr, unwrap_or}
+use Rattle.std.proofs.Common.{◌≡◌, ◌≢◌, ◌∙◌, ℕ, Bool, true, false, List, [], Option, Some, Result, Ok, Err, codes, refl, sym, ap, ap₂, subst, inl, inr, unwrap_or}
 use Rattle.std.specs.Prelude.{if◌then◌else◌}
 use Rattle.std.specs.Str.{bytes_eq}
 use Rattle.std.specs.Str.Parse.{digits_value, without_leading_plus}
@@ -9,9 +9,10 @@ use Rattle.clap.specs.declared.error.kind.ErrorKind.TheVariants as kinds
 use Rattle.clap.specs.declared.parser.matches.ArgMatches.{ArgMatches}
 use Rattle.clap.proofs.OnLiterals.{clap_on_literals}
 use Rattle.om_outcome.specs.CommandLine.{Accepted, HasArgument, HasLimit, command_set, Request, check, show, get, edit, dump, compare, AsksBy, Asks, IsUsage}
+use Rattle.om_command_line.specs.declared.read.Request.{Request as Reading}
 use Rattle.om_command_line.specs.declared.read.Unread.{Unread}
 use Rattle.om_command_line.specs.declared.read.Unread.TheVariants.{Usage, Memory}
-use Rattle.om_command_line.specs.Requests.{ReadsWords}
+use Rattle.om_command_line.specs.Requests.{ReadsAsked, ReadsWords, request_of}
 
 -- ---- a command may ask for one thing alone, which its arguments tell
 
@@ -126,17 +127,23 @@ module _ (app : App) (set : app ≡ command_set) (words : List (List ℕ)) where
   met matches found = (found (ap is_simple set ∙ set_is_simple)).1 ∙ ap (λ a. subcommand_of a words) set
 
   -- where it accepts the words, and a command with these arguments was met
-  pub met_asks : (matches : ArgMatches) → (is_simple_and_free app ≡ true → fault_of app words ≡ []) → HasMatchesOf app words matches
+  met_asks : (matches : ArgMatches) → (is_simple_and_free app ≡ true → fault_of app words ≡ []) → HasMatchesOf app words matches
       → (request : Request) → (command : List ℕ) × (arguments : List Row) × (subcommand_rows_of matches ≡ Some (command, arguments)) × AsksBy command arguments request → Asks words request
   met_asks matches accepts found request (command, arguments, is, by) =
       asks_by words request command arguments (sym (ap (λ a. fault_of a words) set) ∙ accepts (ap is_simple_and_free set ∙ set_is_free), sym (met matches found) ∙ is) by
 
   -- where none was met that asks for anything
-  pub met_nothing : (matches : ArgMatches) → HasMatchesOf app words matches
+  met_nothing : (matches : ArgMatches) → HasMatchesOf app words matches
       → ((command : List ℕ) (arguments : List Row) → subcommand_rows_of matches ≡ Some (command, arguments) → (request : Request) → AsksBy command arguments request → ⊥) → IsUsage words
   met_nothing matches found none request asks =
       let asked = asked_by words request asks in
       none asked.0 asked.1 (met matches found ∙ asked.2.1) request asked.3
+
+  pub asked_read : (matches : ArgMatches) → (is_simple_and_free app ≡ true → fault_of app words ≡ []) → HasMatchesOf app words matches → (result : Result Reading Unread)
+      → ReadsAsked matches result → ReadsWords words result
+  asked_read matches accepts found (Ok reading) asks = met_asks matches accepts found (request_of reading) asks
+  asked_read matches accepts found (Err Usage) nothing = met_nothing matches found nothing
+  asked_read matches accepts found (Err Memory) never = absurd never
 
   -- where it refuses them
   pub refused_words : (error : Error) → (is_simple_and_free app ≡ true → HasKind (fault_of app words) error) → kind_of error ≢ kinds.OutOfMemory → IsUsage words

@@ -54,6 +54,12 @@ ReadsMet matches None =
     (command : List ℕ) (arguments : List Row) → subcommand_rows_of matches ≡ Some (command, arguments)
     → (request : outcome.Request) → outcome.AsksBy command arguments request → ⊥
 
+-- the same, where it is a refusal that it asks for nothing
+abbrev pub ReadsAsked : ArgMatches → Result Request Unread → Type 0
+ReadsAsked matches (Ok request) = ReadsMet matches (Some request)
+ReadsAsked matches (Err Usage) = ReadsMet matches None
+ReadsAsked matches (Err Memory) = ⊥
+
 -- what the words ask for is read, or they ask for nothing; or memory ran out
 abbrev pub ReadsWords : List (List ℕ) → Result Request Unread → Type 0
 ReadsWords words (Ok request) = outcome.Asks words (request_of request)

@@ -3,7 +3,7 @@
 ghost use Rattle.std.specs.Prelude.{◌≡◌, IfOk, false};
 ghost use Rattle.clap.specs.Words.{app_of, rule_of};
 ghost use Rattle.om_outcome.specs.CommandLine.{limit_option, compat_flag, wanted as rule_wanted, limited as limited_app, typed as typed_app, program as the_program, command_set as the_command_set};
-ghost use Rattle.om_command_line.specs.Commands.{Tells, get_app, edit_app};
+ghost use Rattle.om_command_line.specs.Commands.{AddsMade, Tells, get_app, edit_app, typed_commands};
 
 use clap::{Arg, ArgAction, Command, value_parser};
 use std::alloc::{AllocError, Global};
@@ -83,21 +83,32 @@ fn program<'a>(alloc: Global) -> Command<'a>
         .disable_help_subcommand(true)
 }
 
+// One command more, where it was made.
+fn with<'a>(
+    all: Command<'a>,
+    made: Result<Command<'a>, AllocError>,
+) -> Result<Command<'a>, AllocError>
+    ensures { IfOk result (λ command. AddsMade all.entry made.entry command) }
+{
+    all.subcommand(made?)
+}
+
+// `check`, `show`, `get` and `edit`.
+fn typed_set<'a>(alloc: Global) -> Result<Command<'a>, AllocError>
+    ensures { IfOk result (λ command. app_of command ≡ typed_commands) }
+{
+    let mut all = program(alloc);
+    all = with(all, typed(alloc, "check"))?;
+    all = with(all, typed(alloc, "show"))?;
+    all = with(all, get(alloc))?;
+    with(all, edit(alloc))
+}
+
 /// The commands, with their arguments.
 pub fn command_set<'a>(alloc: Global) -> Result<Command<'a>, AllocError>
     ensures { IfOk result (λ command. app_of command ≡ the_command_set) }
 {
-    let check = typed(alloc, "check")?;
-    let show = typed(alloc, "show")?;
-    let get = get(alloc)?;
-    let edit = edit(alloc)?;
-    let dump = limited(alloc, "dump")?;
-    let same = limited(alloc, "same")?;
-    program(alloc)
-        .subcommand(check)?
-        .subcommand(show)?
-        .subcommand(get)?
-        .subcommand(edit)?
-        .subcommand(dump)?
-        .subcommand(same)
+    let mut all = typed_set(alloc)?;
+    all = with(all, limited(alloc, "dump"))?;
+    with(all, limited(alloc, "same"))
 }

@@ -4,7 +4,7 @@ ghost use Rattle.std.specs.Prelude.{◌≡◌, ◌≢◌, codes};
 ghost use Rattle.clap.specs.Words.{kind_of};
 ghost use Rattle.clap.specs.declared.error.kind.ErrorKind.TheVariants as kinds;
 ghost use Rattle.om_command_line.specs.declared.read.Unread.TheVariants as unreads;
-ghost use Rattle.om_command_line.specs.Requests.{arguments_of, texts, ReadsBy, ReadsCompat, ReadsLimit, ReadsMet, ReadsTyped, ReadsWords};
+ghost use Rattle.om_command_line.specs.Requests.{arguments_of, texts, ReadsBy, ReadsAsked, ReadsCompat, ReadsLimit, ReadsMet, ReadsTyped, ReadsWords};
 
 use crate::command_set::{GREATEST_LIMIT, command_set};
 use clap::error::ErrorKind;
@@ -53,7 +53,7 @@ pub enum Request<'a> {
 }
 
 /// Why nothing is read of the words: they ask for nothing, or memory ran out.
-#[derive(Clone, Copy, PartialEq, Eq, Debug)]
+#[derive(Clone, Copy)]
 pub enum Unread {
     Usage,
     Memory,
@@ -237,6 +237,16 @@ fn request_met<'a>(matches: &ArgMatches<'a>) -> Option<Request<'a>>
     request_by(command, arguments)
 }
 
+// The same, where words that ask for nothing are refused.
+fn request_asked<'a>(matches: &ArgMatches<'a>) -> Result<Request<'a>, Unread>
+    ensures { ReadsAsked matches.now result }
+{
+    match request_met(matches) {
+        Some(request) => Ok(request),
+        None => Err(Unread::Usage),
+    }
+}
+
 // Why clap refuses the words.
 fn refusal_of(error: &Error) -> Unread
     ensures { (result ≡ unreads.Usage) → kind_of error.now ≢ kinds.OutOfMemory }
@@ -252,10 +262,7 @@ pub fn read_words<'a>(alloc: Global, words: &'a [String]) -> Result<Request<'a>,
     ensures { ReadsWords (texts words.entry.now) result }
 {
     match command_set(alloc)?.try_get_matches_from(words) {
-        Ok(matches) => match request_met(&matches) {
-            Some(request) => Ok(request),
-            None => Err(Unread::Usage),
-        },
+        Ok(matches) => request_asked(&matches),
         Err(error) => Err(refusal_of(&error)),
     }
 }
