@@ -15,6 +15,3 @@ pub use memory::{MemFiles, MemSink, MemSource};
 pub use real::{DiskFiles, StdSink, StdSource};
 pub use sink::{Sink, WriteError, put_all};
 pub use source::{Failed, Source};
-
-#[cfg(test)]
-mod tests;
