@@ -1,12 +1,12 @@
 //! Fakes in memory. They tell their bytes, and fail at the calls that they are made to fail at.
 
-ghost use Rattle.std.specs.Prelude.{◌≡◌, ◌⊎◌, ◌↔◌, ◌<◌, ◌≤◌, if◌then◌else◌, min, [], length, take, None, Some, is_err, IsErr, IsErrOf, IsTrue, OnOk, OnErr, IfOk, IfErr, option_copied, position, bytes_eq, string_bytes, slice_index_or};
+ghost use Rattle.std.specs.Prelude.{◌≡◌, ◌⊎◌, ◌↔◌, ◌<◌, ◌≤◌, min, [], length, take, None, Some, is_err, IsErr, IsErrOf, IsTrue, OnOk, OnErr, IfOk, option_copied, position, bytes_eq, string_bytes, slice_index_or};
 ghost use Rattle.std.specs.Bool.{OnTrue, OnFalse};
 ghost use Rattle.om_edge.specs.Faults.{HasCause};
 ghost use Rattle.om_edge.specs.Source.{TakesFront};
 ghost use Rattle.om_edge.specs.Sink.{AppendsFront};
 ghost use Rattle.om_edge.specs.Fakes.{FailsNext, after_call, plan_of, files_of};
-ghost use Rattle.om_edge.specs.Files.{HasNoNameTwice, Opens, contents_of};
+ghost use Rattle.om_edge.specs.Files.{HasNoNameTwice};
 ghost use Rattle.om_edge.specs.State.{as_source};
 ghost use Rattle.om_model.specs.Bytes.{AreBytes};
 
@@ -289,44 +289,11 @@ impl MemFiles {
     {
         self.reads.faults()
     }
-
-    // Counts a fetch, and tells whether it fails. Then its name is kept.
-    fn fails_fetch(&mut self, name: String) -> bool
-        ensures fails { IsTrue result ↔ FailsNext self.old.fetches }
-        ensures cause { HasCause self.old.fetches.faults self.new.fetches.faults result }
-        ensures counted { self.new ≡ record self.old {
-          fetches = after_call self.old.fetches result;
-          last_open_fault = if result then Some (string_bytes name) else self.old.last_open_fault;
-        } }
-    {
-        let fails = self.fetches.fails_next();
-        self.fetches.count_call(fails);
-        if fails {
-            self.last = Some(name);
-        }
-        fails
-    }
-
-    // Leaves the bytes of the named file, if there is one, to be taken.
-    fn find(&mut self, name: &str) -> Result<(), OpenError>
-        ensures opened { OnOk result (Opens self.old.files name.now (Some self.new.left)) }
-        ensures refused { OnErr result (self.new.left ≡ []) }
-        ensures missing { OnErr result (contents_of self.old.files name.now ≡ None) }
-        ensures alone { IfErr result (λ error. error ≡ OpenError.Missing) }
-        ensures frame { self.new ≡ record self.old { left = self.new.left } }
-    {
-        self.at = 0;
-        self.fetched = place_of(&self.pairs, name);
-        match self.fetched {
-            Some(_) => Ok(()),
-            None => Err(OpenError::Missing),
-        }
-    }
 }
 
 impl Opener for MemFiles {
     ghost use Rattle.om_edge.specs.Fakes.{files_state};
-    ghost use Rattle.om_edge.specs.Files.{has_failed};
+    ghost use Rattle.om_edge.specs.Files.{Opens, contents_of, has_failed};
 
     ghost state = { files_state };
 
@@ -376,9 +343,17 @@ impl Opener for MemFiles {
             self.fetches.count_call(false);
             return Err(OpenError::Memory);
         };
-        if self.fails_fetch(kept) {
+        let failed = self.fetches.fails_next();
+        self.fetches.count_call(failed);
+        if failed {
+            self.last = Some(kept);
             return Err(OpenError::Failed);
         }
-        self.find(name)
+        self.at = 0;
+        self.fetched = place_of(&self.pairs, name);
+        match self.fetched {
+            Some(_) => Ok(()),
+            None => Err(OpenError::Missing),
+        }
     }
 }

@@ -1,6 +1,6 @@
 //! Readers, writers and the file system. Each tells its faults, and as a source or a sink nothing of its bytes.
 
-ghost use Rattle.std.specs.Prelude.{◌≡◌, None, Some, option_copied, is_ok, is_err, IsErrOf, true, false};
+ghost use Rattle.std.specs.Prelude.{◌≡◌, None, Some, option_copied, is_ok, is_err, IsErrOf, false};
 ghost use Rattle.std.specs.Bool.{OnTrue, OnFalse};
 ghost use Rattle.std.specs.Io.KnownBytes.{ReadConsumes, WriteAppends};
 ghost use Rattle.om_edge.specs.Faults.{HasCause, count_after};
@@ -176,21 +176,6 @@ impl<R: Files> DiskFiles<R> {
     {
         self.read_faults
     }
-
-    // Opens the named file, and tells whether it is open.
-    fn open(&mut self, name: &str) -> bool
-        ensures opened { OnTrue result (self.new.is_open ≡ true) }
-        ensures refused { OnFalse result (self.new ≡ self.old) }
-        ensures frame { self.new ≡ record self.old { is_open = self.new.is_open; left = self.new.left } }
-    {
-        match fs::open(&self.rt, name) {
-            Ok(file) => {
-                self.file = Some(file);
-                true
-            }
-            Err(_) => false,
-        }
-    }
 }
 
 impl<R: Files> Opener for DiskFiles<R> {
@@ -244,11 +229,16 @@ impl<R: Files> Opener for DiskFiles<R> {
         let Ok(kept) = String::from_str(self.alloc, name) else {
             return Err(OpenError::Memory);
         };
-        if self.open(name) {
-            return Ok(());
+        match fs::open(&self.rt, name) {
+            Ok(file) => {
+                self.file = Some(file);
+                Ok(())
+            }
+            Err(_) => {
+                self.open_faults = self.open_faults.saturating_add(1);
+                self.last = Some(kept);
+                Err(OpenError::Failed)
+            }
         }
-        self.open_faults = self.open_faults.saturating_add(1);
-        self.last = Some(kept);
-        Err(OpenError::Failed)
     }
 }
