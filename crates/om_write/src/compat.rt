@@ -18,7 +18,7 @@ use om_model::code::Custom;
 
 /// What is too large: an integer or a `Nativeint` by itself, a block by its fields, a string by its bytes, an array by its
 /// doubles, and a header by the greatest of its numbers.
-#[derive(Clone, Copy, Debug, PartialEq, Eq)]
+#[derive(Clone, Copy, Debug)]
 pub enum Compat {
     Int(i64),
     Block(u64),

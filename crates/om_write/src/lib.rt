@@ -6,8 +6,6 @@ pub mod laws;
 mod marks;
 mod measure;
 mod spell;
-#[cfg(test)]
-mod tests;
 mod text;
 mod walk;
 mod writer;

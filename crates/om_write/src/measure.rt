@@ -20,7 +20,7 @@ use om_model::Memory;
 use om_model::code::Custom;
 
 /// The bytes of tokens, their objects, and the words of these on 32 and on 64 bits.
-#[derive(Clone, Copy, Debug, PartialEq, Eq)]
+#[derive(Clone, Copy)]
 pub struct Totals {
     length: u64,
     objects: u64,

@@ -18,7 +18,7 @@ use om_model::value::Val;
 use std::alloc::Global;
 
 /// A token; an object without fields by its number and the word that refers to it.
-#[derive(Clone, Copy, Debug, PartialEq, Eq)]
+#[derive(Clone, Copy)]
 pub enum Step {
     Integer(i64),
     Atom(u8),

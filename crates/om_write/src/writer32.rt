@@ -21,7 +21,7 @@ use std::alloc::Global;
 use thiserror::Error;
 
 /// Why a value was not written for a reader on 32 bits.
-#[derive(Clone, Copy, Debug, PartialEq, Eq, Error)]
+#[derive(Clone, Copy, Debug, Error)]
 pub enum Write32Error {
     #[error("too large for 32 bits")]
     Compat(Compat),
