@@ -1,36 +1,25 @@
 //! Heads: abbreviations replaced, and the tags of what is included.
 
-use crate::trees::{copied, instance, name_at, root_and_parts};
+use crate::trees::{Kind, Node, instance, parts_of, root_of};
 use om_model::Memory;
-use om_model::list::List;
-use om_types::decl::{Body, Decl, Predeclared};
-use om_types::head::{HeadOf, TagOf};
-use om_types::ty::Node;
+use om_types::decl::{Body, Decl};
 use std::alloc::Global;
 
 /// More replacements, one after the other or one inside the other, than a small text asks for.
 const REPLACEMENTS: u64 = 5_000;
 
-/// The predeclared type of a name.
-fn predeclared(name: &[u8]) -> Option<Predeclared> {
-    match name {
-        b"int" => Some(Predeclared::Int),
-        b"char" => Some(Predeclared::Char),
-        b"bool" => Some(Predeclared::Bool),
-        b"unit" => Some(Predeclared::Unit),
-        b"string" => Some(Predeclared::String),
-        b"bytes" => Some(Predeclared::Bytes),
-        b"float" => Some(Predeclared::Float),
-        b"int32" => Some(Predeclared::Int32),
-        b"int64" => Some(Predeclared::Int64),
-        b"nativeint" => Some(Predeclared::Nativeint),
-        b"floatarray" => Some(Predeclared::Floatarray),
-        b"list" => Some(Predeclared::List),
-        b"option" => Some(Predeclared::Option),
-        b"array" => Some(Predeclared::Array),
-        b"ref" => Some(Predeclared::Ref),
-        _ => None,
-    }
+/// What stands at the head of a type, and its parts: its arguments, components or tags.
+#[derive(Drop)]
+pub struct Head<'a> {
+    pub root: Node<'a>,
+    pub parts: Vec<Part<'a>>,
+}
+
+/// A part: its type, where it has one, and of a tag the name.
+#[derive(Clone, Copy)]
+pub struct Part<'a> {
+    pub name: &'a [u8],
+    pub ty: Option<usize>,
 }
 
 /// The declaration of a name.
@@ -43,38 +32,60 @@ pub fn declaration_of<'a>(decls: &'a [Decl], name: &[u8]) -> Option<&'a Decl> {
     None
 }
 
+/// The types of parts.
+pub fn types_of(alloc: Global, parts: &[Part<'_>]) -> Result<Vec<usize>, Memory> {
+    let mut found = Vec::new(alloc);
+    for part in parts {
+        if let Some(number) = part.ty {
+            found.push(number)?;
+        }
+    }
+    Ok(found)
+}
+
+// The types that nodes add.
+fn types_added(alloc: Global, parts: &[Node<'_>]) -> Result<Vec<usize>, Memory> {
+    let mut found = Vec::new(alloc);
+    for part in parts {
+        found.push(part.added)?;
+    }
+    Ok(found)
+}
+
 // What the abbreviation at the head stands for.
-fn unfolded(
+fn unfolded<'a>(
     alloc: Global,
-    nodes: &mut Vec<Node>,
-    decls: &[Decl],
+    nodes: &mut Vec<Node<'a>>,
+    decls: &'a [Decl],
     number: usize,
 ) -> Result<Option<usize>, Memory> {
-    let (root, parts) = root_and_parts(alloc, nodes.as_slice(), number)?;
-    let Some(name) = name_at(alloc, nodes.as_slice(), root)? else {
+    let root = root_of(nodes.as_slice(), number);
+    if root.kind != Kind::Named {
         return Ok(None);
-    };
-    let Some(decl) = declaration_of(decls, name.as_slice()) else {
+    }
+    let Some(decl) = declaration_of(decls, root.name) else {
         return Ok(None);
     };
     let Body::Abbreviation(body) = &decl.body else {
         return Ok(None);
     };
+    let parts = parts_of(alloc, nodes.as_slice(), number)?;
+    let arguments = types_added(alloc, parts.as_slice())?;
     let next = instance(
         alloc,
         nodes,
         body,
         decl.parameters.as_slice(),
-        parts.as_slice(),
+        arguments.as_slice(),
     )?;
     Ok(Some(next))
 }
 
 // The type with the abbreviations at its head replaced until none is there.
-fn expanded(
+fn expanded<'a>(
     alloc: Global,
-    nodes: &mut Vec<Node>,
-    decls: &[Decl],
+    nodes: &mut Vec<Node<'a>>,
+    decls: &'a [Decl],
     number: usize,
 ) -> Result<usize, Memory> {
     let mut at = number;
@@ -87,87 +98,44 @@ fn expanded(
     Ok(at)
 }
 
-/// What stands in a bracket.
-#[derive(Drop)]
-enum Item {
-    Bare(List<u8>),
-    Carrying(List<u8>, usize),
-    Included(usize),
-}
-
-// The last item of a bracket, and the bracket before it.
-fn before_item(
-    alloc: Global,
-    nodes: &[Node],
-    number: usize,
-) -> Result<Option<(usize, Item)>, Memory> {
-    match nodes.get(number) {
-        Some(Node::Tag(whole, name)) => {
-            let name = copied(alloc, name.as_slice())?;
-            Ok(Some((*whole, Item::Bare(name))))
-        }
-        Some(Node::TagOf(whole, name, argument)) => {
-            let name = copied(alloc, name.as_slice())?;
-            Ok(Some((*whole, Item::Carrying(name, *argument))))
-        }
-        Some(Node::Including(whole, included)) => Ok(Some((*whole, Item::Included(*included)))),
-        _ => Ok(None),
-    }
-}
-
-// The items of a bracket in their order, where it is one.
-fn items(alloc: Global, nodes: &[Node], number: usize) -> Result<Option<Vec<Item>>, Memory> {
-    let mut at = number;
-    let mut found = Vec::new(alloc);
-    for _node in 0..nodes.len() {
-        let Some((whole, item)) = before_item(alloc, nodes, at)? else {
-            break;
-        };
-        found.push(item)?;
-        at = whole;
-    }
-    found.reverse();
-    match nodes.get(at) {
-        Some(Node::Bracket) => Ok(Some(found)),
-        _ => Ok(None),
-    }
-}
-
-// Adds a tag, unless one of its name is there.
-fn add_tag(
-    tags: &mut Vec<TagOf<usize>>,
-    name: List<u8>,
-    argument: Option<usize>,
-) -> Result<(), Memory> {
-    for tag in tags.iter() {
-        if tag.name.as_slice() == name.as_slice() {
-            return Ok(());
+// Adds a part, unless it is a tag and one of its name is there.
+fn add_part<'a>(parts: &mut Vec<Part<'a>>, node: Node<'a>) -> Result<(), Memory> {
+    let ty = if node.kind == Kind::Tag {
+        None
+    } else {
+        Some(node.added)
+    };
+    if node.kind != Kind::Part {
+        for part in parts.iter() {
+            if part.name == node.name {
+                return Ok(());
+            }
         }
     }
-    tags.push(TagOf { name, argument })?;
+    parts.push(Part {
+        name: node.name,
+        ty,
+    })?;
     Ok(())
 }
 
-// Adds the tags of items, those of what is included in its place.
-fn add_items(
+// Adds the parts of a type, in the place of an included type those of its head.
+fn add_parts<'a>(
     alloc: Global,
-    nodes: &mut Vec<Node>,
-    decls: &[Decl],
-    all: Vec<Item>,
-    tags: &mut Vec<TagOf<usize>>,
+    nodes: &mut Vec<Node<'a>>,
+    decls: &'a [Decl],
+    number: usize,
+    parts: &mut Vec<Part<'a>>,
     deep: u64,
 ) -> Result<(), Memory> {
-    for item in all {
-        match item {
-            Item::Bare(name) => add_tag(tags, name, None)?,
-            Item::Carrying(name, argument) => add_tag(tags, name, Some(argument))?,
-            Item::Included(included) => {
-                if deep > 0 {
-                    let at = expanded(alloc, nodes, decls, included)?;
-                    if let Some(more) = items(alloc, nodes.as_slice(), at)? {
-                        add_items(alloc, nodes, decls, more, tags, deep - 1)?;
-                    }
-                }
+    let added = parts_of(alloc, nodes.as_slice(), number)?;
+    for node in &added {
+        if node.kind != Kind::Including {
+            add_part(parts, *node)?;
+        } else if deep > 0 {
+            let included = expanded(alloc, nodes, decls, node.added)?;
+            if root_of(nodes.as_slice(), included).kind == Kind::Bracket {
+                add_parts(alloc, nodes, decls, included, parts, deep - 1)?;
             }
         }
     }
@@ -175,29 +143,22 @@ fn add_items(
 }
 
 /// The head of a type.
-pub fn head(
+pub fn head_of<'a>(
     alloc: Global,
-    nodes: &mut Vec<Node>,
-    decls: &[Decl],
+    nodes: &mut Vec<Node<'a>>,
+    decls: &'a [Decl],
     number: usize,
-) -> Result<HeadOf<usize>, Memory> {
+) -> Result<Head<'a>, Memory> {
     let at = expanded(alloc, nodes, decls, number)?;
-    if let Some(all) = items(alloc, nodes.as_slice(), at)? {
-        let mut tags = Vec::new(alloc);
-        add_items(alloc, nodes, decls, all, &mut tags, REPLACEMENTS)?;
-        return Ok(HeadOf::Variants(List::of(tags)));
-    }
-    let (root, parts) = root_and_parts(alloc, nodes.as_slice(), at)?;
-    match nodes.as_slice().get(root) {
-        Some(Node::Variable(name)) => Ok(HeadOf::Variable(copied(alloc, name.as_slice())?)),
-        Some(Node::Tuple) => Ok(HeadOf::Tuple(List::of(parts))),
-        Some(Node::Named(name)) => match predeclared(name.as_slice()) {
-            Some(base) => Ok(HeadOf::Predeclared(base, List::of(parts))),
-            None => {
-                let name = copied(alloc, name.as_slice())?;
-                Ok(HeadOf::Datatype(name, List::of(parts)))
-            }
-        },
-        _ => Ok(HeadOf::Absent),
-    }
+    let mut parts = Vec::new(alloc);
+    add_parts(alloc, nodes, decls, at, &mut parts, REPLACEMENTS)?;
+    Ok(Head {
+        root: root_of(nodes.as_slice(), at),
+        parts,
+    })
+}
+
+/// Whether a head is `float`.
+pub fn is_float(head: &Head<'_>) -> bool {
+    head.root.kind == Kind::Named && head.root.name == b"float".as_slice()
 }

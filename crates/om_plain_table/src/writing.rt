@@ -1,11 +1,12 @@
 //! Types and rows of the table as text.
 
+use crate::trees::{Kind, Node, node_of, parts_of, root_of};
 use itoa::Buffer;
 use om_model::Memory;
 use om_model::list::List;
-use om_types::names::Names;
+use om_types::names::{ConstrNames, Names, TagName};
 use om_types::shape::{Constr, PolyTag, ShapeOf};
-use om_types::ty::Node;
+use om_types::ty;
 use std::alloc::Global;
 
 /// What is told of a type: its text, its shape over numbers, the first number that is equal to it, and its names.
@@ -35,170 +36,106 @@ fn put(out: &mut Vec<u8>, text: &[u8]) -> Result<(), Memory> {
     Ok(())
 }
 
-/// What a type begins with, and the texts of its parts, each with whether it is that of a tuple.
-#[derive(Drop)]
-struct Pieces {
-    stem: Stem,
-    parts: Vec<Piece>,
-}
-
-#[derive(Drop)]
-enum Stem {
-    Word(List<u8>),
-    Product,
-    Brackets,
-}
-
-#[derive(Drop)]
-struct Piece {
-    is_tuple: bool,
-    text: List<u8>,
-}
-
-// A part's text, in parentheses where it is that of a tuple.
-fn put_enclosed(out: &mut Vec<u8>, piece: &Piece) -> Result<(), Memory> {
-    if piece.is_tuple {
-        put(out, b"(")?;
-    }
-    put(out, piece.text.as_slice())?;
-    if piece.is_tuple {
-        put(out, b")")?;
-    }
-    Ok(())
-}
-
-// The text of a type, as a part of another one.
-fn as_piece(alloc: Global, pieces: &Pieces) -> Result<Piece, Memory> {
-    let mut out = Vec::new(alloc);
-    match &pieces.stem {
-        Stem::Word(word) => {
-            match pieces.parts.as_slice() {
-                [] => {}
-                [one] => {
-                    put_enclosed(&mut out, one)?;
-                    put(&mut out, b" ")?;
-                }
-                all => {
-                    for (at, part) in all.iter().enumerate() {
-                        put(&mut out, if at == 0 { b"(" } else { b", " })?;
-                        put(&mut out, part.text.as_slice())?;
-                    }
-                    put(&mut out, b") ")?;
-                }
-            }
-            put(&mut out, word.as_slice())?;
-        }
-        Stem::Product => {
-            for (at, part) in pieces.parts.iter().enumerate() {
-                put(&mut out, if at == 0 { b"" } else { b" * " })?;
-                put_enclosed(&mut out, part)?;
-            }
-        }
-        Stem::Brackets => {
-            put(&mut out, b"[ ")?;
-            for (at, part) in pieces.parts.iter().enumerate() {
-                put(&mut out, if at == 0 { b"" } else { b" | " })?;
-                put(&mut out, part.text.as_slice())?;
-            }
-            put(&mut out, b" ]")?;
-        }
-    }
-    let is_tuple = match &pieces.stem {
-        Stem::Product => true,
-        _ => false,
-    };
-    Ok(Piece {
-        is_tuple,
-        text: List::of(out),
-    })
-}
-
-// A type without parts.
-fn started(alloc: Global, stem: Stem) -> Pieces {
-    Pieces {
-        stem,
-        parts: Vec::new(alloc),
+// What stands before the parts, of which there are so many.
+fn opening(kind: Kind, many: usize) -> &'static [u8] {
+    match kind {
+        Kind::Bracket => b"[ ",
+        Kind::Named if many > 1 => b"(",
+        _ => b"",
     }
 }
 
-// The name of a variable or of a tag, with its mark.
-fn marked(alloc: Global, mark: &[u8], name: &[u8]) -> Result<List<u8>, Memory> {
-    let mut out = Vec::new(alloc);
-    put(&mut out, mark)?;
-    put(&mut out, name)?;
-    Ok(List::of(out))
+// What stands between them.
+fn separator(kind: Kind) -> &'static [u8] {
+    match kind {
+        Kind::Bracket => b" | ",
+        Kind::Tuple => b" * ",
+        _ => b", ",
+    }
 }
 
-// A type with a part more.
-fn with_piece(whole: Pieces, piece: Piece) -> Result<Pieces, Memory> {
-    let mut pieces = whole;
-    pieces.parts.push(piece)?;
-    Ok(pieces)
+// What stands after them, before the name.
+fn closing(kind: Kind, many: usize) -> &'static [u8] {
+    match kind {
+        Kind::Bracket => b" ]",
+        Kind::Variable => b"'",
+        Kind::Named if many > 1 => b") ",
+        Kind::Named if many == 1 => b" ",
+        _ => b"",
+    }
 }
 
-// A type in pieces; below so many nodes nothing is told.
-fn pieces_of(alloc: Global, nodes: &[Node], number: usize, deep: u64) -> Result<Pieces, Memory> {
-    if deep == 0 {
-        return Ok(started(alloc, Stem::Product));
+// What stands before the type of a part.
+fn put_tag(out: &mut Vec<u8>, part: Node<'_>) -> Result<(), Memory> {
+    if matches!(part.kind, Kind::Tag | Kind::TagOf) {
+        put(out, b"`")?;
+        put(out, part.name)?;
     }
-    match nodes.get(number) {
-        Some(Node::Variable(name)) => {
-            let word = marked(alloc, b"'", name.as_slice())?;
-            Ok(started(alloc, Stem::Word(word)))
+    put(
+        out,
+        if part.kind == Kind::TagOf {
+            b" of "
+        } else {
+            b""
+        },
+    )
+}
+
+// Whether the parts, of which there are so many, stand in parentheses where they are tuples.
+fn encloses(kind: Kind, many: usize) -> bool {
+    kind == Kind::Tuple || many == 1 && kind == Kind::Named
+}
+
+// Puts a type; below so many nodes nothing is put.
+fn put_type(
+    alloc: Global,
+    out: &mut Vec<u8>,
+    nodes: &[Node<'_>],
+    number: usize,
+    deep: u64,
+) -> Result<(), Memory> {
+    let root = root_of(nodes, number);
+    let parts = parts_of(alloc, nodes, number)?;
+    put(out, opening(root.kind, parts.len()))?;
+    for (at, part) in parts.iter().enumerate() {
+        put(out, if at == 0 { b"" } else { separator(root.kind) })?;
+        put_tag(out, *part)?;
+        if part.kind != Kind::Tag && deep > 0 {
+            let enclosed = encloses(root.kind, parts.len())
+                && root_of(nodes, part.added).kind == Kind::Tuple;
+            put(out, if enclosed { b"(" } else { b"" })?;
+            put_type(alloc, out, nodes, part.added, deep - 1)?;
+            put(out, if enclosed { b")" } else { b"" })?;
         }
-        Some(Node::Named(name)) => {
-            let word = marked(alloc, b"", name.as_slice())?;
-            Ok(started(alloc, Stem::Word(word)))
-        }
-        Some(Node::Tuple) => Ok(started(alloc, Stem::Product)),
-        Some(Node::Bracket) => Ok(started(alloc, Stem::Brackets)),
-        Some(Node::Part(whole, added)) => {
-            let added = pieces_of(alloc, nodes, *added, deep - 1)?;
-            let whole = pieces_of(alloc, nodes, *whole, deep - 1)?;
-            with_piece(whole, as_piece(alloc, &added)?)
-        }
-        Some(Node::Tag(whole, name)) => {
-            let whole = pieces_of(alloc, nodes, *whole, deep - 1)?;
-            let text = marked(alloc, b"`", name.as_slice())?;
-            with_piece(
-                whole,
-                Piece {
-                    is_tuple: false,
-                    text,
-                },
-            )
-        }
-        Some(Node::TagOf(whole, name, argument)) => {
-            let whole = pieces_of(alloc, nodes, *whole, deep - 1)?;
-            let argument = pieces_of(alloc, nodes, *argument, deep - 1)?;
-            let argument = as_piece(alloc, &argument)?;
-            let mut text = Vec::new(alloc);
-            put(&mut text, b"`")?;
-            put(&mut text, name.as_slice())?;
-            put(&mut text, b" of ")?;
-            put(&mut text, argument.text.as_slice())?;
-            with_piece(
-                whole,
-                Piece {
-                    is_tuple: false,
-                    text: List::of(text),
-                },
-            )
-        }
-        Some(Node::Including(whole, included)) => {
-            let included = pieces_of(alloc, nodes, *included, deep - 1)?;
-            let whole = pieces_of(alloc, nodes, *whole, deep - 1)?;
-            with_piece(whole, as_piece(alloc, &included)?)
-        }
-        None => Ok(started(alloc, Stem::Product)),
     }
+    put(out, closing(root.kind, parts.len()))?;
+    put(out, root.name)
 }
 
 /// The text of a type.
-pub fn text(alloc: Global, nodes: &[Node], number: usize, deep: u64) -> Result<List<u8>, Memory> {
-    let pieces = pieces_of(alloc, nodes, number, deep)?;
-    let piece = as_piece(alloc, &pieces)?;
-    Ok(piece.text)
+pub fn text_of(
+    alloc: Global,
+    nodes: &[Node<'_>],
+    number: usize,
+    deep: u64,
+) -> Result<List<u8>, Memory> {
+    let mut out = Vec::new(alloc);
+    put_type(alloc, &mut out, nodes, number, deep)?;
+    Ok(List::of(out))
+}
+
+/// The text of a type as it is written.
+pub fn text(
+    alloc: Global,
+    nodes: &[ty::Node],
+    number: usize,
+    deep: u64,
+) -> Result<List<u8>, Memory> {
+    let mut plain = Vec::new(alloc);
+    for node in nodes {
+        plain.push(node_of(node))?;
+    }
+    text_of(alloc, plain.as_slice(), number, deep)
 }
 
 // ---- rows
@@ -230,12 +167,14 @@ fn put_mutable(out: &mut Vec<u8>, mutable: bool) -> Result<(), Memory> {
     put(out, if mutable { b" mutable" } else { b"" })
 }
 
-// Puts blocks.
-fn put_blocks(
+// Puts so many constants, and blocks.
+fn put_sum(
     out: &mut Vec<u8>,
     met: Option<&[usize]>,
+    constants: u64,
     blocks: &[Constr<usize>],
 ) -> Result<(), Memory> {
+    put_number(out, constants as usize)?;
     for block in blocks {
         put(out, b",")?;
         put_mutable(out, block.mutable)?;
@@ -260,53 +199,53 @@ fn put_tags(
     Ok(())
 }
 
+// What a shape is called.
+fn word(shape: &ShapeOf<usize>) -> &'static [u8] {
+    match shape {
+        ShapeOf::AnyInt => b"any integer",
+        ShapeOf::Below(_) => b"below ",
+        ShapeOf::Bytes(_) => b"bytes",
+        ShapeOf::Double => b"double",
+        ShapeOf::Int32 => b"int32",
+        ShapeOf::Int64 => b"int64",
+        ShapeOf::Native => b"nativeint",
+        ShapeOf::Sum(_, _) => b"sum ",
+        ShapeOf::Product(_, _) => b"product",
+        ShapeOf::FlatFloats(_, _) => b"flat",
+        ShapeOf::ArrayOf(_) => b"array of",
+        ShapeOf::FloatArray => b"float array",
+        ShapeOf::Poly(_) => b"tags",
+        ShapeOf::Variable => b"variable",
+        ShapeOf::ArrayOfVariable => b"array of a variable",
+    }
+}
+
+// Whether its values may be changed.
+fn is_mutable(shape: &ShapeOf<usize>) -> bool {
+    match shape {
+        ShapeOf::Bytes(mutable) => *mutable,
+        ShapeOf::Product(mutable, _) => *mutable,
+        ShapeOf::FlatFloats(mutable, _) => *mutable,
+        _ => false,
+    }
+}
+
 // Puts a shape.
 fn put_shape(
     out: &mut Vec<u8>,
     met: Option<&[usize]>,
     shape: &ShapeOf<usize>,
 ) -> Result<(), Memory> {
+    put(out, word(shape))?;
+    put_mutable(out, is_mutable(shape))?;
     match shape {
-        ShapeOf::AnyInt => put(out, b"any integer"),
-        ShapeOf::Below(many) => {
-            put(out, b"below ")?;
-            put_number(out, *many as usize)
-        }
-        ShapeOf::Bytes(mutable) => {
-            put(out, b"bytes")?;
-            put_mutable(out, *mutable)
-        }
-        ShapeOf::Double => put(out, b"double"),
-        ShapeOf::Int32 => put(out, b"int32"),
-        ShapeOf::Int64 => put(out, b"int64"),
-        ShapeOf::Native => put(out, b"nativeint"),
-        ShapeOf::Sum(constants, blocks) => {
-            put(out, b"sum ")?;
-            put_number(out, *constants as usize)?;
-            put_blocks(out, met, blocks.as_slice())
-        }
-        ShapeOf::Product(mutable, fields) => {
-            put(out, b"product")?;
-            put_mutable(out, *mutable)?;
-            put_places(out, met, fields.as_slice())
-        }
-        ShapeOf::FlatFloats(mutable, many) => {
-            put(out, b"flat")?;
-            put_mutable(out, *mutable)?;
-            put(out, b" ")?;
-            put_number(out, *many as usize)
-        }
-        ShapeOf::ArrayOf(element) => {
-            put(out, b"array of")?;
-            put_place(out, met, *element)
-        }
-        ShapeOf::FloatArray => put(out, b"float array"),
-        ShapeOf::Poly(tags) => {
-            put(out, b"tags")?;
-            put_tags(out, met, tags.as_slice())
-        }
-        ShapeOf::Variable => put(out, b"variable"),
-        ShapeOf::ArrayOfVariable => put(out, b"array of a variable"),
+        ShapeOf::Below(many) => put_number(out, *many as usize),
+        ShapeOf::Sum(constants, blocks) => put_sum(out, met, *constants, blocks.as_slice()),
+        ShapeOf::Product(_, fields) => put_places(out, met, fields.as_slice()),
+        ShapeOf::FlatFloats(_, many) => put_place(out, None, *many as usize),
+        ShapeOf::ArrayOf(element) => put_place(out, met, *element),
+        ShapeOf::Poly(tags) => put_tags(out, met, tags.as_slice()),
+        _ => Ok(()),
     }
 }
 
@@ -319,37 +258,52 @@ fn put_names(out: &mut Vec<u8>, names: &[List<u8>]) -> Result<(), Memory> {
     Ok(())
 }
 
+// Puts the name of a constructor with arguments, and those of its fields.
+fn put_constructor(out: &mut Vec<u8>, constructor: &ConstrNames) -> Result<(), Memory> {
+    put(out, b" ")?;
+    put(out, constructor.name.as_slice())?;
+    put(out, b"(")?;
+    put_names(out, constructor.fields.as_slice())?;
+    put(out, b" )")
+}
+
+// Puts a tag, and its hash.
+fn put_hashed(out: &mut Vec<u8>, tag: &TagName) -> Result<(), Memory> {
+    put(out, b" `")?;
+    put(out, tag.name.as_slice())?;
+    put(out, if tag.hash < 0 { b" -" } else { b" " })?;
+    put_number(out, tag.hash.unsigned_abs() as usize)
+}
+
 // Puts the names of a type.
 fn put_all_names(out: &mut Vec<u8>, names: &Names) -> Result<(), Memory> {
     put_names(out, names.constants.as_slice())?;
     for constructor in names.constructors.as_slice() {
-        put(out, b" ")?;
-        put(out, constructor.name.as_slice())?;
-        put(out, b"(")?;
-        put_names(out, constructor.fields.as_slice())?;
-        put(out, b" )")?;
+        put_constructor(out, constructor)?;
     }
     put(out, b" {")?;
     put_names(out, names.fields.as_slice())?;
     put(out, b" }")?;
     for tag in names.tags.as_slice() {
-        put(out, b" `")?;
-        put(out, tag.name.as_slice())?;
-        put(out, if tag.hash < 0 { b" -" } else { b" " })?;
-        put_number(out, tag.hash.unsigned_abs() as usize)?;
+        put_hashed(out, tag)?;
     }
     Ok(())
+}
+
+// Puts the line of a type.
+fn put_line(out: &mut Vec<u8>, row: &Row<'_>, met: Option<&[usize]>) -> Result<(), Memory> {
+    put(out, row.text.as_slice())?;
+    put(out, b": ")?;
+    put_shape(out, met, row.shape)?;
+    put(out, b"; as ")?;
+    put_number(out, row.first)?;
+    put(out, b";")?;
+    put_all_names(out, row.names)
 }
 
 /// The line of a type. Where types that were met are given, the numbers in its shape are told as places among them.
 pub fn line(alloc: Global, row: &Row<'_>, met: Option<&[usize]>) -> Result<List<u8>, Memory> {
     let mut out = Vec::new(alloc);
-    put(&mut out, row.text.as_slice())?;
-    put(&mut out, b": ")?;
-    put_shape(&mut out, met, row.shape)?;
-    put(&mut out, b"; as ")?;
-    put_number(&mut out, row.first)?;
-    put(&mut out, b";")?;
-    put_all_names(&mut out, row.names)?;
+    put_line(&mut out, row, met)?;
     Ok(List::of(out))
 }
