@@ -7,7 +7,7 @@ use Rattle.std.proofs.lemmas.List.Sums.{sum_by-cons, sum_by_more, sum_by-take-le
 use Rattle.om_model.specs.declared.value.Obj.{Obj}
 use Rattle.om_model.specs.declared.value.Obj.TheVariants as objects
 use Rattle.om_model.specs.Graph.{IsObject, IsGraph}
-use Rattle.om_heap.specs.Heap.{object_at, object_words, heap_words, place, key_of}
+use Rattle.om_heap.specs.Heap.{object_at, object_words, heap_words, place}
 
 pub place_is : (graph : List Obj) (k : ℕ) → place graph k ≡ heap_words (take k graph)
 unfolding place
@@ -62,15 +62,6 @@ place_grows graph k m valid before inside =
 -- the places and the keys tell the objects apart
 pub same_from_place : (graph : List Obj) (k m : ℕ) → IsGraph graph → k < length graph → m < length graph → place graph k ≡ place graph m → k ≡ m
 same_from_place graph k m valid k_inside m_inside same = elim (cases_order k m) [
-  | inl e ↦ e
-  | inr s ↦ elim s [
-    | inl less ↦ absurd (omega (arith, place_grows graph k m valid less k_inside))
-    | inr more ↦ absurd (omega (arith, place_grows graph m k valid more m_inside))
-  ]
-]
-
-pub same_from_key : (graph : List Obj) (k m : ℕ) → IsGraph graph → k < length graph → m < length graph → key_of graph k ≡ key_of graph m → k ≡ m
-same_from_key graph k m valid k_inside m_inside same = elim (cases_order k m) [
   | inl e ↦ e
   | inr s ↦ elim s [
     | inl less ↦ absurd (omega (arith, place_grows graph k m valid less k_inside))

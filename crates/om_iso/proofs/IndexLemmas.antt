@@ -30,9 +30,6 @@ key_in_range table keys i k index is =
       | inr past ↦ absurd (let e = index.found i k is in let p = get_or_past table k 0 past in omega arith)
     ]
 
-pub keys_few : (table keys : List ℕ) → IsIndex table keys → length keys ≤ length table
-keys_few table keys index = omega (arith, index.room)
-
 -- ---- one more key
 
 not_zero : (n : ℕ) → ◌≡◌ {A = ℕ} (cond (eqb (n + 1) 0) 1 0) 0

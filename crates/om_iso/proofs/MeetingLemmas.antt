@@ -25,6 +25,3 @@ pub cannot_then : (old mid : List (ℕ × ℕ)) (A B C : List (ℕ × ℕ) → T
 cannot_then old mid A B C parts first cannot all one_to_one among alike =
     let p = parts all alike in
     cannot all one_to_one (first.needed all one_to_one among p.0) p.1
-
-pub cannot_since : (old : List (ℕ × ℕ)) (A C : List (ℕ × ℕ) → Type 0) → ((all : List (ℕ × ℕ)) → C all → A all) → CannotMeet old A → CannotMeet old C
-cannot_since old A C part cannot all one_to_one among alike = cannot all one_to_one among (part all alike)

@@ -1,6 +1,6 @@
 //! The comparison of two values, object by object.
 
-ghost use Rattle.std.specs.Prelude.{◌≡◌, ◌<◌, ◌↔◌, length, IfOk, IsTrue};
+ghost use Rattle.std.specs.Prelude.{◌≡◌, ◌<◌, ◌↔◌, [], length, IfOk, IsTrue};
 ghost use Rattle.std.specs.List.{AllZip};
 ghost use Rattle.om_model.specs.Graph.{IsValue};
 ghost use Rattle.om_format.specs.Iso.{AreAlike, AreAlikeObjects, Iso};
@@ -22,13 +22,31 @@ pub fn same(alloc: Global, left: &Heap, v: Val, right: &Heap, w: Val) -> Result<
     ensures { IfOk result (λ same. IsTrue same ↔ Iso left.now v right.now w) }
 {
     let mut pairing = Pairing::new(alloc, left.count(), right.count())?;
+    same_from(&mut pairing, left, v, right, w)
+}
+
+// Whether two values are the same, from no pairs on.
+fn same_from(
+    pairing: &mut Pairing,
+    left: &Heap,
+    v: Val,
+    right: &Heap,
+    w: Val,
+) -> Result<bool, Memory>
+    requires empty { pairing.old.pairs ≡ [] }
+    requires lefts { pairing.old.lefts ≡ length left.now }
+    requires rights { pairing.old.rights ≡ length right.now }
+    requires left { IsValue (length left.now) v }
+    requires right { IsValue (length right.now) w }
+    ensures { IfOk result (λ same. IsTrue same ↔ Iso left.now v right.now w) }
+{
     if !pairing.meet_values(v, w)? {
         return Ok(false);
     }
     let mut i = 0;
     while i < pairing.len() {
         let (k, l) = pairing.pair(i);
-        if !meet_contents(&mut pairing, left, k, right, l)? {
+        if !meet_contents(pairing, left, k, right, l)? {
             return Ok(false);
         }
         i += 1;

@@ -1,6 +1,6 @@
 //! What is left for tokens that surely pass, in few numbers, so that each test of a token is one subtraction.
 
-ghost use Rattle.std.specs.Prelude.{◌≡◌, ◌+◌, ◌<◌, ◌≤◌, ◌^◌, MatchBool};
+ghost use Rattle.std.specs.Prelude.{◌≡◌, ◌+◌, ◌<◌, ◌^◌, MatchBool};
 ghost use Rattle.std.specs.Option.{ForSome};
 ghost use Rattle.om_format.specs.Words.{of_object, fields};
 ghost use Rattle.om_headers.specs.Counting.{IsCountable};

@@ -1,6 +1,6 @@
 //! Where a token stands, and the steps that compare it with what came before.
 
-ghost use Rattle.std.specs.Prelude.{◌≡◌, ◌≤◌, ◌<◌, ◌+◌, ◌-◌, ◌*◌, ◌^◌, [], length, take, slice_index, None, OnOk, IfOk, ◌≢◌, false, nat_lt, Option, ℕ, ◌==◌, if◌then◌else◌};
+ghost use Rattle.std.specs.Prelude.{◌≡◌, ◌≤◌, ◌<◌, ◌+◌, ◌-◌, ◌*◌, ◌^◌, [], length, take, slice_index, None, OnOk, IfOk, false, nat_lt, Option, ℕ, ◌==◌, if◌then◌else◌};
 ghost use Rattle.std.specs.Option.{ForSome};
 
 use crate::token::{
@@ -39,9 +39,8 @@ impl Totals {
     ghost use Rattle.om_format.specs.Raw.{field_bytes, fixed_bytes, variable_bytes, sizing_bytes};
     ghost use Rattle.om_format.specs.Words.{of_object, fields as fields_of, words32, words64};
     ghost use Rattle.om_format.specs.Step.{overlong as overlong_refusal, field_refusal as refusal_of_fields, shared_refusal as refusal_of_shared, integer_refusal as refusal_of_integer, code_refusal as refusal_of_code, native_steps, variable_steps, entry_steps, closing_steps, words32_refusal, words64_refusal, end_steps, or_else, place};
-    ghost use Rattle.om_read.specs.Totals.{AreTotals, IsNext, Advances, AreFew, context_of, sums, after_kind, IsPlain};
+    ghost use Rattle.om_read.specs.Totals.{AreTotals, IsNext, context_of, sums, after_kind};
     ghost use Rattle.om_headers.specs.Counting.{IsCountable};
-    ghost use Rattle.om_model.specs.declared.code.CodeKind.TheVariants as kinds;
     ghost use Rattle.om_read.specs.Progress.{answered, and_then, progress, of_refusal};
 
     /// The place of the token's code, from the header's first byte.

@@ -1,6 +1,6 @@
 use Rattle.std.proofs.Common.{◌≡◌, ◌-◌, length}
 use Rattle.om_iso.specs.SoFar.{IsSoFar}
-use Rattle.om_iso.proofs.compare.same.Given as goal
+use Rattle.om_iso.proofs.compare.same_from.Given as goal
 
 abbrev pub invariant-loop-i : goal.invariant-loop-i
 invariant-loop-i l = record {

@@ -5,23 +5,23 @@ use Rattle.om_format.specs.Iso.{AreAlike, AreAlikeObjects}
 use Rattle.om_heap.specs.Heap.{object_at}
 use Rattle.om_iso.specs.Meeting.{AreInRange, AreMet, CannotMeet, Meets}
 use Rattle.om_iso.proofs.SoFarLemmas.{so_far_first, so_far_more, not_same, not_same_first, all_same}
-use Rattle.om_iso.proofs.compare.same.Goals as goal
+use Rattle.om_iso.proofs.compare.same_from.Goals as goal
 
 pub returns-then-not-branch : goal.returns-then-not-branch
 returns-then-not-branch c =
     let alike : List (ℕ × ℕ) → Type 0 = λ all. AreAlike all c.args.v c.args.w in
-    let no : CannotMeet c.in_ok-pairing.pairing.pairs alike = subst (λ b. Meets c.in_ok-pairing.pairing.pairs c.meet_values.new.self.pairs alike (Ok b)) c.if-not-branch.true c.in_ok-meet_values.ensures.meets in
-    let cannot : CannotMeet [] alike = subst (λ pairs. CannotMeet pairs alike) c.in_ok-pairing.ensures.empty no in
+    let no : CannotMeet c.args.pairing.now.pairs alike = subst (λ b. Meets c.args.pairing.now.pairs c.meet_values.new.self.pairs alike (Ok b)) c.if-not-branch.true c.in_ok-meet_values.ensures.meets in
+    let cannot : CannotMeet [] alike = subst (λ pairs. CannotMeet pairs alike) c.requires.empty no in
     (λ f. absurd (false≢true f), λ iso. absurd (not_same_first c.args.left.now c.args.right.now c.args.v c.args.w cannot iso))
 
 pub loop-i-init : goal.loop-i-init
 loop-i-init c =
     let alike : List (ℕ × ℕ) → Type 0 = λ all. AreAlike all c.args.v c.args.w in
-    let met : AreMet c.in_ok-pairing.pairing.pairs c.meet_values.new.self.pairs alike = subst (λ b. Meets c.in_ok-pairing.pairing.pairs c.meet_values.new.self.pairs alike (Ok b)) c.if-not-branch.false c.in_ok-meet_values.ensures.meets in
-    let first : AreMet [] c.meet_values.new.self.pairs alike = subst (λ pairs. AreMet pairs c.meet_values.new.self.pairs alike) c.in_ok-pairing.ensures.empty met in record {
+    let met : AreMet c.args.pairing.now.pairs c.meet_values.new.self.pairs alike = subst (λ b. Meets c.args.pairing.now.pairs c.meet_values.new.self.pairs alike (Ok b)) c.if-not-branch.false c.in_ok-meet_values.ensures.meets in
+    let first : AreMet [] c.meet_values.new.self.pairs alike = subst (λ pairs. AreMet pairs c.meet_values.new.self.pairs alike) c.requires.empty met in record {
       far = so_far_first c.args.left.now c.args.right.now c.args.v c.args.w c.meet_values.new.self.pairs first;
-      lefts = c.in_ok-meet_values.ensures.lefts ∙ c.in_ok-pairing.ensures.lefts ∙ c.count.ensures.count;
-      rights = c.in_ok-meet_values.ensures.rights ∙ c.in_ok-pairing.ensures.rights ∙ c.count-2.ensures.count;
+      lefts = c.in_ok-meet_values.ensures.lefts ∙ c.requires.lefts;
+      rights = c.in_ok-meet_values.ensures.rights ∙ c.requires.rights;
     }
 
 pub returns-then-not-branch-2 : goal.returns-then-not-branch-2
