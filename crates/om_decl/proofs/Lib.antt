@@ -1,7 +1,6 @@
 pub mod AnswerLaws
 pub mod HeadLemmas
 pub mod ReadLemmas
-pub mod TextLemmas
 pub mod TypeLemmas
 pub mod OutsideLemmas
 pub mod DepthLemmas
