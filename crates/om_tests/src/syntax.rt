@@ -1,1 +1,5 @@
-//! Tests of lexemes, paths, scripts and literals.
+//! Tests of lexemes, scripts and literals.
+
+mod lexemes;
+mod literals;
+mod scripts;
