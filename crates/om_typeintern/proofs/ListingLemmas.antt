@@ -25,7 +25,7 @@ use Rattle.om_layout.specs.declared.layout.Layout.{Layout}
 use Rattle.om_layout.specs.Layout.{IsLayoutOf, AreNamesAt}
 use Rattle.om_typeintern.specs.declared.entry.Entry.{Entry}
 use Rattle.om_typeintern.specs.Placed.{SayTheSame, IsShapePlaced, IsHeadPlaced}
-use Rattle.om_typeintern.specs.Listed.{types_at, AreWithin, IsEntry, IsListing}
+use Rattle.om_typeintern.specs.Listed.{types_at, AreWithin, IsPlacedEntry, IsEntry, IsListing}
 use Rattle.om_typeintern.proofs.PlacedLemmas.{SayTheSame-before, IsPlaced-grows, one_more}
 use Rattle.om_typeintern.proofs.RepeatLemmas.{repeats_then, repeats_among, repeats_distinct, old_or_added}
 use Rattle.om_typeintern.proofs.MetLemmas.{MetAfter, met_after}
@@ -131,6 +131,13 @@ module _ (decls : List Decl) (t : Ty) (old new : List Ty) (distinct : AreDistinc
       names = named new t is.head;
     };
   }
+
+pub placed_is_met :
+    (decls : List Decl) (t : Ty) (old new : List Ty) → AreDistinct new → Grows old new → (before after : List ℕ) → AreWithin old before
+    → (layout : Layout) → IsLayoutOf decls new t layout → (entry : Entry) → IsPlacedEntry decls before after layout entry
+    → IsMet decls t old new before after entry
+placed_is_met decls t old new distinct grown before after within layout is entry placed =
+    is_met decls t old new distinct grown before placed.middle after within layout is entry placed.shape placed.head placed.names
 
 -- ---- one type more
 

@@ -13,10 +13,13 @@ use Rattle.om_types.specs.Names.{names_of}
 use Rattle.om_types.specs.Reached.{reached_from, IsWithoutRepeats, IsFromEarlier}
 use Rattle.om_types.specs.Table.{with_parts, head_with_parts}
 use Rattle.om_store.specs.Held.{Grows}
+use Rattle.om_layout.specs.declared.layout.Layout.{Layout}
+use Rattle.om_layout.specs.Layout.{AreNamesAt}
 use Rattle.om_classes.specs.Found.{AreClasses}
 use Rattle.om_type_table.specs.declared.table.TypeTable.{TypeTable}
 use Rattle.om_typeintern.specs.declared.entry.Entry.{Entry}
 use Rattle.om_typeintern.specs.declared.listing.Listing.{Listing}
+use Rattle.om_typeintern.specs.Placed.{IsShapePlaced, IsHeadPlaced}
 
 -- the types of these numbers
 abbrev pub types_at : List Ty → List ℕ → List Ty
@@ -27,6 +30,13 @@ abbrev pub AreWithin : List Ty → List ℕ → Type 0
 AreWithin types numbers = All (λ i. i < length types) numbers
 
 -- ---- one type
+
+-- The entry is the layout by places, with the names of its head.
+pub record IsPlacedEntry (decls : List Decl) (before after : List ℕ) (layout : Layout) (entry : Entry) : Type 0 where
+  pub middle : List ℕ
+  pub shape : IsShapePlaced before middle layout.shape entry.shape
+  pub head : IsHeadPlaced middle after layout.head entry.head
+  pub names : AreNamesAt decls layout.head entry.names
 
 -- What a type names is met after the types that were met before. By places its entry is right, also
 -- where more types are met later.

@@ -1,17 +1,19 @@
 //! What a table says of one type.
 
-ghost use Rattle.std.specs.Prelude.{◌<◌, length, IfOk, OnOk};
+ghost use Rattle.std.specs.Prelude.{◌<◌, List, length, IfOk, OnOk};
+ghost use Rattle.om_types.specs.declared.decl.Decl.{Decl as Declaration};
 ghost use Rattle.om_types.specs.Nodes.{type_at};
 ghost use Rattle.om_types.specs.Accepted.{AreSound};
 ghost use Rattle.om_scope.specs.Breaks.{names_of_decls};
 ghost use Rattle.om_scope.specs.Names.{number_of, ArePlaces};
 ghost use Rattle.om_store.specs.Held.{Grows, AreDistinct};
-ghost use Rattle.om_typeintern.specs.Listed.{types_at, AreWithin, IsEntry};
+ghost use Rattle.om_layout.specs.Layout.{AreNamesAt};
+ghost use Rattle.om_typeintern.specs.Listed.{types_at, AreWithin, IsPlacedEntry, IsEntry};
 
 use crate::head::placed_head;
 use crate::met::Met;
 use crate::shape::placed_shape;
-use om_layout::{layout_of, names_at};
+use om_layout::{Layout, layout_of, names_at};
 use om_model::Memory;
 use om_scope::table::Table;
 use om_store::Types;
@@ -47,10 +49,31 @@ pub(crate) fn entry_of(
     ensures grown { Grows types.old types.new }
 {
     let layout = layout_of(alloc, types, decls, table, number)?;
+    stand_once(types);
+    placed_entry(alloc, met, decls, table, &layout)
+}
+
+/// The entry of what a type looks like.
+fn placed_entry(
+    alloc: Global,
+    met: &mut Met,
+    decls: &[Decl],
+    table: &Table<'_>,
+    layout: &Layout,
+) -> Result<Entry, Memory>
+    requires { ArePlaces (names_of_decls decls.now) (length decls.now) (number_of table.now) }
+    ensures { IfOk result (IsPlacedEntry decls.now met.old.keys met.new.keys layout.now) }
+{
+    let names = names_at(alloc, decls, table, &layout.head)?;
+    placed(alloc, met, layout, names)
+}
+
+/// The entry of what a type looks like, with these names.
+fn placed(alloc: Global, met: &mut Met, layout: &Layout, names: Names) -> Result<Entry, Memory>
+    ensures { IfOk result (λ entry. (decls : List Declaration) → AreNamesAt decls layout.now.head names → IsPlacedEntry decls met.old.keys met.new.keys layout.now entry) }
+{
     let shape = placed_shape(alloc, met, &layout.shape)?;
     let head = placed_head(alloc, met, &layout.head)?;
-    let names = names_at(alloc, decls, table, &layout.head)?;
-    stand_once(types);
     Ok(Entry { head, shape, names })
 }
 

@@ -3,7 +3,7 @@
 use om_model::Memory;
 
 /// More than 65,536 types are reached, or out of memory.
-#[derive(Clone, Copy, Debug, PartialEq, Eq)]
+#[derive(Clone, Copy)]
 pub enum TypeFault {
     TooManyTypes,
     Memory,

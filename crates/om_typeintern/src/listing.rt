@@ -1,6 +1,6 @@
 //! Types in the order in which they are met.
 
-ghost use Rattle.std.specs.Prelude.{◌≡◌, ◌<◌, ◌+◌, List, length, IfOk, OnOk};
+ghost use Rattle.std.specs.Prelude.{◌≡◌, ◌<◌, ◌+◌, ◌++◌, ◌∷◌, [], List, length, IfOk, OnOk};
 ghost use Rattle.om_types.specs.declared.decl.Decl.{Decl as Declaration};
 ghost use Rattle.om_types.specs.Ty.{Ty as Tree};
 ghost use Rattle.om_types.specs.Accepted.{AreSound};
@@ -8,7 +8,7 @@ ghost use Rattle.om_scope.specs.Breaks.{names_of_decls};
 ghost use Rattle.om_scope.specs.Names.{number_of, ArePlaces};
 ghost use Rattle.om_typeintern.specs.Listed.{AreWithin, IsListingOf};
 
-use crate::entry::entry_of;
+use crate::entry::{Entry, entry_of};
 use crate::met::{Met, place};
 use indexmap::IndexSet;
 use om_model::Memory;
@@ -74,6 +74,18 @@ pub(crate) fn go_on(
         table,
         number,
     )?;
+    put(listing, entry)?;
+    Ok(())
+}
+
+/// Adds an entry.
+fn put(listing: &mut Listing, entry: Entry) -> Result<(), Memory>
+    ensures types { listing.new.types ≡ listing.old.types }
+    ensures met { listing.new.met ≡ listing.old.met }
+    ensures nodes { OnOk result (listing.new.nodes.items ≡ listing.old.nodes.items ++ entry.shape ∷ []) }
+    ensures heads { OnOk result (listing.new.heads.items ≡ listing.old.heads.items ++ entry.head ∷ []) }
+    ensures names { OnOk result (listing.new.names.items ≡ listing.old.names.items ++ entry.names ∷ []) }
+{
     listing.nodes.push(entry.shape)?;
     listing.heads.push(entry.head)?;
     listing.names.push(entry.names)?;
