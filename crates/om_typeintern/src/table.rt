@@ -1,12 +1,9 @@
 //! The table of the types that a type reaches.
 
-ghost use Rattle.std.specs.Prelude.{◌≡◌, length, IfOk, IfErr};
+ghost use Rattle.std.specs.Prelude.{length, IfOk, IfErr};
 ghost use Rattle.om_types.specs.Accepted.{AreSound, AreWellFormed, IsSoundType};
 ghost use Rattle.om_types.specs.Classes.{PartsBelow};
 ghost use Rattle.om_types.specs.Table.{head_at};
-ghost use Rattle.om_scope.specs.Breaks.{names_of_decls};
-ghost use Rattle.om_scope.specs.Names.{number_of, ArePlaces};
-ghost use Rattle.om_classes.specs.Found.{AreClasses};
 ghost use Rattle.om_type_table.specs.Made.{IsTypeTable};
 ghost use Rattle.om_typeintern.specs.Faults.{IsTypeFault};
 ghost use Rattle.om_typeintern.specs.Listed.{IsWhole, IsTableOfListing};
@@ -17,7 +14,6 @@ use om_classes::classes;
 use om_model::Memory;
 use om_model::list::List;
 use om_scope::declared::table_of;
-use om_scope::table::Table;
 use om_type_table::TypeTable;
 use om_types::decl::Decl;
 use om_types::ty::Ty;
@@ -46,24 +42,9 @@ fn listed(alloc: Global, decls: &[Decl], ty: &Ty) -> Result<Listing, TypeFault>
     ensures err { IfErr result (IsTypeFault decls.now ty.now) }
 {
     let table = table_of(alloc, decls)?;
-    listed_by(alloc, decls, &table, ty)
-}
-
-/// The same, by the table of the declarations.
-fn listed_by(
-    alloc: Global,
-    decls: &[Decl],
-    table: &Table<'_>,
-    ty: &Ty,
-) -> Result<Listing, TypeFault>
-    requires places { ArePlaces (names_of_decls decls.now) (length decls.now) (number_of table.now) }
-    requires sound { AreSound decls.now }
-    ensures ok { IfOk result (IsWhole decls.now ty.now) }
-    ensures err { IfErr result (IsTypeFault decls.now ty.now) }
-{
     let mut listing = started(alloc, ty)?;
     while listing.nodes.len() < listing.met.len() {
-        go_on(alloc, &mut listing, decls, table)?;
+        go_on(alloc, &mut listing, decls, &table)?;
         if listing.met.len() > MOST {
             return Err(TypeFault::TooManyTypes);
         }
@@ -76,29 +57,20 @@ fn finished(alloc: Global, listing: Listing) -> Result<TypeTable, Memory>
     requires { PartsBelow (length listing.heads.items) (head_at listing.heads.items) }
     ensures { IfOk result (IsTableOfListing listing) }
 {
-    let found = classes(alloc, listing.heads.as_slice())?;
-    let stored = Vec::from_slice(alloc, listing.met.as_slice())?;
-    Ok(table_from(listing, found, stored))
-}
-
-/// The table of what was listed, of these classes and numbers.
-fn table_from(listing: Listing, found: Vec<usize>, stored: Vec<usize>) -> TypeTable
-    requires stored { stored.items ≡ listing.met.keys }
-    requires classes { AreClasses listing.heads.items found.items }
-    ensures { IsTableOfListing listing result }
-{
     let Listing {
         types,
-        met: _,
+        met,
         nodes,
-        heads: _,
+        heads,
         names,
     } = listing;
-    TypeTable {
+    let found = classes(alloc, heads.as_slice())?;
+    let stored = Vec::from_slice(alloc, met.as_slice())?;
+    Ok(TypeTable {
         store: types,
         stored: List::of(stored),
         nodes: List::of(nodes),
         classes: List::of(found),
         names: List::of(names),
-    }
+    })
 }

@@ -3,7 +3,7 @@ use Rattle.std.proofs.lemmas.List.{length-map}
 use Rattle.om_types.specs.Nodes.{type_at}
 use Rattle.om_typeintern.specs.Listed.{met_types}
 use Rattle.om_typeintern.proofs.ListingLemmas.{too_many}
-use Rattle.om_typeintern.proofs.table.listed_by.Goals as goal
+use Rattle.om_typeintern.proofs.table.listed.Goals as goal
 
 pub loop-alloc-init : goal.loop-alloc-init
 loop-alloc-init c = record {
