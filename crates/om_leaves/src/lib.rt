@@ -16,6 +16,3 @@ pub use dump::{put_object_line, put_root_line};
 pub use escape::{put_char, put_escaped, put_string};
 pub use frame::{Frame, block_frame, doubles_frame_of};
 pub use leaves::{put_below, put_float, put_int, put_int32, put_int64, put_native};
-
-#[cfg(test)]
-mod tests;

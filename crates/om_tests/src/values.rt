@@ -1,1 +1,3 @@
 //! Tests of what is said and done with values at types.
+
+mod leaves;

@@ -1,0 +1,12 @@
+//! Of texts of values: a string whose bytes are at hand, which the program prints word by word (`om_conformance` shows that).
+
+use om_leaves::put_string;
+use std::test::Fail;
+
+#[test]
+fn a_string_is_escaped(rt: HostRuntime) -> Result<(), Fail> {
+    let mut text = Vec::new(rt.alloc());
+    put_string(&mut text, b"\n\"\\\xff'")?;
+    assert!(rt; text.as_slice() == b"\"\\n\\\"\\\\\\255'\"".as_slice());
+    Ok(())
+}
