@@ -20,7 +20,7 @@ use om_model::list::List;
 use std::alloc::{AllocError, Global};
 
 /// A refusal, and how many bytes decide it.
-#[derive(Clone, Copy, Debug, PartialEq, Eq)]
+#[derive(Clone, Copy)]
 pub struct Decided {
     pub count: usize,
     pub refusal: Refusal,

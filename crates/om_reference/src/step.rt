@@ -10,14 +10,14 @@ use crate::refusal::Refusal;
 use om_model::refusal::Stated;
 
 /// How many bytes of the header or the token hold the fields that a step reads, and the refusal where it fails.
-#[derive(Clone, Copy, Debug, PartialEq, Eq)]
+#[derive(Clone, Copy)]
 pub struct Step {
     pub ends: u128,
     pub refusal: Option<Refusal>,
 }
 
 /// How what is found is compared with what is stated.
-#[derive(Clone, Copy, Debug, PartialEq, Eq)]
+#[derive(Clone, Copy)]
 pub enum Comparison {
     /// Wrong where more is found than is stated.
     Above,

@@ -1,6 +1,6 @@
 //! The steps of a token (`intern.c`).
 
-ghost use Rattle.std.specs.Prelude.{◌≡◌, ◌<◌, ◌^◌, length, IfOk};
+ghost use Rattle.std.specs.Prelude.{◌≡◌, ◌<◌, ◌^◌, ◌++◌, length, IfOk, OnOk};
 ghost use Rattle.om_format.specs.Code.{IsKind, custom_of};
 ghost use Rattle.om_format.specs.Raw.{measure_after};
 ghost use Rattle.om_format.specs.Step.{place, left_after, overlong, code_refusal, integer_refusal, shared_refusal, field_refusal, native_steps, variable_steps, words32_refusal, words64_refusal, end_steps, entry_steps, closing_steps, steps_after, token_steps};
@@ -126,29 +126,25 @@ fn native_steps(c: &Context, kind: u8) -> [Step; 3]
     ]
 }
 
-/// The steps of the bytes after the fixed ones.
-fn variable_steps(
-    alloc: Global,
+/// Adds the steps of the bytes after the fixed ones.
+fn add_variable(
     c: &Context,
     kind: CodeKind,
     custom: Option<CustomKind>,
     rest: &[u8],
-) -> Result<Vec<Step>, AllocError>
+    steps: &mut Vec<Step>,
+) -> Result<(), AllocError>
     requires { IsKind kind }
-    ensures { IfOk result (λ steps. steps_of steps.items ≡ variable_steps (context_of c.now) kind custom rest.now) }
+    ensures { OnOk result (steps_of steps.new.items ≡ steps_of steps.old.items ++ variable_steps (context_of c.now) kind custom rest.now) }
 {
     match (kind, custom) {
-        (CodeKind::Custom(_), Some(CustomKind::Native)) => Vec::from_slice(
-            alloc,
-            &native_steps(c, byte_at(rest, 3)),
-        ),
-        _ => Vec::from_slice(
-            alloc,
-            &[Step {
-                ends: 1 + field_bytes(kind),
-                refusal: overlong(c, variable_bytes(kind, rest), 1 + fixed_bytes(kind)),
-            }],
-        ),
+        (CodeKind::Custom(_), Some(CustomKind::Native)) => {
+            steps.extend_from_slice(&native_steps(c, byte_at(rest, 3)))
+        }
+        _ => steps.extend_from_slice(&[Step {
+            ends: 1 + field_bytes(kind),
+            refusal: overlong(c, variable_bytes(kind, rest), 1 + fixed_bytes(kind)),
+        }]),
     }
 }
 
@@ -219,40 +215,37 @@ fn entry_steps(c: &Context, code: u8, kind: CodeKind, rest: &[u8]) -> [Step; 2]
     ]
 }
 
-/// The steps of the values that are to come and of the words, and after the last token those of the tree's end.
-fn closing_steps(
-    alloc: Global,
+/// Adds the steps of the values that are to come and of the words, and after the last token those of the tree's end.
+fn add_closing(
     c: &Context,
     kind: CodeKind,
     rest: &[u8],
-) -> Result<Vec<Step>, AllocError>
+    steps: &mut Vec<Step>,
+) -> Result<(), AllocError>
     requires { IsKind kind }
-    ensures { IfOk result (λ steps. steps_of steps.items ≡ closing_steps (context_of c.now) kind rest.now) }
+    ensures { OnOk result (steps_of steps.new.items ≡ steps_of steps.old.items ++ closing_steps (context_of c.now) kind rest.now) }
 {
     let n = 1 + fixed_bytes(kind) + variable_bytes(kind, rest);
     let sized = 1 + sizing_bytes(kind, rest);
     let all = one_more(c.sums, measure_after(kind, rest));
-    let mut steps = Vec::from_slice(
-        alloc,
-        &[
-            Step {
-                ends: sized,
-                refusal: overlong(c, all.pending, n),
-            },
-            Step {
-                ends: sized,
-                refusal: words32_refusal(Comparison::Above, place(c), c.head, all.w32),
-            },
-            Step {
-                ends: sized,
-                refusal: words64_refusal(Comparison::Above, place(c), c.head, all.w64),
-            },
-        ],
-    )?;
+    steps.extend_from_slice(&[
+        Step {
+            ends: sized,
+            refusal: overlong(c, all.pending, n),
+        },
+        Step {
+            ends: sized,
+            refusal: words32_refusal(Comparison::Above, place(c), c.head, all.w32),
+        },
+        Step {
+            ends: sized,
+            refusal: words64_refusal(Comparison::Above, place(c), c.head, all.w64),
+        },
+    ])?;
     if all.pending == 0 {
         steps.extend_from_slice(&end_steps(c, n, all))?;
     }
-    Ok(steps)
+    Ok(())
 }
 
 /// The steps of a token of this kind.
@@ -267,10 +260,8 @@ fn steps_after(
     ensures { IfOk result (λ steps. steps_of steps.items ≡ steps_after (context_of c.now) code kind rest.now) }
 {
     let mut steps = Vec::from_slice(alloc, &entry_steps(c, code, kind, rest))?;
-    let variable = variable_steps(alloc, c, kind, custom_of(first(rest, 3)), rest)?;
-    steps.extend_from_slice(&variable)?;
-    let closing = closing_steps(alloc, c, kind, rest)?;
-    steps.extend_from_slice(&closing)?;
+    add_variable(c, kind, custom_of(first(rest, 3)), rest, &mut steps)?;
+    add_closing(c, kind, rest, &mut steps)?;
     Ok(steps)
 }
 

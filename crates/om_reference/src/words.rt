@@ -54,86 +54,56 @@ fn fields(measure: Measure) -> u128
     }
 }
 
-/// How many objects there are.
-fn objects(tokens: &[Option<Measure>]) -> u128
-    requires { length tokens.now ≤ 2 ^ 62 }
-    ensures sum { result ≡ objects tokens.now }
-    ensures few { result ≤ 2 ^ 127 }
-{
-    let mut total = 0;
-    for token in tokens {
-        if token.is_some() {
-            total += 1;
-        }
-    }
-    total
+/// Sums over tokens: the objects, the fields of all blocks, and the words on 32 and on 64 bits.
+#[derive(Clone, Copy)]
+struct Totals {
+    objects: u128,
+    fields: u128,
+    w32: u128,
+    w64: u128,
 }
 
-/// The words on 32 bits.
-fn all_words32(tokens: &[Option<Measure>]) -> u128
+/// The sums over all objects.
+fn sum_up(tokens: &[Option<Measure>]) -> Totals
     requires { length tokens.now ≤ 2 ^ 62 }
-    ensures sum { result ≡ all_words32 tokens.now }
-    ensures few { result ≤ 2 ^ 127 }
+    ensures objects { (result.objects ≡ objects tokens.now) × (result.objects ≤ 2 ^ 127) }
+    ensures fields { (result.fields ≡ all_fields tokens.now) × (result.fields < 2 ^ 127) }
+    ensures w32 { (result.w32 ≡ all_words32 tokens.now) × (result.w32 ≤ 2 ^ 127) }
+    ensures w64 { (result.w64 ≡ all_words64 tokens.now) × (result.w64 ≤ 2 ^ 127) }
 {
-    let mut total = 0;
-    for token in tokens {
-        if let Some(measure) = token {
-            total += words32(*measure);
-        }
-    }
-    total
-}
-
-/// The words on 64 bits.
-fn all_words64(tokens: &[Option<Measure>]) -> u128
-    requires { length tokens.now ≤ 2 ^ 62 }
-    ensures sum { result ≡ all_words64 tokens.now }
-    ensures few { result ≤ 2 ^ 127 }
-{
-    let mut total = 0;
+    let mut objects = 0;
+    let mut all_fields = 0;
+    let mut w32 = 0;
+    let mut w64 = 0;
     for token in tokens {
         if let Some(measure) = token {
-            total += words64(*measure);
+            objects += 1;
+            all_fields += fields(*measure);
+            w32 += words32(*measure);
+            w64 += words64(*measure);
         }
     }
-    total
-}
-
-/// The fields of all blocks.
-fn all_fields(tokens: &[Option<Measure>]) -> u128
-    requires { length tokens.now ≤ 2 ^ 62 }
-    ensures fields { result ≡ all_fields tokens.now }
-    ensures few { result < 2 ^ 127 }
-{
-    let mut total = 0;
-    for token in tokens {
-        if let Some(measure) = token {
-            total += fields(*measure);
-        }
+    Totals {
+        objects,
+        fields: all_fields,
+        w32,
+        w64,
     }
-    total
 }
 
-/// How many values are still to come: one at first, each token is one of them, and its fields come on top.
-fn pending(tokens: &[Option<Measure>]) -> u128
-    requires { length tokens.now ≤ 2 ^ 62 }
-    ensures sum { result ≡ pending tokens.now }
-    ensures few { result ≤ 2 ^ 127 }
-{
-    (1 + all_fields(tokens)).saturating_sub(tokens.len() as u128)
-}
-
-/// The sums over these tokens.
+/// The sums over these tokens. Of the values that are still to come there is one at first, each token is one of them, and its
+/// fields come on top.
 pub fn sums_of(tokens: &[Option<Measure>]) -> Sums
     requires { length tokens.now ≤ 2 ^ 62 }
     ensures sums { sums_in result ≡ sums_of tokens.now }
     ensures few { AreFew result }
 {
+    let totals = sum_up(tokens);
     Sums {
-        objects: objects(tokens),
-        pending: pending(tokens),
-        w32: all_words32(tokens),
-        w64: all_words64(tokens),
+        objects: totals.objects,
+        pending: (1 + totals.fields).saturating_sub(tokens.len() as u128),
+        w32: totals.w32,
+        w64: totals.w64,
     }
 }
 
