@@ -6,7 +6,7 @@ ghost use Rattle.om_literal.specs.declared.fault.LiteralFault.TheVariants as fau
 use om_model::Memory;
 
 /// Why lexemes are no value of a type. Places are bytes: of a lexeme's first byte, or of the end.
-#[derive(Clone, Copy, Debug, PartialEq, Eq)]
+#[derive(Clone, Copy)]
 pub enum LiteralFault {
     /// No literal goes on here.
     Syntax(u64),
