@@ -22,19 +22,20 @@ fn told(alloc: Global, text: &[u8]) -> Result<String, Fail> {
 }
 
 // By hand, from the grammar.
+static LITERALS: [(&[u8], &str); 7] = [
+    (b"#0=::(1, #0)", "0:2 5:0 7:0 "),
+    (b"{x = 1; y = (2, [||])}", "0:2 3:0 7:2 8:0 10:0 "),
+    (b"`B(ref(true), [])", "0:2 2:1 4:0 7:0 "),
+    (b"(1)", "Syntax 2"),
+    (b"C()", "Syntax 2"),
+    (b"", "Syntax 0"),
+    (b"[|1;|]", "Syntax 3"),
+];
+
 #[test]
 fn literals_and_their_faults(rt: HostRuntime) -> Result<(), Fail> {
-    let table: [(&[u8], &str); 7] = [
-        (b"#0=::(1, #0)", "0:2 5:0 7:0 "),
-        (b"{x = 1; y = (2, [||])}", "0:2 3:0 7:2 8:0 10:0 "),
-        (b"`B(ref(true), [])", "0:2 2:1 4:0 7:0 "),
-        (b"(1)", "Syntax 2"),
-        (b"C()", "Syntax 2"),
-        (b"", "Syntax 0"),
-        (b"[|1;|]", "Syntax 3"),
-    ];
-    for (text, want) in table {
-        assert!(rt; told(rt.alloc(), text)?.as_str() == want);
+    for (text, want) in &LITERALS {
+        assert!(rt; told(rt.alloc(), text)?.as_str() == *want);
     }
     Ok(())
 }

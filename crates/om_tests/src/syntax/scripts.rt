@@ -15,18 +15,19 @@ fn told(alloc: Global, text: &[u8]) -> Result<String, AllocError> {
 }
 
 // By hand, from the grammar.
+static SCRIPTS: [(&[u8], &str); 6] = [
+    (b"\n0 link . = .5\n(* c *)\n1 unshare .0.01", "Ok"),
+    (b"0link . = .", "Syntax 1 0"),
+    (b"0 set .0", "Syntax 1 8"),
+    (b"0 unshare .0 = 1", "Syntax 1 13"),
+    (b"0 put \"a", "Lex 1"),
+    (b"0 put\n\"a", "Syntax 1 2"),
+];
+
 #[test]
 fn faults_of_scripts(rt: HostRuntime) -> Result<(), Fail> {
-    let table: [(&[u8], &str); 6] = [
-        (b"\n0 link . = .5\n(* c *)\n1 unshare .0.01", "Ok"),
-        (b"0link . = .", "Syntax 1 0"),
-        (b"0 set .0", "Syntax 1 8"),
-        (b"0 unshare .0 = 1", "Syntax 1 13"),
-        (b"0 put \"a", "Lex 1"),
-        (b"0 put\n\"a", "Syntax 1 2"),
-    ];
-    for (text, want) in table {
-        assert!(rt; told(rt.alloc(), text)?.as_str() == want);
+    for (text, want) in &SCRIPTS {
+        assert!(rt; told(rt.alloc(), text)?.as_str() == *want);
     }
     Ok(())
 }
