@@ -1,24 +1,35 @@
 //! Trees of literals, and the lexemes at which no literal goes on.
 
+use om_lex::lexeme::Lexeme;
 use om_lex::tokens;
-use om_literal_grammar::{TreeFault, read_literal_tree};
-use std::alloc::Global;
+use om_literal_grammar::{Node, TreeFault, read_literal_tree};
+use std::alloc::{AllocError, Global};
 use std::test::Fail;
 
-// The nodes of a literal: at each one's first lexeme its number of parts; or the lexeme at which no literal goes on.
-fn told(alloc: Global, text: &[u8]) -> Result<String, Fail> {
-    let mut told = String::new(alloc);
-    let lexemes = tokens(alloc, text).ok().ok_or("a text of lexemes")?;
-    match read_literal_tree(alloc, lexemes.as_slice()) {
-        Err(TreeFault::Syntax(place)) => write!(&mut told, "Syntax {place}")?,
-        Err(TreeFault::Memory) => told.push_str("Memory")?,
-        Ok(tree) => {
-            for node in tree.as_slice() {
-                write!(&mut told, "{}:{} ", node.first, node.parts)?;
-            }
-        }
+// The nodes of a literal: at each one's first lexeme its number of parts.
+fn nodes_text(alloc: Global, nodes: &[Node]) -> Result<String, AllocError> {
+    let mut text = String::new(alloc);
+    for node in nodes {
+        write!(&mut text, "{}:{} ", node.first, node.parts)?;
     }
-    Ok(told)
+    Ok(text)
+}
+
+// What becomes of lexemes.
+fn tree_text(alloc: Global, lexemes: &[Lexeme]) -> Result<String, AllocError> {
+    match read_literal_tree(alloc, lexemes) {
+        Ok(tree) => nodes_text(alloc, tree.as_slice()),
+        Err(TreeFault::Syntax(place)) => format!(in alloc; "Syntax {place}"),
+        Err(TreeFault::Memory) => String::from_str(alloc, "Memory"),
+    }
+}
+
+// What becomes of a text.
+fn told(alloc: Global, text: &[u8]) -> Result<String, AllocError> {
+    match tokens(alloc, text) {
+        Ok(lexemes) => tree_text(alloc, lexemes.as_slice()),
+        Err(_) => String::from_str(alloc, "no lexemes"),
+    }
 }
 
 // By hand, from the grammar.
