@@ -1,1 +1,3 @@
 //! Tests of types, their shapes and tables.
+
+mod laws;

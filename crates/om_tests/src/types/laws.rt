@@ -1,0 +1,32 @@
+use om_accepted::{
+    accepted_are_well_formed, accepted_types_are_sound, brackets_follow, names_follow, ranks_follow,
+};
+use om_equal::classes::{
+    classes_are_of_equal_types, splits_keep_and_settle, stable_classes_are_equal,
+};
+use om_equal::equal::{equal_types_mean_the_same, heads_are_found};
+use om_equal::sound::{heads_commute_with_instances, reached_types_are_sound};
+use om_equal::table::tables_are_lawful;
+use om_table::least_faults_have_least_ways;
+use om_typing::{checks_take_few_steps, searches_find_the_least};
+
+// Laws that no run calls can be called.
+#[test]
+fn laws_are_called() {
+    searches_find_the_least();
+    checks_take_few_steps();
+    stable_classes_are_equal();
+    splits_keep_and_settle();
+    classes_are_of_equal_types();
+    heads_are_found();
+    equal_types_mean_the_same();
+    reached_types_are_sound();
+    heads_commute_with_instances();
+    tables_are_lawful();
+    least_faults_have_least_ways();
+    ranks_follow();
+    names_follow();
+    brackets_follow();
+    accepted_are_well_formed();
+    accepted_types_are_sound();
+}
