@@ -1,4 +1,4 @@
-use Rattle.std.proofs.Common.{◌∙◌, ◌∷◌, None, sym, ap, reverse}
+use Rattle.std.proofs.Common.{◌<◌, ◌∙◌, ◌∷◌, None, length, length-append, sym, ap, arith, reverse}
 use Rattle.std.proofs.lemmas.Option.{MatchOption-at_some, MatchOption-at_none}
 use Rattle.std.proofs.lemmas.Result.{on_ok_weaker}
 use Rattle.om_types.specs.Nodes.{type_at}
@@ -93,3 +93,8 @@ returns-in-None-clause-less c =
     (reverse c.put_items.new.waiting.items) all c.requires.included was kept
     (put decls c.requires.sound (ap (unfolded decls) kept ∙ none)))
     c.put_items.ensures.work
+
+pub put_items-requires : goal.put_items-requires
+put_items-requires c =
+    let more = c.in_ok-next.ensures.grown in
+    omega (arith, ap length more.kept, length-append c.args.types.now more.added, c.requires.included)
