@@ -3,5 +3,5 @@
 
 pub mod put;
 mod refusal_text;
-mod report;
+pub mod report;
 pub mod stop;
