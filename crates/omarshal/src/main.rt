@@ -1,40 +1,58 @@
 //! The program: makes the real source, files and sinks, and runs the words after its name.
 #![tactic(auto)]
 
-use om_edge::{DiskFiles, MaybeClosed, Sink, StdSink, StdSource, put_all};
+ghost use Rattle.std.specs.Prelude.{◌≡◌, ◌≢◌, drop, IfOk};
+ghost use Rattle.std.specs.Process.{exit_status};
+ghost use Rattle.std.specs.Vec.Iter.{into_iter_items};
+ghost use Rattle.std.specs.declared.io.ErrorKind.TheVariants as kinds;
+ghost use Rattle.om_outcome.specs.Outcome.{out_of_memory, usage};
+ghost use Rattle.om_outcome.specs.Status.{code_of};
+ghost use Rattle.om_edge.specs.State.{change};
+ghost use Rattle.omarshal.specs.Ending.{Says};
+
+use om_edge::{DiskFiles, MaybeClosed, Sink, StdSink, StdSource};
 use om_outcome::status::Status;
 use om_session::run;
+use om_stops::report::report;
+use std::alloc::{AllocError, Global};
 use std::env;
+use std::env::Args;
 use std::io::{ErrorKind, Lock, StdinLock};
 use std::os::fd::AsFd;
 use std::process::ExitCode;
 
 /// Puts the line of a run whose words could not be read, and answers its status.
-fn stop<K: Sink>(err: &mut K, kind: ErrorKind) -> Status {
-    let (line, status) = match kind {
-        ErrorKind::OutOfMemory => (b"omarshal: out of memory\n".as_slice(), Status::Memory),
-        _ => (b"omarshal: usage\n".as_slice(), Status::Usage),
-    };
-    match put_all(err, line) {
-        Ok(()) => status,
-        Err(_) => Status::WriteFault,
+fn stop<K: Sink>(err: &mut K, kind: ErrorKind) -> Status
+    ensures memory { kind ≡ kinds.OutOfMemory → Says out_of_memory (change (K.state err.old) (K.state err.new)) result }
+    ensures others { kind ≢ kinds.OutOfMemory → Says usage (change (K.state err.old) (K.state err.new)) result }
+{
+    match kind {
+        ErrorKind::OutOfMemory => report(err, b"omarshal: out of memory\n", Status::Memory),
+        _ => report(err, b"omarshal: usage\n", Status::Usage),
     }
+}
+
+/// The words after the first, in their order.
+fn words_after(alloc: Global, mut args: Args) -> Result<Vec<String>, AllocError>
+    ensures { IfOk result (λ words. words.items ≡ drop 1 (into_iter_items args)) }
+{
+    let _name = args.next();
+    let mut words = Vec::new(alloc);
+    'words: while let Some(word) = args.next() {
+        words.push(word)?;
+    }
+    Ok(words)
 }
 
 /// The words after the program's name.
 fn read_words(rt: &HostRuntime) -> Result<Vec<String>, ErrorKind> {
-    let mut args = match env::args(rt) {
-        Ok(args) => args,
-        Err(error) => return Err(error.kind()),
-    };
-    let _name = args.next();
-    let mut words = Vec::new(rt.alloc());
-    for word in args {
-        if words.push(word).is_err() {
-            return Err(ErrorKind::OutOfMemory);
-        }
+    match env::args(rt) {
+        Ok(args) => match words_after(rt.alloc(), args) {
+            Ok(words) => Ok(words),
+            Err(_) => Err(ErrorKind::OutOfMemory),
+        },
+        Err(error) => Err(error.kind()),
     }
-    Ok(words)
 }
 
 /// Standard input. Where it is closed, it cannot be duplicated; a file that is opened later may have its descriptor, and is
@@ -47,25 +65,28 @@ fn standard_input(rt: &HostRuntime) -> MaybeClosed<StdinLock> {
     }
 }
 
+/// The status of the process: the number of the run's status.
+fn exit_code(status: Status) -> ExitCode
+    ensures { exit_status result ≡ code_of status }
+{
+    ExitCode::from(status.code())
+}
+
 fn main(rt: HostRuntime) -> ExitCode {
     let mut err = StdSink::new(rt.stderr());
     let words = match read_words(&rt) {
         Ok(words) => words,
-        Err(kind) => return ExitCode::from(stop(&mut err, kind).code()),
+        Err(kind) => return exit_code(stop(&mut err, kind)),
     };
     let mut input = StdSource::new(standard_input(&rt));
     let mut out = StdSink::new(rt.stdout());
     let mut files = DiskFiles::new(rt.alloc(), &rt);
-    let status = run(
+    exit_code(run(
         rt.alloc(),
         words.as_slice(),
         &mut input,
         &mut files,
         &mut out,
         &mut err,
-    );
-    ExitCode::from(status.code())
+    ))
 }
-
-#[cfg(test)]
-mod tests;
