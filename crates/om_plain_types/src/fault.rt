@@ -7,7 +7,7 @@ use om_model::Memory;
 use std::alloc::{AllocError, AllocFailed};
 
 /// What is wrong with a text.
-#[derive(Clone, Copy, Debug, PartialEq, Eq)]
+#[derive(Clone, Copy, Debug)]
 pub enum Why {
     BadByte,
     OpenString,
@@ -29,7 +29,7 @@ pub enum Why {
 }
 
 /// What is wrong, with the number of the byte at which it is; or want of memory.
-#[derive(Clone, Copy, Debug, PartialEq, Eq)]
+#[derive(Clone, Copy)]
 pub enum Fault {
     Refused(Why, usize),
     Memory,

@@ -1,6 +1,6 @@
 //! Declarations, read by recursive descent.
 
-ghost use Rattle.std.specs.Prelude.{◌≡◌, ◌<◌, ◌≤◌, suc, length, IfOk, IfErr, vec_len};
+ghost use Rattle.std.specs.Prelude.{◌≡◌, ◌<◌, ◌≤◌, length, IfOk, IfErr, vec_len};
 ghost use Rattle.om_plain_types.specs.Lexemes.{place_at, syntax_at};
 ghost use Rattle.om_plain_types.specs.Progress.{GoesOn, StaysWithin};
 
@@ -41,27 +41,45 @@ fn name<'a>(lexemes: &[Lexeme<'a>], end: usize, at: usize, kind: Kind) -> Result
     }
 }
 
-/// field = [ "mutable" ] LIDENT ":" texpr
+/// A type alone.
+fn one_type<'a>(
+    alloc: Global,
+    lexemes: &[Lexeme<'a>],
+    end: usize,
+    at: usize,
+    opened: usize,
+) -> Result<Found<TypeTree<'a>>, Fault>
+    requires { opened ≤ 200 }
+    ensures { IfOk result (λ found. GoesOn lexemes.now at found.next) }
+{
+    let mut trees = Vec::new(alloc);
+    let read = texpr(alloc, lexemes, end, at, opened, &mut trees)?;
+    Ok(Found {
+        value: trees.remove(0),
+        next: read.next,
+    })
+}
+
+/// field = [ "mutable" ] LIDENT ":" texpr, added to those that are there
 fn field<'a>(
     alloc: Global,
     lexemes: &[Lexeme<'a>],
     end: usize,
     at: usize,
-) -> Result<Found<Field<'a>>, Fault>
-    ensures { IfOk result (λ found. GoesOn lexemes.now at found.next) }
+    all: &mut Vec<Field<'a>>,
+) -> Result<usize, Fault>
+    ensures { IfOk result (GoesOn lexemes.now at) }
 {
     let first = passed_if(lexemes, at, Kind::Mutable);
     let placed = name(lexemes, end, first, Kind::Lower)?;
     let colon = passed(lexemes, end, first + 1, Kind::Colon)?;
-    let read = texpr(alloc, lexemes, end, colon, 1)?;
-    Ok(Found {
-        value: Field {
-            placed,
-            mutable: at < first,
-            ty: read.ty,
-        },
-        next: read.next,
-    })
+    let Found { value: ty, next } = one_type(alloc, lexemes, end, colon, 1)?;
+    all.push(Field {
+        placed,
+        mutable: at < first,
+        ty,
+    })?;
+    Ok(next)
 }
 
 /// record = "{" field { ";" field } [ ";" ] "}"
@@ -70,27 +88,24 @@ fn record<'a>(
     lexemes: &[Lexeme<'a>],
     end: usize,
     at: usize,
-) -> Result<Found<Vec<Field<'a>>>, Fault>
-    ensures { IfOk result (λ found. GoesOn lexemes.now at found.next) }
+    all: &mut Vec<Field<'a>>,
+) -> Result<usize, Fault>
+    ensures { IfOk result (GoesOn lexemes.now at) }
 {
-    let mut fields = Vec::new(alloc);
-    let first = passed(lexemes, end, at, Kind::OpenBrace)?;
-    let found = field(alloc, lexemes, end, first)?;
-    fields.push(found.value)?;
-    let mut next = found.next;
-    'fields: while stands(lexemes, next, Kind::Semicolon)
-        && !stands(lexemes, next + 1, Kind::CloseBrace)
-    {
-        let found = field(alloc, lexemes, end, next + 1)?;
-        fields.push(found.value)?;
-        next = found.next;
+    let mut next = passed(lexemes, end, at, Kind::OpenBrace)?;
+    'fields: loop {
+        next = field(alloc, lexemes, end, next, all)?;
+        if !stands(lexemes, next, Kind::Semicolon) || stands(lexemes, next + 1, Kind::CloseBrace) {
+            break;
+        }
+        next += 1;
     }
-    next = passed_if(lexemes, next, Kind::Semicolon);
-    next = passed(lexemes, end, next, Kind::CloseBrace)?;
-    Ok(Found {
-        value: fields,
-        next,
-    })
+    passed(
+        lexemes,
+        end,
+        passed_if(lexemes, next, Kind::Semicolon),
+        Kind::CloseBrace,
+    )
 }
 
 /// app { "*" app }, which are no tuple
@@ -99,22 +114,18 @@ fn listed<'a>(
     lexemes: &[Lexeme<'a>],
     end: usize,
     at: usize,
-) -> Result<Found<Arguments<'a>>, Fault>
-    ensures { IfOk result (λ found. GoesOn lexemes.now at found.next) }
+    all: &mut Vec<TypeTree<'a>>,
+) -> Result<usize, Fault>
+    ensures { IfOk result (GoesOn lexemes.now at) }
 {
-    let mut types = Vec::new(alloc);
-    let first = app(alloc, lexemes, end, at, 0, 0)?;
-    types.push(first.ty)?;
-    let mut next = first.next;
-    'arguments: while stands(lexemes, next, Kind::Star) {
-        let read = app(alloc, lexemes, end, next + 1, 0, 0)?;
-        types.push(read.ty)?;
-        next = read.next;
+    let mut next = at;
+    'arguments: loop {
+        next = app(alloc, lexemes, end, next, 0, all)?.next;
+        if !stands(lexemes, next, Kind::Star) {
+            return Ok(next);
+        }
+        next += 1;
     }
-    Ok(Found {
-        value: Arguments::Listed(types),
-        next,
-    })
 }
 
 /// [ "of" ( record | app { "*" app } ) ]
@@ -133,34 +144,39 @@ fn arguments<'a>(
             next: at,
         });
     }
-    if !stands(lexemes, at + 1, Kind::OpenBrace) {
-        return listed(alloc, lexemes, end, at + 1);
+    if stands(lexemes, at + 1, Kind::OpenBrace) {
+        let mut fields = Vec::new(alloc);
+        let next = record(alloc, lexemes, end, at + 1, &mut fields)?;
+        return Ok(Found {
+            value: Arguments::Inline(fields),
+            next,
+        });
     }
-    let found = record(alloc, lexemes, end, at + 1)?;
+    let mut types = Vec::new(alloc);
+    let next = listed(alloc, lexemes, end, at + 1, &mut types)?;
     Ok(Found {
-        value: Arguments::Inline(found.value),
-        next: found.next,
+        value: Arguments::Listed(types),
+        next,
     })
 }
 
-/// constr = UIDENT [ "of" .. ]
+/// constr = UIDENT [ "of" .. ], added to those that are there
 fn constructor<'a>(
     alloc: Global,
     lexemes: &[Lexeme<'a>],
     end: usize,
     at: usize,
-) -> Result<Found<Constructor<'a>>, Fault>
-    ensures { IfOk result (λ found. GoesOn lexemes.now at found.next) }
+    all: &mut Vec<Constructor<'a>>,
+) -> Result<usize, Fault>
+    ensures { IfOk result (GoesOn lexemes.now at) }
 {
     let placed = name(lexemes, end, at, Kind::Upper)?;
-    let found = arguments(alloc, lexemes, end, at + 1)?;
-    Ok(Found {
-        value: Constructor {
-            placed,
-            arguments: found.value,
-        },
-        next: found.next,
-    })
+    let Found {
+        value: arguments,
+        next,
+    } = arguments(alloc, lexemes, end, at + 1)?;
+    all.push(Constructor { placed, arguments })?;
+    Ok(next)
 }
 
 /// variant = [ "|" ] constr { "|" constr }
@@ -169,23 +185,18 @@ fn variant<'a>(
     lexemes: &[Lexeme<'a>],
     end: usize,
     at: usize,
-) -> Result<Found<Body<'a>>, Fault>
-    ensures { IfOk result (λ found. GoesOn lexemes.now at found.next) }
+    all: &mut Vec<Constructor<'a>>,
+) -> Result<usize, Fault>
+    ensures { IfOk result (GoesOn lexemes.now at) }
 {
-    let mut constructors = Vec::new(alloc);
-    let first = passed_if(lexemes, at, Kind::Bar);
-    let found = constructor(alloc, lexemes, end, first)?;
-    constructors.push(found.value)?;
-    let mut next = found.next;
-    'constructors: while stands(lexemes, next, Kind::Bar) {
-        let found = constructor(alloc, lexemes, end, next + 1)?;
-        constructors.push(found.value)?;
-        next = found.next;
+    let mut next = passed_if(lexemes, at, Kind::Bar);
+    'constructors: loop {
+        next = constructor(alloc, lexemes, end, next, all)?;
+        if !stands(lexemes, next, Kind::Bar) {
+            return Ok(next);
+        }
+        next += 1;
     }
-    Ok(Found {
-        value: Body::Variant(constructors),
-        next,
-    })
 }
 
 /// body = record | variant | texpr
@@ -198,83 +209,92 @@ fn body<'a>(
     ensures { IfOk result (λ found. GoesOn lexemes.now at found.next) }
 {
     if stands(lexemes, at, Kind::OpenBrace) {
-        let found = record(alloc, lexemes, end, at)?;
+        let mut fields = Vec::new(alloc);
+        let next = record(alloc, lexemes, end, at, &mut fields)?;
         return Ok(Found {
-            value: Body::Record(found.value),
-            next: found.next,
+            value: Body::Record(fields),
+            next,
         });
     }
     if stands(lexemes, at, Kind::Bar) || stands(lexemes, at, Kind::Upper) {
-        return variant(alloc, lexemes, end, at);
+        let mut constructors = Vec::new(alloc);
+        let next = variant(alloc, lexemes, end, at, &mut constructors)?;
+        return Ok(Found {
+            value: Body::Variant(constructors),
+            next,
+        });
     }
-    let read = texpr(alloc, lexemes, end, at, 0)?;
+    let Found { value: ty, next } = one_type(alloc, lexemes, end, at, 0)?;
     Ok(Found {
-        value: Body::Abbreviation(read.ty),
-        next: read.next,
+        value: Body::Abbreviation(ty),
+        next,
     })
 }
 
-/// params = VAR | "(" VAR { "," VAR } ")"
+/// params = VAR | "(" VAR { "," VAR } ")", added to those that are there
 fn parameters<'a>(
-    alloc: Global,
     lexemes: &[Lexeme<'a>],
     end: usize,
     at: usize,
-) -> Result<Found<Vec<Placed<'a>>>, Fault>
+    all: &mut Vec<Placed<'a>>,
+) -> Result<usize, Fault>
     requires { at ≤ length lexemes.now }
-    ensures { IfOk result (λ found. StaysWithin lexemes.now at found.next) }
+    ensures { IfOk result (StaysWithin lexemes.now at) }
 {
-    let mut all = Vec::new(alloc);
     if stands(lexemes, at, Kind::Variable) {
         all.push(placed_at(lexemes, end, at))?;
-        return Ok(Found {
-            value: all,
-            next: at + 1,
-        });
+        return Ok(at + 1);
     }
     if !stands(lexemes, at, Kind::OpenParen) {
-        return Ok(Found {
-            value: all,
-            next: at,
-        });
+        return Ok(at);
     }
-    all.push(name(lexemes, end, at + 1, Kind::Variable)?)?;
-    let mut next = at + 2;
-    'parameters: while stands(lexemes, next, Kind::Comma) {
+    let mut next = at;
+    'parameters: loop {
         all.push(name(lexemes, end, next + 1, Kind::Variable)?)?;
         next += 2;
+        if !stands(lexemes, next, Kind::Comma) {
+            return passed(lexemes, end, next, Kind::CloseParen);
+        }
     }
-    next = passed(lexemes, end, next, Kind::CloseParen)?;
-    Ok(Found { value: all, next })
 }
 
-/// decl = [ params ] LIDENT "=" body
+/// [ params ] LIDENT "="
+fn beginning<'a>(
+    lexemes: &[Lexeme<'a>],
+    end: usize,
+    at: usize,
+    all: &mut Vec<Placed<'a>>,
+) -> Result<(Placed<'a>, usize), Fault>
+    requires { at ≤ length lexemes.now }
+    ensures { IfOk result (λ read. GoesOn lexemes.now at read.1) }
+{
+    let next = parameters(lexemes, end, at, all)?;
+    let placed = name(lexemes, end, next, Kind::Lower)?;
+    Ok((placed, passed(lexemes, end, next + 1, Kind::Equals)?))
+}
+
+/// decl = [ params ] LIDENT "=" body, added to those that are there
 fn declaration<'a>(
     alloc: Global,
     lexemes: &[Lexeme<'a>],
     end: usize,
     at: usize,
     group: usize,
-) -> Result<Found<Declaration<'a>>, Fault>
+    all: &mut Vec<Declaration<'a>>,
+) -> Result<usize, Fault>
     requires { at ≤ length lexemes.now }
-    ensures { IfOk result (λ found. GoesOn lexemes.now at found.next) }
+    ensures { IfOk result (GoesOn lexemes.now at) }
 {
-    let Found {
-        value: parameters,
-        next,
-    } = parameters(alloc, lexemes, end, at)?;
-    let placed = name(lexemes, end, next, Kind::Lower)?;
-    let start = passed(lexemes, end, next + 1, Kind::Equals)?;
+    let mut parameters = Vec::new(alloc);
+    let (placed, start) = beginning(lexemes, end, at, &mut parameters)?;
     let Found { value: body, next } = body(alloc, lexemes, end, start)?;
-    Ok(Found {
-        value: Declaration {
-            placed,
-            parameters,
-            body,
-            group,
-        },
-        next,
-    })
+    all.push(Declaration {
+        placed,
+        parameters,
+        body,
+        group,
+    })?;
+    Ok(next)
 }
 
 /// Adds the declarations of a group: "type" decl { "and" decl } [ ";;" ]
@@ -288,16 +308,14 @@ fn add_group<'a>(
     ensures { IfOk result (GoesOn lexemes.now at) }
 {
     let group = all.len();
-    let first = passed(lexemes, end, at, Kind::Type)?;
-    let found = declaration(alloc, lexemes, end, first, group)?;
-    all.push(found.value)?;
-    let mut next = found.next;
-    'declarations: while stands(lexemes, next, Kind::And) {
-        let found = declaration(alloc, lexemes, end, next + 1, group)?;
-        all.push(found.value)?;
-        next = found.next;
+    let mut next = passed(lexemes, end, at, Kind::Type)?;
+    'declarations: loop {
+        next = declaration(alloc, lexemes, end, next, group, all)?;
+        if !stands(lexemes, next, Kind::And) {
+            return Ok(passed_if(lexemes, next, Kind::DoubleSemicolon));
+        }
+        next += 1;
     }
-    Ok(passed_if(lexemes, next, Kind::DoubleSemicolon))
 }
 
 /// file = { group }
@@ -324,9 +342,9 @@ pub fn whole_type<'a>(
 ) -> Result<TypeTree<'a>, Fault>
     ensures { IfOk result (λ t. 0 < length lexemes.now) }
 {
-    let read = texpr(alloc, lexemes, end, 0, 0)?;
-    if read.next < lexemes.len() {
-        return Err(syntax(lexemes, end, read.next));
+    let found = one_type(alloc, lexemes, end, 0, 0)?;
+    if found.next < lexemes.len() {
+        return Err(syntax(lexemes, end, found.next));
     }
-    Ok(read.ty)
+    Ok(found.value)
 }

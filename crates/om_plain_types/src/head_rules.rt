@@ -1,8 +1,9 @@
 //! The rules of scope on the items of brackets, and on records of floats.
 
-ghost use Rattle.std.specs.Prelude.{◌≡◌, ◌<◌, false, length, vec_len, IfOk, IsTrue};
+ghost use Rattle.std.specs.Prelude.{◌≡◌, ◌<◌, None, false, length, vec_len, IfOk, OnOk, IsTrue};
 ghost use Rattle.om_plain_types.specs.Meaning.{IsAnswerOf, IsRecord, IsRuleOfScope};
 ghost use Rattle.om_plain_types.specs.Trees.{HaveOneName, IsIncluded};
+ghost use Rattle.om_plain_types.specs.declared.tree.TypeTree.TheViews.{out-TypeTree};
 
 use crate::expanded::{copied, head_of, is_same};
 use crate::fault::Why;
@@ -11,42 +12,23 @@ use crate::nodes::{is_included, is_tag};
 use crate::tree::{Body, Declaration, Node, TypeTree};
 use std::alloc::{AllocError, Global};
 
-/// The items with each included type replaced, in its place, by the items of its head.
-fn replaced<'a>(
+/// The items of the head of the type that an item includes, where it is a polymorphic variant.
+fn included<'a>(
     alloc: Global,
     decls: &[Declaration<'a>],
-    items: &[TypeTree<'a>],
-) -> Result<Vec<TypeTree<'a>>, AllocError>
-    ensures { IfOk result (λ all. length items.now ≡ 0 → vec_len all ≡ 0) }
+    item: &TypeTree<'a>,
+) -> Result<Option<Vec<TypeTree<'a>>>, AllocError>
+    ensures { IfOk result (λ items. length (out-TypeTree item.now).parts.items ≡ 0 → items ≡ None) }
 {
-    let mut all = Vec::new(alloc);
-    for item in items {
-        if is_included(item.node) {
-            for part in &item.parts {
-                let head = head_of(alloc, decls, 0, part)?;
-                if head.ty.node == Node::Bracket {
-                    for inner in &head.ty.parts {
-                        all.push(copied(alloc, inner)?)?;
-                    }
-                }
-            }
-        } else {
-            all.push(copied(alloc, item)?)?;
-        }
+    if item.parts.len() == 0 {
+        return Ok(None);
     }
-    Ok(all)
-}
-
-/// Whether one of the items includes a type.
-fn includes(items: &[TypeTree<'_>]) -> bool
-    ensures { length items.now ≡ 0 → result ≡ false }
-{
-    for item in items {
-        if is_included(item.node) {
-            return true;
-        }
+    let head = head_of(alloc, decls, 0, &item.parts[0])?;
+    if head.ty.node == Node::Bracket {
+        Ok(Some(head.ty.parts))
+    } else {
+        Ok(None)
     }
-    false
 }
 
 /// Whether a tag of this name is among the items.
@@ -61,7 +43,31 @@ fn has_tag(items: &[TypeTree<'_>], name: &[u8]) -> bool
     false
 }
 
-/// The tags that items bring. Of a tag that comes twice the first stays.
+/// Adds the tags that items bring, those of an included type in its place. Of a tag that comes twice the first stays.
+fn add_tags<'a>(
+    alloc: Global,
+    decls: &[Declaration<'a>],
+    items: &[TypeTree<'a>],
+    tags: &mut Vec<TypeTree<'a>>,
+    rounds: u64,
+) -> Result<(), AllocError>
+    ensures { OnOk result (length items.now ≡ 0 → vec_len tags.new ≡ vec_len tags.old) }
+{
+    for item in items {
+        if is_included(item.node) {
+            if let Some(inner) = included(alloc, decls, item)? {
+                if rounds > 0 {
+                    add_tags(alloc, decls, inner.as_slice(), tags, rounds - 1)?;
+                }
+            }
+        } else if !has_tag(tags.as_slice(), item.name) {
+            tags.push(copied(alloc, item)?)?;
+        }
+    }
+    Ok(())
+}
+
+/// The tags that items bring.
 fn tags_of<'a>(
     alloc: Global,
     decls: &[Declaration<'a>],
@@ -69,19 +75,8 @@ fn tags_of<'a>(
 ) -> Result<Vec<TypeTree<'a>>, AllocError>
     ensures { IfOk result (λ all. length items.now ≡ 0 → vec_len all ≡ 0) }
 {
-    let mut all = replaced(alloc, decls, items)?;
-    'rounds: for _ in 0..u64::MAX {
-        if !includes(all.as_slice()) {
-            break;
-        }
-        all = replaced(alloc, decls, all.as_slice())?;
-    }
-    let mut tags: Vec<TypeTree<'a>> = Vec::new(alloc);
-    'tags: for tag in &all {
-        if !has_tag(tags.as_slice(), tag.name) {
-            tags.push(copied(alloc, tag)?)?;
-        }
-    }
+    let mut tags = Vec::new(alloc);
+    add_tags(alloc, decls, items, &mut tags, u64::MAX)?;
     Ok(tags)
 }
 
@@ -122,13 +117,7 @@ fn is_no_variant<'a>(
     if !is_included(item.node) {
         return Ok(false);
     }
-    for part in &item.parts {
-        let head = head_of(alloc, decls, 0, part)?;
-        if head.ty.node != Node::Bracket {
-            return Ok(true);
-        }
-    }
-    Ok(false)
+    Ok(included(alloc, decls, item)?.is_none())
 }
 
 /// Whether the item of this number writes a tag that an earlier item writes.
@@ -165,7 +154,7 @@ fn breaks_with_earlier<'a>(
             return Ok(true);
         }
     }
-    Ok(why == Why::HashClash && any_break(why, tags.as_slice(), tags.as_slice()))
+    Ok(matches!(why, Why::HashClash) && any_break(why, tags.as_slice(), tags.as_slice()))
 }
 
 /// Whether the item of this number breaks the rule.

@@ -165,7 +165,7 @@ fn in_declaration<'a>(
         Why::Cyclic | Why::FloatInGroup => of_whole(alloc, decls, i, why),
         Why::TooManyConstructors => Ok(one_too_many(&decls[i].body)),
         Why::Twice => {
-            let declared = declared_twice(alloc, &decls[..i], &decls[i])?;
+            let declared = declared_twice(&decls[..i], &decls[i]);
             Ok(sooner(declared, in_types(alloc, decls, &decls[i], why)?))
         }
         _ => in_types(alloc, decls, &decls[i], why),

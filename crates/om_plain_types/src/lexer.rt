@@ -3,7 +3,7 @@
 ghost use Rattle.std.specs.Prelude.{◌≡◌, ◌<◌, ◌≤◌, length, vec_len, All, IfOk, IfSome};
 ghost use Rattle.om_plain_types.specs.Lexemes.{kind_of_name};
 ghost use Rattle.om_plain_types.specs.declared.lexer.Lexeme.{Lexeme};
-ghost use Rattle.om_plain_types.specs.Progress.{EndsAfter, IsCutAt};
+ghost use Rattle.om_plain_types.specs.Progress.{IsCutAt};
 
 use crate::classes::{is_name_byte, is_separator, starts_lower, starts_name};
 use crate::escapes::{character_end, comment_end, double_end, integer_end, string_end};
@@ -11,7 +11,7 @@ use crate::fault::{Fault, Why};
 use std::alloc::Global;
 
 /// What a lexeme is. Those that stand in no declaration are `Other`; `End` is the end of the text.
-#[derive(Clone, Copy, Debug, PartialEq, Eq)]
+#[derive(Clone, Copy, PartialEq, Eq)]
 pub enum Kind {
     Type,
     And,

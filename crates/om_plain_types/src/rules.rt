@@ -28,7 +28,12 @@ fn holds_variable(t: &TypeTree<'_>) -> bool
 pub fn is_among(all: &[Placed<'_>], name: &[u8]) -> bool
     ensures { result ≡ is_among all.now name.now }
 {
-    all.iter().any(|placed| placed.name == name)
+    for placed in all {
+        if placed.name == name {
+            return true;
+        }
+    }
+    false
 }
 
 /// Whether a name is neither predeclared nor declared in this group or an earlier one. A type over declarations has no group.

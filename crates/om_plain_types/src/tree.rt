@@ -1,7 +1,7 @@
 //! Types and declarations as they are written, with the places of their names.
 
 /// What a node of a type is.
-#[derive(Clone, Copy, Debug, PartialEq, Eq)]
+#[derive(Clone, Copy, PartialEq, Eq)]
 pub enum Node {
     /// A variable.
     Variable,

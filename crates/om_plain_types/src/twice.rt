@@ -1,12 +1,12 @@
 //! What is declared twice.
 
-ghost use Rattle.std.specs.Prelude.{◌≡◌, None, Some, length, IfOk, IsSome, IsTrue, if◌then◌else◌};
+ghost use Rattle.std.specs.Prelude.{◌≡◌, None, Some, length, IsSome, IsTrue, if◌then◌else◌};
 ghost use Rattle.om_plain_types.specs.Meaning.{is_known, sooner, IsAbbreviation};
+ghost use Rattle.om_plain_types.specs.Twice.{has_constructor, has_field, IsInline};
 
 use crate::declared::{declaration_of, predeclared_arity};
 use crate::rules::is_among;
-use crate::tree::{Arguments, Body, Declaration, Field, Placed};
-use std::alloc::{AllocError, Global};
+use crate::tree::{Arguments, Body, Constructor, Declaration, Field, Placed};
 
 /// The lesser of two places that may be there.
 pub fn sooner(one: Option<usize>, other: Option<usize>) -> Option<usize>
@@ -31,35 +31,74 @@ fn first_second(names: &[Placed<'_>]) -> Option<usize>
     None
 }
 
-/// Of the fields of a record.
-fn second_field(alloc: Global, fields: &[Field<'_>]) -> Result<Option<usize>, AllocError>
-    ensures { IfOk result (λ second. length fields.now ≡ 0 → second ≡ None) }
+/// Whether a field of this name is among these.
+fn has_field(fields: &[Field<'_>], name: &[u8]) -> bool
+    ensures { result ≡ has_field fields.now name.now }
 {
-    let mut names = Vec::new(alloc);
     for field in fields {
-        names.push(field.placed)?;
+        if field.placed.name == name {
+            return true;
+        }
     }
-    Ok(first_second(names.as_slice()))
+    false
+}
+
+/// Of the fields of a record.
+fn second_field(fields: &[Field<'_>]) -> Option<usize>
+    ensures { length fields.now ≡ 0 → result ≡ None }
+{
+    for (i, field) in fields.iter().enumerate() {
+        if has_field(&fields[..i], field.placed.name) {
+            return Some(field.placed.place);
+        }
+    }
+    None
+}
+
+/// Of the fields of an inline record.
+fn second_in_arguments(arguments: &Arguments<'_>) -> Option<usize>
+    ensures { IsSome result → IsInline arguments.now }
+{
+    match arguments {
+        Arguments::Inline(fields) => second_field(fields.as_slice()),
+        _ => None,
+    }
+}
+
+/// Whether a constructor of this name is among these.
+fn has_constructor(constructors: &[Constructor<'_>], name: &[u8]) -> bool
+    ensures { result ≡ has_constructor constructors.now name.now }
+{
+    for constructor in constructors {
+        if constructor.placed.name == name {
+            return true;
+        }
+    }
+    false
 }
 
 /// Of the constructors of a variant, and of the fields of each inline record.
-fn second_in_body(alloc: Global, body: &Body<'_>) -> Result<Option<usize>, AllocError>
-    ensures { IfOk result (λ second. IsAbbreviation body.now → second ≡ None) }
+fn second_constructor(constructors: &[Constructor<'_>]) -> Option<usize>
+    ensures { length constructors.now ≡ 0 → result ≡ None }
+{
+    let mut least = None;
+    for (i, constructor) in constructors.iter().enumerate() {
+        if has_constructor(&constructors[..i], constructor.placed.name) {
+            least = sooner(least, Some(constructor.placed.place));
+        }
+        least = sooner(least, second_in_arguments(&constructor.arguments));
+    }
+    least
+}
+
+/// Of the fields or constructors that are declared.
+fn second_in_body(body: &Body<'_>) -> Option<usize>
+    ensures { IsAbbreviation body.now → result ≡ None }
 {
     match body {
-        Body::Abbreviation(_) => Ok(None),
-        Body::Record(fields) => second_field(alloc, fields.as_slice()),
-        Body::Variant(constructors) => {
-            let mut names = Vec::new(alloc);
-            let mut least = None;
-            for constructor in constructors {
-                names.push(constructor.placed)?;
-                if let Arguments::Inline(fields) = &constructor.arguments {
-                    least = sooner(least, second_field(alloc, fields.as_slice())?);
-                }
-            }
-            Ok(sooner(least, first_second(names.as_slice())))
-        }
+        Body::Abbreviation(_) => None,
+        Body::Record(fields) => second_field(fields.as_slice()),
+        Body::Variant(constructors) => second_constructor(constructors.as_slice()),
     }
 }
 
@@ -82,15 +121,10 @@ fn known_before(earlier: &[Declaration<'_>], name: &[u8], place: usize) -> Optio
 }
 
 /// The least place of a type name, parameter, constructor or field of this declaration that stands earlier too.
-pub fn declared_twice(
-    alloc: Global,
-    earlier: &[Declaration<'_>],
-    decl: &Declaration<'_>,
-) -> Result<Option<usize>, AllocError>
-    ensures { IfOk result (λ second. IsTrue (is_known earlier.now decl.now.placed.name.now) → IsSome second) }
+pub fn declared_twice(earlier: &[Declaration<'_>], decl: &Declaration<'_>) -> Option<usize>
+    ensures { IsTrue (is_known earlier.now decl.now.placed.name.now) → IsSome result }
 {
     let name = known_before(earlier, decl.placed.name, decl.placed.place);
     let parameter = first_second(decl.parameters.as_slice());
-    let inner = second_in_body(alloc, &decl.body)?;
-    Ok(sooner(sooner(name, parameter), inner))
+    sooner(sooner(name, parameter), second_in_body(&decl.body))
 }
