@@ -111,17 +111,20 @@ pub fn after_record(fields: Fields, kind: &LexemeKind) -> Result<Option<FilePhas
 }
 
 /// What comes after a field.
-fn after_field(
-    mut fields: Fields,
-    field: Field,
-    kind: &LexemeKind,
-) -> Result<Option<FilePhase>, Memory>
+fn after_field(fields: Fields, field: Field, kind: &LexemeKind) -> Result<Option<FilePhase>, Memory>
     ensures { IfOk result (λ phase. phase ≡ after_field_code fields field kind.now) }
 {
-    fields.fields.push(field)?;
+    let Fields { place, mut fields } = fields;
+    fields.push(field)?;
     match kind {
-        LexemeKind::Symbol(Symbol::Semicolon) => Ok(Some(FilePhase::FieldDue(fields))),
-        LexemeKind::Symbol(Symbol::CloseBrace) => Ok(Some(FilePhase::RecordRead(fields))),
+        LexemeKind::Symbol(Symbol::Semicolon) => Ok(Some(FilePhase::FieldDue(Fields {
+            place,
+            fields,
+        }))),
+        LexemeKind::Symbol(Symbol::CloseBrace) => Ok(Some(FilePhase::RecordRead(Fields {
+            place,
+            fields,
+        }))),
         _ => Ok(None),
     }
 }
