@@ -16,12 +16,7 @@ IsCutAt start text cut = (start < cut.end) × (cut.end ≤ length text) × (cut.
 abbrev pub GoesOn : List Lexeme → ℕ → ℕ → Type 0
 GoesOn lexemes at next = (at < next) × (next ≤ length lexemes)
 
--- an item was read, at most so deep
-abbrev pub IsItemWithin : ℕ → List Lexeme → ℕ → Read → Type 0
-IsItemWithin deepest lexemes at read =
-    (at < read.next) × (read.next ≤ length lexemes) × (read.depth ≤ deepest)
-
--- a type was read; only a tag alone has no depth
+-- a type was read, at most so deep
 abbrev pub IsReadWithin : ℕ → List Lexeme → ℕ → Read → Type 0
 IsReadWithin deepest lexemes at read =
     (at < read.next) × (read.next ≤ length lexemes) × (0 < read.depth) × (read.depth ≤ deepest)
