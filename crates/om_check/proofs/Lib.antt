@@ -10,5 +10,4 @@ pub mod TestLemmas
 pub mod DecideLemmas
 pub mod ExploredLemmas
 pub mod RowsLemmas
-pub mod MadeLemmas
 pub mod ScannedLemmas

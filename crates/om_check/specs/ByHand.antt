@@ -1,28 +1,11 @@
--- Tables whose types are unequal: each number is its own class.
-use Rattle.std.specs.Prelude.{ℕ, ◌≡◌, ◌<◌, Bool, true, ◌&&◌, nat_lt, List, [], ◌∷◌, length}
-use Rattle.std.specs.Prelude.{pos, replicate, false, true}
+-- By hand: what the bound on the steps of a check comes to for a list of items.
+use Rattle.std.specs.Prelude.{◌≡◌, List, [], ◌∷◌, pos, replicate, false, true}
 use Rattle.om_model.specs.declared.value.Val.TheVariants as vals
 use Rattle.om_model.specs.declared.value.Obj.{Obj}
 use Rattle.om_model.specs.declared.value.Obj.TheVariants as objects
-use Rattle.om_types.specs.declared.shape.ShapeOf.{ShapeOf}
 use Rattle.om_types.specs.declared.shape.ShapeOf.TheVariants as shapes
-use Rattle.om_types.specs.Reached.{named_in}
 use Rattle.om_types.specs.Steps.{most_steps}
 use Rattle.om_types.specs.Table.{Table}
-
-abbrev pub all_below : ℕ → List ℕ → Bool
-all_below n [] = true
-all_below n (i ∷ is) = nat_lt i n && all_below n is
-
-abbrev pub all_name_below : ℕ → List (ShapeOf ℕ) → Bool
-all_name_below n [] = true
-all_name_below n (node ∷ nodes) = all_below n (named_in node) && all_name_below n nodes
-
--- there are some, and they name one another
-abbrev pub IsTable : List (ShapeOf ℕ) → Type 0
-IsTable nodes = (0 < length nodes) × (all_name_below (length nodes) nodes ≡ true)
-
--- ---- a list of items
 
 -- item list, where type item = Nil | Num of int | Text of string | Pair of item * item | Cell of item ref
 abbrev pub item_table : Table

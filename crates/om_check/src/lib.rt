@@ -7,8 +7,6 @@ mod laws;
 mod path;
 mod rest;
 mod search;
-#[cfg(test)]
-mod tests;
 mod trail;
 mod typing;
 mod verdict;

@@ -65,10 +65,10 @@ fn push_content(alloc: Global, text: &mut String, heap: &Heap, o: u64) -> Result
     Ok(())
 }
 
-// The bytes taken, the root, and the objects in their order.
-fn value_text(alloc: Global, value: &Value, taken: usize) -> Result<String, AllocError> {
+/// The root, and the objects in their order.
+pub fn value_text(alloc: Global, value: &Value) -> Result<String, AllocError> {
     let root = value.root;
-    let mut text = format!(in alloc; "{taken} {root:?}")?;
+    let mut text = format!(in alloc; "{root:?}")?;
     for o in 0..value.heap.count() {
         let kind = value.heap.kind(o);
         text.push_str(format!(in alloc; "; {kind:?}")?.as_str())?;
@@ -83,7 +83,10 @@ pub fn read_text(
     answer: &Result<Option<Read>, ReadRefusal>,
 ) -> Result<String, AllocError> {
     match answer {
-        Ok(Some(read)) => value_text(alloc, &read.value, read.taken),
+        Ok(Some(read)) => {
+            let text = value_text(alloc, &read.value)?;
+            format!(in alloc; "{} {text}", read.taken)
+        }
         Ok(None) => String::from_str(alloc, "Cut"),
         Err(refusal) => format!(in alloc; "{refusal:?}"),
     }

@@ -2,14 +2,15 @@
 //! `stream NAME at TYPE` asks what `run` says of a stream of the folder that OCaml wrote (`make.sh`), `value NAME at TYPE` of
 //! one with declarations of its own, `prefixes LIMIT BYTES` what becomes of each prefix of some bytes, `again NAME` what is
 //! written of the values of such a stream, `decls TEXT` what becomes of declarations, `type TYPE over TEXT` of a type over
-//! them, `table TYPE over TEXT` the table of the types that it reaches, and `run`, with what a run is given between tabs, how
-//! it ends (`runs.rt`).
+//! them, `table TYPE over TEXT` the table of the types that it reaches, `steps BYTES at TYPE over TEXT` in how many steps a
+//! value is checked (`steps.rt`), and `run`, with what a run is given between tabs, how it ends (`runs.rt`).
 #![tactic(auto)]
 
 mod again;
 mod compare;
 mod prefixes;
 mod runs;
+mod steps;
 mod streams;
 mod tables;
 mod texts;
@@ -18,22 +19,41 @@ mod values;
 use std::io;
 use std::io::ErrorKind;
 
+// Prints what is answered to a question of a kind that has no plain program of texts.
+fn put_answer(rt: &HostRuntime, kind: &str, rest: &str) -> io::Result<()> {
+    match kind {
+        "stream" => streams::answer(rt, rest),
+        "value" => values::answer(rt, rest),
+        "again" => again::answer(rt, rest),
+        "prefixes" => prefixes::answer(rt, rest),
+        "table" => tables::answer(rt, rest),
+        "steps" => steps::answer(rt, rest),
+        "run" => runs::answer(rt, rest),
+        _ => Err(ErrorKind::InvalidInput.into()),
+    }
+}
+
+// Prints what is answered to a question, and tells the number of texts that the plain program answers alike.
+fn answer(rt: &HostRuntime, question: &str) -> io::Result<u64> {
+    let Some((kind, rest)) = question.split_once(' ') else {
+        return Err(ErrorKind::InvalidInput.into());
+    };
+    match kind {
+        "decls" => texts::answer(rt, rest),
+        "type" => texts::answer_type(rt, rest),
+        _ => {
+            put_answer(rt, kind, rest)?;
+            Ok(0)
+        }
+    }
+}
+
 fn main(rt: HostRuntime) -> io::Result<()> {
     let mut agreed: u64 = 0;
     for line in rt.stdin().lines(rt.alloc()) {
         let question = line?;
         println!(rt; "{question}")?;
-        match question.as_str().split_once(' ') {
-            Some(("stream", rest)) => streams::answer(&rt, rest)?,
-            Some(("value", rest)) => values::answer(&rt, rest)?,
-            Some(("again", rest)) => again::answer(&rt, rest)?,
-            Some(("prefixes", rest)) => prefixes::answer(&rt, rest)?,
-            Some(("decls", rest)) => agreed = agreed.saturating_add(texts::answer(&rt, rest)?),
-            Some(("type", rest)) => agreed = agreed.saturating_add(texts::answer_type(&rt, rest)?),
-            Some(("table", rest)) => tables::answer(&rt, rest)?,
-            Some(("run", rest)) => runs::answer(&rt, rest)?,
-            _ => return Err(ErrorKind::InvalidInput.into()),
-        }
+        agreed = agreed.saturating_add(answer(&rt, question.as_str())?);
     }
     println!(rt; "{agreed} texts: the plain program agrees")
 }

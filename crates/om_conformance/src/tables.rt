@@ -30,8 +30,8 @@ fn first_of_class(table: &TypeTable, number: usize) -> usize {
     number
 }
 
-// Whether these are numbers below one.
-fn all_below(numbers: &[usize], many: usize) -> bool
+/// Whether these are numbers below one.
+pub fn all_below(numbers: &[usize], many: usize) -> bool
     ensures { IsTrue result → All (λ i. i < many) numbers.now }
 {
     for number in numbers {
@@ -80,8 +80,8 @@ fn lines_of(alloc: Global, table: &TypeTable) -> Result<Vec<List<u8>>, Memory> {
     Ok(found)
 }
 
-// The declarations and the type of a question that are accepted.
-fn accepted(alloc: Global, question: &str) -> Option<(List<Decl>, Ty)>
+/// The declarations and the type of a question that are accepted.
+pub fn accepted(alloc: Global, question: &str) -> Option<(List<Decl>, Ty)>
     ensures well { IfSome result (λ both. AreWellFormed both.0) }
     ensures sound { IfSome result (λ both. IsSoundType both.0 both.1) }
 {

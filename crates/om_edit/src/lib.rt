@@ -12,6 +12,3 @@ pub use laws::{edits_have_one_answer, tables_edit_alike, worked_edits_are_made};
 pub use refusal::{EditRefusal, Side};
 pub use spots::{Place, Spot};
 pub use text::refusal_text;
-
-#[cfg(test)]
-mod tests;

@@ -1,0 +1,187 @@
+//! Whether a value has a type, and in how many steps that is found: one for the root, one for each object at each class of
+//! types at which it is met, and one for each of its fields there, up to the first that does not fit.
+//!
+//! A question gives the bytes of a value in hexadecimal digits, a type and declarations, and then, each behind a tab, lines of a
+//! script. Each line edits the value, also after one that was refused, and then the value is checked anew.
+
+ghost use Rattle.std.specs.Prelude.{◌≡◌, ◌<◌, length, All, IfOk};
+ghost use Rattle.om_model.specs.Graph.{IsValue};
+ghost use Rattle.om_type_table.specs.Made.{table_of, IsLawful};
+
+use crate::compare::value_text;
+use crate::tables::{accepted, all_below};
+use om_check::{Steps, Verdict, check};
+use om_edit::{EditRefusal, apply, refusal_text};
+use om_model::path::Path;
+use om_path::read_script;
+use om_read::{Reader, Value};
+use om_type_table::TypeTable;
+use om_type_table::laws::tables_are_lawful;
+use om_typeintern::build;
+use om_types::fault::Fault;
+use std::alloc::Global;
+use std::io;
+use std::io::ErrorKind;
+
+/// So many words a value may have.
+const LIMIT: u64 = 10_000;
+
+// The table of a type.
+fn table_for(alloc: Global, question: &str) -> io::Result<TypeTable>
+    ensures { IfOk result (λ table. IsLawful (table_of table)) }
+{
+    tables_are_lawful();
+    let Some((decls, ty)) = accepted(alloc, question) else {
+        return Err(ErrorKind::InvalidInput.into());
+    };
+    match build(alloc, decls.as_slice(), &ty) {
+        Ok(table) => Ok(table),
+        Err(_) => Err(ErrorKind::OutOfMemory.into()),
+    }
+}
+
+// The value of the bytes that digits stand for.
+fn value_of(alloc: Global, digits: &str) -> io::Result<Value>
+    ensures { IfOk result (λ value. IsValue (length value.heap) value.root) }
+{
+    let Ok(bytes) = hex::decode(alloc, digits) else {
+        return Err(ErrorKind::InvalidInput.into());
+    };
+    let mut reader = Reader::new(alloc, LIMIT);
+    let Ok(fed) = reader.feed(bytes.as_slice()) else {
+        return Err(ErrorKind::InvalidInput.into());
+    };
+    if !fed.done {
+        return Err(ErrorKind::UnexpectedEof.into());
+    }
+    Ok(reader.finish())
+}
+
+fn put_path(rt: &HostRuntime, path: &Path) -> io::Result<()> {
+    let Ok(text) = path.text(rt.alloc()) else {
+        return Err(ErrorKind::OutOfMemory.into());
+    };
+    rt.stdout().write_all(text.as_slice())
+}
+
+fn put_fault(rt: &HostRuntime, fault: &Fault) -> io::Result<()> {
+    print!(rt; "no ")?;
+    match fault {
+        Fault::Misfit(path) => put_path(rt, path),
+        Fault::Clash(first, second) => {
+            put_path(rt, first)?;
+            print!(rt; " and ")?;
+            put_path(rt, second)
+        }
+    }
+}
+
+fn put_told(rt: &HostRuntime, verdict: &Verdict) -> io::Result<()> {
+    match verdict {
+        Verdict::Yes(_) => print!(rt; "yes"),
+        Verdict::No(fault) => put_fault(rt, fault),
+    }
+}
+
+// Prints whether the value has the type, and in how many steps that is found.
+fn put_verdict(rt: &HostRuntime, value: &Value, table: &TypeTable) -> io::Result<()>
+    requires value { IsValue (length value.now.heap) value.now.root }
+    requires lawful { IsLawful (table_of table.now) }
+{
+    let mut steps = Steps::new();
+    let Ok(verdict) = check(rt.alloc(), &value.heap, value.root, table, &mut steps) else {
+        return Err(ErrorKind::OutOfMemory.into());
+    };
+    put_told(rt, &verdict)?;
+    println!(rt; ", steps: {}", steps.taken())
+}
+
+fn put_refusal(rt: &HostRuntime, table: &TypeTable, refusal: &EditRefusal) -> io::Result<()> {
+    if !all_below(table.stored.as_slice(), table.store.len()) {
+        return Err(ErrorKind::InvalidInput.into());
+    }
+    let Ok(text) = refusal_text(rt.alloc(), table, refusal) else {
+        return Err(ErrorKind::OutOfMemory.into());
+    };
+    rt.stdout().write_all(text.as_slice())
+}
+
+// Edits the value by a line, and prints what is answered to it.
+fn put_edit(rt: &HostRuntime, value: &mut Value, table: &TypeTable, line: &str) -> io::Result<()>
+    requires value { IsValue (length value.old.heap) value.old.root }
+    requires lawful { IsLawful (table_of table.now) }
+    ensures { IsValue (length value.new.heap) value.new.root }
+{
+    if table.names.len() != table.nodes.len() {
+        return Err(ErrorKind::InvalidInput.into());
+    }
+    let alloc = rt.alloc();
+    let Ok(script) = read_script(alloc, line.as_bytes()) else {
+        return Err(ErrorKind::InvalidInput.into());
+    };
+    let [line] = script.lines.as_slice() else {
+        return Err(ErrorKind::InvalidInput.into());
+    };
+    match apply(alloc, &mut value.heap, &mut value.root, table, &line.edit) {
+        Ok(()) => print!(rt; "made"),
+        Err(refusal) => put_refusal(rt, table, &refusal),
+    }
+}
+
+// Prints what an edit is answered, the value after it, and what a check of it says.
+fn answer_edit(rt: &HostRuntime, value: &mut Value, table: &TypeTable, line: &str) -> io::Result<()>
+    requires value { IsValue (length value.old.heap) value.old.root }
+    requires lawful { IsLawful (table_of table.now) }
+    ensures { IsValue (length value.new.heap) value.new.root }
+{
+    put_edit(rt, value, table, line)?;
+    let text = value_text(rt.alloc(), value)?;
+    println!(rt; ": {text}")?;
+    put_verdict(rt, value, table)
+}
+
+// Prints what becomes of the value by each line, which are parted by tabs.
+fn answer_edits(
+    rt: &HostRuntime,
+    value: &mut Value,
+    table: &TypeTable,
+    lines: &str,
+) -> io::Result<()>
+    requires value { IsValue (length value.old.heap) value.old.root }
+    requires lawful { IsLawful (table_of table.now) }
+{
+    for line in lines.split('\t') {
+        answer_edit(rt, value, table, line)?;
+    }
+    Ok(())
+}
+
+// Prints what a check says of the value of these digits, and what becomes of it by lines, if there are some.
+fn answer_over(
+    rt: &HostRuntime,
+    digits: &str,
+    table: &TypeTable,
+    lines: Option<&str>,
+) -> io::Result<()>
+    requires lawful { IsLawful (table_of table.now) }
+{
+    let mut value = value_of(rt.alloc(), digits)?;
+    put_verdict(rt, &value, table)?;
+    match lines {
+        Some(lines) => answer_edits(rt, &mut value, table, lines),
+        None => Ok(()),
+    }
+}
+
+/// Prints what a check says of the value of `BYTES at TYPE over TEXT`, and what becomes of it by the lines behind that.
+pub fn answer(rt: &HostRuntime, question: &str) -> io::Result<()> {
+    let (first, lines) = match question.split_once('\t') {
+        Some((first, lines)) => (first, Some(lines)),
+        None => (question, None),
+    };
+    let Some((digits, typed)) = first.split_once(" at ") else {
+        return Err(ErrorKind::InvalidInput.into());
+    };
+    let table = table_for(rt.alloc(), typed)?;
+    answer_over(rt, digits, &table, lines)
+}
