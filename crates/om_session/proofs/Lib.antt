@@ -25,3 +25,5 @@ pub mod FrontLemmas
 pub mod PaceLemmas
 pub mod PromiseLemmas
 pub mod CauseLemmas
+pub mod HaltLemmas
+pub mod SaidLemmas

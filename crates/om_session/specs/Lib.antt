@@ -12,3 +12,6 @@ pub mod Telling
 pub mod Types
 pub mod Values
 pub mod StreamLaws
+pub mod Asked
+pub mod Halts
+pub mod SaidOfValue

@@ -1,11 +1,13 @@
 //! The top call.
 
-ghost use Rattle.std.specs.Prelude.{List, ℕ};
+ghost use Rattle.std.specs.Prelude.{◌≡◌, List, ℕ};
 ghost use Rattle.om_outcome.specs.Outcome.{Asks, get as get_of, edit as edit_of};
-ghost use Rattle.om_edge.specs.State.{FilesState, change};
+ghost use Rattle.om_edge.specs.State.{FilesState, Change, change};
 ghost use Rattle.om_session.specs.Call.{call};
 ghost use Rattle.om_session.specs.Copied.{LeavesCanonical};
+ghost use Rattle.om_session.specs.Asked.{AsksToSay, AsksForLines};
 ghost use Rattle.om_session.specs.Ends.{TakesValues};
+ghost use Rattle.om_session.specs.Halts.{ReportsHalt, ending_status};
 ghost use Rattle.om_session.specs.Language.{declared_types};
 ghost use Rattle.om_session.specs.Run.{Account, Promises};
 ghost use Rattle.om_session.specs.Telling.{AsksToTell, AsksToEdit};
@@ -13,6 +15,7 @@ ghost use Rattle.om_session.specs.Types.{IsReady};
 ghost use Rattle.om_session.specs.Values.{IsReadyWork};
 ghost use Rattle.om_session.specs.Verdict.{saying_of};
 ghost use Rattle.om_command_line.specs.Requests.{texts, request_of};
+ghost use Rattle.om_stops.specs.Stops.{stop_of, Reports};
 
 use crate::edit::Edits;
 use crate::types::{Requested, find_script, find_type, path_stop};
@@ -25,10 +28,34 @@ use om_edge::{Opener, Sink, Source};
 use om_edit::edits_have_one_answer;
 use om_format::laws::one_judgement;
 use om_outcome::status::Status;
-use om_path::{one_answer as one_path, one_script_answer, read_path};
+use om_path::{Script, one_answer as one_path, one_script_answer, read_path};
 use om_stops::stop::{Halt, Stop, report_stop};
 use om_table::type_or_fault;
 use std::alloc::Global;
+
+// Puts the line of a stop on err, and answers the status.
+fn report<E: Sink>(alloc: Global, err: &mut E, stop: Stop<'_>) -> Status
+    ensures { Reports (stop_of stop.entry) (change (E.state err.old) (E.state err.new)) result }
+{
+    report_stop(alloc, err, &stop)
+}
+
+// Puts the line of a stop on err; where out failed, nothing is put.
+fn report_halt<E: Sink>(alloc: Global, err: &mut E, halt: Halt) -> Status
+    ensures { ReportsHalt halt (change (E.state err.old) (E.state err.new)) result }
+{
+    match halt {
+        Halt::Stop(stop) => report(alloc, err, stop),
+        Halt::WriteFault => Status::WriteFault,
+    }
+}
+
+// The status of values that were told of to their end.
+fn status_of_all(well: bool) -> Status
+    ensures { result ≡ ending_status well }
+{
+    if well { Status::Well } else { Status::No }
+}
 
 // Does the work with the values of the input.
 fn take_values<S: Source, K: Sink, E: Sink>(
@@ -42,11 +69,28 @@ fn take_values<S: Source, K: Sink, E: Sink>(
     ensures { TakesValues work.entry (change (S.state input.old) (S.state input.new)) (change (K.state out.old) (K.state out.new)) (change (E.state err.old) (E.state err.new)) result }
 {
     match put_values(alloc, work, input, out) {
-        Ok(true) => Status::Well,
-        Ok(false) => Status::No,
-        Err(Halt::Stop(stop)) => report_stop(alloc, err, &stop),
-        Err(Halt::WriteFault) => Status::WriteFault,
+        Ok(well) => status_of_all(well),
+        Err(halt) => report_halt(alloc, err, halt),
     }
+}
+
+// Tells something of the values, at the type that a FILE and a TYPE gave.
+fn tell_over<S: Source, K: Sink, E: Sink>(
+    alloc: Global,
+    requested: Requested,
+    saying: Saying<'_>,
+    limit: u64,
+    input: &mut S,
+    out: &mut K,
+    err: &mut E,
+) -> Status
+    requires { IsReady requested }
+    ensures { (words : List (List ℕ)) (files : Change FilesState) → AsksToSay words requested (saying_of saying.entry) limit files → Account declared_types words
+        (call (change (S.state input.old) (S.state input.new)) files
+        (change (K.state out.old) (K.state out.new)) (change (E.state err.old) (E.state err.new)) result) }
+{
+    let work = Work::Say(Speech::Tell(&requested, saying), limit);
+    take_values(alloc, work, input, out, err)
 }
 
 // Tells something of the values, at a FILE and a TYPE.
@@ -66,11 +110,8 @@ fn tell<S: Source, O: Opener, K: Sink, E: Sink>(
         (change (K.state out.old) (K.state out.new)) (change (E.state err.old) (E.state err.new)) result) }
 {
     match find_type(alloc, files, file, type_text) {
-        Ok(requested) => {
-            let work = Work::Say(Speech::Tell(&requested, saying), limit);
-            take_values(alloc, work, input, out, err)
-        }
-        Err(stop) => report_stop(alloc, err, &stop),
+        Ok(requested) => tell_over(alloc, requested, saying, limit, input, out, err),
+        Err(stop) => report(alloc, err, stop),
     }
 }
 
@@ -97,8 +138,32 @@ fn get<S: Source, O: Opener, K: Sink, E: Sink>(
                 alloc, file, type_text, saying, limit, input, files, out, err,
             )
         }
-        Err(fault) => report_stop(alloc, err, &path_stop(fault)),
+        Err(fault) => report(alloc, err, path_stop(fault)),
     }
+}
+
+// Edits the values by the lines that a SCRIPT gave.
+fn edit_with<S: Source, K: Sink, E: Sink>(
+    alloc: Global,
+    requested: &Requested,
+    script: Script,
+    compat: bool,
+    limit: u64,
+    input: &mut S,
+    out: &mut K,
+    err: &mut E,
+) -> Status
+    requires { IsReady requested.now }
+    ensures { (words : List (List ℕ)) (before after : FilesState) → AsksForLines words requested.now script compat limit (change before after) → Account declared_types words
+        (call (change (S.state input.old) (S.state input.new)) (change before after)
+        (change (K.state out.old) (K.state out.new)) (change (E.state err.old) (E.state err.new)) result) }
+{
+    let edits = Edits {
+        requested,
+        script: &script,
+        compat,
+    };
+    take_values(alloc, Work::Edit(edits, limit), input, out, err)
 }
 
 // Reads SCRIPT, and edits the values.
@@ -119,16 +184,31 @@ fn edit_by<S: Source, O: Opener, K: Sink, E: Sink>(
         (change (K.state out.old) (K.state out.new)) (change (E.state err.old) (E.state err.new)) result) }
 {
     match find_script(alloc, files, script) {
-        Ok(script) => {
-            let edits = Edits {
-                requested,
-                script: &script,
-                compat,
-            };
-            take_values(alloc, Work::Edit(edits, limit), input, out, err)
-        }
-        Err(stop) => report_stop(alloc, err, &stop),
+        Ok(script) => edit_with(alloc, requested, script, compat, limit, input, out, err),
+        Err(stop) => report(alloc, err, stop),
     }
+}
+
+// Reads SCRIPT, and edits the values at the type that a FILE and a TYPE gave.
+fn edit_over<S: Source, O: Opener, K: Sink, E: Sink>(
+    alloc: Global,
+    requested: Requested,
+    script: &str,
+    compat: bool,
+    limit: u64,
+    input: &mut S,
+    files: &mut O,
+    out: &mut K,
+    err: &mut E,
+) -> Status
+    requires { IsReady requested }
+    ensures { (words : List (List ℕ)) (before : FilesState) → AsksToEdit words requested script.now compat limit (change before (O.state files.old)) → Account declared_types words
+        (call (change (S.state input.old) (S.state input.new)) (change before (O.state files.new))
+        (change (K.state out.old) (K.state out.new)) (change (E.state err.old) (E.state err.new)) result) }
+{
+    edit_by(
+        alloc, &requested, script, compat, limit, input, files, out, err,
+    )
 }
 
 // `edit`: reads FILE and TYPE, and then SCRIPT.
@@ -149,10 +229,10 @@ fn edit<S: Source, O: Opener, K: Sink, E: Sink>(
         (change (K.state out.old) (K.state out.new)) (change (E.state err.old) (E.state err.new)) result) }
 {
     match find_type(alloc, files, file, type_text) {
-        Ok(requested) => edit_by(
-            alloc, &requested, script, compat, limit, input, files, out, err,
+        Ok(requested) => edit_over(
+            alloc, requested, script, compat, limit, input, files, out, err,
         ),
-        Err(stop) => report_stop(alloc, err, &stop),
+        Err(stop) => report(alloc, err, stop),
     }
 }
 
@@ -243,8 +323,8 @@ fn run_command<S: Source, O: Opener, K: Sink, E: Sink>(
 {
     match read_words(alloc, words) {
         Ok(request) => run_request(alloc, request, input, files, out, err),
-        Err(Unread::Usage) => report_stop(alloc, err, &Stop::Usage),
-        Err(Unread::Memory) => report_stop(alloc, err, &Stop::Memory),
+        Err(Unread::Usage) => report(alloc, err, Stop::Usage),
+        Err(Unread::Memory) => report(alloc, err, Stop::Memory),
     }
 }
 

@@ -1,22 +1,27 @@
 //! The values of the input, one by one, as their bytes come.
 
-ghost use Rattle.std.specs.Prelude.{◌≡◌, ◌<◌, ◌≤◌, ◌+◌, ◌^◌, ◌++◌, ◌∷◌, ℕ, List, [], length, IfOk, OnOk, MatchBool};
+ghost use Rattle.std.specs.Prelude.{◌≡◌, ◌<◌, ◌≤◌, ◌+◌, ◌^◌, ◌++◌, ◌∷◌, ℕ, List, [], length, OnOk, MatchBool};
 ghost use Rattle.om_model.specs.Bytes.{AreBytes};
+ghost use Rattle.om_model.specs.Graph.{IsValue};
 ghost use Rattle.om_format.specs.Tree.{Tree};
 ghost use Rattle.om_outcome.specs.Outcome.{Said, comparison};
 ghost use Rattle.om_edge.specs.State.{change};
 ghost use Rattle.om_session.specs.declared.values.Work.{Work as AnyWork};
 ghost use Rattle.om_session.specs.declared.values.Work.TheVariants as works;
+ghost use Rattle.om_session.specs.Verdict.{IsReadySpeech};
+ghost use Rattle.om_session.specs.SaidOfValue.{PutsSaid};
 ghost use Rattle.om_session.specs.Values.{IsReadyWork, IsStopOf, AreValues, IsFull, MayTake, HasRead, IsValueRead, KeepsNext, PutsNext, ReadsSome, ReadsPiece, Compares, EndsScript, EndsAt, PutsValues, word_limit};
 
 use crate::edit::{Edits, edit_value, line_past};
 use crate::gather::LENGTH_LIMIT;
 use crate::verdict::{Speech, line_of};
 use om_edge::{Sink, Source, put_all};
+use om_heap::Heap;
 use om_iso::same;
 use om_model::Memory;
 use om_model::bytes::skip;
 use om_model::refusal::ReadRefusal;
+use om_model::value::Val;
 use om_read::{Reader, Truncated, Value};
 use om_stops::stop::{Halt, Stop};
 use std::alloc::Global;
@@ -61,6 +66,23 @@ fn keep(kept: &mut Vec<Value>, value: Value) -> Result<(), Memory>
     ensures { OnOk result (kept.new.items ≡ kept.old.items ++ value ∷ []) }
 {
     Ok(kept.push(value)?)
+}
+
+/// Puts what is said of a value, and answers whether nothing is wrong with it.
+fn put_said<K: Sink>(
+    alloc: Global,
+    heap: &Heap,
+    root: Val,
+    speech: Speech<'_>,
+    out: &mut K,
+) -> Result<bool, Halt>
+    requires value { IsValue (length heap.now) root }
+    requires ready { IsReadySpeech speech }
+    ensures { PutsSaid speech.entry heap.now root (change (K.state out.old) (K.state out.new)) result }
+{
+    let line = line_of(alloc, heap, root, speech)?;
+    put_all(out, line.text.as_slice())?;
+    Ok(line.well)
 }
 
 /// The line on two values.
@@ -133,10 +155,9 @@ impl Values {
     {
         let reader = mem::replace(&mut self.reader, Reader::new(alloc, limit));
         let value = reader.finish();
-        let line = line_of(alloc, &value.heap, value.root, speech)?;
-        put_all(out, line.text.as_slice())?;
+        let well = put_said(alloc, &value.heap, value.root, speech, out)?;
         self.reader = Reader::over(alloc, limit, value.heap);
-        self.well &= line.well;
+        self.well &= well;
         self.count += 1;
         Ok(())
     }
@@ -262,18 +283,18 @@ impl Values {
     }
 }
 
-/// Takes the input piece by piece, and says what is to be said of each value before it asks for the next piece. The answer
-/// at the input's end is whether nothing is wrong with any value.
-pub fn put_values<S: Source, K: Sink>(
+/// Takes the input piece by piece, from no value on, and says what is to be said of each value before it asks for the next
+/// piece. The answer at the input's end is whether nothing is wrong with any value.
+fn put_pieces<S: Source, K: Sink>(
     alloc: Global,
     work: Work<'_>,
+    values: &mut Values,
     input: &mut S,
     out: &mut K,
 ) -> Result<bool, Halt>
-    requires { IsReadyWork work }
+    requires { HasRead work [] [] values.old }
     ensures { PutsValues work.entry (change (S.state input.old) (S.state input.new)) (change (K.state out.old) (K.state out.new)) result }
 {
-    let mut values = Values::new(alloc, work.limit());
     let mut buffer = [0; PIECE];
     let mut taken = 0;
     while taken < LENGTH_LIMIT {
@@ -287,4 +308,18 @@ pub fn put_values<S: Source, K: Sink>(
         taken += n;
     }
     Err(Halt::Stop(Stop::TooLong))
+}
+
+/// The same, with the values made here.
+pub fn put_values<S: Source, K: Sink>(
+    alloc: Global,
+    work: Work<'_>,
+    input: &mut S,
+    out: &mut K,
+) -> Result<bool, Halt>
+    requires { IsReadyWork work }
+    ensures { PutsValues work.entry (change (S.state input.old) (S.state input.new)) (change (K.state out.old) (K.state out.new)) result }
+{
+    let mut values = Values::new(alloc, work.limit());
+    put_pieces(alloc, work, &mut values, input, out)
 }

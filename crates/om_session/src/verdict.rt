@@ -89,8 +89,25 @@ fn told_line(
     ensures { IfOk result (λ line. IsSaidOf (speeches.Tell requested.entry saying.entry) heap.now root line.text line.well) }
 {
     let verdict = find_verdict(alloc, heap, root, requested)?;
+    line_by(alloc, heap, root, requested, saying, &verdict)
+}
+
+/// Says what comes of the verdict on a value.
+fn line_by(
+    alloc: Global,
+    heap: &Heap,
+    root: Val,
+    requested: &Requested,
+    saying: Saying<'_>,
+    verdict: &Verdict,
+) -> Result<Line, Memory>
+    requires value { IsValue (length heap.now) root }
+    requires ready { IsReady requested.now }
+    requires verdict { IsVerdictOf requested.now heap.now root verdict.now }
+    ensures { IfOk result (λ line. IsSaidOf (speeches.Tell requested.entry saying.entry) heap.now root line.text line.well) }
+{
     let mut text = Vec::new(alloc);
-    let well = put_line(&mut text, alloc, heap, root, requested, saying, &verdict)?;
+    let well = put_line(&mut text, alloc, heap, root, requested, saying, verdict)?;
     put(&mut text, b"\n")?;
     Ok(Line {
         text: List::of(text),

@@ -5,7 +5,7 @@ use Rattle.om_session.proofs.top.edit.Goals as goal
 pub returns-in-Ok : goal.returns-in-Ok
 returns-in-Ok g c = λ words asks.
     let found = c.in-Ok.ensures in
-    c.edit_by.ensures words (g.O.Opener.state c.args.files.now) (record {
+    c.edit_over.ensures words (g.O.Opener.state c.args.files.now) (record {
       file = c.args.file.now;
       type = c.args.type_text.now;
       asks = asks;
@@ -21,4 +21,4 @@ returns-in-Err g c = λ words asks.
     (change (g.O.Opener.state c.args.files.now) (g.O.Opener.state c.find_type.new.files))
     found.0 found.1 c.in-Err.stop found.2
     (g.S.Source.state c.args.input.now) (g.K.Sink.state c.args.out.now)
-    (change (g.E.Sink.state c.args.err.now) (g.E.Sink.state c.report_stop.new.err)) c.report_stop.result c.report_stop.ensures
+    (change (g.E.Sink.state c.args.err.now) (g.E.Sink.state c.report.new.err)) c.report.result c.report.ensures

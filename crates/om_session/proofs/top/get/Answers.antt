@@ -22,4 +22,4 @@ returns-in-Err g c = λ words asks.
     path_account words c.args.file.now c.args.type_text.now c.args.path_text.now c.args.limit asks c.in-Err.fault
     (subst (λ text. UnlessMemory (λ f. IsAnswer text (Err f)) c.in-Err.fault) c.as_bytes.ensures.value c.in-Err.ensures.fault) c.path_stop.result c.path_stop.ensures
     (g.S.Source.state c.args.input.now) (g.K.Sink.state c.args.out.now) (g.O.Opener.state c.args.files.now)
-    (change (g.E.Sink.state c.args.err.now) (g.E.Sink.state c.report_stop.new.err)) c.report_stop.result c.report_stop.ensures
+    (change (g.E.Sink.state c.args.err.now) (g.E.Sink.state c.report.new.err)) c.report.result c.report.ensures

@@ -8,11 +8,11 @@ returns-in-Err-Usage g c =
     usage_account (texts c.args.words.now) (rw c.in-Err-Usage.field-0-is at c.in-Err-Usage.ensures) (g.S.Source.state c.args.input.now)
     (g.K.Sink.state c.args.out.now)
     (g.O.Opener.state c.args.files.now)
-    (change (g.E.Sink.state c.args.err.now) (g.E.Sink.state c.report_stop.new.err)) c.report_stop.result c.report_stop.ensures
+    (change (g.E.Sink.state c.args.err.now) (g.E.Sink.state c.report.new.err)) c.report.result c.report.ensures
 
 pub returns-in-Err-Memory : goal.returns-in-Err-Memory
 returns-in-Err-Memory g c =
     unread_account (texts c.args.words.now) (g.S.Source.state c.args.input.now)
     (g.K.Sink.state c.args.out.now)
     (g.O.Opener.state c.args.files.now)
-    (change (g.E.Sink.state c.args.err.now) (g.E.Sink.state c.report_stop-in-Err-Memory.new.err)) c.report_stop-in-Err-Memory.result c.report_stop-in-Err-Memory.ensures
+    (change (g.E.Sink.state c.args.err.now) (g.E.Sink.state c.report-in-Err-Memory.new.err)) c.report-in-Err-Memory.result c.report-in-Err-Memory.ensures

@@ -1,34 +1,28 @@
-use Rattle.std.proofs.Common.{[], length, refl, sym, subst, arith}
-use Rattle.om_outcome.specs.Outcome.{Said}
+use Rattle.std.proofs.Common.{refl, sym, subst, arith}
+use Rattle.om_edge.specs.State.{change}
 use Rattle.om_read.specs.Reader.{Leads}
 use Rattle.om_session.specs.declared.values.Work.TheVariants.{Say}
-use Rattle.om_session.proofs.PutLemmas.{puts_nothing}
-use Rattle.om_session.proofs.ReadLemmas.{says_read, value_said, value_put, room_for_one, next_memory, next_fault}
+use Rattle.om_session.proofs.ReadLemmas.{room_for_one}
+use Rattle.om_session.proofs.SaidLemmas.{said_put, said_halts}
 use Rattle.om_session.proofs.values.Values.put_line.Goals as goal
-
-pub returns-in_err-line : goal.returns-in_err-line
-returns-in_err-line g c = λ taken said v.
-    next_memory (Say c.args.speech c.args.limit) taken said v.trees v.whole _ _ c.from_residual.result c.from_residual.ensures.1 (puts_nothing (g.K.Sink.state c.args.out.now))
-
-pub returns-in_err-put_all : goal.returns-in_err-put_all
-returns-in_err-put_all g c = λ taken said v.
-    let leads : Leads c.args.limit v.whole c.replace-reader.result = subst (λ r. Leads c.args.limit v.whole r) (sym c.replace-reader.ensures.value) v.leads in
-    let next : Said = record { text = c.as_slice.result.now; well = c.in_ok-line.line.well } in
-    let f = c.finish-value.ensures c.args.limit v.whole leads in
-    let says = says_read c.args.speech (length v.trees) c.finish-value.result f.tree next.text next.well f.is_value (rw (← c.as_slice.ensures) at c.in_ok-line.ensures) in
-    next_fault (Say c.args.speech c.args.limit) taken said v.trees v.whole _ _ c.from_residual-in_err-put_all.result c.from_residual-in_err-put_all.ensures.1 next
-    (_, [], value_said (Say c.args.speech c.args.limit) taken said c.args.self.now v f.tree f.spelled next says) c.in_err-put_all.ensures.puts
 
 pub overflow_add-self : goal.overflow_add-self
 overflow_add-self g c = let room = room_for_one (Say c.args.speech c.args.limit) c.requires.0 c.requires.1 c.args.self.now c.requires.2 c.requires.3 in omega (arith, room)
 
+pub put_said-requires-clause-value : goal.put_said-requires-clause-value
+put_said-requires-clause-value g c =
+    let v = c.requires.2 in
+    let leads : Leads c.args.limit v.whole c.replace-reader.result = subst (λ r. Leads c.args.limit v.whole r) (sym c.replace-reader.ensures.value) v.leads in
+    (c.finish-value.ensures c.args.limit v.whole leads).is_value.valid
+
+pub returns-in_err-well : goal.returns-in_err-well
+returns-in_err-well g c = λ taken said v.
+    let leads : Leads c.args.limit v.whole c.replace-reader.result = subst (λ r. Leads c.args.limit v.whole r) (sym c.replace-reader.ensures.value) v.leads in
+    said_halts c.args.speech c.args.limit taken said c.args.self.now v c.finish-value.result (c.finish-value.ensures c.args.limit v.whole leads)
+    (change (g.K.Sink.state c.args.out.now) (g.K.Sink.state c.put_said.new.out)) c.in_err-well.field-0.0 _ c.from_residual.result c.from_residual.ensures.1 c.in_err-well.ensures
+
 pub returns : goal.returns
 returns g c = λ taken said v.
     let leads : Leads c.args.limit v.whole c.replace-reader.result = subst (λ r. Leads c.args.limit v.whole r) (sym c.replace-reader.ensures.value) v.leads in
-    let next : Said = record { text = c.as_slice.result.now; well = c.in_ok-line.line.well } in
-    let f = c.finish-value.ensures c.args.limit v.whole leads in
-    let says = says_read c.args.speech (length v.trees) c.finish-value.result f.tree next.text next.well f.is_value (rw (← c.as_slice.ensures) at c.in_ok-line.ensures) in (
-      next,
-      value_put (Say c.args.speech c.args.limit) taken said c.args.self.now v f.tree f.spelled next says c.over.result c.over.ensures.leads _ refl c.args.self.now.kept tt,
-      c.in_ok-put_all.ensures.puts,
-    )
+    said_put c.args.speech c.args.limit taken said c.args.self.now v c.finish-value.result (c.finish-value.ensures c.args.limit v.whole leads)
+    (change (g.K.Sink.state c.args.out.now) (g.K.Sink.state c.put_said.new.out)) c.in_ok-well.well c.in_ok-well.ensures c.over.result c.over.ensures.leads _ refl

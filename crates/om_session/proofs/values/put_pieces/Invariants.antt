@@ -1,7 +1,7 @@
 use Rattle.std.proofs.Common.{◌-◌, ◌^◌}
 use Rattle.om_edge.specs.State.{change}
 use Rattle.om_session.proofs.LoopLemmas.{ValuesSoFar}
-use Rattle.om_session.proofs.values.put_values.Given as goal
+use Rattle.om_session.proofs.values.put_pieces.Given as goal
 
 abbrev pub invariant-loop-taken : goal.invariant-loop-taken
 invariant-loop-taken g l =

@@ -1,0 +1,13 @@
+use Rattle.std.specs.Borrow.{Bor}
+use Rattle.om_edge.specs.State.{change}
+use Rattle.om_path.specs.declared.edits.Script.{Script}
+use Rattle.om_session.proofs.AccountLemmas.{edits_account}
+use Rattle.om_session.proofs.top.edit_with.Goals as goal
+
+pub returns : goal.returns
+returns g c = λ words before after asks.
+    let lent : Bor Script = record { ref_ptr = (0, 0); now = c.args.script } in
+    edits_account words c.args.requested asks.name c.args.compat c.args.limit before asks.between after asks.asks asks.found asks.fetched lent asks.gives
+    (change (g.S.Source.state c.args.input.now) (g.S.Source.state c.take_values.new.input))
+    (change (g.K.Sink.state c.args.out.now) (g.K.Sink.state c.take_values.new.out))
+    (change (g.E.Sink.state c.args.err.now) (g.E.Sink.state c.take_values.new.err)) c.take_values.result c.take_values.ensures
