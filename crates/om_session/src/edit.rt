@@ -6,6 +6,8 @@ ghost use Rattle.om_edge.specs.State.{change};
 ghost use Rattle.om_session.specs.Edits.{ChecksType, EditsLine, EditsLines, PutsBytes, PutsEdited, IsReasonStop, IsPast};
 ghost use Rattle.om_edit.specs.Reasons.{Reason, literal_reason, reason_of};
 ghost use Rattle.om_session.specs.Types.{IsReady};
+ghost use Rattle.om_session.specs.Verdict.{IsVerdictOf};
+ghost use Rattle.om_check.specs.declared.verdict.Verdict.TheVariants.{No};
 
 use crate::types::Requested;
 use crate::verdict::{find_verdict, put_no};
@@ -22,6 +24,7 @@ use om_read::Value;
 use om_stops::stop::{Halt, Stop};
 use om_table::tables_decide;
 use om_type_table::laws::tables_are_lawful;
+use om_types::fault::Fault;
 use om_write::{Write32Error, write, write32};
 use std::alloc::Global;
 
@@ -68,15 +71,48 @@ fn check_type(
     requires ready { IsReady requested.now }
     ensures { ChecksType requested.now number heap.now root result }
 {
+    let verdict = find_verdict(alloc, heap, root, requested)?;
+    check_verdict(alloc, heap, root, number, requested, &verdict)
+}
+
+/// Tests that the verdict on the value is that it has the type.
+fn check_verdict(
+    alloc: Global,
+    heap: &Heap,
+    root: Val,
+    number: u64,
+    requested: &Requested,
+    verdict: &Verdict,
+) -> Result<(), Halt>
+    requires value { IsValue (length heap.now) root }
+    requires ready { IsReady requested.now }
+    requires verdict { IsVerdictOf requested.now heap.now root verdict.now }
+    ensures { ChecksType requested.now number heap.now root result }
+{
     tables_decide();
-    match find_verdict(alloc, heap, root, requested)? {
+    match verdict {
         Verdict::Yes(_) => Ok(()),
-        Verdict::No(fault) => {
-            let mut text = Vec::new(alloc);
-            put_no(&mut text, alloc, heap, root, requested, &fault)?;
-            Err(Halt::Stop(Stop::Untyped(number, List::of(text))))
-        }
+        Verdict::No(fault) => refuse_value(alloc, heap, root, number, requested, fault),
     }
+}
+
+/// Stops the run at a value that has not the type, by its least fault.
+fn refuse_value(
+    alloc: Global,
+    heap: &Heap,
+    root: Val,
+    number: u64,
+    requested: &Requested,
+    fault: &Fault,
+) -> Result<(), Halt>
+    requires value { IsValue (length heap.now) root }
+    requires ready { IsReady requested.now }
+    requires least { IsVerdictOf requested.now heap.now root (No fault.now) }
+    ensures { ChecksType requested.now number heap.now root result }
+{
+    let mut text = Vec::new(alloc);
+    put_no(&mut text, alloc, heap, root, requested, fault)?;
+    Err(Halt::Stop(Stop::Untyped(number, List::of(text))))
 }
 
 /// Edits the value of this number by its lines among these, in their order.
