@@ -8,7 +8,7 @@ use Rattle.om_stops.specs.declared.stop.Stop as codes
 use Rattle.om_path.specs.Answer.{IsAnswer, UnlessMemory}
 use Rattle.om_path.specs.declared.edits.Script.{Script}
 use Rattle.om_path.specs.declared.fault.PathFault.{PathFault}
-use Rattle.om_session.specs.Call.{call}
+use Rattle.om_promises.specs.Call.{call}
 use Rattle.om_session.specs.declared.types.Requested.{Requested}
 use Rattle.om_session.specs.declared.values.Work.{Work}
 use Rattle.om_session.specs.declared.values.Work.TheVariants as works
@@ -16,18 +16,18 @@ use Rattle.om_session.specs.declared.verdict.Saying.{Saying}
 use Rattle.om_session.specs.declared.verdict.Speech.TheVariants as speeches
 use Rattle.om_session.specs.Ends.{ClosesValues, TakesValues}
 use Rattle.om_edge.specs.Files.{File, contents_of}
-use Rattle.om_session.specs.Given.{Fetched, IsFoundOf}
+use Rattle.om_promises.specs.Given.{Fetched, IsFoundOf}
 use Rattle.om_session.specs.Language.{declared_types}
-use Rattle.om_session.specs.Run.{AsksFor, AsksForScript, KeepFiles, FetchesFor, PutsLine, Completes, Breaks, Account}
+use Rattle.om_promises.specs.Run.{AsksFor, AsksForScript, KeepFiles, FetchesFor, PutsLine, Completes, Breaks, Account}
 use Rattle.om_stops.specs.Stops.{stop_of, Reports}
 use Rattle.om_session.specs.Telling.{AsksToTell, AsksToEdit}
 use Rattle.om_session.specs.Types.{type_over, IsPathStop, GivesType, GivesScript}
 use Rattle.om_session.specs.Values.{task_of}
 use Rattle.om_session.specs.Verdict.{saying_of}
-use Rattle.om_session.proofs.PutLemmas.{puts_nothing}
-use Rattle.om_session.proofs.TakeLemmas.{took_nothing}
+use Rattle.om_promises.proofs.PutLemmas.{puts_nothing}
+use Rattle.om_promises.proofs.TakeLemmas.{took_nothing}
 use Rattle.om_session.proofs.TypeLemmas.{path_refused}
-use Rattle.om_session.proofs.WordLemmas.{one_typed, one_script}
+use Rattle.om_promises.proofs.WordLemmas.{one_typed, one_script}
 
 -- ---- a stop before the values
 

@@ -11,10 +11,10 @@ use Rattle.om_stops.specs.declared.stop.Halt.TheVariants as halts
 use Rattle.om_session.specs.declared.values.Work.{Work}
 use Rattle.om_session.specs.Ends.{ClosesValues, TakesValues}
 use Rattle.om_session.specs.Language.{declared_types}
-use Rattle.om_session.specs.Run.{PutsLine}
+use Rattle.om_promises.specs.Run.{PutsLine}
 use Rattle.om_stops.specs.Stops.{stop_of, Reports}
 use Rattle.om_session.specs.Values.{EndsValues, PutsValues, task_of}
-use Rattle.om_session.proofs.PutLemmas.{puts_nothing}
+use Rattle.om_promises.proofs.PutLemmas.{puts_nothing}
 
 module _ (w : Work) (taken : Taken) (said : List Said) (out : Change ByteState) where
   -- the input ends

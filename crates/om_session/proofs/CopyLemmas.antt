@@ -14,14 +14,14 @@ use Rattle.om_outcome.specs.Outcome.{edit, Unedited, Said, nothing_said, says, R
 use Rattle.om_edge.specs.Files.{File, contents_of}
 use Rattle.om_edge.specs.Sink.{Puts}
 use Rattle.om_path.specs.declared.edits.ScriptLine.{ScriptLine}
-use Rattle.om_session.specs.Call.{Call}
+use Rattle.om_promises.specs.Call.{Call}
 use Rattle.om_session.specs.Copied.{IsCanonical, IsLeftAlone, PutsInput, LeavesCanonical}
-use Rattle.om_session.specs.Given.{TellsBytes}
+use Rattle.om_promises.specs.Given.{TellsBytes}
 use Rattle.om_session.specs.Language.{TypeOver, declared_types, bytes_for, IsBytesLine}
-use Rattle.om_session.specs.Run.{Account}
-use Rattle.om_session.proofs.CompleteLemmas.{IsLawful}
-use Rattle.om_session.proofs.DecidedLemmas.{none_at_end, one_outcome}
-use Rattle.om_session.proofs.HeadlineLemmas.{headline}
+use Rattle.om_promises.specs.Run.{Account}
+use Rattle.om_promises.proofs.CompleteLemmas.{IsLawful}
+use Rattle.om_promises.proofs.DecidedLemmas.{none_at_end, one_outcome}
+use Rattle.om_promises.proofs.HeadlineLemmas.{headline}
 
 -- what is said of a value
 abbrev said_of : Tree → Said

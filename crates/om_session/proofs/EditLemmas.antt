@@ -50,7 +50,7 @@ use Rattle.om_session.specs.Language.{declared_types, bytes_for, AreBytesOf}
 use Rattle.om_stops.specs.Stops.{stop_of, text_of_compat}
 use Rattle.om_session.specs.Types.{IsReady}
 use Rattle.om_session.specs.Values.{EndsScript}
-use Rattle.om_session.proofs.PutLemmas.{puts_nothing}
+use Rattle.om_promises.proofs.PutLemmas.{puts_nothing}
 
 -- ---- lines
 

@@ -13,15 +13,15 @@ use Rattle.om_stops.specs.declared.stop.Halt.{Halt}
 use Rattle.om_stops.specs.declared.stop.Halt.TheVariants as halts
 use Rattle.om_session.specs.declared.values.Values.{Values}
 use Rattle.om_session.specs.Language.{declared_types}
-use Rattle.om_session.specs.Run.{HoldNoStop, IsPaced}
+use Rattle.om_promises.specs.Run.{HoldNoStop, IsPaced}
 use Rattle.om_stops.specs.Stops.{stop_of}
 use Rattle.om_session.specs.Values.{StopsIn, HaltsIn, MayTake, ReadsPiece, EndsAt, EndsValues, AreSaid, work_of, task_of, word_limit}
-use Rattle.om_session.proofs.PutLemmas.{puts_then}
+use Rattle.om_promises.proofs.PutLemmas.{puts_then}
 use Rattle.om_model.specs.Bytes.{AreBytes}
 use Rattle.om_session.proofs.ReadLemmas.{none_goes_on, refused_goes_on}
-use Rattle.om_session.proofs.StreamLemmas.{spell_bytes}
-use Rattle.om_session.proofs.TakeLemmas.{taken}
-use Rattle.om_session.proofs.ValueLemmas.{first_after, texts_of-append, texts_of-one, all_well-snoc}
+use Rattle.om_promises.proofs.StreamLemmas.{spell_bytes}
+use Rattle.om_promises.proofs.TakeLemmas.{taken}
+use Rattle.om_promises.proofs.ValueLemmas.{first_after, texts_of-append, texts_of-one, all_well-snoc}
 
 -- nothing is in hand
 pub paced_whole : (w : Work) (bytes : List ℕ) (said : List Said) (until : InputEnd) → HoldNoStop declared_types (task_of w) bytes said → IsPaced declared_types (task_of w) (taken bytes until) said

@@ -12,13 +12,13 @@ use Rattle.om_stops.specs.declared.stop.Stop.TheVariants as stops
 use Rattle.om_stops.specs.declared.stop.Halt.{Halt}
 use Rattle.om_stops.specs.declared.stop.Halt.TheVariants as halts
 use Rattle.om_session.specs.declared.values.Values.{Values}
-use Rattle.om_session.specs.Given.{Gathers}
+use Rattle.om_promises.specs.Given.{Gathers}
 use Rattle.om_session.specs.Values.{HasRead, ReadsSome, ReadsPiece, EndsAt, PutsValues}
 use Rattle.om_session.proofs.EndLemmas.{paced_whole, ends_fault, ends_length, ends_input, halted}
-use Rattle.om_session.proofs.PutLemmas.{puts_then, puts_nothing}
+use Rattle.om_promises.proofs.PutLemmas.{puts_then, puts_nothing}
 use Rattle.om_session.proofs.ReadLemmas.{holds}
-use Rattle.om_session.proofs.TakeLemmas.{taken, took_nothing, took_more, took_end, took_fault, took_length}
-use Rattle.om_session.proofs.ValueLemmas.{texts_of-append}
+use Rattle.om_promises.proofs.TakeLemmas.{taken, took_nothing, took_more, took_end, took_fault, took_length}
+use Rattle.om_promises.proofs.ValueLemmas.{texts_of-append}
 
 -- ---- a piece
 

@@ -25,9 +25,9 @@ use Rattle.om_format.proofs.JudgementLaws.{one_judgement_lem}
 use Rattle.om_model.specs.Bytes.{AreBytes}
 use Rattle.om_session.specs.declared.edit.Edits.{Edits}
 use Rattle.om_session.specs.Edits.{AnswersOf, PutsEdited}
-use Rattle.om_session.proofs.HeadlineLemmas.{stops_more}
-use Rattle.om_session.proofs.StreamLemmas.{value_or_tail}
-use Rattle.om_session.proofs.LengthLemmas.{spelled_some}
+use Rattle.om_promises.proofs.HeadlineLemmas.{stops_more}
+use Rattle.om_promises.proofs.StreamLemmas.{value_or_tail}
+use Rattle.om_promises.proofs.LengthLemmas.{spelled_some}
 use Rattle.om_outcome.specs.RefusalText.{truncated_text}
 use Rattle.om_outcome.specs.Outcome as outcome
 use Rattle.om_outcome.specs.Outcome.{Said, Says, SayFirst, StopsAt, Finishes as FinishesRun, nothing_said, says, not_two_values, comparison, all_well, compares}
@@ -38,7 +38,7 @@ use Rattle.om_stops.specs.declared.stop.Halt.TheVariants as halts
 use Rattle.om_stops.specs.declared.stop.Stop.TheVariants as stops
 use Rattle.om_session.specs.Language.{declared_types}
 use Rattle.om_session.specs.Verdict.{work_by, IsSaidOf}
-use Rattle.om_session.specs.Run.{HoldNoStop}
+use Rattle.om_promises.specs.Run.{HoldNoStop}
 use Rattle.om_stops.specs.Stops.{stop_of}
 use Rattle.om_stops.specs.declared.stop.Stop.{Stop}
 use Rattle.om_format.specs.Front.{IsRefused}
@@ -47,8 +47,8 @@ use Rattle.om_read.proofs.ReadingLemmas.{unless_memory}
 use Rattle.om_session.specs.declared.values.Work.{Work}
 use Rattle.om_session.specs.declared.values.Work.TheVariants as works
 use Rattle.om_session.specs.Values.{IsStopOf, StopsIn, HaltsIn, ReadsSome, IsReadyWork, IsFull, MayTake, AreValues, IsKept, HasRead, IsValueRead, PutsNext, PutsLast, Compares, AreSaid, EndsScript, EndsAt, work_of, task_of, word_limit}
-use Rattle.om_session.proofs.PutLemmas.{puts_nothing}
-use Rattle.om_session.proofs.ValueLemmas.{not_whole, nothing_front, first_none, first_more, first_after, silent, and_true, all_well-snoc}
+use Rattle.om_promises.proofs.PutLemmas.{puts_nothing}
+use Rattle.om_promises.proofs.ValueLemmas.{not_whole, nothing_front, first_none, first_more, first_after, silent, and_true, all_well-snoc}
 
 -- where a value comes, no front of one does
 front_or_value : (limit : ℕ) (rest more : List ℕ) (tree : Tree) → AreBytes rest → IsFront limit rest → SpellAll limit rest (tree ∷ []) more → ⊥

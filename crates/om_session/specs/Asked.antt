@@ -4,7 +4,7 @@ use Rattle.om_outcome.specs.Outcome.{Found, Saying}
 use Rattle.om_edge.specs.State.{FilesState, Change, change}
 use Rattle.om_path.specs.declared.edits.Script.{Script}
 use Rattle.om_session.specs.declared.types.Requested.{Requested}
-use Rattle.om_session.specs.Given.{Fetched}
+use Rattle.om_promises.specs.Given.{Fetched}
 use Rattle.om_session.specs.Telling.{AsksToTell, AsksToEdit}
 use Rattle.om_session.specs.Types.{GivesType, GivesScript}
 

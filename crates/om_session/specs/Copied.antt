@@ -11,9 +11,9 @@ use Rattle.om_outcome.specs.declared.status.Status.TheVariants.{Well, Memory}
 use Rattle.om_outcome.specs.Outcome.{edit, Asks, ReadsTypeOf, ReadsScriptOf, fetches_of}
 use Rattle.om_edge.specs.Files.{File, contents_of}
 use Rattle.om_edge.specs.Sink.{Puts}
-use Rattle.om_session.specs.Call.{Call}
+use Rattle.om_promises.specs.Call.{Call}
 use Rattle.om_session.specs.Language.{TypeOver, declared_types}
-use Rattle.om_session.specs.Run.{IsHonest}
+use Rattle.om_promises.specs.Run.{IsHonest}
 
 -- the canonical bytes of the tree keep the limit; its value has the type, and where it is asked for a reader on 32 bits can
 -- hold it

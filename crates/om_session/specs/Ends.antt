@@ -6,9 +6,9 @@ use Rattle.om_outcome.specs.Outcome.{Taken, Reply, says, stops, out_of_memory, S
 use Rattle.om_edge.specs.Sink.{Puts}
 use Rattle.om_edge.specs.State.{ByteState, Change}
 use Rattle.om_session.specs.declared.values.Work.{Work}
-use Rattle.om_session.specs.Given.{Gathers}
+use Rattle.om_promises.specs.Given.{Gathers}
 use Rattle.om_session.specs.Language.{declared_types}
-use Rattle.om_session.specs.Run.{PutsLine, PutsPartAfter, IsPaced}
+use Rattle.om_promises.specs.Run.{PutsLine, PutsPartAfter, IsPaced}
 use Rattle.om_session.specs.Values.{task_of, AreSaid}
 
 -- after what was said the last reply follows from the bytes taken, or memory ran out, and all was put that belongs to it; or

@@ -5,7 +5,7 @@ use Rattle.om_edge.specs.State.{FilesState, Change}
 use Rattle.om_session.specs.declared.fetch.Fetch.{Fetch}
 use Rattle.om_session.specs.declared.fetch.Fetch.TheVariants.{Opened, Missing, Failed}
 use Rattle.om_session.specs.Gathered.{taken_of}
-use Rattle.om_session.specs.Given.{Fetched}
+use Rattle.om_promises.specs.Given.{Fetched}
 
 abbrev pub fetch_found : Fetch → outcome.Found
 fetch_found (Opened gathered) = outcome.opened (taken_of gathered)

@@ -6,7 +6,7 @@ use Rattle.om_edge.specs.State.{ByteState, Change}
 use Rattle.om_session.specs.declared.gather.InputEnd.{InputEnd}
 use Rattle.om_session.specs.declared.gather.InputEnd.TheVariants.{End, Fault, Length}
 use Rattle.om_session.specs.declared.gather.Gathered.{Gathered}
-use Rattle.om_session.specs.Given.{Gathers}
+use Rattle.om_promises.specs.Given.{Gathers}
 
 abbrev pub until_of : InputEnd → outcome.InputEnd
 until_of End = at_end

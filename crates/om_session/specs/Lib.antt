@@ -1,17 +1,13 @@
 pub mod Verdict
-pub mod Call
 pub mod Copied
 pub mod Edits
 pub mod Ends
 pub mod Fetch
 pub mod Gathered
-pub mod Given
 pub mod Language
-pub mod Run
 pub mod Telling
 pub mod Types
 pub mod Values
-pub mod StreamLaws
 pub mod Asked
 pub mod Halts
 pub mod SaidOfValue

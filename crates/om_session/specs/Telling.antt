@@ -5,8 +5,8 @@ use Rattle.om_path.specs.declared.edits.ScriptLine.{ScriptLine}
 use Rattle.om_session.specs.Language.{TypeOver, declared_types}
 use Rattle.om_edge.specs.State.{FilesState, Change}
 use Rattle.om_session.specs.declared.types.Requested.{Requested}
-use Rattle.om_session.specs.Given.{Fetched}
-use Rattle.om_session.specs.Run.{HasPath}
+use Rattle.om_promises.specs.Given.{Fetched}
+use Rattle.om_promises.specs.Run.{HasPath}
 use Rattle.om_session.specs.Types.{GivesType}
 
 -- PATH, if there, is a path, and what FILE and TYPE give is what is told

@@ -16,7 +16,7 @@ use Rattle.om_path.specs.declared.edits.Script.{Script}
 use Rattle.om_path.specs.declared.edits.ScriptFault.{ScriptFault}
 use Rattle.om_stops.specs.declared.stop.Stop.{Stop}
 use Rattle.om_session.specs.declared.types.Requested.{Requested}
-use Rattle.om_session.specs.Given.{Fetched}
+use Rattle.om_promises.specs.Given.{Fetched}
 use Rattle.om_session.specs.Language.{TypeOver, declared_types, ReadsDeclarations, ReadsType, script_refusal}
 use Rattle.om_stops.specs.Stops.{stop_of}
 

@@ -23,9 +23,9 @@ use Rattle.om_stops.specs.declared.stop.Halt.TheVariants as halts
 use Rattle.om_session.specs.declared.values.Values.{Values}
 use Rattle.om_session.specs.declared.values.Work.{Work}
 use Rattle.om_session.specs.declared.values.Work.TheVariants as works
-use Rattle.om_session.specs.Given.{Gathers}
+use Rattle.om_promises.specs.Given.{Gathers}
 use Rattle.om_session.specs.Language.{TypeOver, declared_types}
-use Rattle.om_session.specs.Run.{HoldNoStop, IsPaced, PutsPartAfter}
+use Rattle.om_promises.specs.Run.{HoldNoStop, IsPaced, PutsPartAfter}
 use Rattle.om_session.specs.declared.edit.Edits.{Edits}
 use Rattle.om_session.specs.Edits.{OrMemory}
 use Rattle.om_stops.specs.Stops.{stop_of}

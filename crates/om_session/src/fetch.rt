@@ -4,7 +4,7 @@ ghost use Rattle.std.specs.Prelude.{◌≡◌, MatchResult};
 ghost use Rattle.om_edge.specs.State.{as_source, change};
 ghost use Rattle.om_session.specs.Fetch.{fetch_found, FetchedSome};
 ghost use Rattle.om_session.specs.Gathered.{taken_of, GathersSome};
-ghost use Rattle.om_session.specs.Given.{Gathers, Fetched};
+ghost use Rattle.om_promises.specs.Given.{Gathers, Fetched};
 
 use crate::gather::{Gathered, InputEnd, LENGTH_LIMIT, store};
 use om_edge::{OpenError, Opener};

@@ -4,7 +4,6 @@
 mod edit;
 mod fetch;
 mod gather;
-pub mod laws;
 mod top;
 mod types;
 mod values;

@@ -3,13 +3,13 @@
 ghost use Rattle.std.specs.Prelude.{◌≡◌, List, ℕ};
 ghost use Rattle.om_outcome.specs.Outcome.{Asks, get as get_of, edit as edit_of};
 ghost use Rattle.om_edge.specs.State.{FilesState, Change, change};
-ghost use Rattle.om_session.specs.Call.{call};
+ghost use Rattle.om_promises.specs.Call.{call};
 ghost use Rattle.om_session.specs.Copied.{LeavesCanonical};
 ghost use Rattle.om_session.specs.Asked.{AsksToSay, AsksForLines};
 ghost use Rattle.om_session.specs.Ends.{TakesValues};
 ghost use Rattle.om_session.specs.Halts.{ReportsHalt, ending_status};
 ghost use Rattle.om_session.specs.Language.{declared_types};
-ghost use Rattle.om_session.specs.Run.{Account, Promises};
+ghost use Rattle.om_promises.specs.Run.{Account, Promises};
 ghost use Rattle.om_session.specs.Telling.{AsksToTell, AsksToEdit};
 ghost use Rattle.om_session.specs.Types.{IsReady};
 ghost use Rattle.om_session.specs.Values.{IsReadyWork};

@@ -1,7 +1,7 @@
 use Rattle.std.proofs.Common.{◌++◌, take, refl, arith}
 use Rattle.std.proofs.lemmas.Result.{MatchResult-from_err}
 use Rattle.om_outcome.specs.Outcome.{unasked}
-use Rattle.om_session.proofs.TakeLemmas.{taken, took_more}
+use Rattle.om_promises.proofs.TakeLemmas.{taken, took_more}
 use Rattle.om_session.proofs.fetch.gather_file.Goals as goal
 
 -- the last piece was taken too, though it could not be stored

@@ -1,8 +1,8 @@
 use Rattle.std.proofs.Common.{◌≡◌, ◌-◌, ◌^◌, vec_len}
 use Rattle.om_outcome.specs.Outcome.{unasked}
 use Rattle.om_edge.specs.State.{as_source, change}
-use Rattle.om_session.specs.Given.{Gathers}
-use Rattle.om_session.proofs.TakeLemmas.{taken}
+use Rattle.om_promises.specs.Given.{Gathers}
+use Rattle.om_promises.proofs.TakeLemmas.{taken}
 use Rattle.om_session.proofs.fetch.gather_file.Given as goal
 
 abbrev pub invariant-loop-buffer : goal.invariant-loop-buffer

@@ -1,8 +1,8 @@
 use Rattle.om_session.specs.Language.{declared_types}
-use Rattle.om_session.proofs.CompleteLemmas.{IsLawful}
+use Rattle.om_promises.proofs.CompleteLemmas.{IsLawful}
 use Rattle.om_session.proofs.CopyLemmas.{leaves_canonical}
 use Rattle.om_session.proofs.LanguageLemmas.{declared_lawful}
-use Rattle.om_session.proofs.PromiseLemmas.{promises}
+use Rattle.om_promises.proofs.PromiseLemmas.{promises}
 use Rattle.om_session.proofs.top.run.Goals as goal
 
 pub returns-clause-promises : goal.returns-clause-promises

@@ -2,10 +2,10 @@ use Rattle.std.proofs.Common.{inl, sym, subst}
 use Rattle.om_outcome.specs.Outcome.{comparison}
 use Rattle.om_edge.specs.Sink.{Puts, PutsPart}
 use Rattle.om_edge.specs.State.{change}
-use Rattle.om_session.proofs.PutLemmas.{puts_nothing}
+use Rattle.om_promises.proofs.PutLemmas.{puts_nothing}
 use Rattle.om_session.proofs.ReadLemmas.{compares_alike, compares_none, last_fault}
-use Rattle.om_session.proofs.ValueLemmas.{comparison-well}
-use Rattle.om_session.proofs.WordLemmas.{two}
+use Rattle.om_promises.proofs.ValueLemmas.{comparison-well}
+use Rattle.om_promises.proofs.WordLemmas.{two}
 use Rattle.om_session.proofs.values.compare.Goals as goal
 
 pub returns-then-kept-ne2 : goal.returns-then-kept-ne2

@@ -1,5 +1,5 @@
 use Rattle.om_edge.specs.State.{change}
-use Rattle.om_session.proofs.PutLemmas.{puts_nothing}
+use Rattle.om_promises.proofs.PutLemmas.{puts_nothing}
 use Rattle.om_session.proofs.SaidLemmas.{said_memory, said_fault}
 use Rattle.om_session.proofs.values.put_said.Goals as goal
 

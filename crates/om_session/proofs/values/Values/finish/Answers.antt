@@ -1,7 +1,7 @@
 use Rattle.std.proofs.Common.{sym, subst}
 use Rattle.om_edge.specs.State.{change}
 use Rattle.om_session.specs.Values.{AreValues, Compares, word_limit}
-use Rattle.om_session.proofs.PutLemmas.{puts_nothing}
+use Rattle.om_promises.proofs.PutLemmas.{puts_nothing}
 use Rattle.om_session.proofs.ReadLemmas.{ends_cut, ends_as_said, ends_as_edited, ends_as_compared, kept_as_values}
 use Rattle.om_session.proofs.values.Values.finish.Goals as goal
 

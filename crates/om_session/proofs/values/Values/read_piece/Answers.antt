@@ -1,5 +1,5 @@
 use Rattle.std.proofs.Common.{◌<◌, ◌^◌, ◌++◌, length, sym, subst, arith}
-use Rattle.om_session.proofs.LengthLemmas.{no_bytes}
+use Rattle.om_promises.proofs.LengthLemmas.{no_bytes}
 use Rattle.om_session.proofs.LoopLemmas.{piece_begins, piece_room, piece_more, piece_smaller, piece_halts, piece_ends}
 use Rattle.om_session.proofs.values.Values.read_piece.Goals as goal
 

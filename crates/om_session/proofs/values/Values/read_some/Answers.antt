@@ -1,8 +1,8 @@
 use Rattle.std.proofs.Common.{take, ◌++◌, [], ◌∷◌, subst, arith}
 use Rattle.om_session.specs.Values.{MayTake, IsFull, word_limit}
-use Rattle.om_session.proofs.PutLemmas.{puts_nothing}
+use Rattle.om_promises.proofs.PutLemmas.{puts_nothing}
 use Rattle.om_session.proofs.ReadLemmas.{whole_read, few_read, some_taken, front_read, some_halt, holds, stops_in, full_stops}
-use Rattle.om_session.proofs.ValueLemmas.{texts_of-one}
+use Rattle.om_promises.proofs.ValueLemmas.{texts_of-one}
 use Rattle.om_session.proofs.values.Values.read_some.Goals.{then-fed+in_ok-put_value-in-Ok, else-fed}
 use Rattle.om_session.proofs.values.Values.read_some.Goals as goal
 

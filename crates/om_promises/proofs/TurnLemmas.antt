@@ -5,13 +5,13 @@ use Rattle.om_outcome.specs.declared.status.Status.TheVariants as statuses
 use Rattle.om_format.specs.Laws.{HasOneJudgement}
 use Rattle.om_outcome.specs.Outcome.{Taken, at_length, whole, opened, Fetches, Task, Language, Prepares, fetches_of}
 use Rattle.om_edge.specs.Files.{File, contents_of}
-use Rattle.om_session.specs.Call.{Call}
-use Rattle.om_session.specs.Given.{TellsBytes}
-use Rattle.om_session.specs.Run.{Account, AsksFor, AsksForScript, IsFoundIn, IsRefusedScript, IsRefusedType, IsOutside, IsUnsaid, TellsTurn, IfMissing, IfNo, IfScript, IfTooLong}
-use Rattle.om_session.proofs.CauseLemmas.{Why, account_why, fetch_of, file_missing}
-use Rattle.om_session.proofs.CompleteLemmas.{IsLawful, for_or_badly}
-use Rattle.om_session.proofs.ExactLemmas.{IsAccepted, AcceptsFile, found_text, accepted_or_refused, script_accepts, prepared_script, prepared_turn, cause_or_outside, whole_in_map, long_in_map, file_too_long, input_too_long, if_stops_by, if_to_end}
-use Rattle.om_session.proofs.WordLemmas.{one_typed, one_script, script_asks}
+use Rattle.om_promises.specs.Call.{Call}
+use Rattle.om_promises.specs.Given.{TellsBytes}
+use Rattle.om_promises.specs.Run.{Account, AsksFor, AsksForScript, IsFoundIn, IsRefusedScript, IsRefusedType, IsOutside, IsUnsaid, TellsTurn, IfMissing, IfNo, IfScript, IfTooLong}
+use Rattle.om_promises.proofs.CauseLemmas.{Why, account_why, fetch_of, file_missing}
+use Rattle.om_promises.proofs.CompleteLemmas.{IsLawful, for_or_badly}
+use Rattle.om_promises.proofs.ExactLemmas.{IsAccepted, AcceptsFile, found_text, accepted_or_refused, script_accepts, prepared_script, prepared_turn, cause_or_outside, whole_in_map, long_in_map, file_too_long, input_too_long, if_stops_by, if_to_end}
+use Rattle.om_promises.proofs.WordLemmas.{one_typed, one_script, script_asks}
 
 -- texts that a map has are one
 one_text : (contents : Option (List ℕ)) (text other : List ℕ) → contents ≡ Some text → contents ≡ Some other → text ≡ other

@@ -2,7 +2,7 @@
 -- or none of these is there.
 use Rattle.std.proofs.Common.{◌≡◌, ◌⊎◌, ℕ, Bool, true, false, List, Some, None, Result, Ok, Err, inl, inr, refl, ap}
 use Rattle.om_outcome.specs.Outcome.{Language, Fetches, Stop, bad_path, Saying, the_verdict, the_text, the_part, Work, tells, edits, dumps, compares, Request, check, show, get, edit, dump, compare, typed_by, script_of, TellsAt, EditsBy, FindsWork}
-use Rattle.om_session.specs.Run.{HasPath, HasNoPath}
+use Rattle.om_promises.specs.Run.{HasPath, HasNoPath}
 
 module _ {D T E : Type 0} (language : Language D T E) (files : Fetches) where
   -- PATH is no path

@@ -1,7 +1,7 @@
 -- Where all is well, a run ends well.
 use Rattle.std.proofs.Common.{◌≡◌, ◌≢◌, ◌⊎◌, ℕ, suc, ◌+◌, Bool, true, List, [], ◌∷◌, ◌++◌, length, None, Result, Ok, Err, inl, inr, refl, sym, ap, ◌∙◌, subst, append_assoc, arith}
 use Rattle.std.specs.Prelude.{Some, MatchResult, ◌&&◌, if◌then◌else◌}
-use Rattle.om_session.proofs.ValueLemmas.{silent, comparison-well, all_well-snoc}
+use Rattle.om_promises.proofs.ValueLemmas.{silent, comparison-well, all_well-snoc}
 use Rattle.om_outcome.specs.declared.status.Status.{Status}
 use Rattle.om_outcome.specs.declared.status.Status.TheVariants as statuses
 use Rattle.om_model.specs.Bytes.{AreBytes}
@@ -10,11 +10,11 @@ use Rattle.om_format.specs.Tree.{Tree}
 use Rattle.om_format.specs.Stream.{End, SpellAll, IsTail}
 use Rattle.om_outcome.specs.Outcome.{whole, at_end, opened, Fetches, Stop, fault_of, stopped, Saying, the_verdict, the_text, the_part, Request, check, show, get, edit, dump, compare, Work, tells, edits, dumps, compares, Task, Language, ReadsFile, ReadsTypeOf, ReadsScriptOf, TellsAt, EditsBy, FindsWork, Prepares, Unedited, lines_for, ends_script, Said, nothing_said, says, comparison, Reply, Replies, replies, stops, all_well, ending_of, AllSay, StopsAt, ValuesReply, Finishes, Closes, limit_of, fetches_of}
 use Rattle.om_edge.specs.Files.{File, contents_of}
-use Rattle.om_session.specs.Call.{Call}
-use Rattle.om_session.specs.Given.{TellsBytes}
-use Rattle.om_session.specs.Run.{HasPath, HasNoPath, AsksFor, AsksBadly, Account, AreEdited, AreAllWell, IsAllWell, IsComplete, HasOutcome}
-use Rattle.om_session.proofs.HeadlineLemmas.{headline}
-use Rattle.om_session.proofs.StreamLemmas.{stream_once, spell_once, spell_append, spell_bytes, stream_of}
+use Rattle.om_promises.specs.Call.{Call}
+use Rattle.om_promises.specs.Given.{TellsBytes}
+use Rattle.om_promises.specs.Run.{HasPath, HasNoPath, AsksFor, AsksBadly, Account, AreEdited, AreAllWell, IsAllWell, IsComplete, HasOutcome}
+use Rattle.om_promises.proofs.HeadlineLemmas.{headline}
+use Rattle.om_promises.proofs.StreamLemmas.{stream_once, spell_once, spell_append, spell_bytes, stream_of}
 use Rattle.om_command_line.proofs.RequestLemmas.{one_request}
 
 -- some text is read as this type, over declarations that some text is read as

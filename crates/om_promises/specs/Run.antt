@@ -12,8 +12,8 @@ use Rattle.om_edge.specs.Faults.{RoseOrLast, last_count}
 use Rattle.om_edge.specs.Files.{File, contents_of}
 use Rattle.om_edge.specs.Sink.{Puts, PutsPart}
 use Rattle.om_edge.specs.State.{ByteState, FilesState, Change, change}
-use Rattle.om_session.specs.Call.{Call}
-use Rattle.om_session.specs.Given.{Gathers, Fetched}
+use Rattle.om_promises.specs.Call.{Call}
+use Rattle.om_promises.specs.Given.{Gathers, Fetched}
 
 -- ---- the words
 

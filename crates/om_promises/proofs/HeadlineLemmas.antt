@@ -11,15 +11,15 @@ use Rattle.om_outcome.specs.Outcome.{Taken, InputEnd, at_end, at_fault, at_lengt
 use Rattle.om_edge.specs.Faults.{RoseOrLast, last_count}
 use Rattle.om_edge.specs.Files.{File, contents_of}
 use Rattle.om_edge.specs.State.{ByteState, FilesState, Change, change}
-use Rattle.om_session.specs.Call.{Call}
-use Rattle.om_session.specs.Given.{TakesFrom, Gathers, Fetched, IsFoundOf, IsMeasured}
+use Rattle.om_promises.specs.Call.{Call}
+use Rattle.om_promises.specs.Given.{TakesFrom, Gathers, Fetched, IsFoundOf, IsMeasured}
 use Rattle.om_model.specs.Bytes.{AreBytes}
 use Rattle.om_format.proofs.JudgementLaws.{one_judgement_lem}
-use Rattle.om_session.specs.Given.{TellsBytes}
-use Rattle.om_session.specs.Run.{AsksForScript, FetchesFor, PutsLine, Completes, Breaks, Account, IsWellRead, IsHonest, HasOutcome, Headline}
-use Rattle.om_session.proofs.PutLemmas.{rose_after}
-use Rattle.om_session.proofs.StreamLemmas.{spell_bytes, value_or_tail}
-use Rattle.om_session.proofs.ValueLemmas.{first_after, refused_some, spell_after}
+use Rattle.om_promises.specs.Given.{TellsBytes}
+use Rattle.om_promises.specs.Run.{AsksForScript, FetchesFor, PutsLine, Completes, Breaks, Account, IsWellRead, IsHonest, HasOutcome, Headline}
+use Rattle.om_promises.proofs.PutLemmas.{rose_after}
+use Rattle.om_promises.proofs.StreamLemmas.{spell_bytes, value_or_tail}
+use Rattle.om_promises.proofs.ValueLemmas.{first_after, refused_some, spell_after}
 
 -- ---- what was taken, where it is told and there is no fault
 

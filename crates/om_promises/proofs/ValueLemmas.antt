@@ -11,7 +11,7 @@ use Rattle.om_format.proofs.JudgementLaws.{one_judgement_lem}
 use Rattle.om_format.specs.Tree.{Tree}
 use Rattle.om_format.specs.Spelled.{SpelledUnder}
 use Rattle.om_format.specs.Stream.{SpellAll}
-use Rattle.om_session.proofs.LengthLemmas.{spelled_some}
+use Rattle.om_promises.proofs.LengthLemmas.{spelled_some}
 use Rattle.om_outcome.specs.Outcome.{Language, compares, comparison, Task, Said, Says, AllSay, SayFirst, texts_of, all_well}
 
 -- ---- the bytes

@@ -6,12 +6,12 @@ use Rattle.om_outcome.specs.declared.status.Status.{Status}
 use Rattle.om_outcome.specs.declared.status.Status.TheVariants as statuses
 use Rattle.om_outcome.specs.Outcome.{InputEnd, Taken, at_end, unasked, nothing, whole, opened, Task, Prepares, Stop, usage, bad_path, not_two_values, cannot_open, declarations, requested_type, value, script_line, untyped_value, large_value, read_fault, too_long, out_of_memory, status_of, stop_text, err_line, says, stops, Reply, replies, texts_of, all_well, ending_of, Language, fault_of}
 use Rattle.om_edge.specs.Sink.{Puts}
-use Rattle.om_session.specs.Call.{Call}
-use Rattle.om_session.specs.Given.{Gathers}
-use Rattle.om_session.specs.Run.{HoldNoStop, IsSaidFirst, PutsLine, Completes, Breaks, Account, IsFoundIn, TellsFault, FailsByInput, FailsByFile, IfInputFails}
-use Rattle.om_session.proofs.CauseLemmas.{IsReady, Why, file_fault, file_long, input_fault, input_long, account_why}
-use Rattle.om_session.proofs.CompleteLemmas.{IsLawful}
-use Rattle.om_session.proofs.ExactLemmas.{AcceptsFile, prepared_accepts, prepared_script}
+use Rattle.om_promises.specs.Call.{Call}
+use Rattle.om_promises.specs.Given.{Gathers}
+use Rattle.om_promises.specs.Run.{HoldNoStop, IsSaidFirst, PutsLine, Completes, Breaks, Account, IsFoundIn, TellsFault, FailsByInput, FailsByFile, IfInputFails}
+use Rattle.om_promises.proofs.CauseLemmas.{IsReady, Why, file_fault, file_long, input_fault, input_long, account_why}
+use Rattle.om_promises.proofs.CompleteLemmas.{IsLawful}
+use Rattle.om_promises.proofs.ExactLemmas.{AcceptsFile, prepared_accepts, prepared_script}
 
 -- ---- a stop by its status
 

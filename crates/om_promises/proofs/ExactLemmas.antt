@@ -14,18 +14,18 @@ use Rattle.om_format.specs.Tree.{Tree}
 use Rattle.om_outcome.specs.Outcome.{IsUsage, Taken, InputEnd, at_end, at_fault, at_length, unasked, whole, Found, opened, missing, failed, unfetched, Fetches, Stop, value, script_line, untyped_value, large_value, status_of, says, stops, not_two_values, Reply, Replies, replies, ending_of, ValuesReply, Saying, the_verdict, the_text, the_part, Request, check, show, get, edit, dump, compare, Asks, limit_of, Said, Work, edits, compares, StopsAt, Finishes, Task, Language, ReadsTypeOf, ReadsScriptOf, TellsAt, FindsWork, Prepares, found_of, script_of, fetches_of}
 use Rattle.om_edge.specs.Files.{File, contents_of}
 use Rattle.om_edge.specs.State.{FilesState, Change, change}
-use Rattle.om_session.specs.Call.{Call}
-use Rattle.om_session.specs.Given.{TellsBytes, IsFoundOf, TakesFrom, Fetched, IsMeasured}
-use Rattle.om_session.specs.Run.{HasNoPath, AsksBadly, HoldNoStop, HoldStop, HoldToEnd, Account, AsksForFile, AsksForScript, IsFoundIn, IsRefusedScript, AsksFor, IsRefusedType, IsOutside, TellsFile, AreShort, AreNotTwo, HoldBadValue, IfTypes, IfNotTwo, IfValue, IfStopsBy, IfToEnd}
-use Rattle.om_session.proofs.DecidedLemmas.{few_of, no_more_said, stop_or_end, values_once, end_reply, stop_reply, bad_reply}
-use Rattle.om_session.proofs.HeadlineLemmas.{all_taken, front_none, stops_more}
-use Rattle.om_session.proofs.ValueLemmas.{spell_after, first_after}
+use Rattle.om_promises.specs.Call.{Call}
+use Rattle.om_promises.specs.Given.{TellsBytes, IsFoundOf, TakesFrom, Fetched, IsMeasured}
+use Rattle.om_promises.specs.Run.{HasNoPath, AsksBadly, HoldNoStop, HoldStop, HoldToEnd, Account, AsksForFile, AsksForScript, IsFoundIn, IsRefusedScript, AsksFor, IsRefusedType, IsOutside, TellsFile, AreShort, AreNotTwo, HoldBadValue, IfTypes, IfNotTwo, IfValue, IfStopsBy, IfToEnd}
+use Rattle.om_promises.proofs.DecidedLemmas.{few_of, no_more_said, stop_or_end, values_once, end_reply, stop_reply, bad_reply}
+use Rattle.om_promises.proofs.HeadlineLemmas.{all_taken, front_none, stops_more}
+use Rattle.om_promises.proofs.ValueLemmas.{spell_after, first_after}
 use Rattle.om_command_line.proofs.RequestLemmas.{one_request}
-use Rattle.om_session.proofs.WordLemmas.{one_typed, unnamed, unscripted, script_asks}
-use Rattle.om_session.proofs.FindingLemmas.{Finding, finding, is_compared, asks_comparison, Suits, compared_is}
-use Rattle.om_session.proofs.CompleteLemmas.{IsGivenWork, IsLawful, path_or_not, for_or_badly, prepares_once, prepares_given}
-use Rattle.om_session.proofs.StreamLemmas.{streams_once, spell_once}
-use Rattle.om_session.proofs.CauseLemmas.{NoValue, NoRefusal, NotTwo, refused_after, bad_after, task_asks, Why, all_well, some_no, not_plain, badly_asked, not_two, not_there, not_opened, no_types, file_fault, file_long, no_script, untyped_edit, refused_edit, large_edit, Held, no_value, input_fault, input_long, memory, out_fault, err_fault, account_why, between, file_fetched, fetch_of, contents_are, longer, all_of, bad_of, stop_of_all, not_two_of}
+use Rattle.om_promises.proofs.WordLemmas.{one_typed, unnamed, unscripted, script_asks}
+use Rattle.om_promises.proofs.FindingLemmas.{Finding, finding, is_compared, asks_comparison, Suits, compared_is}
+use Rattle.om_promises.proofs.CompleteLemmas.{IsGivenWork, IsLawful, path_or_not, for_or_badly, prepares_once, prepares_given}
+use Rattle.om_promises.proofs.StreamLemmas.{streams_once, spell_once}
+use Rattle.om_promises.proofs.CauseLemmas.{NoValue, NoRefusal, NotTwo, refused_after, bad_after, task_asks, Why, all_well, some_no, not_plain, badly_asked, not_two, not_there, not_opened, no_types, file_fault, file_long, no_script, untyped_edit, refused_edit, large_edit, Held, no_value, input_fault, input_long, memory, out_fault, err_fault, account_why, between, file_fetched, fetch_of, contents_are, longer, all_of, bad_of, stop_of_all, not_two_of}
 
 -- words have one kind of work, and one limit
 kinds : {T E : Type 0} (words : List (List ℕ)) (request other : Request) → Asks words request → Asks words other → (work its : Work T E) → Suits request work → Suits other its

@@ -1,8 +1,8 @@
 -- Words, files and an input have one outcome.
 use Rattle.std.proofs.Common.{◌≡◌, ◌⊎◌, ℕ, suc, ◌+◌, ◌<◌, ◌≤◌, Bool, true, false, List, [], ◌∷◌, ◌++◌, drop, length, length-append, arith, None, Result, Ok, Err, inl, inr, refl, sym, ap, ◌∙◌, subst}
 use Rattle.std.specs.Prelude.{MatchResult, ◌↔◌, IsTrue}
-use Rattle.om_session.proofs.ValueLemmas.{few_said}
-use Rattle.om_session.proofs.LengthLemmas.{spelled_some}
+use Rattle.om_promises.proofs.ValueLemmas.{few_said}
+use Rattle.om_promises.proofs.LengthLemmas.{spelled_some}
 use Rattle.om_outcome.specs.RefusalText.{refusal_text, truncated_text}
 use Rattle.om_model.specs.Bytes.{AreBytes}
 use Rattle.om_format.specs.Laws.{HasOneJudgement}
@@ -10,14 +10,14 @@ use Rattle.om_format.specs.Tree.{Tree}
 use Rattle.om_format.specs.Stream.{SpellAll, End, clean, refused, cut, IsTail, Stream}
 use Rattle.om_outcome.specs.Outcome.{IsUsage, whole, at_end, Found, opened, missing, failed, unfetched, Fetches, Stop, fault_of, usage, bad_path, declarations, requested_type, value, script_line, stopped, Saying, the_verdict, the_text, the_part, Request, check, show, get, edit, dump, compare, Asks, Then, OrRefusal, Work, tells, edits, dumps, compares, Task, Language, ReadsFile, ReadsTypeOf, ReadsScriptOf, TellsAt, EditsBy, FindsWork, Prepares, Unedited, unedited_stop, lines_for, IsUnedited, Said, says, comparison, AreSame, stops, Reply, Replies, replies, line, ending_of, Says, AllSay, StopsAt, ValuesReply, Finishes, Closes, fetches_of, Outcome}
 use Rattle.om_edge.specs.Files.{File, contents_of}
-use Rattle.om_session.specs.Call.{Call}
-use Rattle.om_session.specs.Given.{TellsBytes}
-use Rattle.om_session.specs.Run.{Account, HoldBadValue, HoldStop, HoldToEnd, IsDecided}
-use Rattle.om_session.proofs.HeadlineLemmas.{headline}
+use Rattle.om_promises.specs.Call.{Call}
+use Rattle.om_promises.specs.Given.{TellsBytes}
+use Rattle.om_promises.specs.Run.{Account, HoldBadValue, HoldStop, HoldToEnd, IsDecided}
+use Rattle.om_promises.proofs.HeadlineLemmas.{headline}
 use Rattle.om_command_line.proofs.RequestLemmas.{one_request}
-use Rattle.om_session.proofs.CompleteLemmas.{IsGiven, IsGivenWork, IsLawful, types_once, prepares_once, prepares_given}
+use Rattle.om_promises.proofs.CompleteLemmas.{IsGiven, IsGivenWork, IsLawful, types_once, prepares_once, prepares_given}
 use Rattle.std.proofs.Math.Seq.{drop-append_seam}
-use Rattle.om_session.proofs.StreamLemmas.{one_value, bytes_after, streams_once, spell_once, spell_append, spell_bytes, stream_of}
+use Rattle.om_promises.proofs.StreamLemmas.{one_value, bytes_after, streams_once, spell_once, spell_append, spell_bytes, stream_of}
 
 -- ---- the stages before the values
 

@@ -2,7 +2,7 @@
 use Rattle.std.proofs.Common.{◌≡◌, ◌∙◌, ℕ, List, [], ◌∷◌, Option, Some, None, length, get_or, sym, ap, arith}
 use Rattle.om_outcome.specs.Outcome.{Language, Found, Request, check, show, get, edit, dump, compare, typed_by, script_of, Asks}
 use Rattle.om_command_line.proofs.RequestLemmas.{one_request}
-use Rattle.om_session.specs.Run.{HasPath, AsksFor, AsksForScript}
+use Rattle.om_promises.specs.Run.{HasPath, AsksFor, AsksForScript}
 
 pub two : {X : Type 0} (xs : List X) (x y : X) → length xs ≡ 2 → x ≡ get_or xs 0 x → y ≡ get_or xs 1 y → xs ≡ x ∷ y ∷ []
 two [] x y n a b = absurd (cc n)

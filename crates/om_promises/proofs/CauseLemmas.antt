@@ -10,22 +10,22 @@ use Rattle.om_outcome.specs.Outcome.{IsUsage, Taken, InputEnd, at_end, at_fault,
 use Rattle.om_edge.specs.Faults.{HasCause, RoseOrLast, last_count}
 use Rattle.om_edge.specs.Files.{File, contents_of}
 use Rattle.om_edge.specs.Sink.{Puts, PutsPart}
-use Rattle.om_session.specs.Call.{Call}
-use Rattle.om_session.specs.Given.{IsFoundOf, TakesFrom, Fetched, IsMeasured, is_fault, has_open_fault, has_read_fault}
-use Rattle.om_session.specs.Run.{HasNoPath, AsksBadly, IsSaidFirst, PutsLine, Completes, Breaks, Account, AsksForFile, AsksForScript, IsSought, IsFoundIn, IsRefusedScript, HoldStop, HoldToEnd, AtInput, StopsBy, OnlyWell, OnlyNo, OnlyScript, OnlyCompat, CannotOpen, OnlyUsage, OnlyReadFault, OnlyWriteFault, OnlyOpenFault, OnlyTooLong, IfUsage, IsUnsaid, TellsWriteFault, TellsOpenFault, TellsReadFault, HasPath, AsksFor, IsRefusedType, OnlyTypes, FetchesFor, AreNotTwo, OnlyValue, HoldBadValue}
+use Rattle.om_promises.specs.Call.{Call}
+use Rattle.om_promises.specs.Given.{IsFoundOf, TakesFrom, Fetched, IsMeasured, is_fault, has_open_fault, has_read_fault}
+use Rattle.om_promises.specs.Run.{HasNoPath, AsksBadly, IsSaidFirst, PutsLine, Completes, Breaks, Account, AsksForFile, AsksForScript, IsSought, IsFoundIn, IsRefusedScript, HoldStop, HoldToEnd, AtInput, StopsBy, OnlyWell, OnlyNo, OnlyScript, OnlyCompat, CannotOpen, OnlyUsage, OnlyReadFault, OnlyWriteFault, OnlyOpenFault, OnlyTooLong, IfUsage, IsUnsaid, TellsWriteFault, TellsOpenFault, TellsReadFault, HasPath, AsksFor, IsRefusedType, OnlyTypes, FetchesFor, AreNotTwo, OnlyValue, HoldBadValue}
 use Rattle.std.proofs.lemmas.Option.{IfSome_then}
 use Rattle.om_model.specs.Bytes.{AreBytes}
-use Rattle.om_session.specs.Given.{TellsBytes}
+use Rattle.om_promises.specs.Given.{TellsBytes}
 use Rattle.om_edge.specs.State.{FilesState, Change, change}
-use Rattle.om_session.proofs.HeadlineLemmas.{tail_after, front_none, refused_goes_on, stops_more}
-use Rattle.om_session.proofs.StreamLemmas.{spell_bytes}
-use Rattle.om_session.proofs.PutLemmas.{rose_after}
-use Rattle.om_session.proofs.LengthLemmas.{spelled_some}
-use Rattle.om_session.proofs.ValueLemmas.{spell_after, first_after, few_said}
+use Rattle.om_promises.proofs.HeadlineLemmas.{tail_after, front_none, refused_goes_on, stops_more}
+use Rattle.om_promises.proofs.StreamLemmas.{spell_bytes}
+use Rattle.om_promises.proofs.PutLemmas.{rose_after}
+use Rattle.om_promises.proofs.LengthLemmas.{spelled_some}
+use Rattle.om_promises.proofs.ValueLemmas.{spell_after, first_after, few_said}
 use Rattle.om_command_line.proofs.RequestLemmas.{one_request}
-use Rattle.om_session.proofs.WordLemmas.{one_typed, unnamed, unscripted as unscripted_words, script_asks}
-use Rattle.om_session.proofs.FindingLemmas.{Finding, finding, asks_comparison, Suits, finds_suits}
-use Rattle.om_session.proofs.CompleteLemmas.{IsLawful, path_or_not, for_or_badly, types_once, prepares_once}
+use Rattle.om_promises.proofs.WordLemmas.{one_typed, unnamed, unscripted as unscripted_words, script_asks}
+use Rattle.om_promises.proofs.FindingLemmas.{Finding, finding, asks_comparison, Suits, finds_suits}
+use Rattle.om_promises.proofs.CompleteLemmas.{IsLawful, path_or_not, for_or_badly, types_once, prepares_once}
 
 some_and : {X : Type 0} (o : Option X) (P : X → Type 0) → IsSome o → IfSome o P → IsSomeAnd o P
 some_and None P some h = absurd (cc some)

@@ -12,7 +12,7 @@ use Rattle.om_format.specs.Judgement.{Judgement, value, Judges, IsJudgement}
 use Rattle.om_format.specs.Judgement as j
 use Rattle.om_format.specs.Laws.{HasOneJudgement}
 use Rattle.om_format.specs.Stream.{SpellAll, End, clean, refused, cut, IsTail, Stream}
-use Rattle.om_session.proofs.LengthLemmas.{spelled_some}
+use Rattle.om_promises.proofs.LengthLemmas.{spelled_some}
 
 -- a list with a last element is not empty
 empty : (n : ℕ) (front : List ℕ) (last : ℕ) → take n [] ≡ front ++ last ∷ [] → ⊥

@@ -10,16 +10,16 @@ use Rattle.om_outcome.specs.Outcome.{at_end, whole, Fetches, Stop, out_of_memory
 use Rattle.om_edge.specs.Files.{File, contents_of}
 use Rattle.om_format.proofs.JudgementLaws.{one_judgement_lem}
 use Rattle.om_edge.specs.Sink.{Puts}
-use Rattle.om_session.specs.StreamLaws.{HasOneStream}
-use Rattle.om_session.specs.Call.{Call}
-use Rattle.om_session.specs.Given.{TakesFrom, TellsBytes}
-use Rattle.om_session.specs.Run.{IsSaidFirst, Account, IsWellRead, IsFrontOfOutcome, IfMemory, IfWriteFault, OutBreaks, ErrBreaks}
-use Rattle.om_session.proofs.HeadlineLemmas.{prepares_same, says_same}
-use Rattle.om_session.proofs.CompleteLemmas.{IsGivenWork, IsLawful, prepares_once, prepares_given}
-use Rattle.om_session.proofs.DecidedLemmas.{no_more_said, one_said, one_outcome}
-use Rattle.om_session.proofs.ValueLemmas.{first_after}
-use Rattle.om_session.proofs.StreamLemmas.{streams_once, spell_front, spell_append, spell_bytes, stream_of}
-use Rattle.om_session.proofs.CauseLemmas.{Why, memory, out_fault, err_fault, MayEnd, account_why}
+use Rattle.om_promises.specs.StreamLaws.{HasOneStream}
+use Rattle.om_promises.specs.Call.{Call}
+use Rattle.om_promises.specs.Given.{TakesFrom, TellsBytes}
+use Rattle.om_promises.specs.Run.{IsSaidFirst, Account, IsWellRead, IsFrontOfOutcome, IfMemory, IfWriteFault, OutBreaks, ErrBreaks}
+use Rattle.om_promises.proofs.HeadlineLemmas.{prepares_same, says_same}
+use Rattle.om_promises.proofs.CompleteLemmas.{IsGivenWork, IsLawful, prepares_once, prepares_given}
+use Rattle.om_promises.proofs.DecidedLemmas.{no_more_said, one_said, one_outcome}
+use Rattle.om_promises.proofs.ValueLemmas.{first_after}
+use Rattle.om_promises.proofs.StreamLemmas.{streams_once, spell_front, spell_append, spell_bytes, stream_of}
+use Rattle.om_promises.proofs.CauseLemmas.{Why, memory, out_fault, err_fault, MayEnd, account_why}
 
 -- ---- bytes are one stream
 

@@ -3,17 +3,17 @@ use Rattle.std.proofs.Common.{ℕ, true, List}
 use Rattle.om_outcome.specs.declared.status.Status.TheVariants as statuses
 use Rattle.om_format.specs.Laws.{HasOneJudgement}
 use Rattle.om_outcome.specs.Outcome.{Language}
-use Rattle.om_session.specs.Call.{Call}
-use Rattle.om_session.specs.Given.{TellsBytes}
-use Rattle.om_session.specs.Run.{Account, Promises}
-use Rattle.om_session.proofs.CauseLemmas.{only_usage, if_usage, only_types, only_value, only_script, only_compat, only_well, only_no, only_read_fault, only_write_fault, only_open_fault, only_too_long, tells_read_fault, tells_open_fault, tells_write_fault}
-use Rattle.om_session.proofs.CompleteLemmas.{IsLawful, complete}
-use Rattle.om_session.proofs.DecidedLemmas.{decided}
-use Rattle.om_session.proofs.ExactLemmas.{if_types, if_not_two, if_value, if_stops_by, if_to_end}
-use Rattle.om_session.proofs.TurnLemmas.{if_missing, if_no, if_script, if_too_long}
-use Rattle.om_session.proofs.PaceLemmas.{if_input_fails}
-use Rattle.om_session.proofs.FrontLemmas.{if_memory, if_write_fault}
-use Rattle.om_session.proofs.HeadlineLemmas.{headline}
+use Rattle.om_promises.specs.Call.{Call}
+use Rattle.om_promises.specs.Given.{TellsBytes}
+use Rattle.om_promises.specs.Run.{Account, Promises}
+use Rattle.om_promises.proofs.CauseLemmas.{only_usage, if_usage, only_types, only_value, only_script, only_compat, only_well, only_no, only_read_fault, only_write_fault, only_open_fault, only_too_long, tells_read_fault, tells_open_fault, tells_write_fault}
+use Rattle.om_promises.proofs.CompleteLemmas.{IsLawful, complete}
+use Rattle.om_promises.proofs.DecidedLemmas.{decided}
+use Rattle.om_promises.proofs.ExactLemmas.{if_types, if_not_two, if_value, if_stops_by, if_to_end}
+use Rattle.om_promises.proofs.TurnLemmas.{if_missing, if_no, if_script, if_too_long}
+use Rattle.om_promises.proofs.PaceLemmas.{if_input_fails}
+use Rattle.om_promises.proofs.FrontLemmas.{if_memory, if_write_fault}
+use Rattle.om_promises.proofs.HeadlineLemmas.{headline}
 
 module _ {D T E : Type 0} (language : Language D T E) (lawful : IsLawful language) (law : HasOneJudgement) (words : List (List ℕ)) (call : Call)
     (tells : TellsBytes call.input) (a : Account language words call) where
