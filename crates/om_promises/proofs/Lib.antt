@@ -14,3 +14,5 @@ pub mod PaceLemmas
 pub mod FrontLemmas
 pub mod TurnLemmas
 pub mod PromiseLemmas
+pub mod OnceLemmas
+pub mod HoldLemmas

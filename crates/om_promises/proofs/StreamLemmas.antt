@@ -8,7 +8,7 @@ use Rattle.om_format.specs.Tree.{Tree}
 use Rattle.om_format.specs.Spelled.{SpelledUnder}
 use Rattle.om_model.specs.declared.refusal.ReadRefusal.{ReadRefusal}
 use Rattle.om_format.specs.Front.{IsRefused}
-use Rattle.om_format.specs.Judgement.{Judgement, value, Judges, IsJudgement}
+use Rattle.om_format.specs.Judgement.{Judgement, value, Judges}
 use Rattle.om_format.specs.Judgement as j
 use Rattle.om_format.specs.Laws.{HasOneJudgement}
 use Rattle.om_format.specs.Stream.{SpellAll, End, clean, refused, cut, IsTail, Stream}

@@ -1,5 +1,5 @@
 -- Where a status has to come by SCRIPT, in its turn.
-use Rattle.std.proofs.Common.{◌≡◌, ◌⊎◌, ℕ, ◌+◌, ◌^◌, ◌<◌, ◌≤◌, false, List, length, Option, Some, None, Result, Ok, Err, inl, inr, refl, sym, ap, ◌∙◌, subst, arith}
+use Rattle.std.proofs.Common.{◌≡◌, ◌⊎◌, ℕ, ◌^◌, ◌<◌, ◌≤◌, false, List, length, Option, Some, None, Ok, Err, inl, inr, refl, sym, ap, ◌∙◌, subst, arith}
 use Rattle.om_outcome.specs.declared.status.Status.{Status}
 use Rattle.om_outcome.specs.declared.status.Status.TheVariants as statuses
 use Rattle.om_format.specs.Laws.{HasOneJudgement}
@@ -7,7 +7,7 @@ use Rattle.om_outcome.specs.Outcome.{Taken, at_length, whole, opened, Fetches, T
 use Rattle.om_edge.specs.Files.{File, contents_of}
 use Rattle.om_promises.specs.Call.{Call}
 use Rattle.om_promises.specs.Given.{TellsBytes}
-use Rattle.om_promises.specs.Run.{Account, AsksFor, AsksForScript, IsFoundIn, IsRefusedScript, IsRefusedType, IsOutside, IsUnsaid, TellsTurn, IfMissing, IfNo, IfScript, IfTooLong}
+use Rattle.om_promises.specs.Run.{Account, AsksFor, AsksForScript, IsFoundIn, IsRefusedType, IsOutside, IsUnsaid, TellsTurn, IfMissing, IfNo, IfScript, IfTooLong}
 use Rattle.om_promises.proofs.CauseLemmas.{Why, account_why, fetch_of, file_missing}
 use Rattle.om_promises.proofs.CompleteLemmas.{IsLawful, for_or_badly}
 use Rattle.om_promises.proofs.ExactLemmas.{IsAccepted, AcceptsFile, found_text, accepted_or_refused, script_accepts, prepared_script, prepared_turn, cause_or_outside, whole_in_map, long_in_map, file_too_long, input_too_long, if_stops_by, if_to_end}
