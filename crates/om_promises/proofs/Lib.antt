@@ -16,3 +16,4 @@ pub mod TurnLemmas
 pub mod PromiseLemmas
 pub mod OnceLemmas
 pub mod HoldLemmas
+pub mod ExampleLemmas

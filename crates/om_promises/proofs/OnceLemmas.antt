@@ -1,13 +1,12 @@
 -- An outcome is one, where the commands are lawful.
-use Rattle.std.proofs.Common.{◌≡◌, ◌<◌, ℕ, List, [], ◌∷◌, ◌++◌, Result, Ok, Err, inl, inr, refl, sym, ap, ◌∙◌, subst, length, append_assoc, arith, append-nil}
+use Rattle.std.proofs.Common.{◌≡◌, ℕ, List, [], ◌∷◌, ◌++◌, Result, Ok, Err, inl, inr, refl, sym, ap, ◌∙◌, subst, append_assoc, arith, append-nil}
 use Rattle.std.specs.Prelude.{MatchResult}
-use Rattle.std.proofs.Math.Seq.{drop-append_seam}
-use Rattle.std.proofs.lemmas.List.Elements.{All-drop}
 use Rattle.om_model.specs.Bytes.{AreBytes}
 use Rattle.om_outcome.specs.Outcome.{InputEnd, at_end, at_fault, at_length, unasked, Taken, Stop, Said, Reply, stops, Replies, replies, stopped, Then, ReadsWords}
 use Rattle.om_command_line.proofs.RequestLemmas.{one_request}
 use Rattle.om_promises.specs.Commands.{Item, Fetches, Given, Commands, Prepares, Cut, AllSay, Closes, IsLast, SaysAll, Answers, RunReplies}
 use Rattle.om_promises.specs.Lawful.{IsOnce, IsFound, AreLawfulAt, AreLawful}
+use Rattle.om_promises.proofs.StreamLemmas.{bytes_after}
 
 -- the second stage, or the stop of the first
 abbrev Follows : {X Y : Type 0} → (X → Result Y Stop → Type 0) → Result Y Stop → Result X Stop → Type 0
@@ -28,11 +27,6 @@ words_once words (Ok q) (Ok p) h k = ap (λ q. Ok q) (one_request words q p h k)
 words_once words (Ok q) (Err s) h (none, is) = absurd (none q h)
 words_once words (Err s) (Ok p) (none, is) k = absurd (none p k)
 words_once words (Err s) (Err t) (none, is) (none', is') = ap (λ s. Err s) (is ∙ sym is')
-
-pub bytes_after : (first more : List ℕ) → AreBytes (first ++ more) → AreBytes more
-bytes_after first more h =
-    subst AreBytes (drop-append_seam first more)
-    (All-drop (λ b. b < 256) (length first) (first ++ more) h)
 
 no_bytes : AreBytes []
 no_bytes = λ k d less. absurd (omega arith)

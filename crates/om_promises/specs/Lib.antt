@@ -5,3 +5,4 @@ pub mod StreamLaws
 pub mod Commands
 pub mod Lawful
 pub mod CommandLaws
+pub mod Example

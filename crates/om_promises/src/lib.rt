@@ -3,4 +3,5 @@
 //! nothing here does anything.
 #![tactic(auto)]
 
+mod example;
 pub mod laws;
