@@ -1,0 +1,40 @@
+#!/usr/bin/env bash
+# Tries every wrong body that is written down: those of crates/*/must-fail, which the gate tries too, and those of
+# crates/*/edits, which it does not. The prover of its own crate has to refuse each.
+#
+#   tools/try_edits.sh [CRATE ..]        all crates that have edits, or these
+#
+# It works on a copy of what git tracks here, as it stands in the working tree, with the edits of both folders in must-fail/,
+# and begins with what `rt check` kept on this machine. The last line counts; the status is 1 where an edit is not refused,
+# was not tried or cannot be applied, and 2 where there is no such crate.
+set -u
+cd "$(dirname "$0")/.." || exit 2
+command -v rt >/dev/null || { echo 'try_edits: the command rt is missing, so nothing was tried' >&2; exit 2; }
+for name in "$@"; do
+    [ -d "crates/$name" ] || { echo "try_edits: there is no crate $name" >&2; exit 2; }
+done
+
+copy=$(mktemp -d) || exit 2
+trap 'rm -rf "$copy"' EXIT
+trap 'exit 130' INT TERM
+git ls-files -z -- crates crates.txt HANDLES | while IFS= read -r -d '' file; do
+    [ -e "$file" ] && cp --parents "$file" "$copy"
+done
+cd "$copy" || exit 2
+git init -q
+for folder in crates/*/edits; do
+    [ -d "$folder" ] || continue
+    mkdir -p "${folder%edits}must-fail"
+    mv -n "$folder"/*.edit "${folder%edits}must-fail/"
+    rmdir "$folder" || { echo "try_edits: an edit of $folder has the name of one of must-fail" >&2; exit 1; }
+done
+
+crates=("$@")
+[ $# -gt 0 ] || mapfile -t crates < <(for folder in crates/*/must-fail; do basename "${folder%/must-fail}"; done)
+rt must-fail "${crates[@]}" | tee "$copy/told"
+status=${PIPESTATUS[0]}
+refused=$(grep -c ': refused, as it must be' "$copy/told")
+names=$(grep -c 'only because a proof file names' "$copy/told")
+wrong=$(grep -cE ': (NOT REFUSED|NOT TRIED|BAD EDIT)' "$copy/told")
+echo "$refused edits refused ($names only since a name is gone), $wrong not"
+[ "$status" -eq 0 ] && [ "$wrong" -eq 0 ]
