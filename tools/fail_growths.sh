@@ -1,0 +1,56 @@
+#!/usr/bin/env bash
+# Refuses each growth of memory of a run in turn, for every command. The run then ends with 9, the line `out of memory`, and a front of
+# the whole answer on standard output; or, where nothing came of the growth, with the whole answer. Anything else is told, and the
+# status is 1. Each line says how many growths were refused so.
+#
+#   tools/fail_growths.sh [PROGRAM]      PROGRAM is by default the one that `./omarshal` built
+#
+# Without a C compiler it says `skipped: no cc` and ends with 0.
+set -u
+here=$(cd "$(dirname "$0")" && pwd)
+program=$(readlink -f "${1:-$here/../crates/omarshal/out/omarshal}")
+[ -x "$program" ] || { echo 'fail_growths: there is no program: ./omarshal builds it' >&2; exit 2; }
+command -v cc >/dev/null || { echo 'skipped: no cc'; exit 0; }
+work=$(mktemp -d) || exit 2
+trap 'rm -rf "$work"' EXIT
+cc -shared -fPIC -O2 -o "$work/shim.so" "$here/fail_growth.c" -ldl || exit 2
+cd "$work" || exit 2
+
+# Three times the list [1; 2].
+for _ in 1 2 3; do
+    printf '\x84\x95\xa6\xbe\0\0\0\x05\0\0\0\x02\0\0\0\x06\0\0\0\x06\xa0\x41\xa0\x42\x40'
+done >input
+echo 'type t = int list' >types
+printf '0 set .1 = ::(7, [])\n2 link .1.1 = .\n2 unshare .\n' >script
+
+wrong=0
+refuse() {
+    local name=$1 status want growth=0 refused=0 last=0
+    shift
+    "$program" "$@" <input >whole 2>whole.err
+    want=$?
+    # Past the last growth of the run nothing is refused any more.
+    while [ "$growth" -le $((last + 60)) ]; do
+        growth=$((growth + 1))
+        FAIL_GROWTH=$growth LD_PRELOAD=$work/shim.so "$program" "$@" <input >out 2>err
+        status=$?
+        if [ "$status" -eq 9 ] && [ "$(cat err)" = 'omarshal: out of memory' ] &&
+            cmp -s -n "$(stat -c %s out)" out whole; then
+            refused=$((refused + 1))
+            last=$growth
+        elif [ "$status" -ne "$want" ] || ! cmp -s out whole || ! cmp -s err whole.err; then
+            echo "$name: growth $growth: status $status, $(stat -c %s out) bytes, $(head -c 80 err)"
+            wrong=1
+        fi
+    done
+    echo "$name: $refused growths refused"
+}
+
+refuse check check types t
+refuse 'check (no)' check types 'string list'
+refuse show show types t
+refuse get get types t .1
+refuse edit edit types t script
+refuse dump dump
+refuse same same
+exit "$wrong"
