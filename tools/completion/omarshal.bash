@@ -1,0 +1,25 @@
+# Completion of omarshal for bash: its commands, its options, and files where FILE and SCRIPT stand.
+_omarshal() {
+    local word=${COMP_WORDS[COMP_CWORD]} command=${COMP_WORDS[1]-} i place=0 skip=0 options=--limit
+    COMPREPLY=()
+    if [ "$COMP_CWORD" -eq 1 ]; then
+        mapfile -t COMPREPLY < <(compgen -W 'check dump edit get same show' -- "$word")
+        return
+    fi
+    case $command in check | dump | get | same | show) ;; edit) options='--limit --compat32' ;; *) return ;; esac
+    # The number of the word among FILE, TYPE and what follows.
+    for ((i = 2; i < COMP_CWORD; i++)); do
+        if [ "$skip" -eq 1 ]; then skip=0; continue; fi
+        case ${COMP_WORDS[i]} in --limit) skip=1 ;; -*) ;; *) place=$((place + 1)) ;; esac
+    done
+    [ "$skip" -eq 0 ] || return
+    case $word in
+    -*) mapfile -t COMPREPLY < <(compgen -W "$options" -- "$word") ;;
+    *)
+        case $command-$place in
+        check-0 | show-0 | get-0 | edit-0 | edit-2) mapfile -t COMPREPLY < <(compgen -f -- "$word") ;;
+        esac
+        ;;
+    esac
+}
+complete -o filenames -F _omarshal omarshal

@@ -1,0 +1,50 @@
+#!/usr/bin/env bash
+# Tries install.sh into an empty folder: each file is there, the program answers, and bash completes commands, options and files.
+# The argument is the program; with none it is the one that `./omarshal` built.
+set -u
+here=$(cd "$(dirname "$0")" && pwd)
+program=$(readlink -f "${1:-$here/../crates/omarshal/out/omarshal}")
+[ -x "$program" ] || { echo 'test_install: there is no program: ./omarshal builds it' >&2; exit 2; }
+work=$(mktemp -d)
+trap 'rm -rf "$work"' EXIT
+passed=0 failed=0
+holds() { # holds WHAT COMMAND..
+    local what=$1
+    shift
+    if "$@"; then passed=$((passed + 1)); else failed=$((failed + 1)); echo "not so: $what"; fi
+}
+
+"$here/install.sh" "$work/prefix" "$program" >"$work/told" || { cat "$work/told"; exit 1; }
+for file in bin/omarshal share/man/man1/omarshal.1 share/bash-completion/completions/omarshal share/zsh/site-functions/_omarshal; do
+    holds "$file is installed" test -f "$work/prefix/$file"
+done
+answer=$(printf '\x84\x95\xa6\xbe\0\0\0\x01\0\0\0\0\0\0\0\0\0\0\0\0\x41' | "$work/prefix/bin/omarshal" check /dev/null int)
+holds 'the program answers' test "$answer" = yes
+if command -v ocamlopt >/dev/null && [ -f "$(ocamlc -where)/compiler-libs/ocamlcommon.cmxa" ]; then
+    holds 'types_of_cmi answers' test "$("$work/prefix/bin/types_of_cmi" 'int list' 2>&1 >/dev/null)" = 'int list'
+fi
+
+# completes WANTED WORD..: what bash makes of the last word, in the order of their letters
+completes() {
+    local wanted=$1 got
+    shift
+    COMP_WORDS=(omarshal "$@")
+    COMP_CWORD=$#
+    _omarshal
+    got=$(printf '%s\n' ${COMPREPLY[@]+"${COMPREPLY[@]}"} | LC_ALL=C sort | paste -sd ' ')
+    holds "omarshal $* is completed by: $wanted" test "$got" = "$wanted"
+}
+. "$work/prefix/share/bash-completion/completions/omarshal"
+mkdir "$work/files" && cd "$work/files" && : >shop.types && : >shop.script
+completes 'same show' s
+completes 'check dump edit get same show' ''
+completes 'shop.script shop.types' check ''
+completes 'shop.types' show shop.t
+completes '' check shop.types ''
+completes 'shop.script' edit --limit 5 shop.types int shop.s
+completes '--compat32 --limit' edit --
+completes '--limit' check shop.types --
+completes '' same ''
+completes '' get shop.types --limit ''
+echo "$passed passed, $failed failed"
+[ "$failed" -eq 0 ]
