@@ -85,7 +85,9 @@ ocamlc -w +a-4-40-41-42-44-45-70 -warn-error +a -strict-sequence -I +compiler-li
     for number in $(seq 245); do printf ' | C%d of int' "$number"; done
     echo
 } >> refused.ml
-ocamlc -w -a -bin-annot -c kinds.ml refused.ml by_hand.ml hidden.mli hidden.ml uses_hidden.ml
+ocamlc -w -a -bin-annot -c kinds.ml refused.ml by_hand.ml hidden.mli hidden.ml uses_hidden.ml applied.ml indexed.ml \
+    shut__part.mli shut__part.ml shut_names.ml shut.mli shut.ml
+ocamlc -w -a -rectypes -c copied.ml
 head -c 60 kinds.cmi > broken.cmi
 
 # The reader that judges is itself tried, on values and declarations that were written by hand: a line of vectors.tsv is
@@ -141,6 +143,78 @@ same "declarations of by_hand.ml" "$expected/by_hand.types" found.types
 made uses_hidden.types --cmt Uses_hidden.all
 declarations uses_hidden.types > found.types
 same "declarations of uses_hidden.ml" "$expected/uses_hidden.types" found.types
+
+# by_words WHAT WORD..: the tool prints the declarations of WHAT.types.
+by_words() {
+    what=$1
+    shift
+    made "$what.types" "$@"
+    declarations "$what.types" > found.types
+    same "declarations of $what.ml" "$expected/$what.types" found.types
+}
+by_words applied --cmt Applied.all
+by_words copied Copied.all
+by_words indexed --cmt Indexed.all
+by_words shut --cmt Shut.Inner.file
+
+# A type that stands in an implementation alone, by another name of its module; an index that is hidden
+made found.types --cmt 'Shut_names.Part.size * Hidden.meters Indexed.length'
+cat > wanted.types << 'END'
+(* Shut__part.size, from its .cmt *)
+type shut_part_size =
+  | Small
+  | Large of int
+
+(* Indexed.length at float *)
+type indexed_length_at_float =
+  | Meters of { meters : float; count : int }
+END
+declarations found.types > cut.types
+same "a size and a length" wanted.types cut.types
+
+# A folder that is not there is told, and the type comes after that.
+made found.types -I nowhere -I +nowhere -I +compiler-libs int
+cat > wanted.txt << 'END'
+types_of_cmi: no folder nowhere, which -I gives
+types_of_cmi: no folder +nowhere, which -I gives
+int
+END
+same "a folder that is not there" wanted.txt word.txt
+
+# told STATUS WORD..: the tool ends with the status, prints nothing, and tells what standard input has.
+told() {
+    wanted_status=$1
+    shift
+    cat > wanted.txt
+    status=0
+    ./types_of_cmi "$@" > printed.txt 2> told.txt || status=$?
+    same "types_of_cmi $*" wanted.txt told.txt
+    if [ "$status" -ne "$wanted_status" ] || [ -s printed.txt ]; then
+        echo "FAILED: types_of_cmi $*: status $status"
+        failures=$((failures + 1))
+    fi
+}
+
+# Types that stay abstract with --cmt; an index that may be another, or is none of the first constructors
+mkdir alone
+echo 'type t' > alone/bare.mli
+ocamlc -c alone/bare.mli
+told 1 --cmt alone/ Bare.t << 'END'
+types_of_cmi: Bare.t: an abstract type (no .cmt was found)
+END
+told 1 --cmt in_channel << 'END'
+types_of_cmi: in_channel: an abstract type
+END
+told 1 --cmt Refused.Unpacked.t << 'END'
+types_of_cmi: Refused.Unpacked.t: an abstract type
+END
+told 1 'Hidden.meters Indexed.length' << 'END'
+types_of_cmi: Indexed.length at Hidden.meters -> constructor Meters: a generalized constructor (GADT) that may be of another index
+types_of_cmi: Indexed.length at Hidden.meters -> constructor Other: a generalized constructor (GADT) that may be of another index
+END
+told 1 --cmt 'Hidden.t Indexed.measure' << 'END'
+types_of_cmi: Indexed.measure at Hidden.t -> constructor Sealed: a generalized constructor (GADT) of another index, before others
+END
 
 # A .cmt that was not made with the .cmi beside it
 mkdir stale
@@ -205,6 +279,12 @@ judged by_hand.types values.bin wanted.tsv
 ocamlc -w -a hidden.ml uses_hidden.ml uses_hidden_values.ml -o uses_hidden_values
 ./uses_hidden_values values.bin > wanted.tsv
 judged uses_hidden.types values.bin wanted.tsv
+
+ocamlc -w -a -rectypes hidden.ml applied.ml copied.ml indexed.ml shut__part.ml shut.ml more_values.ml -o more_values
+for module in applied copied indexed shut; do
+    ./more_values $module values.bin > wanted.tsv
+    judged $module.types values.bin wanted.tsv
+done
 
 # The examples are what make.sh makes, and what OCaml writes has their types.
 mkdir made

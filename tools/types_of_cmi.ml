@@ -151,6 +151,9 @@ let parameter_name index =
 
 (* {1 The reader} *)
 
+(* A generalized type (GADT) at an index. It is declared by a name of its own, without parameters. *)
+type instance = { generalized : Path.t; index : type_expr list; own_path : Path.t }
+
 type reader = {
   mutable environment : Env.t;
   looks_inside : bool;  (** whether it looks for hidden types in `.cmt` files *)
@@ -162,6 +165,7 @@ type reader = {
   mutable known : Path.Set.t;  (** the types that were reached *)
   mutable declarations : declaration list;  (** those that were read, the last one first *)
   mutable faults : fault list;  (** the last one first *)
+  mutable instances : instance list;  (** the generalized types (GADTs) that were reached *)
   waiting : (Path.t * way) Queue.t;  (** types reached and not read yet *)
 }
 
@@ -194,8 +198,50 @@ let interface_digest { Cmt_format.cmt_modname; cmt_interface_digest; cmt_imports
   | Some digest -> Some digest
   | None -> Option.join (List.assoc_opt cmt_modname cmt_imports)
 
-(* The type of a structure in which no module hides a type behind a signature, as in `module M : S = struct .. end`. *)
-let rec unsealed_structure { Typedtree.str_items; str_type; _ } =
+let rec unconstrained expression =
+  match expression.Typedtree.mod_desc with
+  | Tmod_constraint (inner, _, _, _) -> unconstrained inner
+  | _ -> expression
+
+(* A signature in which each abstract type is the one of the same name in the module at the path. *)
+let rec revealed path signature =
+  let reveal = function
+    | Sig_type (id, ({ type_manifest = None; type_params; _ } as declaration), recursive, visibility)
+      when Library.is_abstract declaration ->
+        let manifest = Btype.newgenty (Tconstr (Path.Pdot (path, Ident.name id), type_params, ref Mnil)) in
+        Sig_type (id, { declaration with type_manifest = Some manifest }, recursive, visibility)
+    | Sig_module (id, Mp_present, ({ md_type = Mty_signature inner; _ } as declaration), recursive, visibility) ->
+        let md_type = Mty_signature (revealed (Path.Pdot (path, Ident.name id)) inner) in
+        Sig_module (id, Mp_present, { declaration with md_type }, recursive, visibility)
+    | item -> item
+  in
+  List.map reveal signature
+
+let module_item id md_type =
+  let declaration =
+    { md_type; md_attributes = []; md_loc = Location.none; md_uid = Uid.internal_not_actually_unique }
+  in
+  Sig_module (id, Mp_present, declaration, Trec_not, Exported)
+
+let is_item_of signature item =
+  let id = Types.signature_item_id item in
+  List.exists (fun other -> Ident.same id (Types.signature_item_id other)) signature
+
+(* The type of a structure in which no module hides a type behind a signature, as in `module M : S = struct .. end`.
+   What an applied functor makes has the types of the application; an argument without a name is a module more. *)
+let rec unsealed_structure environment { Typedtree.str_items; str_type; _ } =
+  let environment = Env.add_signature str_type environment in
+  let arguments = ref [] in
+  let application name expression =
+    match (unconstrained expression).Typedtree.mod_desc with
+    | Tmod_apply _ -> (
+        match applied_path environment name expression with
+        | Some (path, modules) ->
+            arguments := modules @ !arguments;
+            Some path
+        | None -> None)
+    | _ -> None
+  in
   let bindings_of item =
     match item.Typedtree.str_desc with
     | Tstr_module binding -> [ binding ]
@@ -203,24 +249,61 @@ let rec unsealed_structure { Typedtree.str_items; str_type; _ } =
     | _ -> []
   in
   let bindings = List.concat_map bindings_of str_items in
-  let unseal = function
-    | Sig_module (id, presence, declaration, recursive, visibility) ->
-        let is_it { Typedtree.mb_id; _ } = Option.fold ~none:false ~some:(Ident.same id) mb_id in
-        let unsealed { Typedtree.mb_expr; _ } = unsealed_module mb_expr ~otherwise:declaration.md_type in
-        let md_type = Option.fold ~none:declaration.md_type ~some:unsealed (List.find_opt is_it bindings) in
-        Sig_module (id, presence, { declaration with md_type }, recursive, visibility)
-    | item -> item
+  let inclusion_of item =
+    match item.Typedtree.str_desc with Tstr_include { incl_mod; incl_type; _ } -> Some (incl_mod, incl_type) | _ -> None
   in
-  Mty_signature (List.map unseal str_type)
+  let included index (expression, signature) =
+    let name = Printf.sprintf "include %d" (index + 1) in
+    Option.map (fun path -> (path, signature)) (application name expression)
+  in
+  let inclusions = List.filter_map Fun.id (List.mapi included (List.filter_map inclusion_of str_items)) in
+  let unsealed_binding id declaration { Typedtree.mb_expr; _ } =
+    match application (Ident.name id) mb_expr with
+    | None -> unsealed_module environment mb_expr ~otherwise:declaration.md_type
+    | Some path -> (
+        match Mtype.scrape environment (unconstrained mb_expr).mod_type with
+        | Mty_signature signature -> Mty_signature (revealed path signature)
+        | _ -> declaration.md_type)
+  in
+  let unseal item =
+    match (item, List.find_opt (fun (_, signature) -> is_item_of signature item) inclusions) with
+    | _, Some (path, _) -> List.hd (revealed path [ item ])
+    | Sig_module (id, presence, declaration, recursive, visibility), None ->
+        let is_it { Typedtree.mb_id; _ } = Option.fold ~none:false ~some:(Ident.same id) mb_id in
+        let md_type =
+          Option.fold ~none:declaration.md_type ~some:(unsealed_binding id declaration) (List.find_opt is_it bindings)
+        in
+        Sig_module (id, presence, { declaration with md_type }, recursive, visibility)
+    | item, None -> item
+  in
+  let items = List.map unseal str_type in
+  Mty_signature (!arguments @ items)
 
-and unsealed_module { Typedtree.mod_desc; _ } ~otherwise =
+and unsealed_module environment { Typedtree.mod_desc; _ } ~otherwise =
+  let inside inner = unsealed_module environment inner ~otherwise:inner.Typedtree.mod_type in
   match mod_desc with
-  | Tmod_constraint (inner, _, _, _) -> unsealed_module inner ~otherwise:inner.mod_type
-  | Tmod_structure structure -> unsealed_structure structure
-  | Tmod_functor (Unit, body) -> Mty_functor (Unit, unsealed_module body ~otherwise:body.mod_type)
-  | Tmod_functor (Named (id, _, parameter), body) ->
-      Mty_functor (Named (id, parameter.mty_type), unsealed_module body ~otherwise:body.mod_type)
+  | Tmod_constraint (inner, _, _, _) -> inside inner
+  | Tmod_structure structure -> unsealed_structure environment structure
+  | Tmod_functor (Unit, body) -> Mty_functor (Unit, inside body)
+  | Tmod_functor (Named (id, _, parameter), body) -> Mty_functor (Named (id, parameter.mty_type), inside body)
   | _ -> otherwise
+
+(* The path of a module, as `Map.Make(Key)`, and the modules in it that have no name in the program, each by a name
+   that no module of a program can have. *)
+and applied_path environment name expression =
+  let expression = unconstrained expression in
+  match expression.Typedtree.mod_desc with
+  | Tmod_ident (path, _) -> Some (path, [])
+  | Tmod_apply (applied, argument, _) -> (
+      let applied = applied_path environment ("functor of " ^ name) applied in
+      match (applied, applied_path environment ("argument of " ^ name) argument) with
+      | Some (applied, modules), Some (argument, others) -> Some (Path.Papply (applied, argument), modules @ others)
+      | _ -> None)
+  | Tmod_structure _ | Tmod_functor _ ->
+      let id = Ident.create_local name in
+      let md_type = unsealed_module environment expression ~otherwise:expression.mod_type in
+      Some (Path.Pident id, [ module_item id md_type ])
+  | _ -> None
 
 (* The types of the implementation of a module, as a module of the environment, if its `.cmt` is found. *)
 let read_implementation reader name =
@@ -228,8 +311,9 @@ let read_implementation reader name =
   | { cmt_annots = Implementation structure; _ } as cmt ->
       if interface_digest cmt <> Some (Env.crc_of_unit name) then
         wrong_words "the .cmt of %s is of another interface than its .cmi" name;
-      let id = Ident.create_local name in
-      reader.environment <- Env.add_module id Mp_present (unsealed_structure structure) reader.environment;
+      let id = Ident.create_scoped ~scope:Ident.lowest_scope name in
+      let unsealed = unsealed_structure reader.environment structure in
+      reader.environment <- Env.add_module id Mp_present unsealed reader.environment;
       Some id
   | _ -> None
   | exception Not_found -> None
@@ -332,6 +416,113 @@ let declare_enclosing reader scope path expression =
   in
   reader.declarations <- declaration :: reader.declarations
 
+let is_variable ty = match Library.shape ty with Tvar _ -> true | _ -> false
+
+let rec are_distinct = function
+  | [] -> true
+  | ty :: others -> (not (List.exists (Library.same ty) others)) && are_distinct others
+
+(* The names of parameters, where these are distinct variables. *)
+let name_variables types parameters =
+  if List.for_all is_variable types && are_distinct types && List.compare_lengths types parameters = 0 then
+    Some (List.combine types parameters)
+  else None
+
+(* {1 Generalized types (GADTs)} *)
+
+(* Whether the result of a constructor is not the type at distinct variables. *)
+let is_generalized declaration =
+  let is_general { cd_res; _ } =
+    match Option.map Library.shape cd_res with
+    | Some (Tconstr (_, arguments, _)) -> not (List.for_all is_variable arguments && are_distinct arguments)
+    | Some _ | None -> false
+  in
+  match declaration.type_kind with
+  | Type_variant (constructors, _) -> List.exists is_general constructors
+  | _ -> false
+
+(* A generalized type that a type is, after its abbreviations: its path and its index. *)
+let rec as_generalized reader ty =
+  match Library.shape ty with
+  | Tconstr (path, arguments, _) when predeclared (canonical reader path) = None -> (
+      let path = canonical reader path in
+      let own declaration = if is_generalized declaration then Some (path, arguments) else None in
+      match find_declaration reader path with
+      | None -> None
+      | Some ((Shown | Hidden), ({ type_manifest = Some manifest; type_params; _ } as declaration)) -> (
+          match as_generalized reader (Ctype.apply reader.environment type_params manifest arguments) with
+          | None -> own declaration
+          | found -> found)
+      | Some (_, declaration) -> own declaration)
+  | _ -> None
+
+(* The type by the paths that `canonical` gives, its abbreviations expanded where they show or a `.cmt` has them. A
+   private one is another type than what it abbreviates. *)
+let rec plain ?(expanded = []) reader ty =
+  match Library.shape ty with
+  | Tconstr (path, arguments, _) -> (
+      let path = canonical reader path in
+      let arguments = List.map (plain ~expanded reader) arguments in
+      let at path = Btype.newgenty (Tconstr (path, arguments, ref Mnil)) in
+      match find_declaration reader path with
+      | Some ((Shown | Hidden), { type_manifest = Some manifest; type_private = Public; type_params; _ })
+        when not (List.exists (Path.same path) expanded) ->
+          let ty = Ctype.apply reader.environment type_params manifest arguments in
+          plain ~expanded:(path :: expanded) reader ty
+      | Some (Hidden, _) -> at (Option.value (path_inside reader path) ~default:path)
+      | _ -> at path)
+  | Ttuple parts -> Btype.newgenty (Ttuple (List.map (plain ~expanded reader) parts))
+  | _ -> ty
+
+let largest_index = 30
+
+(* What is told of an index that is none. *)
+let index_fault index =
+  let exception Found of string in
+  let parts = ref 0 in
+  let rec visit ty =
+    incr parts;
+    if !parts > largest_index then
+      raise (Found (Printf.sprintf "a generalized type (GADT) at an index of more than %d parts" largest_index));
+    match Library.shape ty with
+    | Tvar _ | Tunivar _ -> raise (Found "a generalized type (GADT) at an index that is not known")
+    | _ -> Btype.iter_type_expr visit (Btype.repr ty)
+  in
+  match List.iter visit index with () -> None | exception Found what -> Some what
+
+let rec text_of_type reader ty =
+  let text = text_of_type reader in
+  match Library.shape ty with
+  | Tconstr (path, arguments, _) -> text_of_index reader arguments ^ text_of_path reader (path_outside reader path)
+  | Ttuple parts -> "(" ^ String.concat " * " (List.map text parts) ^ ")"
+  | _ -> Library.one_line (Format.asprintf "%a" Printtyp.type_expr ty)
+
+and text_of_index reader = function
+  | [] -> ""
+  | [ ty ] -> text_of_type reader ty ^ " "
+  | index -> "(" ^ String.concat ", " (List.map (text_of_type reader) index) ^ ") "
+
+let read_generalized reader scope path arguments =
+  match index_fault arguments with
+  | Some what -> refuse reader (text_of_path reader path :: scope.way) what
+  | None ->
+      let index = List.map (plain reader) arguments in
+      let is_it instance =
+        Path.same instance.generalized path && Ctype.is_equal reader.environment false instance.index index
+      in
+      let own_path =
+        match List.find_opt is_it reader.instances with
+        | Some { own_path; _ } -> own_path
+        | None ->
+            let own_path = Path.Pident (Ident.create_local "index") in
+            let text = text_of_path reader path ^ " at " ^ String.trim (text_of_index reader index) in
+            reader.instances <- { generalized = path; index; own_path } :: reader.instances;
+            reader.texts <- Path.Map.add own_path text reader.texts;
+            own_path
+      in
+      reach reader scope.way own_path;
+      Applied (Declared own_path, [])
+
 let rec read_type reader scope ty =
   match List.find_opt (fun { around; _ } -> Library.same around ty) scope.enclosing with
   | Some enclosing -> Applied (Declared (name_of_enclosing reader enclosing), variables_of scope.parameters)
@@ -345,6 +536,11 @@ let rec read_type reader scope ty =
           Applied (Declared path, variables_of scope.parameters))
 
 and read_parts reader scope ty =
+  match as_generalized reader ty with
+  | Some (path, arguments) -> read_generalized reader scope path arguments
+  | None -> read_shape reader scope ty
+
+and read_shape reader scope ty =
   match Library.shape ty with
   | Tconstr (path, arguments, _) -> (
       let arguments = List.map (read_type reader scope) arguments in
@@ -388,18 +584,6 @@ and read_row reader scope row =
 
 (* {1 Reading declarations} *)
 
-let is_variable ty = match Library.shape ty with Tvar _ -> true | _ -> false
-
-let rec are_distinct = function
-  | [] -> true
-  | ty :: others -> (not (List.exists (Library.same ty) others)) && are_distinct others
-
-(* The names of parameters, where these are distinct variables. *)
-let name_variables types parameters =
-  if List.for_all is_variable types && are_distinct types && List.compare_lengths types parameters = 0 then
-    Some (List.combine types parameters)
-  else None
-
 (* OCaml has names that omarshal cannot write: with letters outside ASCII, and from 5.2 on keywords. *)
 let check_name reader scope name =
   if not (is_identifier name) || List.mem name keywords then
@@ -426,19 +610,15 @@ let read_arguments reader scope = function
    distinct variables. *)
 let constructor_variables scope { cd_res; _ } =
   match Option.map Library.shape cd_res with
-  | None -> Some scope.variables
-  | Some (Tconstr (_, arguments, _)) -> name_variables arguments scope.parameters
-  | Some _ -> None
+  | Some (Tconstr (_, arguments, _)) -> List.combine arguments scope.parameters
+  | Some _ | None -> scope.variables
 
 let read_constructor reader scope constructor =
   let name = Ident.name constructor.cd_id in
   let scope = step scope ("constructor " ^ name) in
   if constructor_name name = name then check_name reader scope name;
-  match constructor_variables scope constructor with
-  | Some variables -> (name, read_arguments reader { scope with variables } constructor.cd_args)
-  | None ->
-      ignore (refuse reader scope.way "a generalized constructor (GADT)");
-      (name, Separate [])
+  let variables = constructor_variables scope constructor in
+  (name, read_arguments reader { scope with variables } constructor.cd_args)
 
 let read_variant reader scope constructors =
   let named = List.map (read_constructor reader scope) constructors in
@@ -448,18 +628,79 @@ let read_variant reader scope constructors =
     ignore (refuse reader scope.way "a variant of more than 244 constructors with arguments");
   Variant (List.combine (constructor_names (List.map fst named)) (List.map snd named))
 
+(* A constructor at an index: with its parts there, of another index, or one of which that is not known. *)
+type at_index = At_it of constructor_declaration | At_another | Not_known
+
+let at_index reader parameters index ({ cd_args; cd_res; _ } as constructor) =
+  let result =
+    match Option.map Library.shape cd_res with Some (Tconstr (_, arguments, _)) -> arguments | _ -> parameters
+  in
+  let parts =
+    match cd_args with
+    | Cstr_tuple types -> types
+    | Cstr_record labels -> List.map (fun { ld_type; _ } -> ld_type) labels
+  in
+  let tuple types = Btype.newgenty (Ttuple types) in
+  let all = tuple [ tuple (List.map (plain reader) result); tuple index; tuple parts ] in
+  match Library.shape (Ctype.instance all) with
+  | Ttuple [ result; index; parts ] -> (
+      let before = Btype.snapshot () in
+      match Ctype.unify reader.environment result index with
+      | () ->
+          let parts = match Library.shape parts with Ttuple parts -> parts | _ -> [] in
+          let cd_args =
+            match cd_args with
+            | Cstr_tuple _ -> Cstr_tuple parts
+            | Cstr_record labels -> Cstr_record (List.map2 (fun label ld_type -> { label with ld_type }) labels parts)
+          in
+          At_it { constructor with cd_args; cd_res = None }
+      | exception Ctype.Unify _ -> (
+          Btype.backtrack before;
+          match Ctype.mcomp reader.environment result index with
+          | () -> Not_known
+          | exception Ctype.Incompatible -> At_another))
+  | _ -> Not_known
+
+(* The constructors of a generalized type at an index. One of another index is left out where none comes after it that
+   OCaml numbers with it; else its number would be given to another. *)
+let constructors_at reader scope parameters index constructors =
+  let is_constant { cd_args; _ } = cd_args = Cstr_tuple [] in
+  let rec keep = function
+    | [] -> []
+    | (constructor, found) :: others -> (
+        let refused what =
+          ignore (refuse reader (step scope ("constructor " ^ Ident.name constructor.cd_id)).way what);
+          { constructor with cd_args = Cstr_tuple []; cd_res = None } :: keep others
+        in
+        let is_numbered_with (other, found) = found <> At_another && is_constant other = is_constant constructor in
+        match found with
+        | At_it constructor -> constructor :: keep others
+        | Not_known -> refused "a generalized constructor (GADT) that may be of another index"
+        | At_another when List.exists is_numbered_with others ->
+            refused "a generalized constructor (GADT) of another index, before others"
+        | At_another -> keep others)
+  in
+  keep (List.map (fun constructor -> (constructor, at_index reader parameters index constructor)) constructors)
+
 (* What an unboxed type holds: the one part of its constructor, if that was not refused. *)
 let read_unboxed reader scope constructor =
   match read_constructor reader scope constructor with
   | _, (Separate [ holds ] | Inline [ { holds; _ } ]) -> Abbreviation holds
   | _, (Separate _ | Inline _) -> Abbreviation placeholder
 
+(* Whether the `.cmt` of a type's module was not found. *)
+let rec lacks_implementation reader = function
+  | Path.Pident id -> Ident.persistent id && implementation reader (Ident.name id) = None
+  | Path.Pdot (path, _) | Path.Papply (path, _) -> lacks_implementation reader path
+
 (* What is told of a type that shows no representation. *)
-let hidden_kind path declaration =
+let hidden_kind reader path declaration =
   match (Path.last path, declaration.type_kind) with
   | "lazy_t", _ when is_predefined path -> "a lazy value"
   | "exn", _ when is_predefined path -> "an exception"
   | _, Type_open -> "an extensible variant"
+  | _ when not reader.looks_inside -> "an abstract type (--cmt was not given)"
+  | _ when lacks_implementation reader path -> "an abstract type (no .cmt was found)"
   | _ -> "an abstract type"
 
 (* A type that is written again, as `type t = Other.t = A | B`, is the other one, where that one is found. *)
@@ -481,7 +722,7 @@ let read_body reader scope path declaration =
   | Type_variant ([ constructor ], Variant_unboxed), _ -> read_unboxed reader scope constructor
   | Type_variant (constructors, _), _ -> read_variant reader scope constructors
   | _, Some manifest -> Abbreviation (read_type reader scope manifest)
-  | _, None -> Abbreviation (refuse reader scope.way (hidden_kind path declaration))
+  | _, None -> Abbreviation (refuse reader scope.way (hidden_kind reader path declaration))
 
 let read_declaration reader path way (origin, declaration) =
   let parameters = List.mapi (fun index _ -> parameter_name index) declaration.type_params in
@@ -492,14 +733,29 @@ let read_declaration reader path way (origin, declaration) =
       let body = read_body reader scope path declaration in
       reader.declarations <- { path; parameters; body; origin; reached = way } :: reader.declarations
 
+let read_instance reader way { generalized; index; own_path } =
+  match find_declaration reader generalized with
+  | Some (origin, { type_kind = Type_variant (constructors, representation); type_params; _ }) ->
+      let owner = text_of_path reader own_path in
+      let scope = { variables = []; parameters = []; enclosing = []; way; owner } in
+      let body =
+        match (constructors_at reader scope type_params index constructors, representation) with
+        | [ constructor ], Variant_unboxed -> read_unboxed reader scope constructor
+        | constructors, _ -> read_variant reader scope constructors
+      in
+      reader.declarations <- { path = own_path; parameters = []; body; origin; reached = way } :: reader.declarations
+  | _ -> ignore (refuse reader way "a type of which no .cmi was found")
+
 (* Reads what waits, nearest types first, until nothing does. *)
 let rec read_waiting reader =
   match Queue.take_opt reader.waiting with
   | None -> ()
   | Some (path, way) ->
-      (match find_declaration reader path with
-      | Some found -> read_declaration reader path way found
-      | None -> ignore (refuse reader way "a type of which no .cmi was found"));
+      let is_it { own_path; _ } = Path.same own_path path in
+      (match (List.find_opt is_it reader.instances, find_declaration reader path) with
+      | Some instance, _ -> read_instance reader way instance
+      | None, Some found -> read_declaration reader path way found
+      | None, None -> ignore (refuse reader way "a type of which no .cmi was found"));
       read_waiting reader
 
 (* {1 Walks over what was read} *)
@@ -635,6 +891,28 @@ let is_cyclic group declaration =
   in
   is_abbreviation declaration && Path.Set.mem declaration.path (spread Path.Set.empty [ declaration ])
 
+let map_body f body =
+  let field field = { field with holds = f field.holds } in
+  let arguments = function
+    | Separate types -> Separate (List.map f types)
+    | Inline fields -> Inline (List.map field fields)
+  in
+  match body with
+  | Abbreviation expression -> Abbreviation (f expression)
+  | Record fields -> Record (List.map field fields)
+  | Variant constructors -> Variant (List.map (fun (name, held) -> (name, arguments held)) constructors)
+
+(* An abbreviation that comes back to itself through the arguments of a record or variant is written as a copy of this
+   one at these arguments. *)
+let copy_cyclic table group declaration =
+  match declaration.body with
+  | Abbreviation (Applied (Declared path, arguments)) when is_cyclic group declaration -> (
+      match Path.Map.find path table with
+      | { body = Abbreviation _; _ } -> declaration
+      | { parameters; body; _ } ->
+          { declaration with body = map_body (substitute (List.combine parameters arguments)) body })
+  | _ -> declaration
+
 let group_faults reader group =
   let members = Path.Set.of_list (List.map (fun { path; _ } -> path) group) in
   let faults_of declaration =
@@ -747,6 +1025,11 @@ let read_words arguments =
   in
   (* A type has no `/` in it, and a folder is given with one. *)
   let add_folder word = if Sys.file_exists word then add folders word else wrong_words "no folder %s" word in
+  let add_included word =
+    if not (Sys.file_exists (Misc.expand_directory Config.standard_library word)) then
+      Printf.eprintf "%s: no folder %s, which -I gives\n" program word;
+    add folders word
+  in
   let other word =
     if Filename.check_suffix word ".cmi" then add_file word
     else if String.contains word '/' || word = "." || word = ".." then add_folder word
@@ -754,8 +1037,8 @@ let read_words arguments =
   in
   let specification =
     [
-      ("-I", Arg.String (add folders), "FOLDER  look for modules there; +x is folder x of the standard library");
-      ("--cmt", Arg.Set looks_inside, " look for types that interfaces hide in the .cmt files of their modules");
+      ("-I", Arg.String add_included, "FOLDER  look for modules there; +x is folder x of the standard library");
+      ("--cmt", Arg.Set looks_inside, " look in .cmt files for types that interfaces hide or do not have");
       ("--declare", Arg.String (add by_hand), "DECLARATION  take this for the type; may be repeated");
     ]
   in
@@ -801,9 +1084,44 @@ let type_declarations environment signature =
   let declared = function Sig_type (id, declaration, _, _) -> Some (id, declaration) | _ -> None in
   List.filter_map declared (Typemod.transl_signature environment signature).Typedtree.sig_type
 
-let requested_type environment word =
+let rec longident_of_path = function
+  | Path.Pident id -> Longident.Lident (Ident.name id)
+  | Path.Pdot (path, name) -> Longident.Ldot (longident_of_path path, name)
+  | Path.Papply (path, argument) -> Longident.Lapply (longident_of_path path, longident_of_path argument)
+
+(* The name of a module, by the module that has it, of which the implementation is then in the environment. *)
+let rec in_implementation reader name =
+  match Env.find_module_by_name name reader.environment with
+  | path, _ ->
+      let path = Env.normalize_module_path None reader.environment path in
+      ignore (path_inside reader path);
+      longident_of_path path
+  | exception Not_found -> (
+      match name with
+      | Longident.Ldot (outer, last) -> Longident.Ldot (in_implementation reader outer, last)
+      | Lident _ | Lapply _ -> name)
+
+(* Types that no interface has are looked for in the implementation of their module. *)
+let look_inside reader word =
+  let typ mapper ty =
+    let ty = Ast_mapper.default_mapper.typ mapper ty in
+    match ty.Parsetree.ptyp_desc with
+    | Ptyp_constr (({ txt = Ldot (owner, last); _ } as name), arguments) -> (
+        match Env.find_type_by_name name.txt reader.environment with
+        | _ -> ty
+        | exception Not_found ->
+            let txt = Longident.Ldot (in_implementation reader owner, last) in
+            { ty with ptyp_desc = Ptyp_constr ({ name with txt }, arguments) })
+    | _ -> ty
+  in
+  let mapper = { Ast_mapper.default_mapper with typ } in
+  mapper.typ mapper word
+
+let requested_type (reader : reader) word =
   in_word word (fun () ->
       let manifest = Parse.core_type (Lexing.from_string word) in
+      let manifest = if reader.looks_inside then look_inside reader manifest else manifest in
+      let environment = reader.environment in
       let declaration = Ast_helper.Type.mk ~manifest (Location.mknoloc "requested") in
       let signature = [ Ast_helper.Sig.type_ Asttypes.Nonrecursive [ declaration ] ] in
       match type_declarations environment signature with
@@ -860,6 +1178,7 @@ let new_reader environment ~looks_inside =
     known = Path.Set.empty;
     declarations = [];
     faults = [];
+    instances = [];
     waiting = Queue.create ();
   }
 
@@ -882,15 +1201,24 @@ let run arguments =
   let words = read_words arguments in
   let environment = environment words.folders in
   let reader = List.fold_left add_by_hand (new_reader environment ~looks_inside:words.looks_inside) words.by_hand in
-  let requested = requested_type environment words.requested in
+  let requested = requested_type reader words.requested in
   let scope = { variables = []; parameters = []; enclosing = []; way = []; owner = "requested" } in
-  let root = read_type reader scope requested in
-  in_word words.requested (fun () -> read_waiting reader);
-  let read = List.rev reader.declarations in
-  let add table (declaration : declaration) = Path.Map.add declaration.path declaration table in
-  let table = List.fold_left add Path.Map.empty read in
+  let read () =
+    let root = read_type reader scope requested in
+    read_waiting reader;
+    root
+  in
+  let root = in_word words.requested read in
+  let table_of declarations =
+    let add table (declaration : declaration) = Path.Map.add declaration.path declaration table in
+    List.fold_left add Path.Map.empty declarations
+  in
   let faults = List.rev reader.faults in
-  let groups = if faults = [] then groups table read else [] in
+  let read = if faults = [] then List.rev reader.declarations else [] in
+  let table = table_of read in
+  let copied = List.concat_map (fun group -> List.map (copy_cyclic table group) group) (groups table read) in
+  let table = table_of copied in
+  let groups = groups table copied in
   match faults @ List.concat_map (group_faults reader) groups with
   | [] ->
       let groups = List.map (List.map (keep_boxed table)) groups in

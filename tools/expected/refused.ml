@@ -13,11 +13,18 @@ module type S = sig type t end
 type packed = (module S) list
 type any = Any : 'a -> any
 type _ expr = Int : int -> int expr | Not : bool expr -> bool expr
+type 'a of_expr = { expr : 'a expr }
+type _ tagged = Hidden_one : hidden tagged | Int_one : int tagged
+
+and hidden
+
+type _ stored = Kept : 'a list * 'b -> 'b stored | Int_stored : int -> int stored
+type _ endless = More : ('a * 'a) endless -> 'a endless | Last : int endless
+type _ only_int = Only : int -> int only_int
 type existential = { one : any }
 type delayed = Now of int | Later of int Lazy.t
 type failure = Failed of exn
 type extensible = ..
-type hidden
 type sum = [ `A | `B of hidden list ]
 type 'a opened = [> `A ] as 'a
 type private_open = private [> `A ]
@@ -28,4 +35,13 @@ type none = |
 type nothing = Left of none
 type loop = Loop of loop list [@@unboxed]
 type 'a constrained = 'a list constraint 'a = int * 'b
+
+module type Ordered = sig
+  type t
+
+  val compare : t -> t -> int
+end
+
+module Unpacked = Set.Make ((val (module String : Ordered)))
+
 type two = { f : hidden; g : int -> int; h : hidden }

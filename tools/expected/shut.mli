@@ -1,0 +1,3 @@
+(* An interface without the types of its implementation *)
+
+val saved : string

@@ -1,0 +1,5 @@
+(* Shut_names.Part is another name of this module. *)
+
+type t
+
+val one : t
