@@ -172,6 +172,37 @@ END
 declarations found.types > cut.types
 same "a size and a length" wanted.types cut.types
 
+# Declarations by hand of types that stand in an implementation alone, and with such a type
+made found.types --cmt --declare "'a Shut.Numbers.t = 'a list" --declare 'Shut.entry = Hidden.Local_key.t' \
+    --declare 'Shut.Inner.part = bool' Shut.Inner.file
+cat > wanted.types << 'END'
+(* Shut.Numbers.t, by hand *)
+type 'a shut_numbers_t = 'a list
+
+(* Hidden.Local_key.t, from its .cmt *)
+type hidden_local_key_t = int
+
+(* Shut.entry, by hand *)
+type shut_entry = hidden_local_key_t
+
+(* Shut.versions, from its .cmt *)
+type 'a shut_versions = {
+  newest : 'a;
+  older : 'a list;
+}
+
+(* Shut.Inner.part, by hand *)
+type shut_inner_part = bool
+
+(* Shut.Inner.file, from its .cmt *)
+type shut_inner_file = {
+  entries : shut_entry shut_numbers_t;
+  part : shut_inner_part shut_versions;
+}
+END
+declarations found.types > cut.types
+same "declarations by hand of types without an interface" wanted.types cut.types
+
 # A folder that is not there is told, and the type comes after that.
 made found.types -I nowhere -I +nowhere -I +compiler-libs int
 cat > wanted.txt << 'END'

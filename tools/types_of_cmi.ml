@@ -1101,42 +1101,44 @@ let rec in_implementation reader name =
       | Longident.Ldot (outer, last) -> Longident.Ldot (in_implementation reader outer, last)
       | Lident _ | Lapply _ -> name)
 
-(* Types that no interface has are looked for in the implementation of their module. *)
-let look_inside reader word =
-  let typ mapper ty =
-    let ty = Ast_mapper.default_mapper.typ mapper ty in
-    match ty.Parsetree.ptyp_desc with
-    | Ptyp_constr (({ txt = Ldot (owner, last); _ } as name), arguments) -> (
-        match Env.find_type_by_name name.txt reader.environment with
-        | _ -> ty
-        | exception Not_found ->
-            let txt = Longident.Ldot (in_implementation reader owner, last) in
-            { ty with ptyp_desc = Ptyp_constr ({ name with txt }, arguments) })
-    | _ -> ty
-  in
-  let mapper = { Ast_mapper.default_mapper with typ } in
-  mapper.typ mapper word
+(* The name of a type, by the implementation of its module where no interface has it. *)
+let name_inside (reader : reader) name =
+  match Env.find_type_by_name name reader.environment with
+  | _ -> name
+  | exception Not_found -> (
+      match name with
+      | Longident.Ldot (owner, last) when reader.looks_inside -> Longident.Ldot (in_implementation reader owner, last)
+      | _ -> name)
 
-let requested_type (reader : reader) word =
+let names_inside reader =
+  let typ mapper ty =
+    match (Ast_mapper.default_mapper.typ mapper ty).Parsetree.ptyp_desc with
+    | Ptyp_constr (name, arguments) ->
+        { ty with ptyp_desc = Ptyp_constr ({ name with txt = name_inside reader name.txt }, arguments) }
+    | ptyp_desc -> { ty with ptyp_desc }
+  in
+  { Ast_mapper.default_mapper with typ }
+
+let requested_type reader word =
   in_word word (fun () ->
-      let manifest = Parse.core_type (Lexing.from_string word) in
-      let manifest = if reader.looks_inside then look_inside reader manifest else manifest in
-      let environment = reader.environment in
+      let names = names_inside reader in
+      let manifest = names.typ names (Parse.core_type (Lexing.from_string word)) in
       let declaration = Ast_helper.Type.mk ~manifest (Location.mknoloc "requested") in
       let signature = [ Ast_helper.Sig.type_ Asttypes.Nonrecursive [ declaration ] ] in
-      match type_declarations environment signature with
+      match type_declarations reader.environment signature with
       | [ (_, { type_manifest = Some ty; _ }) ] -> ty
       | _ -> wrong_words "%s: no type" word)
 
 (* The left side of a declaration by hand: the path of a type, at variables. *)
-let left_side environment word text =
+let left_side reader word text =
   match (Parse.core_type (Lexing.from_string text)).Parsetree.ptyp_desc with
   | Ptyp_constr ({ txt; _ }, arguments) -> (
       let variable { Parsetree.ptyp_desc; _ } =
         match ptyp_desc with Ptyp_var name -> name | _ -> wrong_words "%s: its left side needs variables" word
       in
       let names = List.map variable arguments in
-      match Env.find_type_by_name txt environment with
+      let name = name_inside reader txt in
+      match Env.find_type_by_name name reader.environment with
       | path, { type_arity; _ } when type_arity = List.length names -> (path, names)
       | _, { type_arity; _ } -> wrong_words "%s: the type has %d parameters" word type_arity
       | exception Not_found -> wrong_words "%s: there is no such type" word)
@@ -1147,13 +1149,14 @@ let left_side environment word text =
 let add_by_hand reader word =
   in_word word (fun () ->
       let equals = try String.index word '=' with Not_found -> wrong_words "%s: there is no =" word in
-      let path, names = left_side reader.environment word (String.sub word 0 equals) in
+      let path, names = left_side reader word (String.sub word 0 equals) in
       let path = canonical reader path in
       if predeclared path <> None then wrong_words "%s: omarshal has this type" word;
       if Path.Map.mem path reader.by_hand then wrong_words "%s: the type is declared before" word;
       let body = String.sub word equals (String.length word - equals) in
       let text = Printf.sprintf "type %sdeclared_by_hand %s" (print_parameters names) body in
-      let signature = Parse.interface (Lexing.from_string text) in
+      let inside = names_inside reader in
+      let signature = inside.signature inside (Parse.interface (Lexing.from_string text)) in
       match (signature, type_declarations reader.environment signature) with
       | [ { psig_desc = Psig_type _; _ } ], (id, declaration) :: others ->
           let own_text = text_of_path reader path in

@@ -2,7 +2,7 @@
 
 type number = int
 
-(* At int all constructors but the last of each kind, Pair and None_of_them; at string Text would be before others. *)
+(* At int, the last of the constructors with arguments and of those without are of other indices. *)
 type _ expr =
   | Int : int -> int expr
   | Zero : int expr
