@@ -68,7 +68,7 @@ type field = { changes : bool; label : string; holds : expression }
 type arguments = Separate of expression list | Inline of field list
 
 type body =
-  | Record of field list
+  | Record of { is_flat : bool; fields : field list }
   | Variant of (string * arguments) list
   | Abbreviation of expression
 
@@ -592,7 +592,7 @@ let check_name reader scope name =
 let float_type = Applied (Predeclared "float", [])
 
 (* The fields of a record that OCaml made flat are floats, whatever names they were given. *)
-let read_field ?(is_flat = false) reader scope { ld_id; ld_mutable; ld_type; _ } =
+let read_field ~is_flat reader scope { ld_id; ld_mutable; ld_type; _ } =
   let label = Ident.name ld_id in
   let scope = step scope ("field " ^ label) in
   check_name reader scope label;
@@ -600,7 +600,7 @@ let read_field ?(is_flat = false) reader scope { ld_id; ld_mutable; ld_type; _ }
   { changes = ld_mutable = Asttypes.Mutable; label; holds }
 
 let read_arguments reader scope = function
-  | Cstr_record labels -> Inline (List.map (read_field reader scope) labels)
+  | Cstr_record labels -> Inline (List.map (read_field ~is_flat:false reader scope) labels)
   | Cstr_tuple [ ty ] -> Separate [ read_type reader scope ty ]
   | Cstr_tuple types ->
       let read index ty = read_type reader (step scope (Printf.sprintf "argument %d" (index + 1))) ty in
@@ -717,8 +717,9 @@ let read_body reader scope path declaration =
       Abbreviation (read_type reader scope manifest)
   | Type_record ([ label ], Record_unboxed _), _ ->
       Abbreviation (read_type reader (step scope ("field " ^ Ident.name label.ld_id)) label.ld_type)
-  | Type_record (labels, Record_float), _ -> Record (List.map (read_field ~is_flat:true reader scope) labels)
-  | Type_record (labels, _), _ -> Record (List.map (read_field reader scope) labels)
+  | Type_record (labels, representation), _ ->
+      let is_flat = representation = Record_float in
+      Record { is_flat; fields = List.map (read_field ~is_flat reader scope) labels }
   | Type_variant ([ constructor ], Variant_unboxed), _ -> read_unboxed reader scope constructor
   | Type_variant (constructors, _), _ -> read_variant reader scope constructors
   | _, Some manifest -> Abbreviation (read_type reader scope manifest)
@@ -774,7 +775,7 @@ let iter_body ~inside_tags visit body =
   let iter_field { holds; _ } = iter holds in
   match body with
   | Abbreviation expression -> iter expression
-  | Record fields -> List.iter iter_field fields
+  | Record { fields; _ } -> List.iter iter_field fields
   | Variant constructors ->
       let iter_arguments = function
         | Separate types -> List.iter iter types
@@ -812,13 +813,12 @@ let rec is_float table expression =
   | Variable _ | Tuple _ | Polymorphic _ -> false
 
 (* A record of a field type that OCaml did not know to be a float is a block of boxed floats. omarshal knows that type
-   where it was declared by hand, and would take the record for a flat one; so it is written as the variant of one
-   constructor with an inline record, which is never flat. *)
+   where it was declared by hand or copied, and would take the record for a flat one; so it is written as the variant of
+   one constructor with an inline record, which is never flat. *)
 let keep_boxed table declaration =
   match declaration.body with
-  | Record fields when declaration.origin <> By_hand ->
-      let all_floats = List.for_all (fun { holds; _ } -> is_float table holds) fields in
-      if all_floats && List.exists (fun { holds; _ } -> holds <> float_type) fields then
+  | Record { is_flat = false; fields } when declaration.origin <> By_hand ->
+      if List.for_all (fun { holds; _ } -> is_float table holds) fields then
         { declaration with body = Variant [ ("Boxed", Inline fields) ] }
       else declaration
   | Record _ | Variant _ | Abbreviation _ -> declaration
@@ -899,7 +899,7 @@ let map_body f body =
   in
   match body with
   | Abbreviation expression -> Abbreviation (f expression)
-  | Record fields -> Record (List.map field fields)
+  | Record { is_flat; fields } -> Record { is_flat; fields = List.map field fields }
   | Variant constructors -> Variant (List.map (fun (name, held) -> (name, arguments held)) constructors)
 
 (* An abbreviation that comes back to itself through the arguments of a record or variant is written as a copy of this
@@ -969,7 +969,7 @@ let print_constructor names (name, arguments) =
 
 let print_body names = function
   | Abbreviation expression -> " " ^ print_type names expression
-  | Record fields ->
+  | Record { fields; _ } ->
       let line field = "\n  " ^ print_field names field ^ ";" in
       " {" ^ String.concat "" (List.map line fields) ^ "\n}"
   | Variant constructors ->

@@ -37,12 +37,13 @@ let copied () =
   let open Copied in
   let term = Cast (Var 1, Apply { parts = [| End; Var 2 |] }) in
   let tree = { value = "root"; below = [ { value = "leaf"; below = [] } ] } in
-  let all = { term; types = Var 3; tree; again = End; kind = Cast (1, true) } in
+  let all = { term; types = Var 3; tree; again = End; kind = Cast (1, true); floats = { x = 1.; y = 2. } } in
   write "yes" "copied_all" all;
   write "no" "copied_all" { all with term = Obj.magic (Cast (1, End)) };
   write "no" "copied_all" { all with types = Obj.magic (Apply { parts = [| true; false |] }) };
   write "no" "copied_all" { all with tree = { tree with below = [ { value = Obj.magic 1; below = [] } ] } };
   write "no" "copied_all" { all with again = Obj.magic 1 };
+  write "no" "copied_all" { all with floats = Obj.magic [| 1.; 2. |] };
   let apply () = Apply { parts = [| End |] } in
   let shared = apply () in
   write "yes" "copied_term * (copied_term, copied_types) copied_kind" { left = apply (); right = apply () };
