@@ -84,6 +84,7 @@ fails_at_file request files stop (Err s) reads next = record {
 
 pub lawful : AreLawful example
 lawful = record {
+  wants_once = λ request files turn name other h k. h.1 ∙ sym k.1;
   finds_once = λ request files.
       Then_once (ReadsFile example_name (files 0 example_name)) (λ text found. found ≡ Ok true)
       (reads_once example_name (files 0 example_name)) (λ text found other h k. h ∙ sym k);

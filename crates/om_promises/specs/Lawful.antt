@@ -73,6 +73,9 @@ module _ {A : Type 0} (c : Commands A) where
         → c.IsFirst a bytes item more → c.Says a items item said → c.Stops a items bytes stop → ⊥
 
   pub record AreLawful : Type 0 where
+    -- one file at most is wanted in a turn
+    pub wants_once : (request : Request) (files : Fetches) (turn : ℕ)
+        → IsOnce (c.Wants request files turn)
     pub finds_once : (request : Request) (files : Fetches) → IsOnce (c.Finds request files)
     -- what is found is by the files that are wanted
     pub by_wanted : (request : Request) (files others : Fetches) (result : Result A Stop)

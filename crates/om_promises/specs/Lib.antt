@@ -1,8 +1,12 @@
 pub mod Call
 pub mod Given
+pub mod Outside
+pub mod LawfulLanguage
 pub mod Run
 pub mod StreamLaws
 pub mod Commands
 pub mod Lawful
+pub mod Account
+pub mod Promises
 pub mod CommandLaws
 pub mod Example

@@ -14,6 +14,7 @@ use Rattle.om_edge.specs.Sink.{Puts, PutsPart}
 use Rattle.om_edge.specs.State.{ByteState, FilesState, Change, change}
 use Rattle.om_promises.specs.Call.{Call}
 use Rattle.om_promises.specs.Given.{Gathers, Fetched}
+pub use Rattle.om_promises.specs.Outside.{KeepFiles, PutsLine, PutsPartAfter, AreShort, IsWellRead, IsHonest, IsUnsaid, IsOutside, OnlyReadFault, OnlyWriteFault, TellsWriteFault, TellsOpenFault, TellsReadFault}
 
 -- ---- the words
 
@@ -54,14 +55,6 @@ pub record AsksForScript {D T E : Type 0} (language : Language D T E) (words : L
 
 -- ---- the account of a call
 
--- the map of the files stays, and no count of faults falls
-pub record KeepFiles (files : Change FilesState) : Type 0 where
-  pub map : files.after.map ≡ files.before.map
-  pub opening : files.before.open_faults ≤ files.after.open_faults
-  pub opening_at_last : files.before.open_faults ≡ last_count → files.after.open_faults ≡ last_count
-  pub reading : files.before.read_faults ≤ files.after.read_faults
-  pub reading_at_last : files.before.read_faults ≡ last_count → files.after.read_faults ≡ last_count
-
 -- FILE is fetched where the words ask for one and PATH, if there, is a path; then SCRIPT, where they ask for one and FILE and
 -- TYPE are read; and nothing else is
 pub record FetchesFor {D T E : Type 0} (language : Language D T E) (words : List (List ℕ)) (files : Change FilesState) (found : Fetches) : Type 0 where
@@ -99,16 +92,6 @@ IsSaidFirst {D} {T} {E} language words given said =
     ((given.input ≡ nothing) × (said ≡ []))
     ⊎ ((task : Task T E) × Prepares language words given.files (Ok task) × IsPaced language task given.input said)
 
--- err has the line of the ending, whose status is answered; or the line could not be put whole
-abbrev pub PutsLine : Change ByteState → Status → Ending → Type 0
-PutsLine err status ending =
-    (Puts err ending.err × (status ≡ ending.status)) ⊎ (PutsPart err ending.err × (status ≡ WriteFault))
-
--- a text was put whole, and then not all of the next one
-abbrev pub PutsPartAfter : Change ByteState → List ℕ → List ℕ → Type 0
-PutsPartAfter sink text next =
-    (between : ByteState) × Puts (change sink.before between) text × PutsPart (change between sink.after) next
-
 -- after what was said all was put that belongs to the last reply, but for its line perhaps; that reply follows from what
 -- was given, or memory ran out
 pub record Completes {D T E : Type 0} (language : Language D T E) (words : List (List ℕ)) (given : Given) (said : List Said) (call : Call) : Type 0 where
@@ -136,26 +119,6 @@ pub record Account {D T E : Type 0} (language : Language D T E) (words : List (L
 
 -- ---- the headline
 
--- each file has fewer than 2^48 bytes
-abbrev pub AreShort : List File → Type 0
-AreShort files = (name bytes : List ℕ) → contents_of files name ≡ Some bytes → length bytes < 2 ^ 48
-
--- the input and the files are told, they are short enough, and no call on them failed
-pub record IsWellRead (call : Call) (input : List ℕ) (files : List File) : Type 0 where
-  pub input_told : call.input.before.bytes ≡ Some input
-  pub files_told : call.files.before.map ≡ Some files
-  pub input_short : length input < 2 ^ 48
-  pub files_short : AreShort files
-  pub takes : ¬ RoseOrLast call.input.before.faults call.input.after.faults
-  pub opens : ¬ RoseOrLast call.files.before.open_faults call.files.after.open_faults
-  pub reads : ¬ RoseOrLast call.files.before.read_faults call.files.after.read_faults
-
--- nor did one on out or err
-pub record IsHonest (call : Call) (input : List ℕ) (files : List File) : Type 0 where
-  pub well_read : IsWellRead call input files
-  pub out : ¬ RoseOrLast call.out.before.faults call.out.after.faults
-  pub err : ¬ RoseOrLast call.err.before.faults call.err.after.faults
-
 -- the outcome of the words, the files and the input is what out, err and the status say
 pub record HasOutcome {D T E : Type 0} (language : Language D T E) (words : List (List ℕ)) (call : Call) (input : List ℕ) (files : List File) : Type 0 where
   pub all : Replies
@@ -170,10 +133,6 @@ Headline language words call =
     (input : List ℕ) (files : List File) → IsHonest call input files → call.status ≢ Memory → HasOutcome language words call input files
 
 -- ---- the causes of the statuses
-
--- it could not be said, for out of memory or since err failed
-abbrev pub IsUnsaid : Status → Type 0
-IsUnsaid status = (status ≡ Memory) ⊎ (status ≡ WriteFault)
 
 -- other than two values: a byte comes after two of them, or the bytes end after fewer
 pub record AreNotTwo (limit : ℕ) (bytes : List ℕ) : Type 0 where
@@ -192,10 +151,6 @@ OnlyUsage language words call = call.status ≡ Usage
 -- and where they ask for nothing, or PATH is no path, unless it could not be said
 abbrev pub IfUsage : {D T E : Type 0} → Language D T E → List (List ℕ) → Call → Type 0
 IfUsage language words call = IsUsage words ⊎ AsksBadly language words → (call.status ≡ Usage) ⊎ IsUnsaid call.status
-
--- 6 to 9: what comes of a call that failed, or of out of memory, comes in the place of all else
-abbrev pub IsOutside : Status → Type 0
-IsOutside status = (status ≡ ReadFault) ⊎ ((status ≡ OpenFault) ⊎ IsUnsaid status)
 
 -- 2: and where `same` is told other than two values, in the first 2^48 bytes, or in all where they end after fewer
 abbrev pub IfNotTwo : List (List ℕ) → Call → Type 0
@@ -270,16 +225,6 @@ IfValue {D} {T} {E} language words call =
     → (bad : HoldBadValue language task (take (2 ^ 48) bytes)) → ((n : ℕ) → bad.end ≡ cut n → length bytes < 2 ^ 48)
     → (call.status ≡ Value) ⊎ IsOutside call.status
 
--- 6: only where the count of the input or the files' read faults rose, or is the last value
-abbrev pub OnlyReadFault : Call → Type 0
-OnlyReadFault call = call.status ≡ ReadFault
-    → RoseOrLast call.input.before.faults call.input.after.faults ⊎ RoseOrLast call.files.before.read_faults call.files.after.read_faults
-
--- 7: only where that of out or err did
-abbrev pub OnlyWriteFault : Call → Type 0
-OnlyWriteFault call = call.status ≡ WriteFault
-    → RoseOrLast call.out.before.faults call.out.after.faults ⊎ RoseOrLast call.err.before.faults call.err.after.faults
-
 -- a fetch of the name failed, or the map is told and does not have the name
 abbrev pub CannotOpen : Change FilesState → List ℕ → Type 0
 CannotOpen files name =
@@ -316,18 +261,6 @@ pub record IfTooLong {D T E : Type 0} (language : Language D T E) (words : List 
   pub script : (all : List File) (name bytes : List ℕ) → TellsTurn language words call.files all name → contents_of all name ≡ Some bytes → 2 ^ 48 ≤ length bytes → (call.status ≡ TooLong) ⊎ IsOutside call.status
   pub input : (files : List File) (task : Task T E) (bytes : List ℕ) (said : List Said) → call.files.before.map ≡ Some files → Prepares language words (fetches_of (contents_of files)) (Ok task)
       → call.input.before.bytes ≡ Some bytes → 2 ^ 48 ≤ length bytes → HoldNoStop language task (take (2 ^ 48 + 4095) bytes) said → (call.status ≡ TooLong) ⊎ IsOutside call.status
-
--- a failed call is not taken for one that went well: where a count rose, the status is 6, 7, 8 or 9
-pub record TellsWriteFault (call : Call) : Type 0 where
-  pub out : call.out.before.faults < call.out.after.faults → call.status ≡ WriteFault
-  pub err : call.err.before.faults < call.err.after.faults → call.status ≡ WriteFault
-
-abbrev pub TellsOpenFault : Call → Type 0
-TellsOpenFault call = call.files.before.open_faults < call.files.after.open_faults → (call.status ≡ OpenFault) ⊎ IsUnsaid call.status
-
-pub record TellsReadFault (call : Call) : Type 0 where
-  pub input : call.input.before.faults < call.input.after.faults → (call.status ≡ ReadFault) ⊎ IsUnsaid call.status
-  pub file : call.files.before.read_faults < call.files.after.read_faults → (call.status ≡ ReadFault) ⊎ IsUnsaid call.status
 
 -- ---- edits
 

@@ -1,0 +1,109 @@
+-- The commands on the values of the input, in the general form: an item is a value.
+use Rattle.std.specs.Prelude.{ℕ, ◌<◌, ◌≡◌, ◌⊎◌, List, [], ◌∷◌, length, Some, Result, Ok, Err}
+use Rattle.om_model.specs.declared.refusal.ReadRefusal.{ReadRefusal}
+use Rattle.om_format.specs.Stream.{SpellAll, End, clean, refused, cut, IsTail}
+use Rattle.om_format.specs.Tree.{Tree}
+use Rattle.om_outcome.specs.Outcome as outcome
+use Rattle.om_outcome.specs.Outcome.{Request, typed_by, script_of, limit_of, Stop, value, Said, Reply, stops, Language, Work, tells, edits, dumps, compares, Task, task, Then, ReadsTypeOf, FindsWork}
+use Rattle.om_outcome.specs.RefusalText.{refusal_text, truncated_text}
+use Rattle.om_promises.specs.Commands.{Item, value as value_item, Fetches, Commands}
+use Rattle.om_promises.specs.Run.{HasPath}
+
+-- FILE is fetched in the first turn, and SCRIPT in the second one
+abbrev pub by_turns : Fetches → outcome.Fetches
+by_turns files = record { file = files 0; script = files 1 }
+
+-- values, as items of the input
+abbrev pub items_of : List Tree → List Item
+items_of [] = []
+items_of (tree ∷ trees) = value_item tree ∷ items_of trees
+
+module _ {D T E : Type 0} (language : Language D T E) where
+  -- ---- the files
+
+  -- FILE is wanted where PATH, if there is one, is a path
+  pub record WantsFile (request : Request) (name : List ℕ) : Type 0 where
+    pub has_path : HasPath language request
+    pub type : List ℕ
+    pub typed : typed_by request ≡ Some (name, type)
+
+  -- SCRIPT is wanted where FILE and TYPE are read
+  pub record WantsScript (request : Request) (files : Fetches) (name : List ℕ) : Type 0 where
+    pub scripted : script_of request ≡ Some name
+    pub typed : List ℕ × List ℕ
+    pub is_typed : typed_by request ≡ Some typed
+    pub type : T
+    pub reads : ReadsTypeOf language (files 0) typed (Ok type)
+
+  abbrev pub Wants : Request → Fetches → ℕ → List ℕ → Type 0
+  Wants request files turn name =
+      ((turn ≡ 0) × WantsFile request name) ⊎ ((turn ≡ 1) × WantsScript request files name)
+
+  -- what is to be done with the values, and their limit
+  abbrev pub Finds : Request → Fetches → Result (Task T E) Stop → Type 0
+  Finds request files =
+      Then (FindsWork language (by_turns files) request) (λ work found.
+      found ≡ Ok (task work (limit_of request)))
+
+  -- ---- the values
+
+  -- the bytes are a value under the limit, and then the rest
+  pub record IsFirstValue (limit : ℕ) (bytes : List ℕ) (item : Item) (more : List ℕ)
+      : Type 0 where
+    pub tree : Tree
+    pub is : item ≡ value_item tree
+    pub spelled : SpellAll limit bytes (tree ∷ []) more
+
+  -- this is said of the next value
+  pub record SaysOf (work : Work T E) (items : List Item) (item : Item) (said : Said)
+      : Type 0 where
+    pub tree : Tree
+    pub is : item ≡ value_item tree
+    pub says : outcome.Says language work (length items) tree said
+
+  -- after so many values one more may come
+  abbrev pub MayCome : Work T E → ℕ → Type 0
+  MayCome (tells saying type) n = Unit {0}
+  MayCome (edits type script compat) n = Unit {0}
+  MayCome dumps n = Unit {0}
+  MayCome compares n = n < 2
+
+  -- a value may come, and what comes is refused
+  pub record IsRefused (a : Task T E) (n : ℕ) (bytes : List ℕ) (stop : Stop) : Type 0 where
+    pub may : MayCome a.work n
+    pub refusal : ReadRefusal
+    pub tail : IsTail a.limit bytes (refused refusal)
+    pub is : stop ≡ value n (refusal_text refusal)
+
+  -- the command stops here, or a value is refused
+  pub record StopsHere (a : Task T E) (items : List Item) (bytes : List ℕ) (stop : Stop)
+      : Type 0 where
+    pub trees : List Tree
+    pub are : items ≡ items_of trees
+    pub why : outcome.StopsAt language a.work a.limit trees bytes stop
+        ⊎ IsRefused a (length trees) bytes stop
+
+  -- the last reply, where the bytes end after the values, or cut one more
+  abbrev pub EndsBy : Work T E → List Tree → End → Reply → Type 0
+  EndsBy work trees clean last = outcome.Finishes language work trees last
+  EndsBy work trees (refused refusal) last = ⊥
+  EndsBy work trees (cut n) last = last ≡ stops (value (length trees) (truncated_text n))
+
+  pub record EndsHere (a : Task T E) (items : List Item) (bytes : List ℕ) (last : Reply)
+      : Type 0 where
+    pub trees : List Tree
+    pub are : items ≡ items_of trees
+    pub end : End
+    pub tail : IsTail a.limit bytes end
+    pub ends : EndsBy a.work trees end last
+
+  abbrev pub commands : Commands (Task T E)
+  commands = record {
+    Wants = Wants;
+    Finds = Finds;
+    Reads = λ a. Unit {0};
+    IsFirst = λ a. IsFirstValue a.limit;
+    Says = λ a. SaysOf a.work;
+    Stops = StopsHere;
+    Ends = EndsHere;
+  }
