@@ -143,7 +143,7 @@ module _ {D T E : Type 0} (language : Language D T E) (lawful : IsLawful languag
   edits_given f u script compat work (Ok t, reads, (Ok ls, lines, told)) =
       let is : work ≡ edits t ls compat = cc in subst (IsGivenWork language) (sym is) (type_given f u t reads)
 
-  work_given : (request : Request) (work : Work T E) → FindsWork language files request (Ok work) → IsGivenWork language work
+  pub work_given : (request : Request) (work : Work T E) → FindsWork language files request (Ok work) → IsGivenWork language work
   work_given (check f u most) work h = tells_given f u the_verdict work h
   work_given (show f u most) work h = tells_given f u the_text work h
   work_given (get f u text most) work (Err s, reads, same) = absurd (cc same)
