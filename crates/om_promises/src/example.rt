@@ -1,11 +1,14 @@
 //! An example of lawful commands, so that the laws are not of nothing.
 
+ghost use Rattle.std.specs.Prelude.{Bool};
 ghost use Rattle.om_promises.specs.CommandLaws.{HaveOneOutcome};
 ghost use Rattle.om_promises.specs.Example.{example};
 
 use crate::laws::{Act, lawful_commands};
 
 impl Act for bool {
+    ghost acts = { Bool };
+
     ghost commands = { example };
 }
 

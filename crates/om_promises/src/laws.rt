@@ -10,9 +10,11 @@ pub fn one_stream()
     ensures { HasOneStream }
 {}
 
-/// What may be done by commands: the files that they want, and what they say of their input by it.
+/// What may be done by commands, the files that they want, and what they say of their input by it.
 pub trait Act {
-    ghost commands: { Commands Self };
+    ghost acts: { Type 0 };
+
+    ghost commands: { Commands acts };
 }
 
 /// Lawful commands have one outcome. The input holds one stop at most, which stays when bytes follow, and comes last.
