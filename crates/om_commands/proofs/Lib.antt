@@ -1,0 +1,3 @@
+pub mod FindLemmas
+pub mod ItemLemmas
+pub mod LawfulLemmas

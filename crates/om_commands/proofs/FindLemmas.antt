@@ -1,0 +1,449 @@
+-- What is to be done by the files: it is one, by the files that are wanted, each of which is read or stops the run.
+use Rattle.std.proofs.Common.{◌≡◌, ◌⊎◌, ℕ, Bool, List, Option, Some, Result, Ok, Err, inl, inr, refl, sym, ap, ◌∙◌, subst}
+use Rattle.std.specs.Prelude.{MatchResult}
+use Rattle.om_outcome.specs.Outcome as outcome
+use Rattle.om_outcome.specs.Outcome.{Found, Request, check, show, get, edit, dump, compare, Stop, bad_path, declarations, requested_type, script_line, Saying, the_verdict, the_text, the_part, Work, tells, edits, Task, task, limit_of, Language, Then, OrRefusal, ReadsFile, ReadsTypeOf, ReadsPathOf, ReadsScriptOf, TellsAt, EditsBy, FindsWork}
+use Rattle.om_promises.specs.Commands.{Fetches}
+use Rattle.om_promises.specs.Lawful.{IsOnce, IsInner, IsWhole, FailsAtFile}
+use Rattle.om_promises.specs.LawfulLanguage.{IsLawful}
+use Rattle.om_promises.proofs.CompleteLemmas.{IsGivenWork, work_given}
+use Rattle.om_promises.proofs.ExampleLemmas.{reads_once}
+use Rattle.om_promises.proofs.OnceLemmas.{Then_once}
+use Rattle.om_commands.specs.Tasks.{by_turns, WantsFile, WantsScript, Wants, Finds, commands}
+
+-- what is read of a text, or the stop that tells its refusal, is one
+refusal_once :
+    {X R : Type 0} (Reads : Result X R → Type 0) (stop : R → Stop)
+    → IsOnce Reads → IsOnce (OrRefusal Reads stop)
+refusal_once Reads stop one (Ok x) (Ok y) h k =
+    let same : x ≡ y = cc (one (Ok x) (Ok y) h k) in ap (λ x. Ok x) same
+refusal_once Reads stop one (Ok x) (Err s) h (refusal, refuses, is) =
+    absurd (cc (one (Ok x) (Err refusal) h refuses))
+refusal_once Reads stop one (Err s) (Ok y) (refusal, refuses, is) k =
+    absurd (cc (one (Err refusal) (Ok y) refuses k))
+refusal_once Reads stop one (Err s) (Err t) (refusal, refuses, is) (other, refuses', is') =
+    let same : refusal ≡ other = cc (one (Err refusal) (Err other) refuses refuses') in
+    ap (λ s. Err s) (is ∙ (ap stop same ∙ sym is'))
+
+-- the file is whole, or is not there, or it stops the run
+abbrev pub IsRead : {X : Type 0} → List ℕ → Found → Result X Stop → Type 0
+IsRead name found result = IsWhole found
+    ⊎ ((stop : Stop) × ReadsFile name found (Err stop) × (result ≡ Err stop))
+
+file_read :
+    (name : List ℕ) (found : Found) (result : Result (List ℕ) Stop)
+    → ReadsFile name found result → IsRead name found result
+file_read name found (Ok bytes) reads = inl (inl (bytes, reads))
+file_read name found (Err stop) reads = inr (stop, reads, refl)
+
+-- a file that the first stage reads
+then_read :
+    {X Y : Type 0} (name : List ℕ) (found : Found)
+    (first : Result X Stop → Type 0) (next : X → Result Y Stop → Type 0)
+    → ((given : Result X Stop) → first given → IsRead name found given)
+    → (result : Result Y Stop) → Then first next result → IsRead name found result
+then_read {X} {Y} name found first next reads result (given, h, m) = from given m (reads given h) where
+  from : (given : Result X Stop)
+      → MatchResult given (λ x. next x result) (λ stop. result ≡ Err stop)
+      → IsRead name found given → IsRead name found result
+  from (Ok x) m (inl whole) = inl whole
+  from (Err s) m (inl whole) = inl whole
+  from (Ok x) m (inr (stop, fault, is)) = absurd (cc is)
+  from (Err s) m (inr (stop, fault, is)) =
+      let same : s ≡ stop = cc is in inr (stop, fault, m ∙ ap (λ s. Err s) same)
+
+module _ {D T E : Type 0} (language : Language D T E) (lawful : IsLawful language) where
+  -- ---- what is found is one
+
+  text_once : (text : List ℕ) → IsOnce (language.ReadsDeclarations text)
+  text_once text (Ok d) (Ok e) h k = ap (λ d. Ok d) (lawful.same_declarations text d e h k)
+  text_once text (Ok d) (Err r) h k = absurd (lawful.declarations_once text d r h k)
+  text_once text (Err r) (Ok e) h k = absurd (lawful.declarations_once text e r k h)
+  text_once text (Err r) (Err s) h k = ap (λ r. Err r) (lawful.same_refusal text r s h k)
+
+  requested_once : (d : D) (text : List ℕ) → IsOnce (language.ReadsType d text)
+  requested_once d text (Ok t) (Ok u) h k = ap (λ t. Ok t) (lawful.same_type d text t u h k)
+  requested_once d text (Ok t) (Err r) h k = absurd (lawful.type_once d text t r h k)
+  requested_once d text (Err r) (Ok u) h k = absurd (lawful.type_once d text u r k h)
+  requested_once d text (Err r) (Err s) h k =
+      ap (λ r. Err r) (lawful.same_type_refusal d text r s h k)
+
+  lines_once : (text : List ℕ) → IsOnce (language.ReadsScript text)
+  lines_once text (Ok l) (Ok m) h k = ap (λ l. Ok l) (lawful.same_script text l m h k)
+  lines_once text (Ok l) (Err r) h k = absurd (lawful.script_once text l r h k)
+  lines_once text (Err r) (Ok m) h k = absurd (lawful.script_once text m r k h)
+  lines_once text (Err r) (Err s) h k =
+      ap (λ r. Err r) (lawful.same_script_refusal text r s h k)
+
+  path_once : (text : List ℕ) → IsOnce (ReadsPathOf language text)
+  path_once text (Ok p) (Ok q) h k = ap (λ p. Ok p) (lawful.same_path text p q h k)
+  path_once text (Ok p) (Err s) h (none, is) = absurd (lawful.path_once text p h none)
+  path_once text (Err s) (Ok q) (none, is) k = absurd (lawful.path_once text q k none)
+  path_once text (Err s) (Err t) (none, is) (none', is') = ap (λ s. Err s) (is ∙ sym is')
+
+  type_once :
+      (file : List ℕ → Found) (typed : List ℕ × List ℕ)
+      → IsOnce (ReadsTypeOf language file typed)
+  type_once file typed =
+      Then_once (ReadsFile typed.0 (file typed.0))
+      (λ text. Then (OrRefusal (language.ReadsDeclarations text) declarations)
+      (λ decls. OrRefusal (language.ReadsType decls typed.1) requested_type))
+      (reads_once typed.0 (file typed.0))
+      (λ text. Then_once (OrRefusal (language.ReadsDeclarations text) declarations)
+      (λ decls. OrRefusal (language.ReadsType decls typed.1) requested_type)
+      (refusal_once (language.ReadsDeclarations text) declarations (text_once text))
+      (λ decls. refusal_once (language.ReadsType decls typed.1) requested_type
+      (requested_once decls typed.1)))
+
+  tells_once :
+      (file : List ℕ → Found) (typed : List ℕ × List ℕ) (saying : Saying)
+      → IsOnce (TellsAt language file typed saying)
+  tells_once file typed saying =
+      Then_once (ReadsTypeOf language file typed) (λ type found. found ≡ Ok (tells saying type))
+      (type_once file typed) (λ type found other h k. h ∙ sym k)
+
+  script_once :
+      (script : List ℕ → Found) (name : List ℕ) → IsOnce (ReadsScriptOf language script name)
+  script_once script name =
+      Then_once (ReadsFile name (script name))
+      (λ text. OrRefusal (language.ReadsScript text) (λ refusal. script_line refusal.0 refusal.1))
+      (reads_once name (script name))
+      (λ text. refusal_once (language.ReadsScript text)
+      (λ refusal. script_line refusal.0 refusal.1) (lines_once text))
+
+  edits_once :
+      (files : outcome.Fetches) (typed : List ℕ × List ℕ) (name : List ℕ) (compat : Bool)
+      → IsOnce (EditsBy language files typed name compat)
+  edits_once files typed name compat =
+      Then_once (ReadsTypeOf language files.file typed)
+      (λ type. Then (ReadsScriptOf language files.script name)
+      (λ script found. found ≡ Ok (edits type script compat)))
+      (type_once files.file typed)
+      (λ type. Then_once (ReadsScriptOf language files.script name)
+      (λ script found. found ≡ Ok (edits type script compat))
+      (script_once files.script name) (λ script found other h k. h ∙ sym k))
+
+  work_once :
+      (files : outcome.Fetches) (request : Request) → IsOnce (FindsWork language files request)
+  work_once files (check f t most) r s h k = tells_once files.file (f, t) the_verdict r s h k
+  work_once files (show f t most) r s h k = tells_once files.file (f, t) the_text r s h k
+  work_once files (get f t text most) r s h k =
+      Then_once (ReadsPathOf language text)
+      (λ path. TellsAt language files.file (f, t) (the_part path))
+      (path_once text) (λ path. tells_once files.file (f, t) (the_part path)) r s h k
+  work_once files (edit f t script compat most) r s h k =
+      edits_once files (f, t) script compat r s h k
+  work_once files (dump most) r s h k = h ∙ sym k
+  work_once files (compare most) r s h k = h ∙ sym k
+
+  pub finds_once :
+      (request : Request) (files : Fetches) → IsOnce (Finds language request files)
+  finds_once request files =
+      Then_once (FindsWork language (by_turns files) request)
+      (λ work found. found ≡ Ok (task work (limit_of request)))
+      (work_once (by_turns files) request) (λ work found other h k. h ∙ sym k)
+
+  -- the type of the work was read
+  pub finds_given :
+      (request : Request) (files : Fetches) (a : Task T E)
+      → Finds language request files (Ok a) → IsGivenWork language a.work
+  finds_given request files a (Err s, h, told) = absurd (cc told)
+  finds_given request files a (Ok work, h, told) =
+      let is : a ≡ task work (limit_of request) = cc in
+      subst (λ a. IsGivenWork language a.work) (sym is)
+      (work_given language lawful (by_turns files) request work h)
+
+  -- ---- it is by the files that are wanted
+
+  type_by :
+      (file other : List ℕ → Found) (typed : List ℕ × List ℕ) (result : Result T Stop)
+      → file typed.0 ≡ other typed.0
+      → ReadsTypeOf language file typed result → ReadsTypeOf language other typed result
+  type_by file other typed result same (text, reads, next) =
+      (text, subst (λ found. ReadsFile typed.0 found text) same reads, next)
+
+  tells_by :
+      (file other : List ℕ → Found) (typed : List ℕ × List ℕ) (saying : Saying)
+      (result : Result (Work T E) Stop) → file typed.0 ≡ other typed.0
+      → TellsAt language file typed saying result → TellsAt language other typed saying result
+  tells_by file other typed saying result same (type, reads, next) =
+      (type, type_by file other typed type same reads, next)
+
+  script_by :
+      (script other : List ℕ → Found) (name : List ℕ) (result : Result (List E) Stop)
+      → script name ≡ other name
+      → ReadsScriptOf language script name result → ReadsScriptOf language other name result
+  script_by script other name result same (text, reads, next) =
+      (text, subst (λ found. ReadsFile name found text) same reads, next)
+
+  -- what is found by the lines of SCRIPT
+  abbrev Lines : Fetches → List ℕ → Bool → Result (Work T E) Stop → T → Type 0
+  Lines files name compat result type =
+      Then (ReadsScriptOf language (files 1) name)
+      (λ lines found. found ≡ Ok (edits type lines compat)) result
+
+  work_by :
+      (request : Request) (files others : Fetches) (result : Result (Work T E) Stop)
+      → ((turn : ℕ) (name : List ℕ) → Wants language request files turn name
+      → files turn name ≡ others turn name)
+      → FindsWork language (by_turns files) request result
+      → FindsWork language (by_turns others) request result
+  work_by (check f t most) files others result same h =
+      tells_by (files 0) (others 0) (f, t) the_verdict result
+      (same 0 f (inl (refl, record { has_path = tt; type = t; typed = refl }))) h
+  work_by (show f t most) files others result same h =
+      tells_by (files 0) (others 0) (f, t) the_text result
+      (same 0 f (inl (refl, record { has_path = tt; type = t; typed = refl }))) h
+  work_by (get f t text most) files others result same (Err s, none, next) = (Err s, none, next)
+  work_by (get f t text most) files others result same (Ok path, is_path, h) = (
+    Ok path,
+    is_path,
+    tells_by (files 0) (others 0) (f, t) (the_part path) result
+        (same 0 f (inl (refl, record { has_path = (path, is_path); type = t; typed = refl }))) h,
+  )
+  work_by (edit f t script compat most) files others result same (type, reads, next) =
+      (type, type_by (files 0) (others 0) (f, t) type wanted reads, from type reads next) where
+        wanted : files 0 f ≡ others 0 f
+        wanted = same 0 f (inl (refl, record { has_path = tt; type = t; typed = refl }))
+
+        from : (type : Result T Stop) → ReadsTypeOf language (files 0) (f, t) type
+            → MatchResult type (Lines files script compat result) (λ stop. result ≡ Err stop)
+            → MatchResult type (Lines others script compat result) (λ stop. result ≡ Err stop)
+        from (Err s) reads is = is
+        from (Ok type) reads (lines, read, is) =
+            let asked : WantsScript language (edit f t script compat most) files script =
+            record { scripted = refl; typed = (f, t); is_typed = refl; type = type; reads = reads } in
+            (lines, script_by (files 1) (others 1) script lines (same 1 script (inr (refl, asked))) read, is)
+  work_by (dump most) files others result same h = h
+  work_by (compare most) files others result same h = h
+
+  pub finds_by :
+      (request : Request) (files others : Fetches) (result : Result (Task T E) Stop)
+      → ((turn : ℕ) (name : List ℕ) → Wants language request files turn name
+      → files turn name ≡ others turn name)
+      → Finds language request files result → Finds language request others result
+  finds_by request files others result same (work, h, next) =
+      (work, work_by request files others work same h, next)
+
+  -- ---- each of them is read, or stops the run
+
+  type_read :
+      (file : List ℕ → Found) (typed : List ℕ × List ℕ) (result : Result T Stop)
+      → ReadsTypeOf language file typed result → IsRead typed.0 (file typed.0) result
+  type_read file typed =
+      then_read typed.0 (file typed.0) (ReadsFile typed.0 (file typed.0))
+      (λ text. Then (OrRefusal (language.ReadsDeclarations text) declarations)
+      (λ decls. OrRefusal (language.ReadsType decls typed.1) requested_type))
+      (file_read typed.0 (file typed.0))
+
+  tells_read :
+      (file : List ℕ → Found) (typed : List ℕ × List ℕ) (saying : Saying)
+      (result : Result (Work T E) Stop) → TellsAt language file typed saying result
+      → IsRead typed.0 (file typed.0) result
+  tells_read file typed saying =
+      then_read typed.0 (file typed.0) (ReadsTypeOf language file typed)
+      (λ type found. found ≡ Ok (tells saying type)) (type_read file typed)
+
+  script_read :
+      (script : List ℕ → Found) (name : List ℕ) (result : Result (List E) Stop)
+      → ReadsScriptOf language script name result → IsRead name (script name) result
+  script_read script name =
+      then_read name (script name) (ReadsFile name (script name))
+      (λ text. OrRefusal (language.ReadsScript text) (λ refusal. script_line refusal.0 refusal.1))
+      (file_read name (script name))
+
+  edits_read :
+      (files : outcome.Fetches) (typed : List ℕ × List ℕ) (name : List ℕ) (compat : Bool)
+      (result : Result (Work T E) Stop) → EditsBy language files typed name compat result
+      → IsRead typed.0 (files.file typed.0) result
+  edits_read files typed name compat =
+      then_read typed.0 (files.file typed.0) (ReadsTypeOf language files.file typed)
+      (λ type. Then (ReadsScriptOf language files.script name)
+      (λ script found. found ≡ Ok (edits type script compat))) (type_read files.file typed)
+
+  -- FILE of the words is the one that is wanted
+  same_file :
+      (f t name : List ℕ) (files : Fetches) (result : Result (Work T E) Stop)
+      → (type : List ℕ) → ◌≡◌ {A = Option (List ℕ × List ℕ)} (Some (f, t)) (Some (name, type))
+      → IsRead f (files 0 f) result → IsRead name (files 0 name) result
+  same_file f t name files result type same =
+      let both : ◌≡◌ {A = List ℕ × List ℕ} (f, t) (name, type) = cc in
+      subst (λ n. IsRead n (files 0 n) result) (ap (λ p. p.0) both)
+
+  file_wanted :
+      (request : Request) (files : Fetches) (result : Result (Work T E) Stop) (name : List ℕ)
+      → FindsWork language (by_turns files) request result → WantsFile language request name
+      → IsRead name (files 0 name) result
+  file_wanted (check f t most) files result name h w =
+      same_file f t name files result w.type w.typed
+      (tells_read (files 0) (f, t) the_verdict result h)
+  file_wanted (show f t most) files result name h w =
+      same_file f t name files result w.type w.typed
+      (tells_read (files 0) (f, t) the_text result h)
+  file_wanted (get f t text most) files result name (Err s, (none, is), next) w =
+      absurd (lawful.path_once text w.has_path.0 w.has_path.1 none)
+  file_wanted (get f t text most) files result name (Ok path, is_path, h) w =
+      same_file f t name files result w.type w.typed
+      (tells_read (files 0) (f, t) (the_part path) result h)
+  file_wanted (edit f t script compat most) files result name h w =
+      same_file f t name files result w.type w.typed
+      (edits_read (by_turns files) (f, t) script compat result h)
+  file_wanted (dump most) files result name h w = let e = w.typed in absurd (cc e)
+  file_wanted (compare most) files result name h w = let e = w.typed in absurd (cc e)
+
+  script_wanted :
+      (request : Request) (files : Fetches) (result : Result (Work T E) Stop) (name : List ℕ)
+      → FindsWork language (by_turns files) request result
+      → WantsScript language request files name → IsRead name (files 1 name) result
+  script_wanted (check f t most) files result name h w = let e = w.scripted in absurd (cc e)
+  script_wanted (show f t most) files result name h w = let e = w.scripted in absurd (cc e)
+  script_wanted (get f t text most) files result name h w = let e = w.scripted in absurd (cc e)
+  script_wanted (edit f t script compat most) files result name (given, reads, next) w =
+      from given (type_once (files 0) (f, t) (Ok w.type) given first reads) next where
+        both : ◌≡◌ {A = List ℕ × List ℕ} (f, t) w.typed
+        both = let e : ◌≡◌ {A = Option (List ℕ × List ℕ)} (Some (f, t)) (Some w.typed) = w.is_typed in cc e
+
+        first : ReadsTypeOf language (files 0) (f, t) (Ok w.type)
+        first = subst (λ p. ReadsTypeOf language (files 0) p (Ok w.type)) (sym both) w.reads
+
+        same : script ≡ name
+        same = let e : ◌≡◌ {A = Option (List ℕ)} (Some script) (Some name) = w.scripted in cc e
+
+        from : (given : Result T Stop) → Ok w.type ≡ given
+            → MatchResult given (Lines files script compat result) (λ stop. result ≡ Err stop)
+            → IsRead name (files 1 name) result
+        from (Err s) e next = absurd (cc e)
+        from (Ok type) e next =
+            subst (λ n. IsRead n (files 1 n) result) same
+            (then_read script (files 1 script) (ReadsScriptOf language (files 1) script)
+            (λ lines found. found ≡ Ok (edits type lines compat)) (script_read (files 1) script)
+            result next)
+  script_wanted (dump most) files result name h w = let e = w.scripted in absurd (cc e)
+  script_wanted (compare most) files result name h w = let e = w.scripted in absurd (cc e)
+
+  pub wanted_read :
+      (request : Request) (files : Fetches) (result : Result (Task T E) Stop)
+      → Finds language request files result
+      → (turn : ℕ) (name : List ℕ) → Wants language request files turn name
+      → IsRead name (files turn name) result
+  wanted_read request files result h turn name (inl (now, w)) =
+      subst (λ t. IsRead name (files t name) result) (sym now)
+      (then_read name (files 0 name) (FindsWork language (by_turns files) request)
+      (λ work found. found ≡ Ok (task work (limit_of request)))
+      (λ given found. file_wanted request files given name found w) result h)
+  wanted_read request files result h turn name (inr (now, w)) =
+      subst (λ t. IsRead name (files t name) result) (sym now)
+      (then_read name (files 1 name) (FindsWork language (by_turns files) request)
+      (λ work found. found ≡ Ok (task work (limit_of request)))
+      (λ given found. script_wanted request files given name found w) result h)
+
+  -- ---- a stop of the outside comes of one of them
+
+  -- the stop is none of the outside, or comes of this file
+  abbrev ComesOf : List ℕ → Found → Stop → Type 0
+  ComesOf name found stop = IsInner stop ⊎ ReadsFile name found (Err stop)
+
+  type_inside :
+      (file : List ℕ → Found) (typed : List ℕ × List ℕ) (stop : Stop)
+      → ReadsTypeOf language file typed (Err stop) → ComesOf typed.0 (file typed.0) stop
+  type_inside file typed stop (Err s, fault, is) =
+      let same : s ≡ stop = cc is in
+      inr (subst (λ s. ReadsFile typed.0 (file typed.0) (Err s)) same fault)
+  type_inside file typed stop (Ok text, reads, (Err s, (refusal, refuses, e), is)) =
+      let same : stop ≡ s = cc is in
+      inl (subst IsInner (sym (same ∙ e)) tt)
+  type_inside file typed stop (Ok text, reads, (Ok d, g, (refusal, refuses, e))) =
+      inl (subst IsInner (sym e) tt)
+
+  tells_inside :
+      (file : List ℕ → Found) (typed : List ℕ × List ℕ) (saying : Saying) (stop : Stop)
+      → TellsAt language file typed saying (Err stop) → ComesOf typed.0 (file typed.0) stop
+  tells_inside file typed saying stop (Ok type, reads, told) = absurd (cc told)
+  tells_inside file typed saying stop (Err s, reads, is) =
+      let same : s ≡ stop = cc is in
+      subst (ComesOf typed.0 (file typed.0)) same (type_inside file typed s reads)
+
+  script_inside :
+      (script : List ℕ → Found) (name : List ℕ) (stop : Stop)
+      → ReadsScriptOf language script name (Err stop) → ComesOf name (script name) stop
+  script_inside script name stop (Err s, fault, is) =
+      let same : s ≡ stop = cc is in
+      inr (subst (λ s. ReadsFile name (script name) (Err s)) same fault)
+  script_inside script name stop (Ok text, reads, (refusal, refuses, e)) =
+      inl (subst IsInner (sym e) tt)
+
+  -- the stop is none of the outside, or a file that is wanted stops the run
+  abbrev IsInside : Request → Fetches → Stop → Type 0
+  IsInside request files stop =
+      IsInner stop ⊎ FailsAtFile (commands language) request files (Err stop)
+
+  at_file :
+      (request : Request) (files : Fetches) (stop : Stop) (turn : ℕ) (name : List ℕ)
+      → Wants language request files turn name
+      → ComesOf name (files turn name) stop → IsInside request files stop
+  at_file request files stop turn name wants (inl inner) = inl inner
+  at_file request files stop turn name wants (inr fault) = inr (record {
+    turn = turn;
+    name = name;
+    wants = wants;
+    stop = stop;
+    fault = fault;
+    is = refl;
+  })
+
+  work_inside :
+      (request : Request) (files : Fetches) (stop : Stop)
+      → FindsWork language (by_turns files) request (Err stop) → IsInside request files stop
+  work_inside (check f t most) files stop h =
+      at_file (check f t most) files stop 0 f
+      (inl (refl, record { has_path = tt; type = t; typed = refl }))
+      (tells_inside (files 0) (f, t) the_verdict stop h)
+  work_inside (show f t most) files stop h =
+      at_file (show f t most) files stop 0 f
+      (inl (refl, record { has_path = tt; type = t; typed = refl }))
+      (tells_inside (files 0) (f, t) the_text stop h)
+  work_inside (get f t text most) files stop (Err s, (none, e), is) =
+      let same : stop ≡ s = cc is in inl (subst IsInner (sym (same ∙ e)) tt)
+  work_inside (get f t text most) files stop (Ok path, is_path, h) =
+      at_file (get f t text most) files stop 0 f
+      (inl (refl, record { has_path = (path, is_path); type = t; typed = refl }))
+      (tells_inside (files 0) (f, t) (the_part path) stop h)
+  work_inside (edit f t script compat most) files stop (Err s, reads, is) =
+      let same : s ≡ stop = cc is in
+      at_file (edit f t script compat most) files stop 0 f
+      (inl (refl, record { has_path = tt; type = t; typed = refl }))
+      (subst (ComesOf f (files 0 f)) same (type_inside (files 0) (f, t) s reads))
+  work_inside (edit f t script compat most) files stop (Ok type, reads, (Ok lines, read, told)) =
+      absurd (cc told)
+  work_inside (edit f t script compat most) files stop (Ok type, reads, (Err s, read, is)) =
+      let same : s ≡ stop = cc is in
+      let asked : WantsScript language (edit f t script compat most) files script =
+      record { scripted = refl; typed = (f, t); is_typed = refl; type = type; reads = reads } in
+      at_file (edit f t script compat most) files stop 1 script (inr (refl, asked))
+      (subst (ComesOf script (files 1 script)) same (script_inside (files 1) script s read))
+  work_inside (dump most) files stop h = absurd (cc h)
+  work_inside (compare most) files stop h = absurd (cc h)
+
+  pub finds_inside :
+      (request : Request) (files : Fetches) (stop : Stop)
+      → Finds language request files (Err stop) → IsInside request files stop
+  finds_inside request files stop (Ok work, h, told) = absurd (cc told)
+  finds_inside request files stop (Err s, h, is) =
+      let same : s ≡ stop = cc is in
+      subst (IsInside request files) same (work_inside request files s h)
+
+  -- ---- one file at most is wanted in a turn
+
+  pub wants_once :
+      (request : Request) (files : Fetches) (turn : ℕ)
+      → IsOnce (Wants language request files turn)
+  wants_once request files turn name other (inl (now, w)) (inl (now', v)) =
+      let e : ◌≡◌ {A = Option (List ℕ × List ℕ)} (Some (name, w.type)) (Some (other, v.type)) =
+      sym w.typed ∙ v.typed in
+      let both : ◌≡◌ {A = List ℕ × List ℕ} (name, w.type) (other, v.type) = cc e in
+      ap (λ p. p.0) both
+  wants_once request files turn name other (inl (now, w)) (inr (now', v)) = absurd (cc (now, now'))
+  wants_once request files turn name other (inr (now, w)) (inl (now', v)) = absurd (cc (now, now'))
+  wants_once request files turn name other (inr (now, w)) (inr (now', v)) =
+      let e : ◌≡◌ {A = Option (List ℕ)} (Some name) (Some other) = sym w.scripted ∙ v.scripted in
+      cc e

@@ -1,0 +1,20 @@
+-- The commands on values are lawful, where the language is.
+use Rattle.om_outcome.specs.Outcome.{Language}
+use Rattle.om_promises.specs.Lawful.{AreLawful}
+use Rattle.om_promises.specs.LawfulLanguage.{IsLawful}
+use Rattle.om_commands.specs.Tasks.{commands}
+use Rattle.om_commands.proofs.FindLemmas.{finds_once, finds_given, finds_by, wanted_read, finds_inside, wants_once}
+use Rattle.om_commands.proofs.ItemLemmas.{lawful_at}
+
+pub commands_lawful :
+    {D T E : Type 0} (language : Language D T E) → IsLawful language
+    → AreLawful (commands language)
+commands_lawful language lawful = record {
+  wants_once = wants_once language lawful;
+  finds_once = finds_once language lawful;
+  by_wanted = finds_by language lawful;
+  reads_wanted = wanted_read language lawful;
+  finds_inside = finds_inside language lawful;
+  at = λ a found.
+      lawful_at language lawful a (finds_given language lawful found.0 found.1 a found.2);
+}
