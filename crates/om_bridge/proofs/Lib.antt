@@ -1,0 +1,5 @@
+pub mod ItemLemmas
+pub mod LastLemmas
+pub mod ReplyLemmas
+pub mod FetchLemmas
+pub mod AccountLemmas
