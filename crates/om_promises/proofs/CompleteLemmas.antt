@@ -1,6 +1,6 @@
 -- Where all is well, a run ends well.
 use Rattle.std.proofs.Common.{◌≡◌, ◌≢◌, ◌⊎◌, ℕ, suc, ◌+◌, Bool, true, List, [], ◌∷◌, ◌++◌, length, None, Result, Ok, Err, inl, inr, refl, sym, ap, ◌∙◌, subst, append_assoc, arith}
-use Rattle.std.specs.Prelude.{Some, MatchResult, ◌&&◌, if◌then◌else◌}
+use Rattle.std.specs.Prelude.{MatchResult, ◌&&◌, if◌then◌else◌}
 use Rattle.om_promises.proofs.ValueLemmas.{silent, comparison-well, all_well-snoc}
 use Rattle.om_outcome.specs.declared.status.Status.{Status}
 use Rattle.om_outcome.specs.declared.status.Status.TheVariants as statuses

@@ -42,13 +42,13 @@ module _ {A : Type 0} (c : Commands A) (a : A) (lawful : AreLawfulAt c a) where
       subst (λ b. HoldStop c a b stop) (take-append-drop n bytes)
       (hold_stays (take n bytes) (drop n bytes) stop h)
 
-  stop_stuck :
+  pub stop_stuck :
       (items : List Item) (rest : List ℕ) (stop : Stop) → AreBytes rest
       → c.Stops a items rest stop → IsStuck c a lawful items rest
   stop_stuck items rest stop are_bytes at item more said first says =
       lawful.apart items rest are_bytes item more said stop first says at
 
-  on_stuck :
+  pub on_stuck :
       (items : List Item) (rest : List ℕ) → GoesOn c a items rest → IsStuck c a lawful items rest
   on_stuck items rest on item more said first says = on.no_item item more first
 

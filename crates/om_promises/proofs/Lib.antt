@@ -17,3 +17,13 @@ pub mod PromiseLemmas
 pub mod OnceLemmas
 pub mod HoldLemmas
 pub mod ExampleLemmas
+pub mod FileLemmas
+pub mod SettledLemmas
+pub mod FaultLemmas
+pub mod OutcomeLemmas
+pub mod AccountLemmas
+pub mod ToldLemmas
+pub mod IfLemmas
+pub mod MeantLemmas
+pub mod FailsLemmas
+pub mod FirstLemmas

@@ -4,7 +4,7 @@ use Rattle.std.specs.Prelude.{MatchResult}
 use Rattle.om_model.specs.Bytes.{AreBytes}
 use Rattle.om_outcome.specs.Outcome.{InputEnd, at_end, at_fault, at_length, unasked, Taken, Stop, Said, Reply, stops, Replies, replies, stopped, Then, ReadsWords}
 use Rattle.om_command_line.proofs.RequestLemmas.{one_request}
-use Rattle.om_promises.specs.Commands.{Item, Fetches, Given, Commands, Prepares, Cut, AllSay, Closes, IsLast, SaysAll, Answers, RunReplies}
+use Rattle.om_promises.specs.Commands.{Item, Fetches, Given, Commands, Prepares, Cut, AllSay, Closes, IsLast, SaysAll, SaysAlone, Answers, RunReplies}
 use Rattle.om_promises.specs.Lawful.{IsOnce, IsFound, AreLawfulAt, AreLawful}
 use Rattle.om_promises.proofs.StreamLemmas.{bytes_after}
 
@@ -145,14 +145,17 @@ module _ {A : Type 0} (c : Commands A) (a : A) (lawful : AreLawfulAt c a) where
       both all other one.2
       (last_once h.items h.rest input.until bytes all.last other.last h.last last)
 
+  pub alone_once : (all other : Replies) → SaysAlone c a all → SaysAlone c a other → all ≡ other
+  alone_once all other h k =
+      both all other (h.none ∙ sym k.none)
+      (lawful.ends_once [] [] no_bytes all.last other.last h.last k.last)
+
   pub answers_once : (input : Taken) → AreBytes input.bytes → IsOnce (Answers c a input)
   answers_once input are_bytes all other (inl (reads, h)) (inl (reads', k)) =
       all_once input are_bytes all other h k
   answers_once input are_bytes all other (inl (reads, h)) (inr k) = absurd (k.unread reads)
   answers_once input are_bytes all other (inr h) (inl (reads, k)) = absurd (h.unread reads)
-  answers_once input are_bytes all other (inr h) (inr k) =
-      both all other (h.none ∙ sym k.none)
-      (lawful.ends_once [] [] no_bytes all.last other.last h.last k.last)
+  answers_once input are_bytes all other (inr h) (inr k) = alone_once all other h k
 
 module _ {A : Type 0} (c : Commands A) (lawful : AreLawful c) where
   pub prepares_once : (words : List (List ℕ)) (files : Fetches) → IsOnce (Prepares c words files)

@@ -1,8 +1,8 @@
--- The account of a call by commands in the general form: what the outside gave, what is said of that, and how much of it
--- was put.
-use Rattle.std.specs.Prelude.{ℕ, suc, ◌<◌, ◌≤◌, ◌≡◌, ◌⊎◌, List, [], ◌∷◌, ◌++◌, length, Result, Ok, Err}
+-- The account of a call by commands in the general form: what the outside gave, what is said of
+-- that, and how much of it was put.
+use Rattle.std.specs.Prelude.{ℕ, suc, ◌<◌, ◌≤◌, ◌≡◌, ◌⊎◌, List, [], ◌∷◌, ◌++◌, length, Ok}
 use Rattle.om_outcome.specs.declared.status.Status.TheVariants.{WriteFault}
-use Rattle.om_outcome.specs.Outcome.{Taken, unasked, nothing, unfetched, Request, Asks, Stop, out_of_memory, ending_of, Said, says, stops, Reply, replies, texts_of}
+use Rattle.om_outcome.specs.Outcome.{Taken, unasked, nothing, unfetched, Request, Asks, out_of_memory, ending_of, Said, says, stops, Reply, replies, texts_of}
 use Rattle.om_edge.specs.Sink.{Puts}
 use Rattle.om_edge.specs.State.{FilesState, Change, change}
 use Rattle.om_promises.specs.Call.{Call}
@@ -17,7 +17,8 @@ module _ {A : Type 0} (c : Commands A) (words : List (List ℕ)) where
     pub asks : Asks words request
     pub wants : c.Wants request found turn name
 
-  -- In a turn the file that is wanted is fetched. Or nothing is, where none is wanted, or memory ran out before.
+  -- In a turn the file that is wanted is fetched. Or nothing is, where none is wanted, or memory
+  -- ran out before.
   abbrev pub FetchesIn : Change FilesState → Fetches → ℕ → Type 0
   FetchesIn files found turn =
       ((name : List ℕ) × IsWanted found turn name × Fetched files name (found turn name))
@@ -49,8 +50,9 @@ module _ {A : Type 0} (c : Commands A) (words : List (List ℕ)) where
     pub first : SaysFirst c a bytes items said rest
     pub goes_on : GoesOn c a items rest
 
-  -- No piece more is taken once something stops the run: what was taken but for some last bytes, 4,096 at most, holds no
-  -- stop, and this is said of its items. All of it holds none where more was asked for.
+  -- No piece more is taken once something stops the run: what was taken but for some last bytes,
+  -- 4,096 at most, holds no stop, and this is said of its items. All of it holds none where more
+  -- was asked for.
   pub record IsPaced (a : A) (taken : Taken) (said : List Said) : Type 0 where
     pub earlier : List ℕ
     pub in_hand : List ℕ
@@ -59,7 +61,8 @@ module _ {A : Type 0} (c : Commands A) (words : List (List ℕ)) where
     pub piece : length in_hand ≤ 4096
     pub asked : (taken.until ≡ unasked) ⊎ (in_hand ≡ [])
 
-  -- what is said of the items, where a run came so far; before that, and without an input, nothing was taken
+  -- what is said of the items, where a run came so far; before that, and without an input, nothing
+  -- was taken
   abbrev pub IsSaidFirst : Given → List Said → Type 0
   IsSaidFirst given said =
       ((given.input ≡ nothing) × (said ≡ []))
@@ -71,8 +74,8 @@ module _ {A : Type 0} (c : Commands A) (words : List (List ℕ)) where
       (a : A) × Prepares c words given.files (Ok a) × c.Reads a
       × (items : List Item) × (rest : List ℕ) × SaysFirst c a given.input.bytes items said rest
 
-  -- after what was said all was put that belongs to the last reply, but for its line perhaps; that reply follows from what
-  -- was given, or memory ran out
+  -- after what was said all was put that belongs to the last reply, but for its line perhaps; that
+  -- reply follows from what was given, or memory ran out
   pub record Completes (given : Given) (said : List Said) (call : Call) : Type 0 where
     pub last : Reply
     pub may_end : RunReplies c words given (replies said last) ⊎ (last ≡ stops out_of_memory)

@@ -2,8 +2,12 @@
 use Rattle.std.specs.Prelude.{ℕ, List, take}
 use Rattle.om_model.specs.Bytes.{AreBytes}
 use Rattle.om_outcome.specs.Outcome.{Stop, Said}
+use Rattle.om_promises.specs.Account.{Account}
+use Rattle.om_promises.specs.Call.{Call}
 use Rattle.om_promises.specs.Commands.{Item, Given, Commands, SaysFirst, GoesOn, HoldStop, RunReplies}
+use Rattle.om_promises.specs.Given.{TellsBytes}
 use Rattle.om_promises.specs.Lawful.{IsOnce, IsFound}
+use Rattle.om_promises.specs.Promises.{Promises}
 
 module _ {A : Type 0} (c : Commands A) where
   -- what is said of what is given is one
@@ -27,3 +31,13 @@ module _ {A : Type 0} (c : Commands A) where
       → HoldStop c a bytes stop
       → (items : List Item) (said : List Said) (rest : List ℕ)
       → SaysFirst c a bytes items said rest → GoesOn c a items rest → ⊥
+
+  -- all is promised of each call of which there is an account
+  abbrev pub ArePromised : Type 0
+  ArePromised = (words : List (List ℕ)) (call : Call) → TellsBytes call.input
+      → Account c words call → Promises c words call
+
+  -- this holds of each call of which all is promised
+  abbrev pub Follow : (List (List ℕ) → Call → Type 0) → Type 0
+  Follow Holds = (words : List (List ℕ)) (call : Call) → TellsBytes call.input
+      → Promises c words call → Holds words call

@@ -1,4 +1,5 @@
--- Commands that are lawful: each relation has one answer, and what is read of a front stays when bytes follow.
+-- Commands that are lawful: each relation has one answer, and what is read of a front stays when
+-- bytes follow.
 use Rattle.std.specs.Prelude.{ℕ, ◌<◌, ◌≡◌, ◌⊎◌, List, ◌++◌, length, Result, Ok, Err}
 use Rattle.om_model.specs.Bytes.{AreBytes}
 use Rattle.om_outcome.specs.Outcome.{Found, opened, missing, whole, Request, Stop, usage, bad_path, not_two_values, cannot_open, declarations, requested_type, value, script_line, untyped_value, large_value, read_fault, too_long, out_of_memory, ReadsFile, Said, stops}
@@ -8,8 +9,8 @@ use Rattle.om_promises.specs.Commands.{Item, Fetches, Commands}
 abbrev pub IsOnce : {X : Type 0} → (X → Type 0) → Type 0
 IsOnce {X} P = (x y : X) → P x → P y → x ≡ y
 
--- the stop is not one of the outside: no file could not be opened, nothing failed or was too long, and memory
--- sufficed
+-- the stop is not one of the outside: no file could not be opened, nothing failed or was too long,
+-- and memory sufficed
 abbrev pub IsInner : Stop → Type 0
 IsInner usage = Unit {0}
 IsInner bad_path = Unit {0}
@@ -93,3 +94,19 @@ module _ {A : Type 0} (c : Commands A) where
         → c.Finds request files (Err stop)
         → IsInner stop ⊎ FailsAtFile request files (Err stop)
     pub at : (a : A) → IsFound a → AreLawfulAt a
+
+  -- Commands that take their files turn by turn. What is wanted is by the turns before; a file that
+  -- is wanted is read, or it stops the run; and after one that was not read nothing more is wanted.
+  pub record AreInTurns : Type 0 where
+    pub by_earlier : (request : Request) (files others : Fetches) (turn : ℕ) (name : List ℕ)
+        → ((earlier : ℕ) (other : List ℕ) → earlier < turn → c.Wants request files earlier other
+        → files earlier other ≡ others earlier other)
+        → c.Wants request files turn name → c.Wants request others turn name
+    pub reads : (request : Request) (files : Fetches) (result : Result A Stop)
+        → c.Finds request files result
+        → (turn : ℕ) (name : List ℕ) → c.Wants request files turn name
+        → ((bytes : List ℕ) × (files turn name ≡ opened (whole bytes)))
+        ⊎ ((stop : Stop) × ReadsFile name (files turn name) (Err stop) × (result ≡ Err stop))
+    pub after_read : (request : Request) (files : Fetches) (turn later : ℕ) (name other : List ℕ)
+        → turn < later → c.Wants request files turn name → c.Wants request files later other
+        → (bytes : List ℕ) × (files turn name ≡ opened (whole bytes))

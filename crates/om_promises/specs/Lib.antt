@@ -8,5 +8,6 @@ pub mod Commands
 pub mod Lawful
 pub mod Account
 pub mod Promises
+pub mod Causes
 pub mod CommandLaws
 pub mod Example

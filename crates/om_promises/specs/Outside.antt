@@ -1,8 +1,8 @@
 -- What a call is told of the outside and by it, whatever the command is: calls that failed, and what they leave.
-use Rattle.std.specs.Prelude.{ℕ, ◌^◌, ◌<◌, ◌≤◌, ◌≡◌, ◌⊎◌, List, length, Some}
+use Rattle.std.specs.Prelude.{ℕ, ◌^◌, ◌<◌, ◌≤◌, ◌≡◌, ◌⊎◌, List, length, Some, None, IsSomeAnd}
 use Rattle.om_outcome.specs.declared.status.Status.{Status}
 use Rattle.om_outcome.specs.declared.status.Status.TheVariants.{ReadFault, WriteFault, OpenFault, Memory}
-use Rattle.om_outcome.specs.Outcome.{Ending}
+use Rattle.om_outcome.specs.Outcome.{InputEnd, fault_of, Stop, status_of, stop_text, Ending, err_line}
 use Rattle.om_edge.specs.Faults.{RoseOrLast, last_count}
 use Rattle.om_edge.specs.Files.{File, contents_of}
 use Rattle.om_edge.specs.Sink.{Puts, PutsPart}
@@ -78,3 +78,17 @@ TellsOpenFault call = call.files.before.open_faults < call.files.after.open_faul
 pub record TellsReadFault (call : Call) : Type 0 where
   pub input : call.input.before.faults < call.input.after.faults → (call.status ≡ ReadFault) ⊎ IsUnsaid call.status
   pub file : call.files.before.read_faults < call.files.after.read_faults → (call.status ≡ ReadFault) ⊎ IsUnsaid call.status
+
+-- a fetch of the name failed, or the map is told and does not have the name
+abbrev pub CannotOpen : Change FilesState → List ℕ → Type 0
+CannotOpen files name =
+    (RoseOrLast files.before.open_faults files.after.open_faults
+    × (files.after.last_open_fault ≡ Some name))
+    ⊎ IsSomeAnd files.before.map (λ all. contents_of all name ≡ None)
+
+-- bytes ended at a fault, or were too many: the status tells it, and err has its line
+pub record TellsFault (until : InputEnd) (call : Call) : Type 0 where
+  pub stop : Stop
+  pub is_fault : fault_of until ≡ Some stop
+  pub status : call.status ≡ status_of stop
+  pub err : Puts call.err (err_line (stop_text stop))

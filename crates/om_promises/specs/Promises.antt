@@ -29,8 +29,8 @@ module _ {A : Type 0} (c : Commands A) where
     pub goes_on : GoesOn c a items rest
     pub ends : c.Ends a items rest last
 
-  -- the input gives this status: it holds such a stop, or ends with such a reply; or it is not read, and such a reply
-  -- comes
+  -- the input gives this status: it holds such a stop, or ends with such a reply; or it is not
+  -- read, and such a reply comes
   abbrev pub Gives : A → List ℕ → Status → Type 0
   Gives a input status =
       (c.Reads a × (stop : Stop) × (status_of stop ≡ status) × HoldStop c a input stop)

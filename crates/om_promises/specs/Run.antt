@@ -7,14 +7,13 @@ use Rattle.std.specs.List.{AllByRecursion}
 use Rattle.om_format.specs.Tree.{Tree}
 use Rattle.om_format.specs.Stream.{SpellAll, End, clean, cut, IsTail}
 use Rattle.om_format.specs.Front.{IsFront}
-use Rattle.om_outcome.specs.Outcome.{InputEnd, Taken, unasked, nothing, Found, opened, Fetches, fault_of, status_of, Given, Stop, Request, Language, Ending, ending_of, Said, says, stops, Reply, Replies, replies, all_said, all_well, texts_of, Work, tells, edits, dumps, compares, Task, compare, Asks, IsUsage, typed_by, path_of, script_of, ReadsTypeOf, Prepares, lines_for, line_past, StopsAt, Finishes, AreSame, SayFirst, fetches_of, RunReplies, SaysOfFirst, Outcome, out_of_memory, stop_text, err_line}
-use Rattle.om_edge.specs.Faults.{RoseOrLast, last_count}
+use Rattle.om_outcome.specs.Outcome.{Taken, unasked, nothing, Found, opened, Fetches, status_of, Given, Stop, Request, Language, ending_of, Said, says, stops, Reply, Replies, replies, all_said, all_well, texts_of, Work, tells, edits, dumps, compares, Task, compare, Asks, IsUsage, typed_by, path_of, script_of, ReadsTypeOf, Prepares, lines_for, line_past, StopsAt, Finishes, AreSame, SayFirst, fetches_of, RunReplies, SaysOfFirst, Outcome, out_of_memory, stop_text, err_line}
 use Rattle.om_edge.specs.Files.{File, contents_of}
 use Rattle.om_edge.specs.Sink.{Puts, PutsPart}
-use Rattle.om_edge.specs.State.{ByteState, FilesState, Change, change}
+use Rattle.om_edge.specs.State.{FilesState, Change, change}
 use Rattle.om_promises.specs.Call.{Call}
 use Rattle.om_promises.specs.Given.{Gathers, Fetched}
-pub use Rattle.om_promises.specs.Outside.{KeepFiles, PutsLine, PutsPartAfter, AreShort, IsWellRead, IsHonest, IsUnsaid, IsOutside, OnlyReadFault, OnlyWriteFault, TellsWriteFault, TellsOpenFault, TellsReadFault}
+pub use Rattle.om_promises.specs.Outside.{KeepFiles, PutsLine, PutsPartAfter, AreShort, IsWellRead, IsHonest, IsUnsaid, IsOutside, OnlyReadFault, OnlyWriteFault, TellsWriteFault, TellsOpenFault, TellsReadFault, CannotOpen, TellsFault}
 
 -- ---- the words
 
@@ -225,12 +224,6 @@ IfValue {D} {T} {E} language words call =
     → (bad : HoldBadValue language task (take (2 ^ 48) bytes)) → ((n : ℕ) → bad.end ≡ cut n → length bytes < 2 ^ 48)
     → (call.status ≡ Value) ⊎ IsOutside call.status
 
--- a fetch of the name failed, or the map is told and does not have the name
-abbrev pub CannotOpen : Change FilesState → List ℕ → Type 0
-CannotOpen files name =
-    (RoseOrLast files.before.open_faults files.after.open_faults × (files.after.last_open_fault ≡ Some name))
-    ⊎ IsSomeAnd files.before.map (λ all. contents_of all name ≡ None)
-
 -- a file that is sought: FILE, or SCRIPT in its turn
 abbrev pub IsSought : {D T E : Type 0} → Language D T E → List (List ℕ) → Change FilesState → List ℕ → Type 0
 IsSought language words files name =
@@ -342,13 +335,6 @@ pub record IfNo {D T E : Type 0} (language : Language D T E) (words : List (List
   pub untyped : IfStopsBy language words call No
 
 -- ---- where the input or a file failed, or was too long
-
--- bytes ended at a fault, or were too many: the status tells it, and err has its line
-pub record TellsFault (until : InputEnd) (call : Call) : Type 0 where
-  pub stop : Stop
-  pub is_fault : fault_of until ≡ Some stop
-  pub status : call.status ≡ status_of stop
-  pub err : Puts call.err (err_line (stop_text stop))
 
 -- by the input: what was taken of it holds no stop, and out has what is said of its values
 pub record FailsByInput {D T E : Type 0} (language : Language D T E) (words : List (List ℕ)) (call : Call) : Type 0 where
