@@ -59,7 +59,7 @@ module _ {D T E : Type 0} (language : Language D T E) where
         pub new_hold :
             (bytes : List ℕ) (said : List Said) → AreBytes bytes
             → run.HoldNoStop language a bytes said
-            → account.HoldNoStop (commands language) words a bytes said
+            → account.HoldNoStop (commands language) a bytes said
         new_hold bytes said are_bytes h =
             let rest = spell_bytes a.limit bytes h.front h.trees h.first.spelled are_bytes in
             let e = front_end a.limit h.front h.is_front in
@@ -72,7 +72,7 @@ module _ {D T E : Type 0} (language : Language D T E) where
 
         pub old_hold :
             (bytes : List ℕ) (said : List Said) → AreBytes bytes
-            → account.HoldNoStop (commands language) words a bytes said
+            → account.HoldNoStop (commands language) a bytes said
             → run.HoldNoStop language a bytes said
         old_hold bytes said are_bytes h =
             let t = say_first language a bytes h.items said h.rest h.first in
@@ -97,7 +97,7 @@ module _ {D T E : Type 0} (language : Language D T E) where
         pub new_pace :
             (taken : Taken) (said : List Said) → AreBytes taken.bytes
             → run.IsPaced language a taken said
-            → account.IsPaced (commands language) words a taken said
+            → account.IsPaced (commands language) a taken said
         new_pace taken said are_bytes p =
             let bytes = earlier_bytes taken.bytes p.earlier p.in_hand p.bytes_are are_bytes in
             record {
@@ -111,7 +111,7 @@ module _ {D T E : Type 0} (language : Language D T E) where
 
         pub old_pace :
             (taken : Taken) (said : List Said) → AreBytes taken.bytes
-            → account.IsPaced (commands language) words a taken said
+            → account.IsPaced (commands language) a taken said
             → run.IsPaced language a taken said
         old_pace taken said are_bytes p =
             let bytes = earlier_bytes taken.bytes p.earlier p.in_hand p.bytes_are are_bytes in

@@ -113,7 +113,7 @@ module _ {A : Type 0} (c : Commands A) (words : List (List ℕ)) (call : Call) (
           prepared = p;
           reads = reads;
           said = a.said;
-          holds = subst (λ b. HoldNoStop c words act b a.said) (sym bytes) paced.holds;
+          holds = subst (λ b. HoldNoStop c act b a.said) (sym bytes) paced.holds;
           out = texts_put stop is;
         }
 

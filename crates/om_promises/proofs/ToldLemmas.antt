@@ -276,7 +276,7 @@ module _ {A : Type 0} (c : Commands A) (words : List (List ℕ)) (call : Call) (
       -- input is too long
       pub long_comes :
           (said : List Said) → 2 ^ 48 ≤ length bytes
-          → HoldNoStop c words a (take (2 ^ 48 + 4095) bytes) said
+          → HoldNoStop c a (take (2 ^ 48 + 4095) bytes) said
           → IsOutside (ending_of all).status ⊎ ((ending_of all).status ≡ statuses.TooLong)
       long_comes said many h = go s.last where
         front : List ℕ

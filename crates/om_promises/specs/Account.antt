@@ -7,8 +7,26 @@ use Rattle.om_edge.specs.Sink.{Puts}
 use Rattle.om_edge.specs.State.{FilesState, Change, change}
 use Rattle.om_promises.specs.Call.{Call}
 use Rattle.om_promises.specs.Commands.{Item, Fetches, Given, Commands, Prepares, SaysFirst, GoesOn, RunReplies}
-use Rattle.om_promises.specs.Given.{Gathers, Fetched}
+use Rattle.om_promises.specs.Given.{piece_limit, Gathers, Fetched}
 use Rattle.om_promises.specs.Outside.{PutsLine, PutsPartAfter}
+
+module _ {A : Type 0} (c : Commands A) where
+  -- nothing in the bytes stops the run, and this is said of their items
+  pub record HoldNoStop (a : A) (bytes : List ℕ) (said : List Said) : Type 0 where
+    pub items : List Item
+    pub rest : List ℕ
+    pub first : SaysFirst c a bytes items said rest
+    pub goes_on : GoesOn c a items rest
+
+  -- No piece more is taken once something stops the run: what was taken but for some last bytes, a piece at most, holds no
+  -- stop, and this is said of its items. All of it holds none where more was asked for.
+  pub record IsPaced (a : A) (taken : Taken) (said : List Said) : Type 0 where
+    pub earlier : List ℕ
+    pub in_hand : List ℕ
+    pub bytes_are : taken.bytes ≡ earlier ++ in_hand
+    pub holds : HoldNoStop a earlier said
+    pub piece : length in_hand ≤ piece_limit
+    pub asked : (taken.until ≡ unasked) ⊎ (in_hand ≡ [])
 
 module _ {A : Type 0} (c : Commands A) (words : List (List ℕ)) where
   -- the words want the file of this name in this turn
@@ -43,30 +61,11 @@ module _ {A : Type 0} (c : Commands A) (words : List (List ℕ)) where
     pub untaken : ((a : A) → Prepares c words given.files (Ok a) → c.Reads a → ⊥)
         → given.input ≡ nothing
 
-  -- nothing in the bytes stops the run, and this is said of their items
-  pub record HoldNoStop (a : A) (bytes : List ℕ) (said : List Said) : Type 0 where
-    pub items : List Item
-    pub rest : List ℕ
-    pub first : SaysFirst c a bytes items said rest
-    pub goes_on : GoesOn c a items rest
-
-  -- No piece more is taken once something stops the run: what was taken but for some last bytes,
-  -- 4,096 at most, holds no stop, and this is said of its items. All of it holds none where more
-  -- was asked for.
-  pub record IsPaced (a : A) (taken : Taken) (said : List Said) : Type 0 where
-    pub earlier : List ℕ
-    pub in_hand : List ℕ
-    pub bytes_are : taken.bytes ≡ earlier ++ in_hand
-    pub holds : HoldNoStop a earlier said
-    pub piece : length in_hand ≤ 4096
-    pub asked : (taken.until ≡ unasked) ⊎ (in_hand ≡ [])
-
-  -- what is said of the items, where a run came so far; before that, and without an input, nothing
-  -- was taken
+  -- what is said of the items, where a run came so far; before that, and without an input, nothing was taken
   abbrev pub IsSaidFirst : Given → List Said → Type 0
   IsSaidFirst given said =
       ((given.input ≡ nothing) × (said ≡ []))
-      ⊎ ((a : A) × Prepares c words given.files (Ok a) × c.Reads a × IsPaced a given.input said)
+      ⊎ ((a : A) × Prepares c words given.files (Ok a) × c.Reads a × IsPaced c a given.input said)
 
   -- what is said of the first items of what is given
   abbrev pub SaysOfFirst : Given → List Said → Type 0

@@ -61,7 +61,7 @@ module _ {A : Type 0} (c : Commands A) (words : List (List ℕ)) where
   IfInputTooLong call = (files : List File) (a : A) (bytes : List ℕ) (said : List Said)
       → call.files.before.map ≡ Some files → Prepares c words (told_files files) (Ok a) → c.Reads a
       → call.input.before.bytes ≡ Some bytes → 2 ^ 48 ≤ length bytes
-      → HoldNoStop c words a (take (2 ^ 48 + 4095) bytes) said
+      → HoldNoStop c a (take (2 ^ 48 + 4095) bytes) said
       → (call.status ≡ TooLong) ⊎ IsOutside call.status
 
   -- the files are told, and by what they are one of this name is wanted in the turn
@@ -109,7 +109,7 @@ module _ {A : Type 0} (c : Commands A) (words : List (List ℕ)) where
     pub prepared : Prepares c words found (Ok a)
     pub reads : c.Reads a
     pub said : List Said
-    pub holds : HoldNoStop c words a taken.bytes said
+    pub holds : HoldNoStop c a taken.bytes said
     pub out : Puts call.out (texts_of said)
 
   -- by a file that is wanted: nothing was taken of the input, and out has nothing

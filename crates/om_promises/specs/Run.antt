@@ -12,7 +12,7 @@ use Rattle.om_edge.specs.Files.{File, contents_of}
 use Rattle.om_edge.specs.Sink.{Puts, PutsPart}
 use Rattle.om_edge.specs.State.{FilesState, Change, change}
 use Rattle.om_promises.specs.Call.{Call}
-use Rattle.om_promises.specs.Given.{Gathers, Fetched}
+use Rattle.om_promises.specs.Given.{piece_limit, Gathers, Fetched}
 pub use Rattle.om_promises.specs.Outside.{KeepFiles, PutsLine, PutsPartAfter, AreShort, IsWellRead, IsHonest, IsUnsaid, IsOutside, OnlyReadFault, OnlyWriteFault, TellsWriteFault, TellsOpenFault, TellsReadFault, CannotOpen, TellsFault}
 
 -- ---- the words
@@ -74,7 +74,7 @@ pub record HoldNoStop {D T E : Type 0} (language : Language D T E) (task : Task 
   pub is_front : IsFront task.limit front
   pub goes_on : (stop : Stop) → StopsAt language task.work task.limit trees front stop → ⊥
 
--- The run takes no piece more once something stops it: what was taken but for some last bytes, 4,096 at most, holds no stop,
+-- The run takes no piece more once something stops it: what was taken but for some last bytes, a piece at most, holds no stop,
 -- and this is said of its values. Where more was asked for after them, since the input ended, failed or was too long, all
 -- that was taken holds none.
 pub record IsPaced {D T E : Type 0} (language : Language D T E) (task : Task T E) (taken : Taken) (said : List Said) : Type 0 where
@@ -82,7 +82,7 @@ pub record IsPaced {D T E : Type 0} (language : Language D T E) (task : Task T E
   pub in_hand : List ℕ
   pub bytes_are : taken.bytes ≡ earlier ++ in_hand
   pub holds : HoldNoStop language task earlier said
-  pub piece : length in_hand ≤ 4096
+  pub piece : length in_hand ≤ piece_limit
   pub asked : (taken.until ≡ unasked) ⊎ (in_hand ≡ [])
 
 -- what is said of the values, where a run came so far, and before that nothing; then nothing was taken
