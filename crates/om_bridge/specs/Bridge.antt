@@ -6,6 +6,9 @@ use Rattle.om_outcome.specs.Outcome.{Replies, Language}
 use Rattle.om_promises.specs.Account.{Account}
 use Rattle.om_promises.specs.Call.{Call}
 use Rattle.om_promises.specs.Commands.{Given, RunReplies, Outcome}
+use Rattle.om_promises.specs.Given.{TellsBytes}
+use Rattle.om_promises.specs.LawfulLanguage.{IsLawful}
+use Rattle.om_promises.specs.Promises.{Promises}
 use Rattle.om_promises.specs.Run as run
 use Rattle.om_commands.specs.Tasks.{by_turns, commands}
 
@@ -34,3 +37,9 @@ module _ {D T E : Type 0} (language : Language D T E) where
   HaveOldAccount =
       (words : List (List ℕ)) (call : Call) → Account (commands language) words call
       → run.Account language words call
+
+  -- what is promised of a call by the commands promises all that is promised over the language
+  abbrev pub HaveOldPromises : Type 0
+  HaveOldPromises =
+      IsLawful language → (words : List (List ℕ)) (call : Call) → TellsBytes call.input
+      → Promises (commands language) words call → run.Promises language words call
