@@ -27,3 +27,4 @@ pub mod IfLemmas
 pub mod MeantLemmas
 pub mod FailsLemmas
 pub mod FirstLemmas
+pub mod InTurnLemmas

@@ -1,9 +1,9 @@
 //! The laws. Each function does nothing: what it ensures is the law.
 
-ghost use Rattle.om_promises.specs.Causes.{AreMeant, IfAlone, IfWords, OnlyTooLong, IfInputTooLong, IfInputFails, IfMemory, IfWriteFault, IsDecided, IsExact, IsComplete};
+ghost use Rattle.om_promises.specs.Causes.{AreMeant, IfAlone, IfWords, OnlyOpenFault, OnlyTooLong, IfMissing, IfFileTooLong, IfFiles, IfInputTooLong, IfInputFails, IfMemory, IfWriteFault, IsDecided, IsExact, IsComplete};
 ghost use Rattle.om_promises.specs.CommandLaws.{HaveOneOutcome, HaveOneStop, StopsStay, StopsAreLast, ArePromised, Follow};
 ghost use Rattle.om_promises.specs.Commands.{Commands};
-ghost use Rattle.om_promises.specs.Lawful.{AreLawful};
+ghost use Rattle.om_promises.specs.Lawful.{AreLawful, AreInTurns};
 ghost use Rattle.om_promises.specs.Outside.{OnlyReadFault, OnlyWriteFault};
 ghost use Rattle.om_promises.specs.Promises.{IfStop, IfEnd, IfUsage};
 ghost use Rattle.om_promises.specs.StreamLaws.{HasOneStream};
@@ -55,4 +55,14 @@ pub fn promises_of_commands<A: Act>()
     ensures decided { Follow A.commands (IsDecided A.commands) }
     ensures exact { Follow A.commands (IsExact A.commands) }
     ensures complete { Follow A.commands (IsComplete A.commands) }
+{}
+
+/// What follows besides, where files are taken turn by turn: the causes that are files.
+pub fn files_in_turns<A: Act>()
+    requires lawful { AreLawful A.commands }
+    requires turns { AreInTurns A.commands }
+    ensures open_fault { Follow A.commands (OnlyOpenFault A.commands) }
+    ensures missing { Follow A.commands (IfMissing A.commands) }
+    ensures too_long { Follow A.commands (IfFileTooLong A.commands) }
+    ensures stop { Follow A.commands (IfFiles A.commands) }
 {}
