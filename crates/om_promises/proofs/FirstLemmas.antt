@@ -78,40 +78,61 @@ module _ {A : Type 0} (c : Commands A) (words : List (List ℕ)) (call : Call) (
   are_bytes : AreBytes input
   are_bytes = rw well.input_told at tells
 
+  -- the items are first ones of the input that is told
+  there :
+      (a : A) → Prepares c words account.given.files (Ok a) → (items : List Item) (said : List Said)
+      (rest : List ℕ) → SaysFirst c a account.given.input.bytes items said rest
+      → (more : List ℕ) × SaysFirst c a input items said more
+  there a p items said rest first =
+      let taken = taken_rest c words call lawful input files well account.given account.may_be in (
+        rest ++ taken.0,
+        subst (λ b. SaysFirst c a b items said (rest ++ taken.0)) (sym taken.1.front)
+            (first_stays c a (lawful_at c words call lawful account.given.files a p)
+            account.given.input.bytes items said rest taken.0 first),
+      )
+
   items_front :
       (a : A) → Prepares c words account.given.files (Ok a) → c.Reads a
       → (items : List Item) (said : List Said) (rest : List ℕ)
       → SaysFirst c a account.given.input.bytes items said rest
       → IsFrontOfOutcome c words input files said
-  items_front a p reads items said rest first all (found, q, m) =
-      go found
-      (prepares_once c lawful words (told_files files) (Ok a) found
-      (prepares_told c words call lawful input files well account.given account.may_be (Ok a) p) q) m
-    where
-      law : AreLawfulAt c a
-      law = lawful_at c words call lawful account.given.files a p
+  items_front a p reads items said rest first = record {
+    is_said = inr (inl (a, prepared, reads, items, here.0, here.1));
+    first = λ all outcome.
+        go all outcome.0
+        (prepares_once c lawful words (told_files files) (Ok a) outcome.0 prepared outcome.1)
+        outcome.2;
+  } where
+    here : (more : List ℕ) × SaysFirst c a input items said more
+    here = there a p items said rest first
 
-      go : (found : Result A Stop) → Ok a ≡ found
-          → MatchResult found (λ a. Answers c a (whole input) all) (λ stop. all ≡ stopped stop)
-          → (later : List Said) × (all_said all ≡ said ++ later)
-      go (Err stop) e m = absurd (cc e)
-      go (Ok own) e m =
-          let same : own ≡ a = let k : a ≡ own = cc e in sym k in
-          answered (subst (λ a. Answers c a (whole input) all) same m) where
-            answered : Answers c a (whole input) all → (later : List Said) × (all_said all ≡ said ++ later)
-            answered (inr alone) = absurd (alone.unread reads)
-            answered (inl (unused, s)) =
-                let taken = taken_rest c words call lawful input files well account.given account.may_be in
-                all_front c a law input are_bytes items said (rest ++ taken.0)
-                (subst (λ b. SaysFirst c a b items said (rest ++ taken.0)) (sym taken.1.front)
-                (first_stays c a law account.given.input.bytes items said rest taken.0 first)) all s
+    prepared : Prepares c words (told_files files) (Ok a)
+    prepared = prepares_told c words call lawful input files well account.given account.may_be (Ok a) p
+
+    answered : (all : Replies) → Answers c a (whole input) all
+        → (later : List Said) × (all_said all ≡ said ++ later)
+    answered all (inr alone) = absurd (alone.unread reads)
+    answered all (inl (unused, s)) =
+        all_front c a (lawful_at c words call lawful account.given.files a p) input are_bytes
+        items said here.0 here.1 all s
+
+    go : (all : Replies) (found : Result A Stop) → Ok a ≡ found
+        → MatchResult found (λ a. Answers c a (whole input) all) (λ stop. all ≡ stopped stop)
+        → (later : List Said) × (all_said all ≡ said ++ later)
+    go all (Err stop) e m = absurd (cc e)
+    go all (Ok own) e m =
+        let same : own ≡ a = let k : a ≡ own = cc e in sym k in
+        answered all (subst (λ a. Answers c a (whole input) all) same m)
 
   first_front : IsFrontOfOutcome c words input files account.said
   first_front = go account.first where
     go : IsSaidFirst c words account.given account.said
         → IsFrontOfOutcome c words input files account.said
     go (inl (taken, none)) =
-        subst (IsFrontOfOutcome c words input files) (sym none) (λ all outcome. (all_said all, refl))
+        subst (IsFrontOfOutcome c words input files) (sym none) (record {
+          is_said = inl refl;
+          first = λ all outcome. (all_said all, refl);
+        })
     go (inr (a, p, reads, paced)) =
         items_front a p reads paced.holds.items account.said (paced.holds.rest ++ paced.in_hand)
         (subst (λ b. SaysFirst c a b paced.holds.items account.said
@@ -127,13 +148,18 @@ module _ {A : Type 0} (c : Commands A) (words : List (List ℕ)) (call : Call) (
       → IsFrontOfOutcome c words input files (account.said ++ next ∷ [])
   next_front next (inl (a, p, reads, items, rest, first)) =
       items_front a p reads items (account.said ++ next ∷ []) rest first
-  next_front next (inr r) = λ all outcome.
-      let here = outcome_told c words call lawful input files well account.given account.may_be
-      (replies account.said (says next)) r in
-      let same = replies_once c lawful words
-      (record { files = told_files files; input = whole input }) are_bytes
-      all (replies account.said (says next)) outcome here in
-      ([], ap all_said same ∙ sym (append-nil (account.said ++ next ∷ [])))
+  next_front next (inr r) = record {
+    is_said = inr (inr (replies account.said (says next), here, refl));
+    first = λ all outcome.
+        let same = replies_once c lawful words
+        (record { files = told_files files; input = whole input }) are_bytes
+        all (replies account.said (says next)) outcome here in
+        ([], ap all_said same ∙ sym (append-nil (account.said ++ next ∷ [])));
+  } where
+    here : Outcome c words (contents_of files) input (replies account.said (says next))
+    here =
+        outcome_told c words call lawful input files well account.given account.may_be
+        (replies account.said (says next)) r
 
   memory_put :
       call.status ≡ statuses.Memory

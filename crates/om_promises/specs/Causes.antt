@@ -3,11 +3,11 @@
 use Rattle.std.specs.Prelude.{ℕ, ◌+◌, ◌^◌, ◌<◌, ◌≤◌, ◌≡◌, ◌≢◌, ◌⊎◌, List, [], ◌∷◌, ◌++◌, length, take, Some, None, IsSomeAnd, IfSome, Ok, Err}
 use Rattle.om_outcome.specs.declared.status.Status.{Status}
 use Rattle.om_outcome.specs.declared.status.Status.TheVariants.{Well, ReadFault, WriteFault, OpenFault, Memory, TooLong}
-use Rattle.om_outcome.specs.Outcome.{Taken, nothing, opened, Stop, stops, out_of_memory, status_of, stop_text, err_line, ending_of, Said, Replies, all_said, texts_of}
+use Rattle.om_outcome.specs.Outcome.{Taken, nothing, whole, opened, Stop, stops, out_of_memory, status_of, stop_text, err_line, ending_of, Said, Replies, all_said, texts_of}
 use Rattle.om_edge.specs.Files.{File, contents_of}
 use Rattle.om_edge.specs.Sink.{Puts, PutsPart}
 use Rattle.om_edge.specs.State.{FilesState, Change}
-use Rattle.om_promises.specs.Account.{IsWanted, FetchesFor, HoldNoStop}
+use Rattle.om_promises.specs.Account.{IsWanted, FetchesFor, HoldNoStop, SaysOfFirst}
 use Rattle.om_promises.specs.Call.{Call}
 use Rattle.om_promises.specs.Commands.{Fetches, Commands, Prepares, SaysAlone, Outcome}
 use Rattle.om_promises.specs.Given.{Gathers}
@@ -132,11 +132,16 @@ module _ {A : Type 0} (c : Commands A) (words : List (List ℕ)) where
 
   -- ---- where memory ran out, or out or err failed
 
-  -- this is said first in the outcome, or all that is said; there is one outcome at most
-  abbrev pub IsFrontOfOutcome : List ℕ → List File → List Said → Type 0
-  IsFrontOfOutcome input files said = (all : Replies)
-      → Outcome c words (contents_of files) input all
-      → (later : List Said) × (all_said all ≡ said ++ later)
+  -- this is said of first items of the input that is told, or it is all that an outcome says; and
+  -- in each outcome it is said first, of which there is one at most
+  pub record IsFrontOfOutcome (input : List ℕ) (files : List File) (said : List Said)
+      : Type 0 where
+    pub is_said : (said ≡ [])
+        ⊎ (SaysOfFirst c words (record { files = told_files files; input = whole input }) said
+        ⊎ ((all : Replies) × Outcome c words (contents_of files) input all
+        × (all_said all ≡ said)))
+    pub first : (all : Replies) → Outcome c words (contents_of files) input all
+        → (later : List Said) × (all_said all ≡ said ++ later)
 
   -- 9: out has the first texts of the outcome, and err the line that tells it
   abbrev pub IfMemory : Call → Type 0
