@@ -214,6 +214,14 @@ module _ {A : Type 0} (c : Commands A) (words : List (List ℕ)) (files : Change
             (map_at turn (le (f.all turn name wanted)) ∙ told) fetched.map
         go (inr none) = subst (λ o. IsFoundOf (contents_of all name) o) (sym none) tt
 
+      pub as_told :
+          IfSome files.before.map (λ all. IsFoundOf (contents_of all name) (found turn name))
+      as_told = go files.before.map refl where
+        go : (map : Option (List File)) → files.before.map ≡ map
+            → IfSome map (λ all. IsFoundOf (contents_of all name) (found turn name))
+        go None told = tt
+        go (Some all) told = found_in all told
+
       -- that it is missing is told by a map
       pub missing_told : found turn name ≡ missing → IsSome files.before.map
       missing_told e = go fetched_in where

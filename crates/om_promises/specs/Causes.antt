@@ -10,7 +10,7 @@ use Rattle.om_edge.specs.State.{FilesState, Change}
 use Rattle.om_promises.specs.Account.{IsWanted, FetchesFor, HoldNoStop, SaysOfFirst}
 use Rattle.om_promises.specs.Call.{Call}
 use Rattle.om_promises.specs.Commands.{Fetches, Commands, Prepares, SaysAlone, Outcome}
-use Rattle.om_promises.specs.Given.{Gathers}
+use Rattle.om_promises.specs.Given.{Gathers, IsFoundOf}
 use Rattle.om_promises.specs.Outside.{PutsPartAfter, IsWellRead, IsHonest, IsUnsaid, IsOutside, AreShort, CannotOpen, TellsFault}
 use Rattle.om_promises.specs.Promises.{told_files, Gives, OnlyMeant}
 
@@ -41,6 +41,12 @@ module _ {A : Type 0} (c : Commands A) (words : List (List ℕ)) where
     pub fetches : FetchesFor c words files found
     pub turn : ℕ
     pub wanted : IsWanted c words found turn name
+
+  -- what came of such a file is what the map has of its name, where it is told
+  abbrev pub AreAsTold : Call → Type 0
+  AreAsTold call = (found : Fetches) → FetchesFor c words call.files found
+      → (turn : ℕ) (name : List ℕ) → IsWanted c words found turn name
+      → IfSome call.files.before.map (λ all. IsFoundOf (contents_of all name) (found turn name))
 
   -- 8: only where a file that is wanted could not be opened, or is told and not there
   abbrev pub OnlyOpenFault : Call → Type 0

@@ -1,6 +1,6 @@
 //! The laws. Each function does nothing: what it ensures is the law.
 
-ghost use Rattle.om_promises.specs.Causes.{AreMeant, IfAlone, IfWords, OnlyOpenFault, OnlyTooLong, IfMissing, IfFileTooLong, IfFiles, IfInputTooLong, IfInputFails, IfMemory, IfWriteFault, IsDecided, IsExact, IsComplete};
+ghost use Rattle.om_promises.specs.Causes.{AreAsTold, AreMeant, IfAlone, IfWords, OnlyOpenFault, OnlyTooLong, IfMissing, IfFileTooLong, IfFiles, IfInputTooLong, IfInputFails, IfMemory, IfWriteFault, IsDecided, IsExact, IsComplete};
 ghost use Rattle.om_promises.specs.CommandLaws.{HaveOneOutcome, HaveOneStop, StopsStay, StopsAreLast, ArePromised, Follow};
 ghost use Rattle.om_promises.specs.Commands.{Commands};
 ghost use Rattle.om_promises.specs.Lawful.{AreLawful, AreInTurns};
@@ -45,6 +45,7 @@ pub fn promises_of_commands<A: Act>()
     ensures usage { Follow A.commands (IfUsage A.commands) }
     ensures words { Follow A.commands (IfWords A.commands) }
     ensures meant { Follow A.commands (AreMeant A.commands) }
+    ensures as_told { Follow A.commands (AreAsTold A.commands) }
     ensures read_fault { Follow A.commands (λ words. OnlyReadFault) }
     ensures write_fault { Follow A.commands (λ words. OnlyWriteFault) }
     ensures too_long { Follow A.commands (OnlyTooLong A.commands) }
