@@ -89,7 +89,7 @@ module _ {A : Type 0} (c : Commands A) (words : List (List ℕ)) where
       → (call.status ≡ OpenFault)
       ⊎ (((call.status ≡ ReadFault) × (0 < turn)) ⊎ IsUnsaid call.status)
 
-  -- where it has 2^48 bytes or more it is too long, if no other one is before
+  -- where it has 2^48 bytes or more, it is too long, or one that is wanted before it is
   abbrev pub IfFileTooLong : Call → Type 0
   IfFileTooLong call = (turn : ℕ) (name bytes : List ℕ) → (told : TellsTurn call turn name)
       → contents_of told.files name ≡ Some bytes → 2 ^ 48 ≤ length bytes
