@@ -2,9 +2,9 @@
 use Rattle.std.proofs.Common.{◌≡◌, ◌⊎◌, ℕ, Bool, List, Option, Some, Result, Ok, Err, inl, inr, refl, sym, ap, ◌∙◌, subst}
 use Rattle.std.specs.Prelude.{MatchResult}
 use Rattle.om_outcome.specs.Outcome as outcome
-use Rattle.om_outcome.specs.Outcome.{Found, Request, check, show, get, edit, dump, compare, Stop, bad_path, declarations, requested_type, script_line, Saying, the_verdict, the_text, the_part, Work, tells, edits, Task, task, limit_of, Language, Then, OrRefusal, ReadsFile, ReadsTypeOf, ReadsPathOf, ReadsScriptOf, TellsAt, EditsBy, FindsWork}
+use Rattle.om_outcome.specs.Outcome.{Found, opened, whole, Request, check, show, get, edit, dump, compare, Stop, bad_path, declarations, requested_type, script_line, Saying, the_verdict, the_text, the_part, Work, tells, edits, Task, task, limit_of, Language, Then, OrRefusal, ReadsFile, ReadsTypeOf, ReadsPathOf, ReadsScriptOf, TellsAt, EditsBy, FindsWork}
 use Rattle.om_promises.specs.Commands.{Fetches}
-use Rattle.om_promises.specs.Lawful.{IsOnce, IsInner, IsWhole, FailsAtFile}
+use Rattle.om_promises.specs.Lawful.{IsOnce, IsInner, FailsAtFile}
 use Rattle.om_promises.specs.LawfulLanguage.{IsLawful}
 use Rattle.om_promises.proofs.CompleteLemmas.{IsGivenWork, work_given}
 use Rattle.om_promises.proofs.ExampleLemmas.{reads_once}
@@ -25,15 +25,15 @@ refusal_once Reads stop one (Err s) (Err t) (refusal, refuses, is) (other, refus
     let same : refusal ≡ other = cc (one (Err refusal) (Err other) refuses refuses') in
     ap (λ s. Err s) (is ∙ (ap stop same ∙ sym is'))
 
--- the file is whole, or is not there, or it stops the run
+-- the file is read, or it stops the run
 abbrev pub IsRead : {X : Type 0} → List ℕ → Found → Result X Stop → Type 0
-IsRead name found result = IsWhole found
+IsRead name found result = ((bytes : List ℕ) × (found ≡ opened (whole bytes)))
     ⊎ ((stop : Stop) × ReadsFile name found (Err stop) × (result ≡ Err stop))
 
 file_read :
     (name : List ℕ) (found : Found) (result : Result (List ℕ) Stop)
     → ReadsFile name found result → IsRead name found result
-file_read name found (Ok bytes) reads = inl (inl (bytes, reads))
+file_read name found (Ok bytes) reads = inl (bytes, reads)
 file_read name found (Err stop) reads = inr (stop, reads, refl)
 
 -- a file that the first stage reads
@@ -155,7 +155,7 @@ module _ {D T E : Type 0} (language : Language D T E) (lawful : IsLawful languag
 
   -- ---- it is by the files that are wanted
 
-  type_by :
+  pub type_by :
       (file other : List ℕ → Found) (typed : List ℕ × List ℕ) (result : Result T Stop)
       → file typed.0 ≡ other typed.0
       → ReadsTypeOf language file typed result → ReadsTypeOf language other typed result

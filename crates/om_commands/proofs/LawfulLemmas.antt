@@ -1,10 +1,18 @@
 -- The commands on values are lawful, where the language is.
-use Rattle.om_outcome.specs.Outcome.{Language}
-use Rattle.om_promises.specs.Lawful.{AreLawful}
+use Rattle.std.proofs.Common.{◌≡◌, ◌⊎◌, ℕ, List, inl, inr}
+use Rattle.om_outcome.specs.Outcome.{Found, opened, whole, Language}
+use Rattle.om_promises.specs.Lawful.{IsWhole, AreLawful}
 use Rattle.om_promises.specs.LawfulLanguage.{IsLawful}
 use Rattle.om_commands.specs.Tasks.{commands}
 use Rattle.om_commands.proofs.FindLemmas.{finds_once, finds_given, finds_by, wanted_read, finds_inside, wants_once}
 use Rattle.om_commands.proofs.ItemLemmas.{lawful_at}
+
+-- a file that is read is whole
+whole_or :
+    {S : Type 0} (found : Found) → ((bytes : List ℕ) × (found ≡ opened (whole bytes))) ⊎ S
+    → IsWhole found ⊎ S
+whole_or found (inl read) = inl (inl read)
+whole_or found (inr stops) = inr stops
 
 pub commands_lawful :
     {D T E : Type 0} (language : Language D T E) → IsLawful language
@@ -13,7 +21,8 @@ commands_lawful language lawful = record {
   wants_once = wants_once language lawful;
   finds_once = finds_once language lawful;
   by_wanted = finds_by language lawful;
-  reads_wanted = wanted_read language lawful;
+  reads_wanted = λ request files result finds turn name wants.
+      whole_or (files turn name) (wanted_read language lawful request files result finds turn name wants);
   finds_inside = finds_inside language lawful;
   at = λ a found.
       lawful_at language lawful a (finds_given language lawful found.0 found.1 a found.2);

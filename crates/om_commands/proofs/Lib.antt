@@ -1,3 +1,4 @@
 pub mod FindLemmas
 pub mod ItemLemmas
 pub mod LawfulLemmas
+pub mod TurnLemmas

@@ -1,12 +1,15 @@
 //! The laws. Each function does nothing: what it ensures is the law.
 
 ghost use Rattle.om_outcome.specs.Outcome.{Language, Task};
-ghost use Rattle.om_promises.specs.CommandLaws.{HaveOneOutcome, HaveOneStop, StopsStay, StopsAreLast};
-ghost use Rattle.om_promises.specs.Lawful.{AreLawful};
+ghost use Rattle.om_promises.specs.CommandLaws.{HaveOneOutcome, HaveOneStop, StopsStay, StopsAreLast, ArePromised, Follow};
+ghost use Rattle.om_promises.specs.Causes.{AreAsTold, AreMeant, IfWords, IfFiles, OnlyOpenFault, IfMissing, OnlyTooLong, IfFileTooLong, IfInputTooLong, IfInputFails, IfMemory, IfWriteFault, IsDecided, IsExact, IsComplete};
+ghost use Rattle.om_promises.specs.Outside.{OnlyReadFault, OnlyWriteFault};
+ghost use Rattle.om_promises.specs.Promises.{IfStop, IfEnd, IfUsage};
+ghost use Rattle.om_promises.specs.Lawful.{AreLawful, AreInTurns};
 ghost use Rattle.om_promises.specs.LawfulLanguage.{IsLawful};
 ghost use Rattle.om_commands.specs.Tasks.{commands};
 
-use om_promises::laws::{Act, lawful_commands};
+use om_promises::laws::{Act, files_in_turns, lawful_commands, promised, promises_of_commands};
 use std::marker::PhantomData;
 
 /// What declarations, types and lines of scripts are, and what texts are read as them.
@@ -45,4 +48,42 @@ pub fn commands_answer_once<L: Speaks>()
 {
     commands_are_lawful::<L>();
     lawful_commands::<OnValues<L>>();
+}
+
+/// They take their files turn by turn.
+pub fn commands_take_turns<L: Speaks>()
+    requires { IsLawful L.language }
+    ensures { AreInTurns (commands L.language) }
+{}
+
+/// So what is promised of a call follows from its account, and from that all else.
+pub fn commands_keep_promises<L: Speaks>()
+    requires { IsLawful L.language }
+    ensures account { ArePromised (commands L.language) }
+    ensures stop { Follow (commands L.language) (IfStop (commands L.language)) }
+    ensures end { Follow (commands L.language) (IfEnd (commands L.language)) }
+    ensures usage { Follow (commands L.language) (IfUsage (commands L.language)) }
+    ensures words { Follow (commands L.language) (IfWords (commands L.language)) }
+    ensures files { Follow (commands L.language) (IfFiles (commands L.language)) }
+    ensures meant { Follow (commands L.language) (AreMeant (commands L.language)) }
+    ensures as_told { Follow (commands L.language) (AreAsTold (commands L.language)) }
+    ensures read_fault { Follow (commands L.language) (λ words. OnlyReadFault) }
+    ensures write_fault { Follow (commands L.language) (λ words. OnlyWriteFault) }
+    ensures open_fault { Follow (commands L.language) (OnlyOpenFault (commands L.language)) }
+    ensures missing { Follow (commands L.language) (IfMissing (commands L.language)) }
+    ensures too_long { Follow (commands L.language) (OnlyTooLong (commands L.language)) }
+    ensures file_too_long { Follow (commands L.language) (IfFileTooLong (commands L.language)) }
+    ensures input_too_long { Follow (commands L.language) (IfInputTooLong (commands L.language)) }
+    ensures input_fails { Follow (commands L.language) (IfInputFails (commands L.language)) }
+    ensures memory { Follow (commands L.language) (IfMemory (commands L.language)) }
+    ensures write_fault_by { Follow (commands L.language) (IfWriteFault (commands L.language)) }
+    ensures decided { Follow (commands L.language) (IsDecided (commands L.language)) }
+    ensures exact { Follow (commands L.language) (IsExact (commands L.language)) }
+    ensures complete { Follow (commands L.language) (IsComplete (commands L.language)) }
+{
+    commands_are_lawful::<L>();
+    commands_take_turns::<L>();
+    promised::<OnValues<L>>();
+    promises_of_commands::<OnValues<L>>();
+    files_in_turns::<OnValues<L>>();
 }
