@@ -45,15 +45,18 @@ module _ {D T E : Type 0} (language : Language D T E) (lawful : IsLawful languag
       → Wants language request files earlier other → files earlier other ≡ others earlier other)
       → Wants language request files turn name → Wants language request others turn name
   by_earlier request files others turn name same (inl file) = inl file
-  by_earlier request files others turn name same (inr (now, w)) = inr (now, record {
-    scripted = w.scripted;
-    typed = w.typed;
-    is_typed = w.is_typed;
-    type = w.type;
-    reads = type_by language lawful (files 0) (others 0) w.typed (Ok w.type)
-        (same 0 w.typed.0 (is_before turn now)
-        (inl (refl, file_before request files name w))) w.reads;
-  })
+  by_earlier request files others turn name same (inr (now, w)) = inr (
+    now,
+    record {
+      scripted = w.scripted;
+      typed = w.typed;
+      is_typed = w.is_typed;
+      type = w.type;
+      reads = type_by language lawful (files 0) (others 0) w.typed (Ok w.type)
+          (same 0 w.typed.0 (is_before turn now)
+          (inl (refl, file_before request files name w))) w.reads;
+    },
+  )
 
   -- where the type is read, FILE is
   file_whole :

@@ -1,24 +1,26 @@
 -- The account of a call, from what each stage gave.
-use Rattle.std.proofs.Common.{◌≡◌, ◌⊎◌, ℕ, Bool, List, [], Option, None, Some, IfSome, Ok, Err, inl, inr, refl, sym, ap, ◌∙◌, subst, arith}
+use Rattle.std.proofs.Common.{◌≡◌, ◌⊎◌, ℕ, zero, suc, Bool, List, [], Ok, Err, inl, inr, refl, sym, ap, ◌∙◌, subst}
 use Rattle.om_outcome.specs.declared.status.Status.{Status}
 use Rattle.std.specs.Borrow.{Bor}
-use Rattle.om_outcome.specs.Outcome.{IsUsage, Found, unfetched, Fetches, nothing, Given, Stop, usage, bad_path, out_of_memory, stops as stops_reply, stopped, ending_of, Request, get, edit, dump, compare, Asks, ReadsTypeOf, Prepares, RunReplies, dumps, compares}
+use Rattle.om_format.proofs.JudgementLaws.{one_judgement_lem}
+use Rattle.om_outcome.specs.Outcome.{IsUsage, Found, unfetched, nothing, Stop, usage, bad_path, out_of_memory, stops as stops_reply, stopped, ending_of, Request, get, edit, dump, compare, Asks, ReadsTypeOf, RunReplies, dumps, compares}
 use Rattle.om_edge.specs.State.{ByteState, FilesState, Change, change}
 use Rattle.om_stops.specs.declared.stop.Stop as codes
 use Rattle.om_path.specs.Answer.{IsAnswer, UnlessMemory}
 use Rattle.om_path.specs.declared.edits.Script.{Script}
 use Rattle.om_path.specs.declared.fault.PathFault.{PathFault}
-use Rattle.om_promises.specs.Call.{call}
+use Rattle.om_promises.specs.Call.{Call, call}
+use Rattle.om_promises.specs.Account.{FetchesFor, MayBe, Account}
+use Rattle.om_promises.specs.Commands.{Fetches, Given, Prepares}
 use Rattle.om_session.specs.declared.types.Requested.{Requested}
 use Rattle.om_session.specs.declared.values.Work.{Work}
 use Rattle.om_session.specs.declared.values.Work.TheVariants as works
 use Rattle.om_session.specs.declared.verdict.Saying.{Saying}
 use Rattle.om_session.specs.declared.verdict.Speech.TheVariants as speeches
 use Rattle.om_session.specs.Ends.{ClosesValues, TakesValues}
-use Rattle.om_edge.specs.Files.{File, contents_of}
-use Rattle.om_promises.specs.Given.{Fetched, IsFoundOf}
+use Rattle.om_promises.specs.Given.{Fetched}
 use Rattle.om_session.specs.Language.{declared_types}
-use Rattle.om_promises.specs.Run.{AsksFor, AsksForScript, KeepFiles, FetchesFor, PutsLine, Completes, Breaks, Account}
+use Rattle.om_promises.specs.Run.{AsksFor, AsksForScript, PutsLine, Completes, Breaks}
 use Rattle.om_stops.specs.Stops.{stop_of, Reports}
 use Rattle.om_session.specs.Telling.{AsksToTell, AsksToEdit}
 use Rattle.om_session.specs.Types.{type_over, IsPathStop, GivesType, GivesScript}
@@ -27,32 +29,36 @@ use Rattle.om_session.specs.Verdict.{saying_of}
 use Rattle.om_promises.proofs.PutLemmas.{puts_nothing}
 use Rattle.om_promises.proofs.TakeLemmas.{took_nothing}
 use Rattle.om_session.proofs.TypeLemmas.{path_refused}
-use Rattle.om_promises.proofs.WordLemmas.{one_typed, one_script}
+use Rattle.om_commands.specs.Tasks.{by_turns, commands}
+use Rattle.om_bridge.specs.Bridge.{old_given}
+use Rattle.om_bridge.proofs.FetchLemmas.{wants_file, wants_script, new_fetches}
+use Rattle.om_bridge.proofs.AccountLemmas.{new_account}
 
 -- ---- a stop before the values
 
-module _ (words : List (List ℕ)) (found : Fetches) (input out : ByteState) (files : Change FilesState) (fetches : FetchesFor declared_types words files found) (err : Change ByteState) (status : Status) where
+module _ (words : List (List ℕ)) (found : Fetches) (input out : ByteState) (files : Change FilesState) (fetches : FetchesFor (commands declared_types) words files found) (err : Change ByteState) (status : Status) where
   abbrev given : Given
   given = record { files = found; input = nothing }
 
-  abbrev Ended : Type 0
-  Ended = Account declared_types words (call (change input input) files (change out out) err status)
+  abbrev ended : Call
+  ended = call (change input input) files (change out out) err status
 
-  account_of : (s : Stop) → (RunReplies declared_types words given (stopped s) ⊎ (stops_reply s ≡ stops_reply out_of_memory)) → PutsLine err status (ending_of (stopped s)) → Ended
-  account_of s may line = record {
-    given = given;
-    input = took_nothing input;
-    files = fetches;
-    said = [];
-    first = inl (refl, refl);
-    ends = inl (record { last = stops_reply s; may_end = may; out = puts_nothing out; line = line });
-  }
+  abbrev Ended : Type 0
+  Ended = Account (commands declared_types) words ended
+
+  may_be : MayBe (commands declared_types) words ended given
+  may_be = record { input = took_nothing input; files = fetches; untaken = λ none. refl }
+
+  account_of : (s : Stop) → (RunReplies declared_types words (old_given given) (stopped s) ⊎ (stops_reply s ≡ stops_reply out_of_memory)) → PutsLine err status (ending_of (stopped s)) → Ended
+  account_of s may line =
+      new_account declared_types one_judgement_lem words ended given may_be [] (inl (refl, refl))
+      (inl (record { last = stops_reply s; may_end = may; out = puts_nothing out; line = line }))
 
   memory_account : PutsLine err status (ending_of (stopped out_of_memory)) → Ended
   memory_account line = account_of out_of_memory (inr refl) line
 
   -- the stop is reported, or that memory ran out for its line
-  pub stop_account : (s : Stop) → (Prepares declared_types words found (Err s) ⊎ (s ≡ out_of_memory)) → Reports s err status → Ended
+  pub stop_account : (s : Stop) → (Prepares (commands declared_types) words found (Err s) ⊎ (s ≡ out_of_memory)) → Reports s err status → Ended
   stop_account s (inl prepared) r = which r.which where
     which : (r.said ≡ s) ⊎ (r.said ≡ out_of_memory) → Ended
     which (inl same) = account_of s (inl (Err s, prepared, refl)) (subst (λ s. PutsLine err status (ending_of (stopped s))) same r.line)
@@ -65,83 +71,49 @@ module _ (words : List (List ℕ)) (found : Fetches) (input out : ByteState) (fi
 -- ---- the values
 
 -- the work is done with the values
-values_account : (w : Work) (words : List (List ℕ)) (found : Fetches) (files : Change FilesState) → FetchesFor declared_types words files found → Prepares declared_types words found (Ok (task_of w))
-    → (input out err : Change ByteState) (status : Status) → TakesValues w input out err status → Account declared_types words (call input files out err status)
-values_account w words found files fetches prepared input out err status (taken, gathers, said, paced, closes) = record {
-  given = given;
-  input = gathers;
-  files = fetches;
-  said = said;
-  first = inr (task_of w, prepared, paced);
-  ends = ends closes;
-} where
-  given : Given
-  given = record { files = found; input = taken }
+values_account : (w : Work) (words : List (List ℕ)) (found : Fetches) (files : Change FilesState) → FetchesFor (commands declared_types) words files found → Prepares (commands declared_types) words found (Ok (task_of w))
+    → (input out err : Change ByteState) (status : Status) → TakesValues w input out err status → Account (commands declared_types) words (call input files out err status)
+values_account w words found files fetches prepared input out err status (taken, gathers, said, paced, closes) =
+    new_account declared_types one_judgement_lem words (call input files out err status) given
+    (record { input = gathers; files = fetches; untaken = λ none. absurd (none (task_of w) prepared tt) }) said
+    (inr (task_of w, prepared, paced)) (ends closes) where
+      given : Given
+      given = record { files = found; input = taken }
 
-  ends : ClosesValues w taken said out err status
-      → Completes declared_types words (record { files = found; input = taken }) said (call input files out err status) ⊎ Breaks declared_types words (record { files = found; input = taken }) said (call input files out err status)
-  ends (inl (last, inl reply, puts, line)) =
-      inl (record { last = last; may_end = inl (Ok (task_of w), prepared, reply); out = puts; line = line })
-  ends (inl (last, inr memory, puts, line)) =
-      inl (record { last = last; may_end = inr memory; out = puts; line = line })
-  ends (inr (next, inl (trees, rest, first), part, none, same)) =
-      inr (record { next = next; is_next = inl (task_of w, prepared, trees, rest, first); out = part; err = none; status = same })
-  ends (inr (next, inr reply, part, none, same)) =
-      inr (record { next = next; is_next = inr (Ok (task_of w), prepared, reply); out = part; err = none; status = same })
+      ends : ClosesValues w taken said out err status
+          → Completes declared_types words (old_given given) said (call input files out err status) ⊎ Breaks declared_types words (old_given given) said (call input files out err status)
+      ends (inl (last, inl reply, puts, line)) =
+          inl (record { last = last; may_end = inl (Ok (task_of w), prepared, reply); out = puts; line = line })
+      ends (inl (last, inr memory, puts, line)) =
+          inl (record { last = last; may_end = inr memory; out = puts; line = line })
+      ends (inr (next, inl (trees, rest, first), part, none, same)) =
+          inr (record { next = next; is_next = inl (task_of w, prepared, trees, rest, first); out = part; err = none; status = same })
+      ends (inr (next, inr reply, part, none, same)) =
+          inr (record { next = next; is_next = inr (Ok (task_of w), prepared, reply); out = part; err = none; status = same })
 
 -- ---- the words
 
--- nothing was fetched
-nothing_fetched : (files : FilesState) (name : List ℕ) → Fetched (change files files) name unfetched
-nothing_fetched files name = record {
-  map = IfSome_all files.map;
-  told = λ e. absurd (cc e);
-  stays = refl;
-  measured = tt;
-  opening = record { never_falls = omega arith; rose = tt; kept = refl; at_last = λ e. e };
-  named = λ e. absurd (cc e);
-  reading = record { never_falls = omega arith; rose = tt; kept = refl; at_last = λ e. e };
-} where
-  IfSome_all : (map : Option (List File)) → IfSome map (λ all. IsFoundOf (contents_of all name) unfetched)
-  IfSome_all None = tt
-  IfSome_all (Some all) = tt
-
--- the files stay as they were, or one was fetched
-kept : (files : FilesState) → KeepFiles (change files files)
-kept files = record { map = refl; opening = omega arith; opening_at_last = λ e. e; reading = omega arith; reading_at_last = λ e. e }
-
-kept_by : (files : Change FilesState) (name : List ℕ) (found : Found) → Fetched files name found → KeepFiles files
-kept_by files name found f = record {
-  map = f.stays;
-  opening = f.opening.never_falls;
-  opening_at_last = f.opening.at_last;
-  reading = f.reading.never_falls;
-  reading_at_last = f.reading.at_last;
-}
+-- what came of the first turn and of the second one
+abbrev two_found : Found → Found → ℕ → List ℕ → Found
+two_found first second zero name = first
+two_found first second (suc turn) name = second
 
 abbrev nothing_found : Fetches
-nothing_found = record { file = λ name. unfetched; script = λ name. unfetched }
+nothing_found = two_found unfetched unfetched
 
--- so of any FILE and SCRIPT
-none_fetched : (words : List (List ℕ)) (files : FilesState) → FetchesFor declared_types words (change files files) nothing_found
-none_fetched words files = record {
-  between = files;
-  first = kept files;
-  second = kept files;
-  asked = λ name type is. nothing_fetched files name;
-  unasked = λ none. refl;
-  scripted = λ name is. nothing_fetched files name;
-  unscripted = λ none. refl;
-}
+-- nothing was fetched
+none_fetched : (words : List (List ℕ)) (files : FilesState) → FetchesFor (commands declared_types) words (change files files) nothing_found
+none_fetched words files =
+    new_fetches declared_types words nothing_found files files files (inr (refl, λ name is. refl)) (inr (refl, λ name is. refl))
 
 -- memory ran out before FILE was fetched
 pub unread_account : (words : List (List ℕ)) (input out : ByteState) (files : FilesState) (err : Change ByteState) (status : Status)
-    → Reports out_of_memory err status → Account declared_types words (call (change input input) (change files files) (change out out) err status)
+    → Reports out_of_memory err status → Account (commands declared_types) words (call (change input input) (change files files) (change out out) err status)
 unread_account words input out files err status r =
     stop_account words nothing_found input out (change files files) (none_fetched words files) err status out_of_memory (inr refl) r
 
 pub usage_account : (words : List (List ℕ)) → IsUsage words → (input out : ByteState) (files : FilesState) (err : Change ByteState) (status : Status)
-    → Reports usage err status → Account declared_types words (call (change input input) (change files files) (change out out) err status)
+    → Reports usage err status → Account (commands declared_types) words (call (change input input) (change files files) (change out out) err status)
 usage_account words none input out files err status r =
     stop_account words nothing_found input out (change files files) (none_fetched words files) err status usage (inl (Err usage, (none, refl), refl)) r
 
@@ -149,13 +121,13 @@ usage_account words none input out files err status r =
 pub path_account : (words : List (List ℕ)) (name type text : List ℕ) (limit : ℕ) → Asks words (get name type text limit)
     → (fault : PathFault) → UnlessMemory (λ f. IsAnswer text (Err f)) fault → (stop : codes.Stop) → IsPathStop fault stop
     → (input out : ByteState) (files : FilesState) (err : Change ByteState) (status : Status)
-    → Reports (stop_of stop) err status → Account declared_types words (call (change input input) (change files files) (change out out) err status)
+    → Reports (stop_of stop) err status → Account (commands declared_types) words (call (change input input) (change files files) (change out out) err status)
 path_account words name type text limit asks fault refused stop is input out files err status r =
     stop_account words nothing_found input out (change files files) (none_fetched words files) err status (stop_of stop) (why is) r where
-      why : IsPathStop fault stop → Prepares declared_types words nothing_found (Err (stop_of stop)) ⊎ (stop_of stop ≡ out_of_memory)
+      why : IsPathStop fault stop → Prepares (commands declared_types) words nothing_found (Err (stop_of stop)) ⊎ (stop_of stop ≡ out_of_memory)
       why (inl (memory, is)) = inr is
       why (inr (some, is)) =
-          inl (subst (λ s. Prepares declared_types words nothing_found (Err s)) (sym is)
+          inl (subst (λ s. Prepares (commands declared_types) words nothing_found (Err s)) (sym is)
           (Ok (get name type text limit), asks, (Err bad_path, (Err bad_path, (path_refused text fault some refused, refl), refl), refl)))
 
 module _ (words : List (List ℕ)) (name type : List ℕ) (saying : Saying) (limit : ℕ) (asks : AsksToTell words name type (saying_of saying) limit) (files : Change FilesState) (found : Found) (fetched : Fetched files name found) where
@@ -163,41 +135,35 @@ module _ (words : List (List ℕ)) (name type : List ℕ) (saying : Saying) (lim
   is_asked = record { request = asks.request; asks = asks.asks; has_path = asks.has_path; typed = asks.typed }
 
   abbrev all_found : Fetches
-  all_found = record { file = λ name. found; script = λ name. unfetched }
+  all_found = two_found found unfetched
 
-  fetches : FetchesFor declared_types words files all_found
-  fetches = record {
-    between = files.after;
-    first = kept_by files name found fetched;
-    second = kept files.after;
-    asked = λ other u is. subst (λ n. Fetched files n found) (one_typed declared_types words name type other u is_asked is).0 fetched;
-    unasked = λ none. absurd (none name type is_asked);
-    scripted = λ script is. nothing_fetched files.after script;
-    unscripted = λ none. refl;
-  }
+  fetches : FetchesFor (commands declared_types) words files all_found
+  fetches =
+      new_fetches declared_types words all_found files.before files.after files.after
+      (inl (name, wants_file declared_types words all_found name type is_asked, fetched)) (inr (refl, λ script is. refl))
 
   prepared_ok : (t : Bor Requested) → ReadsTypeOf declared_types (λ name. found) (name, type) (Ok (type_over t.now))
-      → Prepares declared_types words all_found (Ok (task_of (works.Say (speeches.Tell t saying) limit)))
+      → Prepares (commands declared_types) words all_found (Ok (task_of (works.Say (speeches.Tell t saying) limit)))
   prepared_ok t reads =
       let told = task_of (works.Say (speeches.Tell t saying) limit) in
-      (Ok asks.request, asks.asks, (Ok told.work, asks.finds all_found (Ok told.work) (Ok (type_over t.now), reads, refl), ap (λ n. Ok (record { work = told.work; limit = n })) (sym asks.limited)))
+      (Ok asks.request, asks.asks, (Ok told.work, asks.finds (by_turns all_found) (Ok told.work) (Ok (type_over t.now), reads, refl), ap (λ n. Ok (record { work = told.work; limit = n })) (sym asks.limited)))
 
-  prepared_err : (s : Stop) → ReadsTypeOf declared_types (λ name. found) (name, type) (Err s) → Prepares declared_types words all_found (Err s)
-  prepared_err s reads = (Ok asks.request, asks.asks, (Err s, asks.finds all_found (Err s) (Err s, reads, refl), refl))
+  prepared_err : (s : Stop) → ReadsTypeOf declared_types (λ name. found) (name, type) (Err s) → Prepares (commands declared_types) words all_found (Err s)
+  prepared_err s reads = (Ok asks.request, asks.asks, (Err s, asks.finds (by_turns all_found) (Err s) (Err s, reads, refl), refl))
 
-  gives_err : (stop : codes.Stop) → GivesType name type found (Err stop) → Prepares declared_types words all_found (Err (stop_of stop)) ⊎ (stop_of stop ≡ out_of_memory)
+  gives_err : (stop : codes.Stop) → GivesType name type found (Err stop) → Prepares (commands declared_types) words all_found (Err (stop_of stop)) ⊎ (stop_of stop ≡ out_of_memory)
   gives_err stop (inl reads) = inl (prepared_err _ reads)
   gives_err stop (inr memory) = inr memory
 
   -- there is no type
   pub type_account : (stop : codes.Stop) → GivesType name type found (Err stop) → (input out : ByteState) (err : Change ByteState) (status : Status)
-      → Reports (stop_of stop) err status → Account declared_types words (call (change input input) files (change out out) err status)
+      → Reports (stop_of stop) err status → Account (commands declared_types) words (call (change input input) files (change out out) err status)
   type_account stop gives input out err status r =
       stop_account words all_found input out files fetches err status (stop_of stop) (gives_err stop gives) r
 
   -- this is told of the values at the type
   pub told_account : (t : Bor Requested) → GivesType name type found (Ok t.now) → (input out err : Change ByteState) (status : Status)
-      → TakesValues (works.Say (speeches.Tell t saying) limit) input out err status → Account declared_types words (call input files out err status)
+      → TakesValues (works.Say (speeches.Tell t saying) limit) input out err status → Account (commands declared_types) words (call input files out err status)
   told_account t gives input out err status takes =
       values_account (works.Say (speeches.Tell t saying) limit) words all_found files fetches (prepared_ok t gives.0) input out err status takes
 
@@ -207,35 +173,29 @@ module _ (words : List (List ℕ)) (name type : List ℕ) (saying : Saying) (lim
 module _ (words : List (List ℕ)) (file type script : List ℕ) (compat : Bool) (limit : ℕ) (asks : Asks words (edit file type script compat limit)) (files : Change FilesState) (found : Found)
     (fetched : Fetched files file found) where
   abbrev file_found : Fetches
-  file_found = record { file = λ name. found; script = λ name. unfetched }
+  file_found = two_found found unfetched
 
   file_asked : AsksFor declared_types words file type
   file_asked = record { request = edit file type script compat limit; asks = asks; has_path = tt; typed = refl }
 
-  file_fetches : FetchesFor declared_types words files file_found
-  file_fetches = record {
-    between = files.after;
-    first = kept_by files file found fetched;
-    second = kept files.after;
-    asked = λ other u is. subst (λ n. Fetched files n found) (one_typed declared_types words file type other u file_asked is).0 fetched;
-    unasked = λ none. absurd (none file type file_asked);
-    scripted = λ name is. nothing_fetched files.after name;
-    unscripted = λ none. refl;
-  }
+  file_fetches : FetchesFor (commands declared_types) words files file_found
+  file_fetches =
+      new_fetches declared_types words file_found files.before files.after files.after
+      (inl (file, wants_file declared_types words file_found file type file_asked, fetched)) (inr (refl, λ name is. refl))
 
-  file_gives : (stop : codes.Stop) → GivesType file type found (Err stop) → Prepares declared_types words file_found (Err (stop_of stop)) ⊎ (stop_of stop ≡ out_of_memory)
+  file_gives : (stop : codes.Stop) → GivesType file type found (Err stop) → Prepares (commands declared_types) words file_found (Err (stop_of stop)) ⊎ (stop_of stop ≡ out_of_memory)
   file_gives stop (inl reads) = inl (Ok (edit file type script compat limit), asks, (Err (stop_of stop), (Err (stop_of stop), reads, refl), refl))
   file_gives stop (inr memory) = inr memory
 
   pub file_account : (stop : codes.Stop) → GivesType file type found (Err stop) → (input out : ByteState) (err : Change ByteState) (status : Status)
-      → Reports (stop_of stop) err status → Account declared_types words (call (change input input) files (change out out) err status)
+      → Reports (stop_of stop) err status → Account (commands declared_types) words (call (change input input) files (change out out) err status)
   file_account stop gives input out err status r = stop_account words file_found input out files file_fetches err status (stop_of stop) (file_gives stop gives) r
 
 -- they are, and SCRIPT comes next
 module _ (words : List (List ℕ)) (r : Bor Requested) (script : List ℕ) (compat : Bool) (limit : ℕ) (a b c : FilesState) (asks : AsksToEdit words r.now script compat limit (change a b))
     (found : Found) (fetched : Fetched (change b c) script found) where
   abbrev both_found : Fetches
-  both_found = record { file = λ name. asks.found; script = λ name. found }
+  both_found = two_found asks.found found
 
   abbrev request : Request
   request = edit asks.file asks.type script compat limit
@@ -254,30 +214,25 @@ module _ (words : List (List ℕ)) (r : Bor Requested) (script : List ℕ) (comp
     reads = asks.gives.0;
   }
 
-  both_fetched : FetchesFor declared_types words (change a c) both_found
-  both_fetched = record {
-    between = b;
-    first = kept_by (change a b) asks.file asks.found asks.fetched;
-    second = kept_by (change b c) script found fetched;
-    asked = λ other u is. subst (λ n. Fetched (change a b) n asks.found) (one_typed declared_types words asks.file asks.type other u edit_asked is).0 asks.fetched;
-    unasked = λ none. absurd (none asks.file asks.type edit_asked);
-    scripted = λ other is. subst (λ n. Fetched (change b c) n found) (one_script declared_types words (λ name. asks.found) (λ name. asks.found) script other script_asked is) fetched;
-    unscripted = λ none. absurd (none script script_asked);
-  }
+  both_fetched : FetchesFor (commands declared_types) words (change a c) both_found
+  both_fetched =
+      new_fetches declared_types words both_found a b c
+      (inl (asks.file, wants_file declared_types words both_found asks.file asks.type edit_asked, asks.fetched))
+      (inl (script, wants_script declared_types words both_found script script_asked, fetched))
 
-  script_gives : (stop : codes.Stop) → GivesScript script found (Err stop) → Prepares declared_types words both_found (Err (stop_of stop)) ⊎ (stop_of stop ≡ out_of_memory)
+  script_gives : (stop : codes.Stop) → GivesScript script found (Err stop) → Prepares (commands declared_types) words both_found (Err (stop_of stop)) ⊎ (stop_of stop ≡ out_of_memory)
   script_gives stop (inl reads) =
       inl (Ok request, asks.asks, (Err (stop_of stop), (Ok (type_over r.now), asks.gives.0, (Err (stop_of stop), reads, refl)), refl))
   script_gives stop (inr memory) = inr memory
 
   pub script_account : (stop : codes.Stop) → GivesScript script found (Err stop) → (input out : ByteState) (err : Change ByteState) (status : Status)
-      → Reports (stop_of stop) err status → Account declared_types words (call (change input input) (change a c) (change out out) err status)
+      → Reports (stop_of stop) err status → Account (commands declared_types) words (call (change input input) (change a c) (change out out) err status)
   script_account stop gives input out err status reports =
       stop_account words both_found input out (change a c) both_fetched err status (stop_of stop) (script_gives stop gives) reports
 
   -- the values are edited
   pub edits_account : (s : Bor Script) → GivesScript script found (Ok s.now) → (input out err : Change ByteState) (status : Status)
-      → TakesValues (works.Edit (record { requested = r; script = s; compat = compat }) limit) input out err status → Account declared_types words (call input (change a c) out err status)
+      → TakesValues (works.Edit (record { requested = r; script = s; compat = compat }) limit) input out err status → Account (commands declared_types) words (call input (change a c) out err status)
   edits_account s gives input out err status takes =
       let w = works.Edit (record { requested = r; script = s; compat = compat }) limit in
       values_account w words both_found (change a c) both_fetched
@@ -285,11 +240,11 @@ module _ (words : List (List ℕ)) (r : Bor Requested) (script : List ℕ) (comp
 
 module _ (words : List (List ℕ)) (limit : ℕ) (files : FilesState) (input out err : Change ByteState) (status : Status) where
   -- the values are put as they are
-  pub dump_account : Asks words (dump limit) → TakesValues (works.Say speeches.Dump limit) input out err status → Account declared_types words (call input (change files files) out err status)
+  pub dump_account : Asks words (dump limit) → TakesValues (works.Say speeches.Dump limit) input out err status → Account (commands declared_types) words (call input (change files files) out err status)
   dump_account asks takes =
       values_account (works.Say speeches.Dump limit) words nothing_found (change files files) (none_fetched words files) (Ok (dump limit), asks, (Ok dumps, refl, refl)) input out err status takes
 
   -- two values are compared
-  pub compare_account : Asks words (compare limit) → TakesValues (works.Compare limit) input out err status → Account declared_types words (call input (change files files) out err status)
+  pub compare_account : Asks words (compare limit) → TakesValues (works.Compare limit) input out err status → Account (commands declared_types) words (call input (change files files) out err status)
   compare_account asks takes =
       values_account (works.Compare limit) words nothing_found (change files files) (none_fetched words files) (Ok (compare limit), asks, (Ok compares, refl, refl)) input out err status takes

@@ -11,3 +11,4 @@ pub mod Values
 pub mod Asked
 pub mod Halts
 pub mod SaidOfValue
+pub mod Promised

@@ -9,7 +9,9 @@ ghost use Rattle.om_session.specs.Asked.{AsksToSay, AsksForLines};
 ghost use Rattle.om_session.specs.Ends.{TakesValues};
 ghost use Rattle.om_session.specs.Halts.{ReportsHalt, ending_status};
 ghost use Rattle.om_session.specs.Language.{declared_types};
-ghost use Rattle.om_promises.specs.Run.{Account, Promises};
+ghost use Rattle.om_promises.specs.Account.{Account};
+ghost use Rattle.om_promises.specs.Promises.{Promises};
+ghost use Rattle.om_commands.specs.Tasks.{commands};
 ghost use Rattle.om_session.specs.Telling.{AsksToTell, AsksToEdit};
 ghost use Rattle.om_session.specs.Types.{IsReady};
 ghost use Rattle.om_session.specs.Values.{IsReadyWork};
@@ -17,20 +19,17 @@ ghost use Rattle.om_session.specs.Verdict.{saying_of};
 ghost use Rattle.om_command_line.specs.Requests.{texts, request_of};
 ghost use Rattle.om_stops.specs.Stops.{stop_of, Reports};
 
+use crate::commands::{declared_commands_keep_promises, declared_types_are_lawful};
 use crate::edit::Edits;
 use crate::types::{Requested, find_script, find_type, path_stop};
 use crate::values::{Work, put_values};
 use crate::verdict::{Saying, Speech};
 use om_command_line::{Request, Unread, read_words};
-use om_decl::laws::one_answer;
-use om_decl::told::{files_are_well_formed, types_are_sound};
 use om_edge::{Opener, Sink, Source};
-use om_edit::edits_have_one_answer;
 use om_format::laws::one_judgement;
 use om_outcome::status::Status;
-use om_path::{Script, one_answer as one_path, one_script_answer, read_path};
+use om_path::{Script, read_path};
 use om_stops::stop::{Halt, Stop, report_stop};
-use om_table::type_or_fault;
 use std::alloc::Global;
 
 // Puts the line of a stop on err, and answers the status.
@@ -85,7 +84,7 @@ fn tell_over<S: Source, K: Sink, E: Sink>(
     err: &mut E,
 ) -> Status
     requires { IsReady requested }
-    ensures { (words : List (List ℕ)) (files : Change FilesState) → AsksToSay words requested (saying_of saying.entry) limit files → Account declared_types words
+    ensures { (words : List (List ℕ)) (files : Change FilesState) → AsksToSay words requested (saying_of saying.entry) limit files → Account (commands declared_types) words
         (call (change (S.state input.old) (S.state input.new)) files
         (change (K.state out.old) (K.state out.new)) (change (E.state err.old) (E.state err.new)) result) }
 {
@@ -105,7 +104,7 @@ fn tell<S: Source, O: Opener, K: Sink, E: Sink>(
     out: &mut K,
     err: &mut E,
 ) -> Status
-    ensures { (words : List (List ℕ)) → AsksToTell words file.now type_text.now (saying_of saying.entry) limit → Account declared_types words
+    ensures { (words : List (List ℕ)) → AsksToTell words file.now type_text.now (saying_of saying.entry) limit → Account (commands declared_types) words
         (call (change (S.state input.old) (S.state input.new)) (change (O.state files.old) (O.state files.new))
         (change (K.state out.old) (K.state out.new)) (change (E.state err.old) (E.state err.new)) result) }
 {
@@ -127,7 +126,7 @@ fn get<S: Source, O: Opener, K: Sink, E: Sink>(
     out: &mut K,
     err: &mut E,
 ) -> Status
-    ensures { (words : List (List ℕ)) → Asks words (get_of file.now type_text.now path_text.now limit) → Account declared_types words
+    ensures { (words : List (List ℕ)) → Asks words (get_of file.now type_text.now path_text.now limit) → Account (commands declared_types) words
         (call (change (S.state input.old) (S.state input.new)) (change (O.state files.old) (O.state files.new))
         (change (K.state out.old) (K.state out.new)) (change (E.state err.old) (E.state err.new)) result) }
 {
@@ -154,7 +153,7 @@ fn edit_with<S: Source, K: Sink, E: Sink>(
     err: &mut E,
 ) -> Status
     requires { IsReady requested.now }
-    ensures { (words : List (List ℕ)) (before after : FilesState) → AsksForLines words requested.now script compat limit (change before after) → Account declared_types words
+    ensures { (words : List (List ℕ)) (before after : FilesState) → AsksForLines words requested.now script compat limit (change before after) → Account (commands declared_types) words
         (call (change (S.state input.old) (S.state input.new)) (change before after)
         (change (K.state out.old) (K.state out.new)) (change (E.state err.old) (E.state err.new)) result) }
 {
@@ -179,7 +178,7 @@ fn edit_by<S: Source, O: Opener, K: Sink, E: Sink>(
     err: &mut E,
 ) -> Status
     requires { IsReady requested.now }
-    ensures { (words : List (List ℕ)) (before : FilesState) → AsksToEdit words requested.now script.now compat limit (change before (O.state files.old)) → Account declared_types words
+    ensures { (words : List (List ℕ)) (before : FilesState) → AsksToEdit words requested.now script.now compat limit (change before (O.state files.old)) → Account (commands declared_types) words
         (call (change (S.state input.old) (S.state input.new)) (change before (O.state files.new))
         (change (K.state out.old) (K.state out.new)) (change (E.state err.old) (E.state err.new)) result) }
 {
@@ -202,7 +201,7 @@ fn edit_over<S: Source, O: Opener, K: Sink, E: Sink>(
     err: &mut E,
 ) -> Status
     requires { IsReady requested }
-    ensures { (words : List (List ℕ)) (before : FilesState) → AsksToEdit words requested script.now compat limit (change before (O.state files.old)) → Account declared_types words
+    ensures { (words : List (List ℕ)) (before : FilesState) → AsksToEdit words requested script.now compat limit (change before (O.state files.old)) → Account (commands declared_types) words
         (call (change (S.state input.old) (S.state input.new)) (change before (O.state files.new))
         (change (K.state out.old) (K.state out.new)) (change (E.state err.old) (E.state err.new)) result) }
 {
@@ -224,7 +223,7 @@ fn edit<S: Source, O: Opener, K: Sink, E: Sink>(
     out: &mut K,
     err: &mut E,
 ) -> Status
-    ensures { (words : List (List ℕ)) → Asks words (edit_of file.now type_text.now script.now compat limit) → Account declared_types words
+    ensures { (words : List (List ℕ)) → Asks words (edit_of file.now type_text.now script.now compat limit) → Account (commands declared_types) words
         (call (change (S.state input.old) (S.state input.new)) (change (O.state files.old) (O.state files.new))
         (change (K.state out.old) (K.state out.new)) (change (E.state err.old) (E.state err.new)) result) }
 {
@@ -245,7 +244,7 @@ fn run_request<S: Source, O: Opener, K: Sink, E: Sink>(
     out: &mut K,
     err: &mut E,
 ) -> Status
-    ensures { (words : List (List ℕ)) → Asks words (request_of request.entry) → Account declared_types words
+    ensures { (words : List (List ℕ)) → Asks words (request_of request.entry) → Account (commands declared_types) words
         (call (change (S.state input.old) (S.state input.new)) (change (O.state files.old) (O.state files.new))
         (change (K.state out.old) (K.state out.new)) (change (E.state err.old) (E.state err.new)) result) }
 {
@@ -317,7 +316,7 @@ fn run_command<S: Source, O: Opener, K: Sink, E: Sink>(
     out: &mut K,
     err: &mut E,
 ) -> Status
-    ensures { Account declared_types (texts words.now)
+    ensures { Account (commands declared_types) (texts words.now)
         (call (change (S.state input.old) (S.state input.new)) (change (O.state files.old) (O.state files.new))
         (change (K.state out.old) (K.state out.new)) (change (E.state err.old) (E.state err.new)) result) }
 {
@@ -338,7 +337,7 @@ pub fn run<S: Source, O: Opener, K: Sink, E: Sink>(
     out: &mut K,
     err: &mut E,
 ) -> Status
-    ensures promises { Promises declared_types (texts words.now)
+    ensures promises { Promises (commands declared_types) (texts words.now)
         (call (change (S.state input.old) (S.state input.new)) (change (O.state files.old) (O.state files.new))
         (change (K.state out.old) (K.state out.new)) (change (E.state err.old) (E.state err.new)) result) }
     ensures canonical { LeavesCanonical (texts words.now)
@@ -347,12 +346,7 @@ pub fn run<S: Source, O: Opener, K: Sink, E: Sink>(
 {
     input.tells_bytes();
     one_judgement();
-    one_answer();
-    one_path();
-    one_script_answer();
-    edits_have_one_answer();
-    files_are_well_formed();
-    types_are_sound();
-    type_or_fault();
+    declared_types_are_lawful();
+    declared_commands_keep_promises();
     run_command(alloc, words, input, files, out, err)
 }
