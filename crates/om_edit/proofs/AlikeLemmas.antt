@@ -1,31 +1,28 @@
 -- What a table of types says of edits is what its types say.
 use Rattle.std.proofs.Common.{ℕ, suc, ◌≡◌, ◌∙◌, List, [], ◌∷◌, ◌++◌, length, Option, Some, None, Result, Ok, Err, refl, ap, sym, subst}
-use Rattle.std.specs.Prelude.{slice_get, option_map, option_and_then, unwrap_or, codes, decimal}
+use Rattle.std.specs.Prelude.{slice_get, option_map, option_and_then, codes, decimal}
 use Rattle.om_model.specs.declared.value.Val.{Val}
 use Rattle.om_model.specs.declared.value.Val.TheVariants as vals
 use Rattle.om_model.specs.declared.value.Obj.{Obj}
 use Rattle.om_lex.specs.declared.lexeme.Lexeme.{Lexeme}
 use Rattle.om_types.specs.declared.decl.Decl.{Decl}
-use Rattle.om_types.specs.declared.names.Names.{Names}
-use Rattle.om_types.specs.declared.shape.ShapeOf.{ShapeOf}
 use Rattle.om_types.specs.Equal.{Equal, declared_shapes}
 use Rattle.om_types.specs.Fault.{step, value_at}
-use Rattle.om_types.specs.Names.{no_names, names_of}
+use Rattle.om_types.specs.Names.{names_of}
 use Rattle.om_types.specs.Shape.{shape}
-use Rattle.om_types.specs.Table.{with_parts, node_or_none, table_shapes}
+use Rattle.om_types.specs.Table.{table_shapes}
 use Rattle.om_types.specs.Ty.{Ty}
 use Rattle.om_types.specs.TypeText.{type_text}
 use Rattle.om_types.specs.Typing.{HasType}
 use Rattle.om_equal.proofs.SimulationLemmas.{SamePlace, place_same}
-use Rattle.om_equal.proofs.TableLemmas.{slice_get-mapped, mapped_some, table_says, least_forth}
+use Rattle.om_equal.proofs.TableLemmas.{table_says, least_forth}
 use Rattle.om_table.proofs.DecideLemmas.{root_is_first, has_forth}
 use Rattle.om_type_table.specs.declared.table.TypeTable.{TypeTable}
 use Rattle.om_type_table.specs.Made.{types_of, table_of, IsTypeTable}
 use Rattle.om_fault.specs.Text.{text_or_none, text_at}
-use Rattle.om_literal_grammar.specs.Literal.{Plain, Literal}
+use Rattle.om_literal_grammar.specs.Literal.{Literal}
 use Rattle.om_literal.specs.Answers.{shape_in, names_in, byte_of, in_bytes}
 use Rattle.om_literal.specs.Reading.{Reading, Refusal, misfit_at, int_range_at, label_at, literal_read}
-use Rattle.om_literal.specs.Starts.{Start, start_at}
 use Rattle.om_path.specs.declared.edits.Edit.{Edit}
 use Rattle.om_path.specs.declared.edits.Edit.TheVariants as edits
 use Rattle.om_edit.specs.declared.spots.Spot.{Spot}
@@ -37,55 +34,16 @@ use Rattle.om_edit.specs.Answers.{Answer, put_at, linked, copied, object_of, uns
 use Rattle.om_edit.specs.Tables.{SameClass, IsAnswerIn}
 use Rattle.om_edit.specs.Laws.{IsDeclaredAnswer, SayTheSame}
 use Rattle.om_edit.proofs.MadeLemmas.{Follows, parted, joined}
-use Rattle.om_edit.proofs.StartLemmas.{Mapped, to_misfit, to_range, to_small, to_whole, to_block, start_mapped}
-use Rattle.om_edit.proofs.ReadingLemmas.{StartsAgree, same_misfit, same_range, same_small, same_whole, same_block, RefusalsAgree, ReadAgree, read_agree}
+use Rattle.om_literal_alike.specs.Alike.{RefusalsAgree, ReadAgree}
+use Rattle.om_literal_alike.proofs.TableLemmas.{tables_read_alike}
 
 module _ (decls : List Decl) (t : Ty) (table : TypeTable) (is : IsTypeTable decls t table) where
   abbrev Is : ℕ → Ty → Type 0
   Is i u = slice_get (types_of table) i ≡ Some u
 
-  abbrev type_if : ℕ → Option Ty
-  type_if i = slice_get (types_of table) i
-
-  -- ---- literals begin alike
-
-  -- the shape at a number is the type's, but for numbers in the place of types
-  shape_is : (i : ℕ) (u : Ty) → Is i u → with_parts type_if (shape_in table i) ≡ with_parts Some (shape decls u)
-  shape_is i u at =
-      let found = mapped_some (with_parts type_if) (slice_get table.nodes i) (with_parts Some (shape decls u))
-      (sym (slice_get-mapped (with_parts type_if) table.nodes i)
-      ∙ ap (λ all. slice_get all i) is.made.nodes
-      ∙ slice_get-mapped (λ u. with_parts Some (shape decls u)) (types_of table) i
-      ∙ ap (option_map (λ u. with_parts Some (shape decls u))) at) in
-      ap (λ node. with_parts type_if (node_or_none node)) found.1 ∙ found.2
-
-  names_are : (i : ℕ) (u : Ty) → Is i u → names_in table i ≡ names_of decls u
-  names_are i u at =
-      ap (λ all. unwrap_or (slice_get all i) no_names) is.named
-      ∙ ap (λ found. unwrap_or found no_names) (slice_get-mapped (names_of decls) (types_of table) i)
-      ∙ ap (λ found. unwrap_or (option_map (names_of decls) found) no_names) at
-
-  begin_by : {a : Start ℕ} {b : Start Ty} {c : Start (Option Ty)} → Mapped type_if a c → Mapped Some b c → StartsAgree Is a b
-  begin_by to_misfit to_misfit = same_misfit
-  begin_by to_range to_range = same_range
-  begin_by (to_small v) (to_small w) = same_small v
-  begin_by (to_whole object) (to_whole other) = same_whole object
-  begin_by (to_block tag front types others all) (to_block tag' front' types' others' all') =
-      same_block tag front types types' (λ i. all i ∙ sym (all' i))
-
-  begin : (i : ℕ) (u : Ty) → Is i u → (p : Plain)
-      → StartsAgree Is (start_at i (shape_in table i) (names_in table i) p) (start_at u (shape decls u) (names_of decls u) p)
-  begin i u at p =
-      begin_by
-      (subst (λ (names : Names). Mapped type_if (start_at i (shape_in table i) (names_in table i) p) (start_at (Some u) (with_parts Some (shape decls u)) names p)) (names_are i u at)
-      (subst (λ (s : ShapeOf (Option Ty)). Mapped type_if (start_at i (shape_in table i) (names_in table i) p) (start_at (Some u) s (names_in table i) p)) (shape_is i u at)
-      (subst (λ (o : Option Ty). Mapped type_if (start_at i (shape_in table i) (names_in table i) p) (start_at o (with_parts type_if (shape_in table i)) (names_in table i) p)) at
-      (start_mapped type_if i (shape_in table i) (names_in table i) p))))
-      (start_mapped Some u (shape decls u) (names_of decls u) p)
-
   alike : (v : Literal) (count i : ℕ) (u : Ty) → Is i u
       → ReadAgree Is (literal_read (shape_in table) (names_in table) 0 v count [] i) (literal_read (shape decls) (names_of decls) 0 v count [] u)
-  alike v count i u at = read_agree Is (shape_in table) (names_in table) (shape decls) (names_of decls) begin 0 v count [] i u at
+  alike v count i u at = tables_read_alike decls t table is 0 v count [] i u at
 
   -- a value at the one is one at the other, and so is a refusal
   value_too : (a : Result Reading (Refusal ℕ)) (b : Result Reading (Refusal Ty)) (r : Reading) → ReadAgree Is a b → a ≡ Ok r → b ≡ Ok r

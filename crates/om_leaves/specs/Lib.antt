@@ -2,4 +2,3 @@ pub mod Dumped
 pub mod FrameView
 pub mod Frames
 pub mod Leaves
-pub mod ReadBack

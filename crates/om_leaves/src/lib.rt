@@ -6,7 +6,6 @@ mod bytes;
 mod dump;
 mod escape;
 mod frame;
-pub mod laws;
 mod leaves;
 mod strings;
 

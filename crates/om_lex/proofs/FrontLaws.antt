@@ -40,7 +40,7 @@ module _ (make : List ℕ → Form) (mark : ℕ) (long : (name : List ℕ) → l
       omega (arith, ap (λ f. length (form_bytes f)) is, long name, long (name ++ e ∷ es), length-append name (e ∷ es)) in
       inr (inr (plain (name ++ e ∷ es), sym (ap is_character is) ∙ plain name, longer))
 
-form_at-word : (b : ℕ) (bs : List ℕ) → starts_name b ≡ true → form_at (b ∷ bs) ≡ Some (word_form (take_while is_name_byte (b ∷ bs)))
+pub form_at-word : (b : ℕ) (bs : List ℕ) → starts_name b ≡ true → form_at (b ∷ bs) ≡ Some (word_form (take_while is_name_byte (b ∷ bs)))
 unfolding form_at
 form_at-word b bs first =
     rw (apart starts_name 34 b refl first, apart starts_name 39 b refl first, apart starts_name 96 b refl first, apart starts_name 36 b refl first, apart starts_name 45 b refl first, first) refl
@@ -54,7 +54,7 @@ word-found b bs more other first name is =
       rw run (goes_on word_form 0 (λ w. ap length (form_bytes-word w) ∙ omega arith) is_character-word (b ∷ bs) (take_while is_name_byte more) other is),
     )
 
-word_form-lower : (b : ℕ) (bs : List ℕ) → starts_lower b ≡ true → ((k : Keyword) → b ∷ bs ≢ keyword_text k) → word_form (b ∷ bs) ≡ Lower (b ∷ bs)
+pub word_form-lower : (b : ℕ) (bs : List ℕ) → starts_lower b ≡ true → ((k : Keyword) → b ∷ bs ≢ keyword_text k) → word_form (b ∷ bs) ≡ Lower (b ∷ bs)
 unfolding word_form
 word_form-lower b bs lower free = rw (keyword_of-other (b ∷ bs) free, lower) refl
 
@@ -71,7 +71,7 @@ upper_free b bs upper keywords.And e = let first : b ≡ 97 = cc in false≢true
 upper_free b bs upper keywords.Of e = let first : b ≡ 111 = cc in false≢true (ap is_ascii_uppercase (sym first) ∙ upper)
 upper_free b bs upper keywords.Mutable e = let first : b ≡ 109 = cc in false≢true (ap is_ascii_uppercase (sym first) ∙ upper)
 
-word_form-upper : (b : ℕ) (bs : List ℕ) → is_ascii_uppercase b ≡ true → word_form (b ∷ bs) ≡ Upper (b ∷ bs)
+pub word_form-upper : (b : ℕ) (bs : List ℕ) → is_ascii_uppercase b ≡ true → word_form (b ∷ bs) ≡ Upper (b ∷ bs)
 unfolding word_form
 word_form-upper b bs upper = rw (keyword_of-other (b ∷ bs) (upper_free b bs upper), upper_alone b upper) refl
 
@@ -154,7 +154,7 @@ drop_while-more p (x ∷ xs) ys all =
     rw (both.0, one) (drop_while-more p xs ys both.1)
 
 -- digits, and what goes on with them
-number_form-run : (minus : Bool) (d : ℕ) (ds tail : List ℕ) → list_all is_ascii_digit (d ∷ ds) ≡ true
+pub number_form-run : (minus : Bool) (d : ℕ) (ds tail : List ℕ) → list_all is_ascii_digit (d ∷ ds) ≡ true
     → number_form minus (d ∷ ds ++ tail) ≡ Some (Number minus (d ∷ ds ++ take_while is_ascii_digit tail) (suffix_at (drop (prefix_len is_ascii_digit tail) tail)))
 unfolding number_form
 number_form-run minus d ds tail digits =
@@ -189,7 +189,7 @@ digit_no_name d digit =
     let none = agree_below_at (λ b. is_ascii_digit b && starts_name b) (λ b. false) 58 d refl (omega arith) in
     rw digit at none
 
-form_at-digit : (d : ℕ) (bs : List ℕ) → is_ascii_digit d ≡ true → form_at (d ∷ bs) ≡ number_form false (d ∷ bs)
+pub form_at-digit : (d : ℕ) (bs : List ℕ) → is_ascii_digit d ≡ true → form_at (d ∷ bs) ≡ number_form false (d ∷ bs)
 unfolding form_at
 form_at-digit d bs digit =
     rw (apart is_ascii_digit 34 d refl digit, apart is_ascii_digit 39 d refl digit, apart is_ascii_digit 96 d refl digit, apart is_ascii_digit 36 d refl digit, apart is_ascii_digit 45 d refl digit, digit_no_name d digit, digit) refl

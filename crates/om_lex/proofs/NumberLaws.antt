@@ -14,7 +14,7 @@ use Rattle.om_lex.specs.Scan.{double_form, found_at}
 power-step : (base x n : ℕ) → x * base ^ (n + 1) ≡ base * (x * base ^ n)
 power-step base x n = ap (λ (k : ℕ). x * base ^ k) (add-one n) ∙ ap (λ (k : ℕ). x * k) (pow-succ' base n) ∙ mul_left_comm x base (base ^ n)
 
-number_in-push : (base : ℕ) (xs : List ℕ) (b : ℕ) → number_in base (xs ++ b ∷ []) ≡ base * number_in base xs + value_of_digit b
+pub number_in-push : (base : ℕ) (xs : List ℕ) (b : ℕ) → number_in base (xs ++ b ∷ []) ≡ base * number_in base xs + value_of_digit b
 number_in-push base [] b = let e : value_of_digit b * base ^ 0 ≡ value_of_digit b * 1 = ap (λ (k : ℕ). value_of_digit b * k) (pow-zero base) in omega arith
 number_in-push base (x ∷ xs) b =
     let e = number_in-push base xs b in

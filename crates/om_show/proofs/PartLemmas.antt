@@ -26,7 +26,7 @@ module _ {T : Type 0} (shapes : Shapes T) (InQuestion : T → Type 0) (lawful : 
     one_type = λ o t u among. absurd (Contains-none (o, t) among);
   }
 
-  held_by_some : (v : Val) (t : T) → InQuestion t → HasType shapes graph v t
+  pub held_by_some : (v : Val) (t : T) → InQuestion t → HasType shapes graph v t
       → (pairs : List (ℕ × T)) × IsTyping shapes graph pairs × IsHeld shapes graph pairs v t
   held_by_some (vals.Int z) t in_question has = ([], nothing_is_typing, record { fits = has.fits; listed = tt })
   held_by_some (vals.Atom tag) t in_question has = ([], nothing_is_typing, record { fits = has.fits; listed = tt })

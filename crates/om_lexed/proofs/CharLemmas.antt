@@ -1,4 +1,4 @@
--- What stands for a byte between quotes is one character of the lexer, whose value is the byte.
+-- What stands for a byte between quotes is one character of the lexer, whose value is the byte; so a string is one lexeme.
 use Rattle.std.proofs.Common.{ℕ, ◌+◌, ◌≡◌, ◌≢◌, ◌∙◌, ◌<◌, ◌≤◌, ◌⊎◌, suc, inl, inr, ⊎_elim, true, List, [], ◌∷◌, ◌++◌, refl, sym, ap, subst, arith}
 use Rattle.std.proofs.lemmas.Bool.{cases_order, cases_lt}
 use Rattle.std.proofs.lemmas.Bool.Decides.{nat_tests}
@@ -7,9 +7,10 @@ use Rattle.std.specs.Char.{is_ascii_digit}
 use Rattle.std.specs.List.{flat_map, AllByRecursion}
 use Rattle.om_model.specs.Bytes.{AreBytes}
 use Rattle.om_lex.specs.declared.lexeme.LexemeKind.TheVariants as kinds
-use Rattle.om_lex.specs.Lexeme.{CharForm, Plain, Named, Decimal, char_bytes, char_value, named_char, value_of_digit, IsCharForm, Character, Quoted}
+use Rattle.om_lex.specs.Lexeme.{CharForm, Plain, Named, Decimal, char_bytes, char_value, named_char, value_of_digit, IsCharForm}
 use Rattle.om_leaves.specs.Leaves.{escaped, char_text, string_text}
-use Rattle.om_leaves.specs.ReadBack.{IsRead}
+use Rattle.om_lexed.specs.Lexed.{IsLexed}
+use Rattle.om_lexed.proofs.LexedLemmas.{lexed_at, lexed_quoted, lexed_character}
 
 record IsChar (quote b : ℕ) : Type 0 where
   form : CharForm
@@ -46,10 +47,10 @@ plain quote b low high other slash = record {
   value = refl;
 }
 
-digit_value : (d : ℕ) → d < 10 → value_of_digit (48 + d) ≡ d
+pub digit_value : (d : ℕ) → d < 10 → value_of_digit (48 + d) ≡ d
 digit_value d h = grind (arith, nat_tests)
 
-digit_test : (d : ℕ) → d < 10 → is_ascii_digit (48 + d) ≡ true
+pub digit_test : (d : ℕ) → d < 10 → is_ascii_digit (48 + d) ≡ true
 digit_test d h = grind (arith, nat_tests)
 
 digits : (quote b : ℕ) → b < 256 → (b < 32) ⊎ (126 < b) → b ≢ quote → b ≢ 92 → b ≢ 10 → b ≢ 9 → b ≢ 8 → b ≢ 13 → IsChar quote b
@@ -84,13 +85,10 @@ any_char quote b q low =
     (λ l. ⊎_elim (λ m. digits quote b low (inr m) other slash ten nine eight thirteen)
     (λ m. plain quote b l m other slash) (cases_lt 126 b)) (cases_lt b 32)))))))
 
-pub char_is_read : (b : ℕ) → b < 256 → IsRead (char_text b) (kinds.Character b)
-char_is_read b low = let c = any_char 39 b (inr refl) low in record {
-  form = Character c.form;
-  is = c.is;
-  written = ap (λ bytes. 39 ∷ (bytes ++ 39 ∷ [])) c.bytes;
-  stands = ap kinds.Character c.value;
-}
+pub char_lexed : (May : List ℕ → Type 0) (b : ℕ) → b < 256 → IsLexed May (char_text b) (kinds.Character b ∷ [])
+char_lexed May b low =
+    let c = any_char 39 b (inr refl) low in
+    lexed_at (ap (λ bytes. 39 ∷ (bytes ++ 39 ∷ [])) c.bytes) (ap (λ value. kinds.Character value ∷ []) c.value) (lexed_character c.form c.is May)
 
 -- ---- each row of bytes
 
@@ -112,10 +110,7 @@ all_chars (b ∷ bs) all =
       values = ap (λ x. x ∷ map char_value rest.forms) c.value ∙ ap (λ x. b ∷ x) rest.values;
     }
 
-pub string_is_read : (bytes : List ℕ) → AreBytes bytes → IsRead (string_text bytes) (kinds.Text bytes)
-string_is_read bytes all = let c = all_chars bytes all in record {
-  form = Quoted c.forms;
-  is = c.are;
-  written = ap (λ row. 34 ∷ (row ++ 34 ∷ [])) c.written;
-  stands = ap kinds.Text c.values;
-}
+pub string_lexed : (May : List ℕ → Type 0) (bytes : List ℕ) → AreBytes bytes → IsLexed May (string_text bytes) (kinds.Text bytes ∷ [])
+string_lexed May bytes all =
+    let c = all_chars bytes all in
+    lexed_at (ap (λ row. 34 ∷ (row ++ 34 ∷ [])) c.written) (ap (λ values. kinds.Text values ∷ []) c.values) (lexed_quoted c.forms c.are May)

@@ -1,5 +1,5 @@
 -- A literal is read alike at two types at which literals begin alike.
-use Rattle.std.proofs.Common.{ℕ, suc, ◌+◌, ◌≡◌, List, [], ◌∷◌, ◌++◌, length, Bool, true, false, Option, Some, None, Result, Ok, Err, refl, ap, subst}
+use Rattle.std.proofs.Common.{ℕ, suc, ◌+◌, List, [], ◌∷◌, ◌++◌, length, Bool, true, false, Option, Some, None, Result, Ok, Err, refl, ap, subst}
 use Rattle.std.specs.Prelude.{slice_get, if◌then◌else◌}
 use Rattle.om_model.specs.declared.value.Val.{Val}
 use Rattle.om_model.specs.declared.value.Val.TheVariants as vals
@@ -12,7 +12,8 @@ use Rattle.om_types.specs.declared.shape.ShapeOf.{ShapeOf}
 use Rattle.om_grammar.specs.Grammar.{mark}
 use Rattle.om_literal_grammar.specs.Literal.{Literal, labelled, again, Plain, applied, fields, tuple, array, Parts, no_parts, more_parts, Rows, no_rows, more_rows, label_kinds, head_kinds, owner_kinds, row_start, literal_kinds, parts_kinds, rows_kinds}
 use Rattle.om_literal.specs.Starts.{Start, misfit, out_of_range, small, whole, block, start_at}
-use Rattle.om_literal.specs.Reading.{Reading, Refusal, misfit_at, int_range_at, label_at, reading, is_next, with_label, again_read, small_read, added, and_next, block_read, begun, literal_read, inside, parts_read, rows_read}
+use Rattle.om_literal_alike.specs.Alike.{ReadAgree}
+use Rattle.om_literal.specs.Reading.{Reading, Refusal, label_at, reading, is_next, with_label, again_read, small_read, added, and_next, block_read, begun, literal_read, inside, parts_read, rows_read}
 
 module _ {T U : Type 0} (Of : T → U → Type 0) where
   pub data StartsAgree : Start T → Start U → Type 0 where
@@ -23,26 +24,15 @@ module _ {T U : Type 0} (Of : T → U → Type 0) where
     same_block : (tag : ℕ) (front : List Val) (types : ℕ → T) (others : ℕ → U) → ((i : ℕ) → Of (types i) (others i))
         → StartsAgree (block tag front types) (block tag front others)
 
-  abbrev pub RefusalsAgree : Refusal T → Refusal U → Type 0
-  RefusalsAgree (misfit_at k t) (misfit_at j u) = (k ≡ j) × Of t u
-  RefusalsAgree (int_range_at k) (int_range_at j) = k ≡ j
-  RefusalsAgree (label_at k) (label_at j) = k ≡ j
-  RefusalsAgree one other = ⊥
-
-  abbrev pub ReadAgree : Result Reading (Refusal T) → Result Reading (Refusal U) → Type 0
-  ReadAgree (Ok r) (Ok s) = r ≡ s
-  ReadAgree (Err r) (Err s) = RefusalsAgree r s
-  ReadAgree one other = ⊥
-
-  again_agree : (k : ℕ) (labels : List ℕ) (o : Option ℕ) → ReadAgree (again_read k labels o) (again_read k labels o)
+  again_agree : (k : ℕ) (labels : List ℕ) (o : Option ℕ) → ReadAgree Of (again_read k labels o) (again_read k labels o)
   again_agree k labels None = refl
   again_agree k labels (Some o) = refl
 
-  small_agree : (k : ℕ) (labels : List ℕ) (v : Val) (l : Option ℕ) → ReadAgree (small_read k labels v l) (small_read k labels v l)
+  small_agree : (k : ℕ) (labels : List ℕ) (v : Val) (l : Option ℕ) → ReadAgree Of (small_read k labels v l) (small_read k labels v l)
   small_agree k labels v None = refl
   small_agree k labels v (Some n) = refl
 
-  added_agree : (one : Reading) (a : Result Reading (Refusal T)) (b : Result Reading (Refusal U)) → ReadAgree a b → ReadAgree (added one a) (added one b)
+  added_agree : (one : Reading) (a : Result Reading (Refusal T)) (b : Result Reading (Refusal U)) → ReadAgree Of a b → ReadAgree Of (added one a) (added one b)
   added_agree one (Ok r) (Ok s) same = ap (λ (r : Reading). reading (one.values ++ r.values) (one.objects ++ r.objects) r.labels) same
   added_agree one (Err r) (Err s) same = same
   added_agree one (Ok r) (Err s) same = absurd same
@@ -52,21 +42,21 @@ module _ {T U : Type 0} (Of : T → U → Type 0) where
   AllOf types others = (i : ℕ) → Of (types i) (others i)
 
   abbrev NextAgree : (ℕ → List ℕ → T → Result Reading (Refusal T)) → (ℕ → List ℕ → U → Result Reading (Refusal U)) → Type 0
-  NextAgree next other = (c : ℕ) (labels : List ℕ) (t : T) (u : U) → Of t u → ReadAgree (next c labels t) (other c labels u)
+  NextAgree next other = (c : ℕ) (labels : List ℕ) (t : T) (u : U) → Of t u → ReadAgree Of (next c labels t) (other c labels u)
 
-  next_agree : (c : ℕ) (types : ℕ → T) (others : ℕ → U) → AllOf types others → (a : Result Reading (Refusal T)) (b : Result Reading (Refusal U)) → ReadAgree a b
+  next_agree : (c : ℕ) (types : ℕ → T) (others : ℕ → U) → AllOf types others → (a : Result Reading (Refusal T)) (b : Result Reading (Refusal U)) → ReadAgree Of a b
       → (next : ℕ → List ℕ → T → Result Reading (Refusal T)) (other : ℕ → List ℕ → U → Result Reading (Refusal U)) → NextAgree next other
-      → ReadAgree (and_next c types a next) (and_next c others b other)
+      → ReadAgree Of (and_next c types a next) (and_next c others b other)
   next_agree c types others all (Ok r) (Ok s) same next other alike =
-      subst (λ (s : Reading). ReadAgree (and_next c types (Ok r) next) (and_next c others (Ok s) other)) same
+      subst (λ (s : Reading). ReadAgree Of (and_next c types (Ok r) next) (and_next c others (Ok s) other)) same
       (added_agree r (next (c + length r.objects) r.labels (types (length r.values))) (other (c + length r.objects) r.labels (others (length r.values)))
       (alike (c + length r.objects) r.labels (types (length r.values)) (others (length r.values)) (all (length r.values))))
   next_agree c types others all (Err r) (Err s) same next other alike = same
   next_agree c types others all (Ok r) (Err s) same next other alike = absurd same
   next_agree c types others all (Err r) (Ok s) same next other alike = absurd same
 
-  block_agree : (c tag : ℕ) (front : List Val) (a : Result Reading (Refusal T)) (b : Result Reading (Refusal U)) → ReadAgree a b
-      → ReadAgree (block_read c tag front a) (block_read c tag front b)
+  block_agree : (c tag : ℕ) (front : List Val) (a : Result Reading (Refusal T)) (b : Result Reading (Refusal U)) → ReadAgree Of a b
+      → ReadAgree Of (block_read c tag front a) (block_read c tag front b)
   block_agree c tag front (Ok r) (Ok s) same =
       ap (λ (parts : Reading). reading (vals.Ref c ∷ []) (objects.Block tag (front ++ parts.values) ∷ parts.objects) parts.labels) same
   block_agree c tag front (Err r) (Err s) same = same
@@ -74,11 +64,11 @@ module _ {T U : Type 0} (Of : T → U → Type 0) where
   block_agree c tag front (Err r) (Ok s) same = absurd same
 
   abbrev InsideAgree : (List ℕ → (ℕ → T) → Result Reading (Refusal T)) → (List ℕ → (ℕ → U) → Result Reading (Refusal U)) → Type 0
-  InsideAgree one other = (labels : List ℕ) (types : ℕ → T) (others : ℕ → U) → AllOf types others → ReadAgree (one labels types) (other labels others)
+  InsideAgree one other = (labels : List ℕ) (types : ℕ → T) (others : ℕ → U) → AllOf types others → ReadAgree Of (one labels types) (other labels others)
 
   begun_agree : (k p c : ℕ) (labels : List ℕ) (l : Option ℕ) (t : T) (u : U) → Of t u
       → (one : List ℕ → (ℕ → T) → Result Reading (Refusal T)) (other : List ℕ → (ℕ → U) → Result Reading (Refusal U)) → InsideAgree one other
-      → {s : Start T} {r : Start U} → StartsAgree s r → ReadAgree (begun k p c labels l t one s) (begun k p c labels l u other r)
+      → {s : Start T} {r : Start U} → StartsAgree s r → ReadAgree Of (begun k p c labels l t one s) (begun k p c labels l u other r)
   begun_agree k p c labels l t u of one other alike same_misfit = (refl, of)
   begun_agree k p c labels l t u of one other alike same_range = refl
   begun_agree k p c labels l t u of one other alike (same_small v) = small_agree k labels v l
@@ -86,8 +76,8 @@ module _ {T U : Type 0} (Of : T → U → Type 0) where
   begun_agree k p c labels l t u of one other alike (same_block tag front types others all) =
       block_agree c tag front (one (with_label labels l c) types) (other (with_label labels l c) others) (alike (with_label labels l c) types others all)
 
-  if_agree : (test : Bool) (k : ℕ) (a : Result Reading (Refusal T)) (b : Result Reading (Refusal U)) → ReadAgree a b
-      → ReadAgree (if test then a else Err (label_at k)) (if test then b else Err (label_at k))
+  if_agree : (test : Bool) (k : ℕ) (a : Result Reading (Refusal T)) (b : Result Reading (Refusal U)) → ReadAgree Of a b
+      → ReadAgree Of (if test then a else Err (label_at k)) (if test then b else Err (label_at k))
   if_agree true k a b same = same
   if_agree false k a b same = refl
 
@@ -95,7 +85,7 @@ module _ {T U : Type 0} (Of : T → U → Type 0) where
       (begin : (t : T) (u : U) → Of t u → (p : Plain) → StartsAgree (start_at t (shape t) (names t) p) (start_at u (shape' u) (names' u) p)) where
     mutual
       pub read_agree : (k : ℕ) (v : Literal) (c : ℕ) (labels : List ℕ) (t : T) (u : U) → Of t u
-          → ReadAgree (literal_read shape names k v c labels t) (literal_read shape' names' k v c labels u)
+          → ReadAgree Of (literal_read shape names k v c labels t) (literal_read shape' names' k v c labels u)
       read_agree k (again n) c labels t u of = again_agree k labels (slice_get labels n)
       read_agree k (labelled l p) c labels t u of =
           let first = k + length (label_kinds l) in
@@ -106,7 +96,7 @@ module _ {T U : Type 0} (Of : T → U → Type 0) where
           (λ ls types others all. inside_agree first p (suc c) ls types others all) (begin t u of p))
 
       inside_agree : (k : ℕ) (p : Plain) (c : ℕ) (labels : List ℕ) (types : ℕ → T) (others : ℕ → U) → AllOf types others
-          → ReadAgree (inside shape names k p c labels types) (inside shape' names' k p c labels others)
+          → ReadAgree Of (inside shape names k p c labels types) (inside shape' names' k p c labels others)
       inside_agree k (applied h ps v) c labels types others all =
           let first = k + length (head_kinds h ++ mark symbols.OpenParen) in
           let last = k + length (head_kinds h ++ mark symbols.OpenParen ++ parts_kinds symbols.Comma ps) in
@@ -141,7 +131,7 @@ module _ {T U : Type 0} (Of : T → U → Type 0) where
       inside_agree k p c labels types others all = refl
 
       parts_agree : (separator : Symbol) (k : ℕ) (ps : Parts) (c : ℕ) (labels : List ℕ) (types : ℕ → T) (others : ℕ → U) → AllOf types others
-          → ReadAgree (parts_read shape names separator k ps c labels types) (parts_read shape' names' separator k ps c labels others)
+          → ReadAgree Of (parts_read shape names separator k ps c labels types) (parts_read shape' names' separator k ps c labels others)
       parts_agree separator k no_parts c labels types others all = refl
       parts_agree separator k (more_parts ps v) c labels types others all =
           let last = k + length (parts_kinds separator ps) in
@@ -151,7 +141,7 @@ module _ {T U : Type 0} (Of : T → U → Type 0) where
           (literal_read shape names last v) (literal_read shape' names' last v) (λ d ls t u of. read_agree last v d ls t u of)
 
       rows_agree : (k : ℕ) (rs : Rows) (c : ℕ) (labels : List ℕ) (types : ℕ → T) (others : ℕ → U) → AllOf types others
-          → ReadAgree (rows_read shape names k rs c labels types) (rows_read shape' names' k rs c labels others)
+          → ReadAgree Of (rows_read shape names k rs c labels types) (rows_read shape' names' k rs c labels others)
       rows_agree k no_rows c labels types others all = refl
       rows_agree k (more_rows rs x v) c labels types others all =
           let last = k + length (rows_kinds rs ++ row_start x) in

@@ -1,0 +1,5 @@
+pub mod TakenLemmas
+pub mod LexedLemmas
+pub mod CharLemmas
+pub mod NumberLemmas
+pub mod LineLemmas

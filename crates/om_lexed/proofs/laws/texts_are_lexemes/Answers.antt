@@ -1,0 +1,12 @@
+use Rattle.om_lexed.specs.Lexed.{Anything}
+use Rattle.om_lexed.proofs.CharLemmas.{char_lexed, string_lexed}
+use Rattle.om_lexed.proofs.NumberLemmas.{lexed_bits, lexed_integer}
+use Rattle.om_lexed.proofs.laws.texts_are_lexemes.Goals as goal
+
+pub returns : goal.returns
+returns c = record {
+  strings = λ bytes are. string_lexed Anything bytes are;
+  characters = λ b low. char_lexed Anything b low;
+  doubles = λ bits low. lexed_bits bits low Anything;
+  integers = λ z s range. lexed_integer z s range;
+}

@@ -1,0 +1,3 @@
+pub mod Lexed
+pub mod Numbers
+pub mod Laws

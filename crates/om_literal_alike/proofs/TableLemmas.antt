@@ -1,0 +1,65 @@
+-- A literal is read alike at a number of a table and at the type of this number.
+use Rattle.std.proofs.Common.{ℕ, ◌≡◌, ◌∙◌, List, Option, Some, ap, sym, subst}
+use Rattle.std.specs.Prelude.{slice_get, option_map, unwrap_or}
+use Rattle.om_types.specs.declared.decl.Decl.{Decl}
+use Rattle.om_types.specs.declared.names.Names.{Names}
+use Rattle.om_types.specs.declared.shape.ShapeOf.{ShapeOf}
+use Rattle.om_types.specs.Names.{no_names, names_of}
+use Rattle.om_types.specs.Shape.{shape}
+use Rattle.om_types.specs.Table.{with_parts, node_or_none}
+use Rattle.om_types.specs.Ty.{Ty}
+use Rattle.om_equal.proofs.TableLemmas.{slice_get-mapped, mapped_some}
+use Rattle.om_type_table.specs.declared.table.TypeTable.{TypeTable}
+use Rattle.om_type_table.specs.Made.{types_of, IsTypeTable}
+use Rattle.om_literal_grammar.specs.Literal.{Plain}
+use Rattle.om_literal.specs.Answers.{shape_in, names_in}
+use Rattle.om_literal.specs.Starts.{Start, start_at}
+use Rattle.om_literal_alike.specs.Alike.{TablesReadAlike}
+use Rattle.om_literal_alike.proofs.StartLemmas.{Mapped, to_misfit, to_range, to_small, to_whole, to_block, start_mapped}
+use Rattle.om_literal_alike.proofs.ReadingLemmas.{StartsAgree, same_misfit, same_range, same_small, same_whole, same_block, read_agree}
+
+module _ (decls : List Decl) (t : Ty) (table : TypeTable) (is : IsTypeTable decls t table) where
+  abbrev Is : ℕ → Ty → Type 0
+  Is i u = slice_get (types_of table) i ≡ Some u
+
+  abbrev type_if : ℕ → Option Ty
+  type_if i = slice_get (types_of table) i
+
+  -- the shape at a number is the type's, but for numbers in the place of types
+  shape_is : (i : ℕ) (u : Ty) → Is i u → with_parts type_if (shape_in table i) ≡ with_parts Some (shape decls u)
+  shape_is i u at =
+      let found = mapped_some (with_parts type_if) (slice_get table.nodes i) (with_parts Some (shape decls u))
+      (sym (slice_get-mapped (with_parts type_if) table.nodes i)
+      ∙ ap (λ all. slice_get all i) is.made.nodes
+      ∙ slice_get-mapped (λ u. with_parts Some (shape decls u)) (types_of table) i
+      ∙ ap (option_map (λ u. with_parts Some (shape decls u))) at) in
+      ap (λ node. with_parts type_if (node_or_none node)) found.1 ∙ found.2
+
+  names_are : (i : ℕ) (u : Ty) → Is i u → names_in table i ≡ names_of decls u
+  names_are i u at =
+      ap (λ all. unwrap_or (slice_get all i) no_names) is.named
+      ∙ ap (λ found. unwrap_or found no_names) (slice_get-mapped (names_of decls) (types_of table) i)
+      ∙ ap (λ found. unwrap_or (option_map (names_of decls) found) no_names) at
+
+  begin_by : {a : Start ℕ} {b : Start Ty} {c : Start (Option Ty)} → Mapped type_if a c → Mapped Some b c → StartsAgree Is a b
+  begin_by to_misfit to_misfit = same_misfit
+  begin_by to_range to_range = same_range
+  begin_by (to_small v) (to_small w) = same_small v
+  begin_by (to_whole object) (to_whole other) = same_whole object
+  begin_by (to_block tag front types others all) (to_block tag' front' types' others' all') =
+      same_block tag front types types' (λ i. all i ∙ sym (all' i))
+
+  begin : (i : ℕ) (u : Ty) → Is i u → (p : Plain)
+      → StartsAgree Is (start_at i (shape_in table i) (names_in table i) p) (start_at u (shape decls u) (names_of decls u) p)
+  begin i u at p =
+      begin_by
+      (subst (λ (names : Names). Mapped type_if (start_at i (shape_in table i) (names_in table i) p) (start_at (Some u) (with_parts Some (shape decls u)) names p)) (names_are i u at)
+      (subst (λ (s : ShapeOf (Option Ty)). Mapped type_if (start_at i (shape_in table i) (names_in table i) p) (start_at (Some u) s (names_in table i) p)) (shape_is i u at)
+      (subst (λ (o : Option Ty). Mapped type_if (start_at i (shape_in table i) (names_in table i) p) (start_at o (with_parts type_if (shape_in table i)) (names_in table i) p)) at
+      (start_mapped type_if i (shape_in table i) (names_in table i) p))))
+      (start_mapped Some u (shape decls u) (names_of decls u) p)
+
+pub tables_read_alike : TablesReadAlike
+tables_read_alike decls t table is k v count labels i u at =
+    read_agree (λ i u. slice_get (types_of table) i ≡ Some u) (shape_in table) (names_in table) (shape decls) (names_of decls)
+    (begin decls t table is) k v count labels i u at
