@@ -90,7 +90,7 @@ module _ {T : Type 0} (pairs : List (ℕ × ℕ)) where
       ap (λ fields. if tag == 0 then fields else None) (alike_tag_fields tags values others all)
   alike_block_fields shape tag values others all = refl
 
-  alike_object_fields :
+  pub alike_object_fields :
       (shape : ShapeOf T) (a b : Obj) → AreAlikeObjects pairs a b → object_fields shape a ≡ object_fields shape b
   alike_object_fields shape (objects.Block tag values) (objects.Block tag' values') alike =
       ap (λ n. block_fields shape n values) alike.0 ∙ alike_block_fields shape tag' values values' alike.1

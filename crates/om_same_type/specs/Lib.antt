@@ -1,1 +1,2 @@
 pub mod SameType
+pub mod SameText

@@ -1,5 +1,6 @@
 //! The laws, as contracts.
 
+ghost use Rattle.om_same_type.specs.SameText.{DeclaredTextsAreKept, TableTextsAreKept};
 ghost use Rattle.om_same_type.specs.SameType.{DeclaredTypesAreKept, TableTypesAreKept, DeclaredFaultsAreKept, TableFaultsAreKept};
 
 /// A value that is the same as one that has a type has it too.
@@ -12,4 +13,10 @@ pub fn the_same_has_the_same_types()
 pub fn the_same_has_the_same_fault()
     ensures declared { DeclaredFaultsAreKept }
     ensures table { TableFaultsAreKept }
+{}
+
+/// Values that are the same have one text at a type.
+pub fn the_same_has_the_same_text()
+    ensures declared { DeclaredTextsAreKept }
+    ensures table { TableTextsAreKept }
 {}
