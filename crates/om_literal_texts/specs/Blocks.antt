@@ -1,0 +1,51 @@
+-- A text that is a block's: a plain literal whose parts are literals, each read as a tree.
+use Rattle.std.specs.Prelude.{ℕ, ℤ, ◌+◌, ◌≡◌, ◌⊎◌, List, [], ◌∷◌, ◌++◌, length, Ok, Some}
+use Rattle.om_model.specs.declared.value.Val.{Val}
+use Rattle.om_model.specs.declared.value.Val.TheVariants as vals
+use Rattle.om_types.specs.declared.names.Names.{Names}
+use Rattle.om_types.specs.declared.shape.ShapeOf.{ShapeOf}
+use Rattle.om_types.specs.Fitting.{numbered_from, block_fields}
+use Rattle.om_format.specs.Tree.{Forest, AreTrees, roots, all_made, all_objects}
+use Rattle.om_literal_grammar.specs.Literal.{Literal, Plain, plain_kinds}
+use Rattle.om_leaves.specs.Frames.{Frame, frame_of, row_from}
+use Rattle.om_literal.specs.Reading.{reading, inside}
+use Rattle.om_literal.specs.Starts.{block, start_at}
+use Rattle.om_lexed.specs.Lexed.{Ends, IsLexed, Begins}
+use Rattle.om_literal_texts.specs.Forests.{TypesAre, ReadForest}
+use Rattle.om_literal_texts.specs.Listing.{AreTexts}
+use Rattle.om_literal_texts.specs.Numbered.{before}
+
+module _ {T : Type 0} (shape : T → ShapeOf T) (names : T → Names) (labels : List ℕ) where
+  -- the whole text is a plain literal that starts this block, and inside it the parts are read
+  pub record IsRow (s : ShapeOf T) (nm : Names) (t : T) (tag : ℕ) (skip : List Val) (ts : List T)
+      (text : List ℕ) (literals : List Literal) : Type 0 where
+    pub plain : Plain
+    pub lexed : IsLexed Ends text (plain_kinds plain)
+    pub begins : Begins text
+    pub types : ℕ → T
+    pub types_are : TypesAre types 0 ts
+    pub starts : start_at t s nm plain ≡ block tag skip types
+    pub inside_is : (fs : Forest) (c : ℕ) → AreTrees fs
+        → ReadForest shape names labels types 0 fs c literals
+        → (k : ℕ) → inside shape names k plain c (before c labels) types
+        ≡ Ok (reading (roots fs c) (all_objects fs c) (before (c + all_made fs) labels))
+
+module _ {T : Type 0} (shape : T → ShapeOf T) (names : T → Names) (t : T) where
+  -- whatever the texts of the parts are, and the literals that they are
+  abbrev pub ReadsRow : ShapeOf T → Names → ℕ → List Val → List T → Frame → Type 0
+  ReadsRow s nm tag skip ts frame =
+      (labels : List ℕ) (texts : List (List ℕ)) (literals : List Literal)
+      → AreTexts texts literals → length literals ≡ length ts
+      → IsRow shape names labels s nm t tag skip ts
+      (frame.opening ++ (row_from frame 0 texts ++ frame.closing)) literals
+
+  -- a block's values at a type: those that the frame shows, if any, and those that are parts, with types
+  pub record IsBlockAt (s : ShapeOf T) (nm : Names) (tag : ℕ) (values : List Val) : Type 0 where
+    pub skip : List Val
+    pub rest : List Val
+    pub values_are : values ≡ skip ++ rest
+    pub skips : (skip ≡ []) ⊎ ((z : ℤ) × (skip ≡ vals.Int z ∷ []))
+    pub ts : List T
+    pub needs : block_fields s tag values ≡ Some (numbered_from (length skip) ts)
+    pub many : length ts ≡ length rest
+    pub row : ReadsRow s nm tag skip ts (frame_of s nm tag values)

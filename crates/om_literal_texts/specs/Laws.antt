@@ -1,0 +1,31 @@
+-- The text of each value at a type is a literal that begins as the value.
+use Rattle.std.specs.Prelude.{ℕ, ℤ, ◌<◌, ◌≤◌, IsTrue, IsSome, List, length, codes}
+use Rattle.om_model.specs.Graph.{IsInteger}
+use Rattle.om_model.specs.declared.value.Val.{Val}
+use Rattle.om_model.specs.declared.value.Val.TheVariants as vals
+use Rattle.om_model.specs.declared.value.Obj.{Obj}
+use Rattle.om_types.specs.declared.names.Names.{Names}
+use Rattle.om_types.specs.declared.shape.ShapeOf.{ShapeOf}
+use Rattle.om_types.specs.Fitting.{fits_int, fits_atom, object_fields, block_fields}
+use Rattle.om_format.specs.Token.{IsLeaf}
+use Rattle.om_leaves.specs.Frames.{int_text, object_text, tag_of_values}
+use Rattle.om_literal.specs.Starts.{small, whole}
+use Rattle.om_show.specs.Named.{HasIntName, HasObjectNames, HasBlockNames}
+use Rattle.om_literal_texts.specs.Blocks.{IsBlockAt}
+use Rattle.om_literal_texts.specs.Plain.{IsPlain}
+use Rattle.om_literal_texts.specs.Readable.{IsReadable}
+
+-- where what fits a type has its names there, and these are read back
+pub record ValuesAreLiterals {T : Type 0} (shape : T → ShapeOf T) (names : T → Names) : Type 0 where
+  pub integers : (t : T) (z : ℤ) → IsReadable (shape t) (names t) → IsInteger z
+      → IsTrue (fits_int (shape t) z) → HasIntName (shape t) (names t) z
+      → IsPlain t (shape t) (names t) (int_text (shape t) (names t) z) (small (vals.Int z))
+  pub atoms : (t : T) (tag : ℕ) → IsTrue (fits_atom (shape t) tag)
+      → IsPlain t (shape t) (names t) (codes "[||]") (small (vals.Atom tag))
+  pub objects : (t : T) (object : Obj) → IsReadable (shape t) (names t) → IsLeaf object
+      → IsSome (object_fields (shape t) object) → HasObjectNames (shape t) (names t) object
+      → IsPlain t (shape t) (names t) (object_text (shape t) (names t) object) (whole object)
+  pub blocks : (t : T) (tag : ℕ) (values : List Val) → IsReadable (shape t) (names t)
+      → tag ≤ 243 → 0 < length values → IsInteger (tag_of_values values)
+      → IsSome (block_fields (shape t) tag values) → HasBlockNames (shape t) (names t) tag values
+      → IsBlockAt shape names t (shape t) (names t) tag values

@@ -1,0 +1,27 @@
+-- Literals one after another, as the grammar groups them: the last one stands alone.
+use Rattle.std.specs.Prelude.{ℕ, List, [], ◌∷◌}
+use Rattle.om_grammar.specs.Grammar.{Name}
+use Rattle.om_literal_grammar.specs.Literal.{Literal, Parts, more_parts, Rows, more_rows, literal_kinds}
+use Rattle.om_lexed.specs.Lexed.{Ends, IsLexed, Begins}
+
+-- these after those, of which v is the last one
+abbrev pub listing : Parts → Literal → List Literal → Parts × Literal
+listing ps v [] = (ps, v)
+listing ps v (w ∷ ws) = listing (more_parts ps v) w ws
+
+-- the same with a name for each
+abbrev pub rowing : Rows → Name → Literal → List Name → List Literal → Rows × Name × Literal
+rowing rs x v [] ws = (rs, x, v)
+rowing rs x v (y ∷ ys) [] = (rs, x, v)
+rowing rs x v (y ∷ ys) (w ∷ ws) = rowing (more_rows rs x v) y w ys ws
+
+-- the text is that of a literal
+pub record IsText (text : List ℕ) (v : Literal) : Type 0 where
+  pub lexed : IsLexed Ends text (literal_kinds v)
+  pub begins : Begins text
+
+abbrev pub AreTexts : List (List ℕ) → List Literal → Type 0
+AreTexts [] [] = Unit {0}
+AreTexts [] (v ∷ vs) = ⊥
+AreTexts (text ∷ texts) [] = ⊥
+AreTexts (text ∷ texts) (v ∷ vs) = IsText text v × AreTexts texts vs

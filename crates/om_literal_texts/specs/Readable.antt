@@ -1,0 +1,68 @@
+-- What the names of a type must be like so that a text by them is read back: each is a lexeme, and stands
+-- for one thing.
+use Rattle.std.specs.Prelude.{ℕ, ℤ, ◌≡◌, ◌≤◌, ◌⊎◌, List, [], length, slice_get, find, Some, Contains}
+use Rattle.std.specs.List.{position, AllByRecursion}
+use Rattle.std.specs.Str.{bytes_eq}
+use Rattle.om_lex.specs.Lexeme.{Lower, Tag, IsForm}
+use Rattle.om_types.specs.declared.names.ConstrNames.{ConstrNames}
+use Rattle.om_types.specs.declared.names.TagName.{TagName}
+use Rattle.om_types.specs.declared.names.Names.{Names}
+use Rattle.om_types.specs.declared.shape.PolyTag.{PolyTag}
+use Rattle.om_types.specs.declared.shape.ShapeOf.{ShapeOf}
+use Rattle.om_types.specs.declared.shape.ShapeOf.TheVariants as shapes
+use Rattle.om_types.specs.Fitting.{tag_with}
+use Rattle.om_literal_grammar.specs.Literal.{Head, tag_head, head_kinds}
+use Rattle.om_leaves.specs.Frames.{is_hash}
+use Rattle.om_types.specs.declared.decl.Decl.{Decl}
+use Rattle.om_types.specs.Names.{names_of}
+use Rattle.om_types.specs.Shape.{shape}
+use Rattle.om_types.specs.Ty.{Ty}
+use Rattle.om_lexed.specs.Lexed.{Ends, IsLexed, Begins}
+use Rattle.om_literal.specs.Starts.{constructor_name, is_constr, tag_named}
+
+-- the name is written as a head of a literal is
+pub record IsHead (name : List ℕ) : Type 0 where
+  pub head : Head
+  pub lexed : IsLexed Ends name (head_kinds head)
+  pub named : constructor_name head ≡ Some name
+  pub begins : Begins name
+
+abbrev pub AreFieldNames : List (List ℕ) → Type 0
+AreFieldNames fields = AllByRecursion (λ field. IsForm (Lower field)) fields
+
+pub record IsConstantName (names : Names) (i : ℕ) (name : List ℕ) : Type 0 where
+  pub is_head : IsHead name
+  pub one : position (bytes_eq name) names.constants ≡ Some i
+
+pub record IsConstructorName (names : Names) (tag : ℕ) (constr : ConstrNames) : Type 0 where
+  pub is_head : IsHead constr.name
+  pub fields : AreFieldNames constr.fields
+  pub one : position (is_constr constr.name constr.fields) names.constructors ≡ Some tag
+
+pub record AreSumNames (names : Names) : Type 0 where
+  pub constant : (i : ℕ) (name : List ℕ) → slice_get names.constants i ≡ Some name
+      → IsConstantName names i name
+  pub constructor : (tag : ℕ) (constr : ConstrNames)
+      → slice_get names.constructors tag ≡ Some constr
+      → IsConstructorName names tag constr
+
+module _ {T : Type 0} where
+  pub record IsTagName (tags : List (PolyTag T)) (names : Names) (z : ℤ) (tag : TagName) :
+      Type 0 where
+    pub lexed : IsForm (Tag tag.name)
+    pub one : tag_named tags names (tag_head tag.name) ≡ tag_with tags z
+
+  abbrev pub IsReadable : ShapeOf T → Names → Type 0
+  IsReadable (shapes.Below many) names = (many ≡ 1) ⊎ ((many ≡ 2) ⊎ (many ≡ 256))
+  IsReadable (shapes.Sum constants blocks) names = AreSumNames names
+  IsReadable (shapes.Product mutable ts) names =
+      AreFieldNames names.fields × (names.fields ≡ [] → 2 ≤ length ts)
+  IsReadable (shapes.FlatFloats mutable n) names = AreFieldNames names.fields
+  IsReadable (shapes.Poly tags) names =
+      (z : ℤ) (tag : TagName) → find (is_hash z) names.tags ≡ Some tag → IsTagName tags names z tag
+  IsReadable shape names = Unit {0}
+
+-- so it is at each of these types
+abbrev pub AreReadable : List Decl → List Ty → Type 0
+AreReadable decls types =
+    (u : Ty) → Contains types u → IsReadable (shape decls u) (names_of decls u)
