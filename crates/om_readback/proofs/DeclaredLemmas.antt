@@ -1,0 +1,62 @@
+-- A value at a declared type, and its parts, can be shown.
+use Rattle.std.proofs.Common.{ℕ, ◌≡◌, List, [], ◌∷◌, Some, refl}
+use Rattle.std.specs.Prelude.{Contains}
+use Rattle.om_model.specs.declared.value.Val.{Val}
+use Rattle.om_model.specs.declared.value.Val.TheVariants as vals
+use Rattle.om_model.specs.declared.value.Obj.{Obj}
+use Rattle.om_types.specs.declared.decl.Decl.{Decl}
+use Rattle.om_types.specs.Accepted.{AreWellFormed, IsSoundType}
+use Rattle.om_types.specs.Lawful.{AreLawful}
+use Rattle.om_types.specs.Typing.{IsHeld, IsTyping}
+use Rattle.om_types.specs.Fault.{field_of, type_of_field, value_at}
+use Rattle.om_types.proofs.FaultLemmas.{place_is_held}
+use Rattle.om_types.specs.Equal.{declared_shapes}
+use Rattle.om_types.specs.Names.{names_of}
+use Rattle.om_types.specs.Reached.{IsReached}
+use Rattle.om_types.specs.Shape.{shape}
+use Rattle.om_types.specs.Ty.{Ty}
+use Rattle.om_format.specs.Tree.{root, objects_of}
+use Rattle.om_equal.proofs.LawfulLemmas.{reached_lawful}
+use Rattle.om_equal.proofs.ReachedLemmas.{root_listed}
+use Rattle.om_equal.proofs.SoundLemmas.{known_by_hash}
+use Rattle.om_show.proofs.NamedLemmas.{has_its_names}
+use Rattle.om_show.proofs.PartLemmas.{held_by_some}
+use Rattle.om_literal_texts.specs.Readable.{AreReadable}
+use Rattle.om_readback.specs.Back.{AreShowable}
+use Rattle.om_readback.specs.Laws.{TextsAreReadBack}
+use Rattle.om_readback.proofs.WholeReadLemmas.{shown_back}
+
+module _ (decls : List Decl) (t : Ty) (types : List Ty) (well : AreWellFormed decls) (sound : IsSoundType decls t) (reached : IsReached decls t types) (readable : AreReadable decls types) (graph : List Obj) where
+  abbrev Among : Ty → Type 0
+  Among u = Contains types u
+
+  lawful : AreLawful (declared_shapes decls) (λ u. Contains types u)
+  lawful = reached_lawful decls well.sound t types reached (known_by_hash decls well t sound types reached)
+
+  module _ (pairs : List (ℕ × Ty)) (typing : IsTyping (declared_shapes decls) graph pairs) where
+    -- the value is held at one of the types
+    abbrev Holds : Val → Ty → Type 0
+    Holds v u = Contains types u × IsHeld (declared_shapes decls) graph pairs v u
+
+    part_holds : (v : Val) (u : Ty) (i : ℕ) (a : Ty) (w : Val) → Holds v u → type_of_field ((declared_shapes decls).needs graph v u) i ≡ Some a → field_of graph v i ≡ Some w → Holds w a
+    part_holds (vals.Int z) u i a w holds need field = absurd cc
+    part_holds (vals.Atom tag) u i a w holds need field = absurd cc
+    part_holds (vals.Ref o) u i a w holds need field =
+        let leads : value_at (declared_shapes decls) graph (vals.Ref o) u (i ∷ []) ≡ Some (w, a) = rw (field, need) refl in
+        place_is_held (declared_shapes decls) Among lawful graph pairs typing (i ∷ []) (vals.Ref o) u w a holds.0 holds.1 leads
+
+    are_showable : AreShowable (shape decls) (names_of decls) graph Holds
+    are_showable = record {
+      fits = λ v u holds. holds.1.fits;
+      named = λ v u holds. has_its_names decls graph v u holds.1.fits;
+      readable = λ v u holds. readable u holds.0;
+      parts = part_holds;
+    }
+
+pub texts_are_read_back : TextsAreReadBack
+texts_are_read_back decls t types well sound reached readable tree is back few has =
+    let graph = objects_of tree 0 in
+    let among = root_listed decls t types reached in
+    let held = held_by_some (declared_shapes decls) (λ u. Contains types u) (lawful decls t types well sound reached readable graph) graph (root tree 0) t among has in
+    shown_back (shape decls) (names_of decls) tree t (Holds decls t types well sound reached readable graph held.0 held.1)
+    (are_showable decls t types well sound reached readable graph held.0 held.1) is back few (among, held.2)

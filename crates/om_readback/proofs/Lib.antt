@@ -1,0 +1,5 @@
+pub mod LabelLemmas
+pub mod LabelReadLemmas
+pub mod TreeReadLemmas
+pub mod WholeReadLemmas
+pub mod DeclaredLemmas

@@ -1,0 +1,211 @@
+-- The text of a tree is read back: its value, its objects by their numbers, and its labels.
+use Rattle.std.proofs.Common.{◌≡◌, ℕ, zero, suc, ◌+◌, ◌<◌, ◌≤◌, true, ◌||◌, cond, List, [], ◌∷◌, ◌++◌, length, Some, None, Ok, Err, refl, sym, ap, subst, ◌∙◌, arith, ⊎_elim, append_assoc, length-append}
+use Rattle.std.specs.Prelude.{slice_get}
+use Rattle.std.proofs.lemmas.Bool.{eq-eqb, ne_eqb, false≢true, or_cases, or_left, or_right}
+use Rattle.std.proofs.lemmas.List.{append-nil}
+use Rattle.std.proofs.Math.Bool.{or_assoc}
+use Rattle.std.specs.Prelude.{◌==◌}
+use Rattle.std.proofs.lemmas.Grind.{flat_map-append}
+use Rattle.om_model.specs.declared.value.Val.{Val}
+use Rattle.om_model.specs.declared.value.Val.TheVariants as vals
+use Rattle.om_model.specs.declared.value.Obj.{Obj}
+use Rattle.om_model.specs.declared.value.Obj.TheVariants as objects
+use Rattle.om_types.specs.declared.names.Names.{Names}
+use Rattle.om_types.specs.declared.shape.ShapeOf.{ShapeOf}
+use Rattle.om_types.specs.Fault.{type_of_field}
+use Rattle.om_types.specs.Fitting.{numbered_from}
+use Rattle.om_format.specs.Tree.{Tree, Forest, none, more, trees_in, AreTrees, root, roots, made, all_made, objects_of, all_objects}
+use Rattle.om_literal_grammar.specs.Literal.{labelled, label_kinds}
+use Rattle.om_literal.specs.Reading.{reading, label_at, begun, block_read, literal_read, inside}
+use Rattle.om_show.specs.Pieces.{Piece, Text, First, Again, has, firsts, agains, piece_text}
+use Rattle.om_leaves.specs.Frames.{Frame, before_part, row_from}
+use Rattle.om_show.specs.Shown.{Met, met, led_by}
+use Rattle.om_literal.specs.Starts.{Start, start_at, small, whole, block as block_of}
+use Rattle.om_lexed.specs.Lexed.{Begins}
+use Rattle.om_lexed.proofs.LexedLemmas.{lexed_then, lexed_at}
+use Rattle.om_literal_texts.specs.Blocks.{ReadsRow}
+use Rattle.om_literal_texts.specs.Forests.{Reads}
+use Rattle.om_literal_texts.specs.Listing.{IsText}
+use Rattle.om_literal_texts.specs.Numbered.{count_from, down, before}
+use Rattle.om_literal_texts.specs.Plain.{IsPlain}
+use Rattle.om_readback.specs.Back.{text_by, AreLabels, IsPlaced, IsBack, IsMetBack, AreMetBack}
+use Rattle.om_readback.proofs.LabelLemmas.{count_both}
+use Rattle.om_readback.proofs.LabelReadLemmas.{IsFront, front_of}
+
+-- ---- pieces one after another
+
+firsts_both : (ps qs : List Piece) → firsts (ps ++ qs) ≡ firsts ps ++ firsts qs
+firsts_both [] qs = refl
+firsts_both (Text b ∷ ps) qs = firsts_both ps qs
+firsts_both (First o ∷ ps) qs = ap (λ t. o ∷ t) (firsts_both ps qs)
+firsts_both (Again o ∷ ps) qs = firsts_both ps qs
+
+agains_both : (ps qs : List Piece) → agains (ps ++ qs) ≡ agains ps ++ agains qs
+agains_both [] qs = refl
+agains_both (Text b ∷ ps) qs = agains_both ps qs
+agains_both (First o ∷ ps) qs = agains_both ps qs
+agains_both (Again o ∷ ps) qs = ap (λ t. o ∷ t) (agains_both ps qs)
+
+has_both : (xs ys : List ℕ) (o : ℕ) → has (xs ++ ys) o ≡ (has xs o || has ys o)
+has_both [] ys o = refl
+has_both (x ∷ xs) ys o = ap (λ b. (x == o) || b) (has_both xs ys o) ∙ sym (or_assoc (x == o) (has xs o) (has ys o))
+
+module _ (ps qs : List Piece) (labels : List ℕ) (are : AreLabels labels (ps ++ qs)) where
+  labels_left : AreLabels labels ps
+  labels_left = record { up = are.up; few = are.few; all = λ o e. are.all o (ap (λ l. has l o) (agains_both ps qs) ∙ has_both (agains ps) (agains qs) o ∙ or_left _ _ e) }
+
+  labels_right : AreLabels labels qs
+  labels_right = record { up = are.up; few = are.few; all = λ o e. are.all o (ap (λ l. has l o) (agains_both ps qs) ∙ has_both (agains ps) (agains qs) o ∙ or_right _ _ e) }
+
+-- ---- where objects stand
+
+pub placed_left : (graph xs ys : List Obj) (c : ℕ) → IsPlaced graph (xs ++ ys) c → IsPlaced graph xs c
+placed_left graph xs ys c p = record { front = p.front; rest = ys ++ p.rest; is = p.is ∙ ap (λ t. p.front ++ t) (append_assoc xs ys p.rest); at = p.at }
+
+pub placed_right : (graph xs ys : List Obj) (c n : ℕ) → length xs ≡ n → IsPlaced graph (xs ++ ys) c → IsPlaced graph ys (c + n)
+placed_right graph xs ys c n long p = record {
+  front = p.front ++ xs;
+  rest = p.rest;
+  is = p.is ∙ ap (λ t. p.front ++ t) (append_assoc xs ys p.rest) ∙ sym (append_assoc p.front xs (ys ++ p.rest));
+  at = length-append p.front xs ∙ omega (arith, p.at, long);
+}
+
+get_after : (front : List Obj) (x : Obj) (xs : List Obj) → slice_get (front ++ x ∷ xs) (length front) ≡ Some x
+get_after [] x xs = refl
+get_after (y ∷ front) x xs = get_after front x xs
+
+pub placed_here : (graph : List Obj) (x : Obj) (xs : List Obj) (c : ℕ) → IsPlaced graph (x ∷ xs) c → slice_get graph c ≡ Some x
+placed_here graph x xs c p = ap (λ g. slice_get g c) p.is ∙ ap (slice_get (p.front ++ x ∷ (xs ++ p.rest))) (sym p.at) ∙ get_after p.front x (xs ++ p.rest)
+
+pub placed_within : (graph xs : List Obj) (c : ℕ) → IsPlaced graph xs c → c + length xs ≤ length graph
+placed_within graph xs c p = omega (arith, ap length p.is, length-append p.front (xs ++ p.rest), length-append xs p.rest, p.at)
+
+-- ---- needs
+
+pub named_numbered : {T : Type 0} (ts : List T) (f j : ℕ) (u : T) → slice_get ts j ≡ Some u → type_of_field (numbered_from f ts) (f + j) ≡ Some u
+named_numbered [] f j u e = absurd cc
+named_numbered (t ∷ ts) f zero u e =
+    let here : f ≡ f + zero = omega arith in
+    let same : t ≡ u = cc in
+    rw (eq-eqb f (f + zero) here) (ap (λ x. Some x) same)
+named_numbered (t ∷ ts) f (suc j) u e =
+    let on : suc f + j ≡ f + suc j = omega arith in
+    rw (ne_eqb f (f + suc j) (λ e. absurd (omega arith))) (subst (λ n. type_of_field (numbered_from (suc f) ts) n ≡ Some u) on (named_numbered ts (suc f) j u e))
+
+-- ---- met and read back
+
+-- nothing of no objects
+pub no_objects : {A : Type 0} → (o : ℕ) → has [] o ≡ true → A
+no_objects o e = absurd (false≢true e)
+
+module _ {T : Type 0} (shape : T → ShapeOf T) (names : T → Names) where
+  pub small_back : (t : T) (c : ℕ) (value : Val) (text : List ℕ) → IsPlain t (shape t) (names t) text (small value) → IsMetBack shape names c 0 value [] t (met (Text text ∷ []) (down c))
+  small_back t c value text p =
+      let here : c ≡ c + 0 = omega arith in
+      record {
+        seen = ap down here;
+        firsts_are = refl;
+        agains_are = λ o e. no_objects o e;
+        back = λ labels are. subst (λ d. IsBack shape names labels (text ++ []) value [] c d t) here (record {
+          literal = labelled None p.plain;
+          is_text = record { lexed = lexed_at (sym (append-nil text)) refl p.lexed; begins = subst Begins (sym (append-nil text)) p.begins };
+          reads = λ k. ap (begun k _ c (before c labels) None t (inside shape names _ p.plain (suc c))) p.starts;
+        });
+      }
+
+  -- a labelled one, where it is known how it begins
+  labelled_reads : (labels : List ℕ) (t : T) (c : ℕ) (front : IsFront labels c) (text : List ℕ) (start : Start T) (p : IsPlain t (shape t) (names t) text start) (k : ℕ)
+      → literal_read shape names k (labelled front.label p.plain) c (before c labels) t
+      ≡ begun k (k + length (label_kinds front.label)) c (before c labels) front.label t (inside shape names (k + length (label_kinds front.label)) p.plain (suc c)) start
+  labelled_reads labels t c front text start p k =
+      ap (λ b. cond b (begun k (k + length (label_kinds front.label)) c (before c labels) front.label t (inside shape names (k + length (label_kinds front.label)) p.plain (suc c)) (start_at t (shape t) (names t) p.plain)) (Err (label_at k))) front.next
+      ∙ ap (begun k (k + length (label_kinds front.label)) c (before c labels) front.label t (inside shape names (k + length (label_kinds front.label)) p.plain (suc c))) p.starts
+
+  labelled_text : (labels : List ℕ) (t : T) (c : ℕ) (front : IsFront labels c) (text : List ℕ) (start : Start T) (p : IsPlain t (shape t) (names t) text start)
+      → IsText (piece_text labels (First c) ++ text) (labelled front.label p.plain)
+  labelled_text labels t c front text start p = record {
+    lexed = lexed_then front.lexed p.lexed (λ after may. tt);
+    begins = front.begins text p.begins;
+  }
+
+  pub object_back : (t : T) (c : ℕ) (object : Obj) (text : List ℕ) → IsPlain t (shape t) (names t) text (whole object) → IsMetBack shape names c 1 (vals.Ref c) (object ∷ []) t (met (First c ∷ Text text ∷ []) (c ∷ down c))
+  object_back t c object text p =
+      let next : suc c ≡ c + 1 = omega arith in
+      record {
+        seen = ap down next;
+        firsts_are = refl;
+        agains_are = λ o e. no_objects o e;
+        back = λ labels are. subst (λ d. IsBack shape names labels (piece_text labels (First c) ++ (text ++ [])) (vals.Ref c) (object ∷ []) c d t) next (
+            let front = front_of labels c are.up are.few in
+            record {
+              literal = labelled front.label p.plain;
+              is_text = subst (λ s. IsText (piece_text labels (First c) ++ s) (labelled front.label p.plain)) (sym (append-nil text)) (labelled_text labels t c front text (whole object) p);
+              reads = λ k. labelled_reads labels t c front text (whole object) p k ∙ ap (λ ls. Ok (reading (vals.Ref c ∷ []) (object ∷ []) ls)) front.labels_are;
+            });
+      }
+
+  -- a block, whose parts are met after it
+  pub block_back : (t : T) (c tag : ℕ) (skip : List Val) (ts : List T) (frame : Frame) (fs : Forest) (m : Met) → AreTrees fs → length ts ≡ trees_in fs
+      → ReadsRow shape names t (shape t) (names t) tag skip ts frame → AreMetBack shape names fs (suc c) frame 0 ts m
+      → IsMetBack shape names c (1 + all_made fs) (vals.Ref c) (objects.Block tag (skip ++ roots fs (suc c)) ∷ all_objects fs (suc c)) t (led_by (First c ∷ Text frame.opening ∷ []) m)
+  block_back t c tag skip ts frame fs m trees many row parts =
+      let last : suc c + all_made fs ≡ c + (1 + all_made fs) = omega arith in
+      let more_one : suc (all_made fs) ≡ 1 + all_made fs = omega arith in
+      record {
+        seen = parts.seen ∙ ap down last;
+        firsts_are = ap (λ t. c ∷ t) parts.firsts_are ∙ ap (count_from c) more_one;
+        agains_are = λ o e. subst (λ n. o < n) last (parts.agains_are o e);
+        back = λ labels are. subst (λ d. IsBack shape names labels (text_by labels (First c ∷ Text frame.opening ∷ m.pieces)) (vals.Ref c) (objects.Block tag (skip ++ roots fs (suc c)) ∷ all_objects fs (suc c)) c d t) last (
+            let front = front_of labels c are.up are.few in
+            let inner : AreLabels labels m.pieces = record { up = are.up; few = are.few; all = are.all } in
+            let b = parts.back labels inner in
+            let r = row labels b.texts b.literals b.are_texts (b.many ∙ sym many) in
+            let p : IsPlain t (shape t) (names t) (frame.opening ++ (row_from frame 0 b.texts ++ frame.closing)) (block_of tag skip r.types) = record { plain = r.plain; lexed = r.lexed; begins = r.begins; starts = r.starts } in
+            record {
+              literal = labelled front.label r.plain;
+              is_text = subst (λ s. IsText (piece_text labels (First c) ++ (frame.opening ++ s)) (labelled front.label r.plain)) (sym b.text_is) (labelled_text labels t c front _ (block_of tag skip r.types) p);
+              reads = λ k.
+                  labelled_reads labels t c front _ (block_of tag skip r.types) p k
+                  ∙ ap (λ ls. block_read c tag skip (inside shape names (k + length (label_kinds front.label)) r.plain (suc c) ls r.types)) front.labels_are
+                  ∙ ap (block_read c tag skip) (r.inside_is fs (suc c) trees (b.reads r.types 0 r.types_are) (k + length (label_kinds front.label)));
+            });
+      }
+
+  pub no_more : (c : ℕ) (frame : Frame) (i : ℕ) → AreMetBack shape names none c frame i [] (met (Text frame.closing ∷ []) (down c))
+  no_more c frame i = record {
+    seen = ap down (omega arith);
+    firsts_are = refl;
+    agains_are = λ o e. no_objects o e;
+    back = λ labels are. record { texts = []; literals = []; are_texts = tt; many = refl; text_is = append-nil frame.closing; reads = λ types j are. tt };
+  }
+
+  pub one_more : (s : Tree) (fs : Forest) (c : ℕ) (frame : Frame) (i : ℕ) (t : T) (ts : List T) (m others : Met)
+      → IsMetBack shape names c (made s) (root s c) (objects_of s c) t m → AreMetBack shape names fs (c + made s) frame (suc i) ts others
+      → AreMetBack shape names (more s fs) c frame i (t ∷ ts) (led_by (Text (before_part frame i) ∷ m.pieces) others)
+  one_more s fs c frame i t ts m others one rest =
+      let last : c + made s + all_made fs ≡ c + (made s + all_made fs) = omega arith in
+      record {
+        seen = rest.seen ∙ ap down last;
+        firsts_are = firsts_both m.pieces others.pieces ∙ ap (λ l. l ++ firsts others.pieces) one.firsts_are ∙ ap (λ l. count_from c (made s) ++ l) rest.firsts_are ∙ sym (count_both (made s) (all_made fs) c);
+        agains_are = λ o e.
+            ⊎_elim (λ h. let lt = one.agains_are o h in omega arith) (λ h. let lt = rest.agains_are o h in omega arith)
+            (or_cases (has (agains m.pieces) o) (has (agains others.pieces) o) (sym (has_both (agains m.pieces) (agains others.pieces) o) ∙ ap (λ l. has l o) (sym (agains_both m.pieces others.pieces)) ∙ e));
+        back = λ labels are.
+            let both : AreLabels labels (m.pieces ++ others.pieces) = record { up = are.up; few = are.few; all = are.all } in
+            let x = one.back labels (labels_left m.pieces others.pieces labels both) in
+            let y = rest.back labels (labels_right m.pieces others.pieces labels both) in
+            let before_text = before_part frame i in
+            let first = text_by labels m.pieces in
+            let row = row_from frame (suc i) y.texts in
+            record {
+              texts = first ∷ y.texts;
+              literals = x.literal ∷ y.literals;
+              are_texts = (x.is_text, y.are_texts);
+              many = ap suc y.many;
+              text_is =
+                  ap (λ l. before_text ++ l) (flat_map-append (piece_text labels) m.pieces others.pieces ∙ ap (λ l. first ++ l) y.text_is)
+                  ∙ sym (append_assoc before_text first (row ++ frame.closing))
+                  ∙ sym (append_assoc (before_text ++ first) row frame.closing);
+              reads = λ types j tys. (subst (λ u. Reads shape names labels x.literal (root s c) (objects_of s c) c (c + made s) u) (sym tys.0) x.reads, y.reads types (suc j) tys.1);
+            };
+      }

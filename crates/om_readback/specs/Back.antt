@@ -1,0 +1,83 @@
+-- A text of pieces that is read back: as a literal that is the value again, with its objects and labels.
+use Rattle.std.specs.Prelude.{ℕ, ◌+◌, ◌^◌, ◌<◌, ◌≡◌, true, List, ◌++◌, length, IsSome, Some}
+use Rattle.std.specs.List.{flat_map}
+use Rattle.om_model.specs.declared.value.Val.{Val}
+use Rattle.om_model.specs.declared.value.Obj.{Obj}
+use Rattle.om_types.specs.declared.names.Names.{Names}
+use Rattle.om_types.specs.declared.shape.ShapeOf.{ShapeOf}
+use Rattle.om_types.specs.Fitting.{fields_of, or_none}
+use Rattle.om_types.specs.Fault.{field_of, type_of_field}
+use Rattle.om_format.specs.Tree.{Forest, all_made, trees_in}
+use Rattle.om_literal_grammar.specs.Literal.{Literal}
+use Rattle.om_show.specs.Pieces.{Piece, has, firsts, agains, piece_text}
+use Rattle.om_leaves.specs.Frames.{Frame, row_from}
+use Rattle.om_show.specs.Shown.{Met}
+use Rattle.om_show.specs.Named.{HasItsNames}
+use Rattle.om_literal_texts.specs.Forests.{TypesAre, Reads, ReadForest}
+use Rattle.om_literal_texts.specs.Listing.{IsText, AreTexts}
+use Rattle.om_literal_texts.specs.Numbered.{count_from, down, AreIncreasing}
+use Rattle.om_literal_texts.specs.Readable.{IsReadable}
+
+-- What is known of values at types, from a value to its parts: each fits, and its type has names that
+-- are read back.
+pub record AreShowable {T : Type 0} (shape : T → ShapeOf T) (names : T → Names) (graph : List Obj)
+    (Holds : Val → T → Type 0) : Type 0 where
+  pub fits : (v : Val) (t : T) → Holds v t → IsSome (fields_of graph v (shape t))
+  pub named : (v : Val) (t : T) → Holds v t → HasItsNames (shape t) (names t) graph v
+  pub readable : (v : Val) (t : T) → Holds v t → IsReadable (shape t) (names t)
+  pub parts : (v : Val) (t : T) (i : ℕ) (u : T) (w : Val) → Holds v t
+      → type_of_field (or_none (fields_of graph v (shape t))) i ≡ Some u
+      → field_of graph v i ≡ Some w → Holds w u
+
+abbrev pub text_by : List ℕ → List Piece → List ℕ
+text_by labels pieces = flat_map (piece_text labels) pieces
+
+-- labels that go up by objects, few enough for an integer, with all objects that are met again
+pub record AreLabels (labels : List ℕ) (pieces : List Piece) : Type 0 where
+  pub up : AreIncreasing 0 labels
+  pub few : length labels < 2 ^ 63
+  pub all : (o : ℕ) → has (agains pieces) o ≡ true → has labels o ≡ true
+
+-- these objects stand in the graph from number c on
+pub record IsPlaced (graph objects : List Obj) (c : ℕ) : Type 0 where
+  pub front : List Obj
+  pub rest : List Obj
+  pub is : graph ≡ front ++ (objects ++ rest)
+  pub at : length front ≡ c
+
+module _ {T : Type 0} (shape : T → ShapeOf T) (names : T → Names) where
+  -- the text is a literal that is this value, after c objects, and d are there then
+  pub record IsBack (labels text : List ℕ) (value : Val) (objects : List Obj) (c d : ℕ) (t : T) :
+      Type 0 where
+    pub literal : Literal
+    pub is_text : IsText text literal
+    pub reads : Reads shape names labels literal value objects c d t
+
+  -- n objects are met from number c on, in the order of their numbers; and the text is read back, by any
+  -- labels
+  pub record IsMetBack (c n : ℕ) (value : Val) (objects : List Obj) (t : T) (m : Met) :
+      Type 0 where
+    pub seen : m.seen ≡ down (c + n)
+    pub firsts_are : firsts m.pieces ≡ count_from c n
+    pub agains_are : (o : ℕ) → has (agains m.pieces) o ≡ true → o < c + n
+    pub back : (labels : List ℕ) → AreLabels labels m.pieces
+        → IsBack labels (text_by labels m.pieces) value objects c (c + n) t
+
+  -- a row of texts, each read back at its type
+  pub record AreBack (labels text : List ℕ) (frame : Frame) (i : ℕ) (fs : Forest) (c : ℕ)
+      (ts : List T) : Type 0 where
+    pub texts : List (List ℕ)
+    pub literals : List Literal
+    pub are_texts : AreTexts texts literals
+    pub many : length literals ≡ trees_in fs
+    pub text_is : text ≡ row_from frame i texts ++ frame.closing
+    pub reads : (types : ℕ → T) (j : ℕ) → TypesAre types j ts
+        → ReadForest shape names labels types j fs c literals
+
+  pub record AreMetBack (fs : Forest) (c : ℕ) (frame : Frame) (i : ℕ) (ts : List T) (m : Met) :
+      Type 0 where
+    pub seen : m.seen ≡ down (c + all_made fs)
+    pub firsts_are : firsts m.pieces ≡ count_from c (all_made fs)
+    pub agains_are : (o : ℕ) → has (agains m.pieces) o ≡ true → o < c + all_made fs
+    pub back : (labels : List ℕ) → AreLabels labels m.pieces
+        → AreBack labels (text_by labels m.pieces) frame i fs c ts
