@@ -1,0 +1,51 @@
+-- What is read at a type is read at its number in a table: so the text of a value is read back there.
+use Rattle.std.proofs.Common.{ℕ, ◌≡◌, ◌∙◌, List, [], Some, Result, Ok, Err, refl, ap}
+use Rattle.std.specs.Prelude.{slice_get}
+use Rattle.om_types.specs.declared.decl.Decl.{Decl}
+use Rattle.om_types.specs.Names.{names_of}
+use Rattle.om_types.specs.Shape.{shape}
+use Rattle.om_types.specs.Ty.{Ty}
+use Rattle.om_table.proofs.DecideLemmas.{root_is_first}
+use Rattle.om_type_table.specs.declared.table.TypeTable.{TypeTable}
+use Rattle.om_type_table.specs.Made.{types_of, IsTypeTable}
+use Rattle.om_format.specs.Tree.{Tree, objects_of}
+use Rattle.om_literal.specs.Reading.{Reading, Refusal}
+use Rattle.om_literal_alike.specs.Alike.{ReadAgree}
+use Rattle.om_literal_alike.proofs.TableLemmas.{tables_read_alike}
+use Rattle.om_readback.specs.ReadBack.{IsReadBack}
+use Rattle.om_readback.proofs.DeclaredLemmas.{texts_are_read_back}
+use Rattle.om_text.specs.Laws.{ReadsAgain, TextsAreReadAgain}
+
+module _ (decls : List Decl) (t : Ty) (table : TypeTable) (is : IsTypeTable decls t table) where
+  abbrev Is : ℕ → Ty → Type 0
+  Is i u = slice_get (types_of table) i ≡ Some u
+
+  -- a value at the type is one at its number
+  number_too : (a : Result Reading (Refusal ℕ)) (b : Result Reading (Refusal Ty)) (r : Reading) → ReadAgree Is a b → b ≡ Ok r → a ≡ Ok r
+  number_too (Ok s) (Ok s') r same is = ap Ok (same ∙ same_reading s' r is) where
+    same_reading : (s r : Reading) → ◌≡◌ {A = Result Reading (Refusal Ty)} (Ok s) (Ok r) → s ≡ r
+    same_reading s r is = cc
+  number_too (Ok s) (Err s') r same is = absurd same
+  number_too (Err s) (Ok s') r same is = absurd same
+  number_too (Err s) (Err s') r same is = absurd (no_value s' r is) where
+    no_value : (s : Refusal Ty) (r : Reading) → ◌≡◌ {A = Result Reading (Refusal Ty)} (Err s) (Ok r) → ⊥
+    no_value s r is = cc
+
+  pub reads_again : (tree : Tree) (text : List ℕ) → IsReadBack (shape decls) (names_of decls) tree t text → ReadsAgain table tree text
+  reads_again tree text b = record {
+    lexemes = b.lexemes;
+    lexes = b.lexes;
+    some = b.some;
+    one_line = b.one_line;
+    answer = λ end. record {
+      literal = b.literal;
+      objects = objects_of tree 0;
+      spelled = b.spelled;
+      read = record { labels = b.labels; read = number_too _ _ _ (tables_read_alike decls t table is 0 b.literal 0 [] 0 t (root_is_first decls t (types_of table) is.reached)) (b.reads 0) };
+      behind = refl;
+    };
+  }
+
+pub texts_are_read_again : TextsAreReadAgain
+texts_are_read_again decls t table well sound is readable tree is_tree back few has =
+    reads_again decls t table is tree _ (texts_are_read_back decls t (types_of table) well sound is.reached readable tree is_tree back few has)

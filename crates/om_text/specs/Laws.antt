@@ -1,0 +1,37 @@
+-- The text of a value at a type, read at the type's number in a table.
+use Rattle.std.specs.Prelude.{ℕ, ◌^◌, ◌<◌, ◌≢◌, length, List, [], Ok}
+use Rattle.std.specs.List.{AllByRecursion}
+use Rattle.om_lex.specs.declared.lexeme.Lexeme.{Lexeme}
+use Rattle.om_lex.specs.LexText.{Lexes}
+use Rattle.om_types.specs.declared.decl.Decl.{Decl}
+use Rattle.om_types.specs.Accepted.{AreWellFormed, IsSoundType}
+use Rattle.om_types.specs.Equal.{declared_shapes}
+use Rattle.om_types.specs.Names.{names_of}
+use Rattle.om_types.specs.Shape.{shape}
+use Rattle.om_types.specs.Ty.{Ty}
+use Rattle.om_types.specs.Typing.{HasType}
+use Rattle.om_format.specs.Tree.{Tree, IsTree, ReferBack, root, made, objects_of}
+use Rattle.om_show.specs.Shown.{shown_text}
+use Rattle.om_type_table.specs.declared.table.TypeTable.{TypeTable}
+use Rattle.om_type_table.specs.Made.{types_of, IsTypeTable}
+use Rattle.om_literal.specs.Answers.{IsAnswer}
+use Rattle.om_literal_texts.specs.Readable.{AreReadable}
+
+-- The text is one line that is not empty, and what its lexemes are, over no objects, at the number 0 of the
+-- table is the tree's value with its objects.
+pub record ReadsAgain (table : TypeTable) (tree : Tree) (text : List ℕ) : Type 0 where
+  pub lexemes : List Lexeme
+  pub lexes : Lexes text lexemes
+  pub some : 0 < length text
+  pub one_line : AllByRecursion (λ b. b ≢ 10) text
+  pub answer : (end : ℕ) → IsAnswer table 0 lexemes end [] (Ok (objects_of tree 0, root tree 0))
+
+-- so it is of a value of a type of which the table was made, where the names of all its types are read back
+abbrev pub TextsAreReadAgain : Type 0
+TextsAreReadAgain =
+    (decls : List Decl) (t : Ty) (table : TypeTable)
+    → AreWellFormed decls → IsSoundType decls t → IsTypeTable decls t table → AreReadable decls (types_of table)
+    → (tree : Tree) → IsTree tree → ReferBack tree 0 → made tree < 2 ^ 63
+    → HasType (declared_shapes decls) (objects_of tree 0) (root tree 0) t
+    → ReadsAgain table tree
+    (shown_text (shape decls) (names_of decls) (objects_of tree 0) (root tree 0) t)

@@ -1,0 +1,71 @@
+//! Lines of text as values.
+
+ghost use Rattle.std.specs.Prelude.{◌≡◌, length};
+ghost use Rattle.om_text.specs.Text.{GivesAnswer, GivesBack, ReadsText};
+
+use om_heap::Heap;
+use om_lex::lexeme::LexFault;
+use om_lex::tokens;
+use om_literal::{LiteralFault, read_literal};
+use om_model::value::Val;
+use om_type_table::TypeTable;
+use std::alloc::Global;
+
+/// Why a line is no value of a type. Places are bytes of the line.
+#[derive(Clone, Copy)]
+pub enum TextFault {
+    /// It has no lexemes.
+    Lex(LexFault),
+    /// They are no literal, or none of the type.
+    Literal(LiteralFault),
+    /// Out of memory.
+    Memory,
+}
+
+/// Reads a line as a value of the type of number 0, whose objects are then those of the heap; a blank line is none. The objects
+/// that the heap had are dropped, and their memory serves the new ones.
+pub fn read_text(
+    alloc: Global,
+    heap: &mut Heap,
+    table: &TypeTable,
+    line: &[u8],
+) -> Result<Option<Val>, TextFault>
+    requires { length table.now.names ≡ length table.now.nodes }
+
+    // What the line is, or why it is no value, and then the heap is empty. So it is out of memory too.
+    ensures reads { ReadsText table.now line.now heap.new result }
+
+    // The one answer is given, unless memory runs out.
+    ensures only { GivesAnswer table.now line.now heap.new result }
+
+    // The text of a tree's value is read as the value, with its objects in their order.
+    ensures back { GivesBack table.now line.now heap.new result }
+{
+    read(alloc, heap, table, line)
+}
+
+/// Reads a line as a value of the type of number 0.
+fn read(
+    alloc: Global,
+    heap: &mut Heap,
+    table: &TypeTable,
+    line: &[u8],
+) -> Result<Option<Val>, TextFault>
+    requires { length table.now.names ≡ length table.now.nodes }
+    ensures { ReadsText table.now line.now heap.new result }
+{
+    heap.clear();
+    let lexemes = match tokens(alloc, line) {
+        Ok(lexemes) => lexemes,
+        Err(LexFault::Memory) => return Err(TextFault::Memory),
+        Err(fault) => return Err(TextFault::Lex(fault)),
+    };
+    if lexemes.is_empty() {
+        return Ok(None);
+    }
+    match read_literal(alloc, heap, table, 0, lexemes.as_slice(), line.len()) {
+        Ok(root) => Ok(Some(root)),
+        Err(LiteralFault::Memory) => Err(TextFault::Memory),
+        Err(fault) => Err(TextFault::Literal(fault)),
+    }
+}
