@@ -1,0 +1,19 @@
+-- So the names of types that stand in texts are read back, and so are the texts of their values.
+use Rattle.om_type_table.specs.Made.{types_of}
+use Rattle.om_readback.proofs.DeclaredLemmas.{texts_are_read_back}
+use Rattle.om_text.proofs.TableLemmas.{texts_are_read_again}
+use Rattle.om_rebuild.specs.Laws.{NamesAreReadBack, DeclaredTextsAreReadBack, LiteralsAreReadBack}
+use Rattle.om_rebuild.proofs.SpokenTextLemmas.{declared_spoken, type_spoken}
+use Rattle.om_rebuild.proofs.SpokenTypeLemmas.{reached_readable}
+
+pub names_are_read_back : NamesAreReadBack
+names_are_read_back file_text type_text decls t types declared written reached =
+    reached_readable decls (declared_spoken file_text decls declared) t (type_spoken decls type_text t written) types reached
+
+pub declared_texts_are_read_back : DeclaredTextsAreReadBack
+declared_texts_are_read_back file_text type_text decls t types declared written well sound reached =
+    texts_are_read_back decls t types well sound reached (names_are_read_back file_text type_text decls t types declared written reached)
+
+pub literals_are_read_back : LiteralsAreReadBack
+literals_are_read_back file_text type_text decls t table declared written well sound is =
+    texts_are_read_again decls t table well sound is (names_are_read_back file_text type_text decls t (types_of table) declared written is.reached)

@@ -1,0 +1,6 @@
+pub mod OnceLemmas
+pub mod SpokenLemmas
+pub mod SpokenTypeLemmas
+pub mod SpokenTextLemmas
+pub mod LawLemmas
+pub mod RebuiltLemmas

@@ -1,0 +1,48 @@
+-- What is read from the text of a value is the value, at types that stand in texts.
+use Rattle.std.specs.Prelude.{ℕ, ◌^◌, ◌<◌, List}
+use Rattle.om_types.specs.declared.decl.Decl.{Decl}
+use Rattle.om_types.specs.Accepted.{AreWellFormed, IsSoundType}
+use Rattle.om_types.specs.Equal.{declared_shapes}
+use Rattle.om_types.specs.Names.{names_of}
+use Rattle.om_types.specs.Reached.{IsReached}
+use Rattle.om_types.specs.Shape.{shape}
+use Rattle.om_types.specs.Ty.{Ty}
+use Rattle.om_types.specs.Typing.{HasType}
+use Rattle.om_format.specs.Tree.{Tree, IsTree, ReferBack, root, made, objects_of}
+use Rattle.om_show.specs.Shown.{shown_text}
+use Rattle.om_type_table.specs.declared.table.TypeTable.{TypeTable}
+use Rattle.om_type_table.specs.Made.{IsTypeTable}
+use Rattle.om_decl.specs.Read.{IsDeclared, IsTypeOf}
+use Rattle.om_literal_texts.specs.Readable.{AreReadable}
+use Rattle.om_readback.specs.ReadBack.{IsReadBack}
+use Rattle.om_text.specs.Laws.{ReadsAgain}
+
+-- The names are read back of each type that is reached from one that stands in a text, over declarations
+-- that stand in one.
+abbrev pub NamesAreReadBack : Type 0
+NamesAreReadBack =
+    (file_text type_text : List ℕ) (decls : List Decl) (t : Ty) (types : List Ty)
+    → IsDeclared file_text decls → IsTypeOf decls type_text t → IsReached decls t types
+    → AreReadable decls types
+
+-- So what is read from the text of a value of such a type is the value.
+abbrev pub DeclaredTextsAreReadBack : Type 0
+DeclaredTextsAreReadBack =
+    (file_text type_text : List ℕ) (decls : List Decl) (t : Ty) (types : List Ty)
+    → IsDeclared file_text decls → IsTypeOf decls type_text t
+    → AreWellFormed decls → IsSoundType decls t → IsReached decls t types
+    → (tree : Tree) → IsTree tree → ReferBack tree 0 → made tree < 2 ^ 63
+    → HasType (declared_shapes decls) (objects_of tree 0) (root tree 0) t
+    → IsReadBack (shape decls) (names_of decls) tree t
+    (shown_text (shape decls) (names_of decls) (objects_of tree 0) (root tree 0) t)
+
+-- so it is at the number 0 of its table
+abbrev pub LiteralsAreReadBack : Type 0
+LiteralsAreReadBack =
+    (file_text type_text : List ℕ) (decls : List Decl) (t : Ty) (table : TypeTable)
+    → IsDeclared file_text decls → IsTypeOf decls type_text t
+    → AreWellFormed decls → IsSoundType decls t → IsTypeTable decls t table
+    → (tree : Tree) → IsTree tree → ReferBack tree 0 → made tree < 2 ^ 63
+    → HasType (declared_shapes decls) (objects_of tree 0) (root tree 0) t
+    → ReadsAgain table tree
+    (shown_text (shape decls) (names_of decls) (objects_of tree 0) (root tree 0) t)

@@ -1,0 +1,3 @@
+pub mod Spoken
+pub mod Laws
+pub mod Rebuilt

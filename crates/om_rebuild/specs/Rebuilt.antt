@@ -1,0 +1,38 @@
+-- What is read from the text of a value is the same value, with the same type, text and bytes.
+use Rattle.std.specs.Prelude.{ℕ, ◌^◌, ◌<◌, ◌≡◌, List}
+use Rattle.om_model.specs.declared.value.Val.{Val}
+use Rattle.om_model.specs.declared.value.Obj.{Obj}
+use Rattle.om_format.specs.Iso.{Iso, IsTreeOf}
+use Rattle.om_format.specs.Tree.{Tree, root, made, objects_of}
+use Rattle.om_types.specs.declared.decl.Decl.{Decl}
+use Rattle.om_types.specs.Accepted.{AreWellFormed, IsSoundType}
+use Rattle.om_types.specs.Equal.{declared_shapes}
+use Rattle.om_types.specs.Names.{names_of}
+use Rattle.om_types.specs.Shape.{shape}
+use Rattle.om_types.specs.Ty.{Ty}
+use Rattle.om_types.specs.Typing.{HasType}
+use Rattle.om_show.specs.Shown.{shown_text}
+use Rattle.om_type_table.specs.declared.table.TypeTable.{TypeTable}
+use Rattle.om_type_table.specs.Made.{IsTypeTable}
+use Rattle.om_decl.specs.Read.{IsDeclared, IsTypeOf}
+use Rattle.om_text.specs.Laws.{ReadsAgain}
+
+-- the text is read as the value of the tree: it is the same value, has the type, has that text, and its tree,
+-- which says its canonical bytes, is the tree
+pub record IsRebuilt (decls : List Decl) (t : Ty) (table : TypeTable) (g : List Obj) (v : Val) (tree : Tree) :
+    Type 0 where
+  pub reads : ReadsAgain table tree (shown_text (shape decls) (names_of decls) g v t)
+  pub same : Iso g v (objects_of tree 0) (root tree 0)
+  pub typed : HasType (declared_shapes decls) (objects_of tree 0) (root tree 0) t
+  pub shown : shown_text (shape decls) (names_of decls) (objects_of tree 0) (root tree 0) t
+      ≡ shown_text (shape decls) (names_of decls) g v t
+  pub bytes : IsTreeOf (objects_of tree 0) (root tree 0) tree
+
+-- each value of a type that stands in a text, over declarations that stand in one
+abbrev pub ValuesAreRebuilt : Type 0
+ValuesAreRebuilt =
+    (file_text type_text : List ℕ) (decls : List Decl) (t : Ty) (table : TypeTable)
+    → IsDeclared file_text decls → IsTypeOf decls type_text t
+    → AreWellFormed decls → IsSoundType decls t → IsTypeTable decls t table
+    → (g : List Obj) (v : Val) (tree : Tree) → IsTreeOf g v tree → made tree < 2 ^ 63
+    → HasType (declared_shapes decls) g v t → IsRebuilt decls t table g v tree
