@@ -1,0 +1,84 @@
+-- What a pass knows where nothing is open any more: the law.
+use Rattle.std.proofs.Common.{ℕ, ◌≤◌, ◌≡◌, ◌∙◌, List, ◌∷◌, [], length, inl, inr, ⊎_elim, sym, ap, subst, subst₂, arith, ◌<◌, ◌^◌}
+use Rattle.std.specs.Prelude.{Contains, IsTrue}
+use Rattle.std.specs.List.{concat, AllZip}
+use Rattle.std.proofs.lemmas.List.{length-append, length-take-le}
+use Rattle.om_model.proofs.Options.{Contains-none}
+use Rattle.om_model.specs.declared.header.Head.{Head}
+use Rattle.om_types.specs.Fitting.{is_mutable}
+use Rattle.om_types.specs.Table.{Table}
+use Rattle.om_format.specs.Token.{Token, Spells}
+use Rattle.om_format.specs.Tree.{Tree, tokens, objects_of, IsTree}
+use Rattle.om_format.specs.Preorder.{EachRefersBack}
+use Rattle.om_format.specs.Spelled.{States}
+use Rattle.om_format.proofs.Parsed.{tree_from_tokens}
+use Rattle.om_format.proofs.References.{ReferBack-from_each}
+use Rattle.om_pass_law.specs.Asked.{of_type, shape_at, Passes}
+use Rattle.om_pass_law.specs.Noted.{IsFlatNoted}
+use Rattle.om_pass_law.specs.OnePass.{IsPassing, Ends}
+use Rattle.om_pass_law.specs.Laws.{PassesTypeFronts, NotedPassesTypeFronts}
+use Rattle.om_pass_law.proofs.Kernel.{AreNoted}
+use Rattle.om_pass_law.proofs.OnePassLemmas.{passes_all, types_of_tree}
+use Rattle.om_pass_law.proofs.EndLemmas.{spelled_tokens, passed_many, passed_open}
+use Rattle.om_pass_law.proofs.FlatLemmas.{flat_object, flat_noted}
+
+are_noted : (table : Table) (all : List ℕ) (noted : List (ℕ × ℕ)) (tree : Tree) → IsTree tree → ((o t : ℕ) → Contains noted (o, t) → IsFlatNoted table all noted (tokens tree) o t) → AreNoted table (objects_of tree 0) all noted
+are_noted table all noted tree is each = record {
+  good = λ o t among. let n = each o t among in flat_noted table all noted tree o t n.tag n.flat n.next is n.stands n.asked n.at;
+  fixed = λ o t among mutable. let n = each o t among in
+      n.fixed (subst (λ object. IsTrue (is_mutable (shape_at table t) object)) (flat_object tree o n.tag n.flat is n.stands) mutable.1);
+  first_fixed = λ o t u among at_o mutable. let n = each o t among in
+      n.first_fixed u at_o (subst (λ object. IsTrue (is_mutable (shape_at table u) object)) (flat_object tree o n.tag n.flat is n.stands) mutable.1);
+}
+
+-- what the tokens take is stated
+states_from : (noted : List (ℕ × ℕ)) (table : Table) (limit : ℕ) (bytes : List ℕ) (head : Head) (start n : ℕ) (ts : List Token) (types : List ℕ) → IsPassing noted table limit bytes head start n ts types [] → Ends head start n ts types → States head ts
+states_from noted table limit bytes head start n ts types p ends = record {
+  w32 = ends.w32;
+  w64 = ends.w64;
+  objects = ⊎_elim (λ none. inr (none, p.unshared none)) (λ same. inl (same ∙ sym p.made)) ends.count;
+}
+
+-- the data bytes are those of the tokens
+data_length : (noted : List (ℕ × ℕ)) (table : Table) (limit : ℕ) (bytes : List ℕ) (head : Head) (start n : ℕ) (ts : List Token) (types : List ℕ) → (p : IsPassing noted table limit bytes head start n ts types []) → Ends head start n ts types
+    → head.length ≡ length (concat p.pieces)
+data_length noted table limit bytes head start n ts types p ends =
+    let front = length-take-le n bytes p.within in
+    let both = length-append p.header (concat p.pieces) in
+    let same = ap length p.taken in
+    let begins = p.begins in
+    let whole = ends.whole in
+    omega (arith, front, both, same, begins, whole)
+
+-- THE LAW
+pub noted_passes_type_fronts : NotedPassesTypeFronts
+noted_passes_type_fronts noted table limit bytes head start n ts types lawful p ends each =
+    let whole = passed_many noted table ts types [] p.passed in
+    let t = tree_from_tokens ts (spelled_tokens ts p.pieces p.spells) (passed_open noted table ts types [] p.passed) whole in
+    let back = ReferBack-from_each t.tree 0 (subst (EachRefersBack 0) (sym t.tokens_are) p.refer_back) in
+    let passes = subst (λ us. Passes noted table [] (of_type 0 ∷ []) us types) (sym t.tokens_are) (passes_all noted table ts types p.passed) in
+    let noted_there = are_noted table types noted t.tree t.is_tree (subst (λ us. (o u : ℕ) → Contains noted (o, u) → IsFlatNoted table types noted us o u) (sym t.tokens_are) each) in
+    record {
+      within = p.within;
+      tree = t.tree;
+      spelled = record {
+        header = p.header;
+        pieces = p.pieces;
+        bytes_are = p.taken;
+        spells = record {
+          is_tree = t.is_tree;
+          refers_back = back;
+          is_header = p.is_header;
+          spells = subst (λ us. AllZip Spells us p.pieces) (sym t.tokens_are) p.spells;
+          length = ap (λ (h : Head). h.length) p.head_is ∙ data_length noted table limit bytes head start n ts types p ends;
+          states = subst₂ States (sym p.head_is) (sym t.tokens_are) (states_from noted table limit bytes head start n ts types p ends);
+        };
+        words = subst (λ (h : Head). h.w64 ≤ limit) (sym p.head_is) p.words;
+        small = subst (λ (h : Head). h.length < 2 ^ 48) (sym p.head_is) p.small;
+      };
+      typed = (types_of_tree table types noted t.tree lawful t.is_tree back noted_there passes).typed;
+    }
+
+pub passes_type_fronts : PassesTypeFronts
+passes_type_fronts table limit bytes head start n ts types lawful p ends =
+    noted_passes_type_fronts [] table limit bytes head start n ts types lawful p ends (λ o t among. absurd (Contains-none {X = ℕ × ℕ} (o, t) among))

@@ -1,0 +1,9 @@
+pub mod Kernel
+pub mod BlockLemmas
+pub mod PassLemmas
+pub mod OnePassLemmas
+pub mod EndLemmas
+pub mod FlatLemmas
+pub mod GrowLemmas
+pub mod LawLemmas
+pub mod WeakerLemmas

@@ -1,0 +1,56 @@
+-- A tree whose tokens have what their places ask for has the type; and what a pass knows in the end.
+use Rattle.std.proofs.Common.{ℕ, ◌≡◌, refl, List, [], ◌∷◌, ◌++◌, length, sym, ap, subst, arith}
+use Rattle.std.proofs.lemmas.List.{append_assoc, append-nil}
+use Rattle.std.proofs.lemmas.List.Elements.{Contains-append_left}
+use Rattle.om_types.specs.Fitting.{numbered_from}
+use Rattle.om_types.specs.Lawful.{AreLawful, Everything}
+use Rattle.om_types.specs.Table.{Table, table_shapes}
+use Rattle.om_types.specs.Typing.{IsTyped, IsTyping}
+use Rattle.om_format.specs.Token.{Token, integer, atom, shared, block, leaf}
+use Rattle.om_format.specs.Tree.{Tree, node, IsTree, tokens, forest_tokens, root, objects_of, ReferBack}
+use Rattle.om_format.proofs.Counts.{length-objects_of}
+use Rattle.om_scan.proofs.ScanLemmas.{pair_there}
+use Rattle.om_pass_law.specs.Asked.{Need, of_type, Passes}
+use Rattle.om_pass_law.specs.OnePass.{AreTypesOf, Passed, start, further}
+use Rattle.om_pass_law.proofs.Kernel.{AreNoted, is_typing, is_held}
+use Rattle.om_pass_law.proofs.PassLemmas.{last_at, tree_read}
+
+module _ (table : Table) (all : List ℕ) (noted : List (ℕ × ℕ)) where
+  -- where the value is an object, it is object 0, of the first type
+  rooted : (tree : Tree) → ReferBack tree 0 → Passes noted table [] (of_type 0 ∷ []) (tokens tree) all → (typing : IsTyping (table_shapes table) (objects_of tree 0) (numbered_from 0 all ++ noted)) → IsTyped (table_shapes table) (objects_of tree 0) (root tree 0) 0
+  rooted (node (integer z) f) back h typing = tt
+  rooted (node (atom tag) f) back h typing = tt
+  rooted (node (shared offset) f) back h typing = absurd (let some = back.0.0 in let few = back.0.1 in omega (arith, some, few))
+  rooted (node (block tag size) f) back h typing = (numbered_from 0 all ++ noted, typing, Contains-append_left (numbered_from 0 all) noted (0, 0) (pair_there all 0 0 (last_at table all noted [] 0 (h.0 ++ []) (forest_tokens f) h.2)))
+  rooted (node (leaf object) f) back h typing = (numbered_from 0 all ++ noted, typing, Contains-append_left (numbered_from 0 all) noted (0, 0) (pair_there all 0 0 (last_at table all noted [] 0 (h.0 ++ []) (forest_tokens f) h.2)))
+
+  -- THE KERNEL
+  pub types_of_tree : (tree : Tree) → AreLawful (table_shapes table) Everything → IsTree tree → ReferBack tree 0 → AreNoted table (objects_of tree 0) all noted → Passes noted table [] (of_type 0 ∷ []) (tokens tree) all → AreTypesOf noted table tree all
+  types_of_tree tree lawful is back are_noted h =
+      let h' = subst (λ ts. Passes noted table [] (of_type 0 ∷ []) ts all) (sym (append-nil (tokens tree))) h in
+      let r = tree_read table all noted tree 0 [] [] [] is h' in
+      let first : length all ≡ length r.after = ap length (sym r.passes) in
+      let second = r.many in
+      let third = length-objects_of tree 0 is in
+      let none' : length {A = ℕ} [] ≡ 0 = refl in
+      let many : length all ≡ length (objects_of tree 0) = omega (arith, first, second, third, none') in
+      let typing = is_typing table (objects_of tree 0) all noted many lawful r.good are_noted in
+      record {
+        many = many;
+        typing = typing;
+        typed = record {
+          fits = (is_held table (objects_of tree 0) all noted many lawful r.good are_noted (root tree 0) 0 r.value).fits;
+          typed = rooted tree back h typing;
+        };
+      }
+
+-- ---- tokens one after another
+
+passes_later : (noted : List (ℕ × ℕ)) (table : Table) (front rest : List Token) (types : List ℕ) (needs : List Need) (all : List ℕ) → Passed noted table front types needs → Passes noted table types needs rest all → Passes noted table [] (of_type 0 ∷ []) (front ++ rest) all
+passes_later noted table front rest types needs all start h = h
+passes_later noted table front rest types needs all (further tokens types' need needs' next token before asks) h =
+    subst (λ ts. Passes noted table [] (of_type 0 ∷ []) ts all) (sym (append_assoc tokens (token ∷ []) rest))
+    (passes_later noted table tokens (token ∷ rest) types' (need ∷ needs') all before (next, asks, h))
+
+pub passes_all : (noted : List (ℕ × ℕ)) (table : Table) (ts : List Token) (types : List ℕ) → Passed noted table ts types [] → Passes noted table [] (of_type 0 ∷ []) ts types
+passes_all noted table ts types passed = subst (λ xs. Passes noted table [] (of_type 0 ∷ []) xs types) (append-nil ts) (passes_later noted table ts [] types [] types passed refl)

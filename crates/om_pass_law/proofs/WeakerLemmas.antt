@@ -1,0 +1,45 @@
+-- What was passed stays passed where more is noted and more objects have come.
+use Rattle.std.proofs.Common.{ℕ, ◌-◌, inl, inr, ⊎_elim, List, ◌∷◌, ◌++◌, length}
+use Rattle.std.specs.Prelude.{Contains}
+use Rattle.om_model.specs.declared.value.Val.{Val}
+use Rattle.om_model.specs.declared.value.Val.TheVariants as vals
+use Rattle.om_types.specs.Table.{Table}
+use Rattle.om_format.specs.Token.{Token, integer, atom, shared, block, leaf}
+use Rattle.om_scan.proofs.PlaceLemmas.{slice_get-append_left}
+use Rattle.om_pass_law.specs.Asked.{Need, of_type, hash_of, IsBack, Asks}
+use Rattle.om_pass_law.specs.OnePass.{Passed, start, further}
+use Rattle.om_pass_law.specs.Noted.{IsAt}
+
+module _ (table : Table) (noted more : List (ℕ × ℕ)) (kept : (o t : ℕ) → Contains noted (o, t) → Contains more (o, t)) where
+  back_weaker : (types : List ℕ) (t offset : ℕ) → IsBack noted table types t offset → IsBack more table types t offset
+  back_weaker types t offset back = record {
+    some = back.some;
+    few = back.few;
+    type = back.type;
+    at = ⊎_elim (λ first. inl first) (λ second. inr (kept (length types - offset) back.type second)) back.at;
+    equal = back.equal;
+  }
+
+  pub asks_weaker : (types : List ℕ) (need : Need) (token : Token) (next : List Need) → Asks noted table types need token next → Asks more table types need token next
+  asks_weaker types (of_type t) (integer z) next asks = asks
+  asks_weaker types (of_type t) (atom tag) next asks = asks
+  asks_weaker types (of_type t) (shared offset) next asks = (back_weaker types t offset asks.0, asks.1)
+  asks_weaker types (of_type t) (block tag size) next asks = asks
+  asks_weaker types (of_type t) (leaf object) next asks = asks
+  asks_weaker types (hash_of tags) (integer z) next asks = asks
+  asks_weaker types (hash_of tags) (atom tag) next asks = asks
+  asks_weaker types (hash_of tags) (shared offset) next asks = asks
+  asks_weaker types (hash_of tags) (block tag size) next asks = asks
+  asks_weaker types (hash_of tags) (leaf object) next asks = asks
+
+  pub passed_weaker : (ts : List Token) (types : List ℕ) (needs : List Need) → Passed noted table ts types needs → Passed more table ts types needs
+  passed_weaker ts types needs start = start
+  passed_weaker ts types needs (further tokens types' need needs' next token before asks) =
+      further tokens types' need needs' next token (passed_weaker tokens types' (need ∷ needs') before) (asks_weaker types' need token next asks)
+
+  -- the fields of a noted block, once more objects have come
+  pub at_weaker : (types later : List ℕ) (v : Val) (t : ℕ) → IsAt table types noted v t → IsAt table (types ++ later) more v t
+  at_weaker types later (vals.Int z) t at = at
+  at_weaker types later (vals.Atom tag) t at = at
+  at_weaker types later (vals.Ref o) t at =
+      (at.0, ⊎_elim (λ first. inl (slice_get-append_left types later o at.0 first)) (λ second. inr (kept o at.0 second)) at.1, at.2)

@@ -1,0 +1,99 @@
+-- What the places of a value ask for, told token by token: each object has the type that its first
+-- place asks for.
+use Rattle.std.specs.Prelude.{ℕ, ◌-◌, ◌==◌, ◌≤◌, ◌≡◌, ◌&&◌, Bool, if◌then◌else◌}
+use Rattle.std.specs.Prelude.{List, [], ◌∷◌, ◌++◌, length, map, replicate, slice_get}
+use Rattle.std.specs.Prelude.{Option, Some, None, IsTrue, IsSome, ℤ, ◌⊎◌, Contains}
+use Rattle.om_types.specs.declared.shape.Constr.{Constr}
+use Rattle.om_types.specs.declared.shape.PolyTag.{PolyTag}
+use Rattle.om_types.specs.declared.shape.ShapeOf.{ShapeOf}
+use Rattle.om_types.specs.declared.shape.ShapeOf.TheVariants as shapes
+use Rattle.om_types.specs.Fitting.{tag_with, fits_int, fits_atom, object_fields}
+use Rattle.om_types.specs.Table.{Table, node_or_none, table_shapes}
+use Rattle.om_format.specs.Token.{Token, integer, atom, shared, block, leaf}
+
+-- what a place asks for: a value of a type, or the hash of a tag that has an argument
+pub data Need : Type 0 where
+  of_type : ℕ → Need
+  hash_of : List (PolyTag ℕ) → Need
+
+abbrev pub shape_at : Table → ℕ → ShapeOf ℕ
+shape_at table t = node_or_none (slice_get table.nodes t)
+
+-- ---- what the fields of a block ask for, in their order, where the block fits
+
+abbrev pub needs_if : Bool → List ℕ → Option (List Need)
+needs_if fits ts = if fits then Some (map of_type ts) else None
+
+abbrev pub constr_needs : ℕ → Option (Constr ℕ) → Option (List Need)
+constr_needs size None = None
+constr_needs size (Some constr) = needs_if (length constr.fields == size) constr.fields
+
+-- the argument of a tag is asked for once the hash is known
+abbrev pub block_needs : ShapeOf ℕ → ℕ → ℕ → Option (List Need)
+block_needs (shapes.Sum constants blocks) tag size = constr_needs size (slice_get blocks tag)
+block_needs (shapes.Product mutable ts) tag size = needs_if ((tag == 0) && (length ts == size)) ts
+block_needs (shapes.ArrayOf t) tag size = needs_if (tag == 0) (replicate size t)
+block_needs (shapes.Poly tags) tag size =
+    if (tag == 0) && (size == 2) then Some (hash_of tags ∷ []) else None
+block_needs shape tag size = None
+
+-- ---- a token in a place
+
+-- the object that a reference leads back to has an equal type, or is noted at one
+pub record IsBack
+    (noted : List (ℕ × ℕ)) (table : Table) (types : List ℕ) (t offset : ℕ)
+    : Type 0 where
+  pub some : 1 ≤ offset
+  pub few : offset ≤ length types
+  pub type : ℕ
+  pub at :
+      (slice_get types (length types - offset) ≡ Some type)
+      ⊎ Contains noted (length types - offset, type)
+  pub equal : (table_shapes table).equal type t
+
+-- a tag with this hash has an argument of the type
+pub record IsTagged (tags : List (PolyTag ℕ)) (z : ℤ) (next : List Need) : Type 0 where
+  pub tag : PolyTag ℕ
+  pub has_hash : tag_with tags z ≡ Some tag
+  pub type : ℕ
+  pub has_argument : tag.arg ≡ Some type
+  pub argument : next ≡ of_type type ∷ []
+
+-- After objects of these types the token has what its place asks for, and then this is asked for
+-- before all else.
+abbrev pub Asks : List (ℕ × ℕ) → Table → List ℕ → Need → Token → List Need → Type 0
+Asks noted table types (of_type t) (integer z) next =
+    IsTrue (fits_int (shape_at table t) z) × (next ≡ [])
+Asks noted table types (of_type t) (atom tag) next =
+    IsTrue (fits_atom (shape_at table t) tag) × (next ≡ [])
+Asks noted table types (of_type t) (shared offset) next =
+    IsBack noted table types t offset × (next ≡ [])
+Asks noted table types (of_type t) (block tag size) next =
+    block_needs (shape_at table t) tag size ≡ Some next
+Asks noted table types (of_type t) (leaf object) next =
+    IsSome (object_fields (shape_at table t) object) × (next ≡ [])
+Asks noted table types (hash_of tags) (integer z) next = IsTagged tags z next
+Asks noted table types (hash_of tags) (atom tag) next = ⊥
+Asks noted table types (hash_of tags) (shared offset) next = ⊥
+Asks noted table types (hash_of tags) (block tag size) next = ⊥
+Asks noted table types (hash_of tags) (leaf object) next = ⊥
+
+-- the type of the object that a token makes in a place
+abbrev pub type_in : Need → Token → List ℕ
+type_in (of_type t) (integer z) = []
+type_in (of_type t) (atom tag) = []
+type_in (of_type t) (shared offset) = []
+type_in (of_type t) (block tag size) = t ∷ []
+type_in (of_type t) (leaf object) = t ∷ []
+type_in (hash_of tags) token = []
+
+-- From objects of these types and these open places on, the tokens have what is asked for, and
+-- nothing is open after them; in all the objects have the types of the last list.
+abbrev pub Passes :
+    List (ℕ × ℕ) → Table → List ℕ → List Need → List Token → List ℕ → Type 0
+Passes noted table types [] [] all = types ≡ all
+Passes noted table types [] (token ∷ tokens) all = ⊥
+Passes noted table types (need ∷ needs) [] all = ⊥
+Passes noted table types (need ∷ needs) (token ∷ tokens) all =
+    (next : List Need) × Asks noted table types need token next
+    × Passes noted table (types ++ type_in need token) (next ++ needs) tokens all

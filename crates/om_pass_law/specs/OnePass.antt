@@ -1,0 +1,69 @@
+-- What a pass over the bytes of a value at a type answers, and what it knows on its way.
+use Rattle.std.specs.Prelude.{ℕ, ◌+◌, ◌≤◌, ◌<◌, ◌^◌, ◌≡◌, ◌⊎◌}
+use Rattle.std.specs.Prelude.{List, [], ◌∷◌, ◌++◌, length, map, take, All}
+use Rattle.std.specs.List.{concat, AllZip}
+use Rattle.om_model.specs.declared.header.Head.{Head}
+use Rattle.om_types.specs.Fitting.{numbered_from}
+use Rattle.om_types.specs.Table.{Table, table_shapes}
+use Rattle.om_types.specs.Typing.{IsTyping, HasType}
+use Rattle.om_format.specs.Words.{objects, all_words32, all_words64}
+use Rattle.om_format.specs.Header.{head_of}
+use Rattle.om_format.specs.Token.{Token, Spells, measure_of}
+use Rattle.om_format.specs.Tree.{Tree, root, objects_of}
+use Rattle.om_format.specs.Preorder.{EachRefersBack}
+use Rattle.om_format.specs.Spelled.{SpelledUnder, IsHeader, IsNoReference, StatesWords32}
+use Rattle.om_pass_law.specs.Asked.{Need, of_type, Asks, type_in}
+
+-- the first n bytes spell a value under the limit, which has type 0 of the table
+pub record IsTypedFront (table : Table) (limit n : ℕ) (bytes : List ℕ) : Type 0 where
+  pub within : n ≤ length bytes
+  pub tree : Tree
+  pub spelled : SpelledUnder limit (take n bytes) tree
+  pub typed : HasType (table_shapes table) (objects_of tree 0) (root tree 0) 0
+
+-- the same with the type of each object, by its number
+pub record AreTypesOf
+    (noted : List (ℕ × ℕ)) (table : Table) (tree : Tree) (types : List ℕ)
+    : Type 0 where
+  pub many : length types ≡ length (objects_of tree 0)
+  pub typing : IsTyping (table_shapes table) (objects_of tree 0) (numbered_from 0 types ++ noted)
+  pub typed : HasType (table_shapes table) (objects_of tree 0) (root tree 0) 0
+
+-- these tokens lead from the start to objects of these types and these open places
+pub data Passed
+    (noted : List (ℕ × ℕ)) (table : Table)
+    : List Token → List ℕ → List Need → Type 0 where
+  start : Passed noted table [] [] (of_type 0 ∷ [])
+  further :
+      (tokens : List Token) (types : List ℕ) (need : Need) (needs next : List Need) (token : Token)
+      → Passed noted table tokens types (need ∷ needs) → Asks noted table types need token next
+      → Passed noted table (tokens ++ token ∷ []) (types ++ type_in need token) (next ++ needs)
+
+-- Of the first n bytes a header, of so many bytes, and the tokens' spellings were taken; the
+-- objects made have the types, and the open places ask for the needs.
+pub record IsPassing
+    (noted : List (ℕ × ℕ)) (table : Table) (limit : ℕ) (bytes : List ℕ) (head : Head) (start n : ℕ)
+    (tokens : List Token) (types : List ℕ) (needs : List Need)
+    : Type 0 where
+  pub header : List ℕ
+  pub pieces : List (List ℕ)
+  pub within : n ≤ length bytes
+  pub is_header : IsHeader header
+  pub head_is : head_of header ≡ head
+  pub begins : length header ≡ start
+  pub taken : take n bytes ≡ header ++ concat pieces
+  pub spells : AllZip Spells tokens pieces
+  pub refer_back : EachRefersBack 0 tokens
+  pub made : objects (map measure_of tokens) ≡ length types
+  pub unshared : head.objects ≡ 0 → All IsNoReference tokens
+  pub passed : Passed noted table tokens types needs
+  pub words : head.w64 ≤ limit
+  pub small : head.length < 2 ^ 48
+
+-- the header states what was taken after n bytes: the data bytes, the words, and the number of
+-- objects, or 0 for it
+pub record Ends (head : Head) (start n : ℕ) (tokens : List Token) (types : List ℕ) : Type 0 where
+  pub whole : n ≡ start + head.length
+  pub w32 : StatesWords32 head.big head.w32 (all_words32 (map measure_of tokens))
+  pub w64 : head.w64 ≡ all_words64 (map measure_of tokens)
+  pub count : (head.objects ≡ 0) ⊎ (head.objects ≡ length types)
