@@ -1,0 +1,5 @@
+pub mod PlaceLemmas
+pub mod Weaker
+pub mod PieceLemmas
+pub mod StateLemmas
+pub mod RunLemmas

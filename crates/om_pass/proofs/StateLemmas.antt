@@ -1,0 +1,96 @@
+-- What each token changes.
+use Rattle.std.proofs.Common.{ℕ, ℤ, ◌+◌, ◌-◌, ◌≤◌, ◌≡◌, ◌∙◌, List, [], ◌∷◌, ◌++◌, length, Some, inl, refl, sym, ap, subst, arith}
+use Rattle.std.specs.Prelude.{IsTrue, IsSome, slice_get}
+use Rattle.std.proofs.lemmas.List.{append-nil}
+use Rattle.om_model.specs.declared.code.Measure.{Measure}
+use Rattle.om_model.specs.declared.value.Obj.{Obj}
+use Rattle.om_types.specs.declared.shape.PolyTag.{PolyTag}
+use Rattle.om_types.specs.Fitting.{fits_int, fits_atom, tag_with, object_fields}
+use Rattle.om_types.specs.Table.{Table, table_shapes}
+use Rattle.om_format.specs.Words.{of_object, words32, words64}
+use Rattle.om_format.specs.Token.{integer, atom, shared, block, leaf, leaf_measure}
+use Rattle.om_pass_law.specs.Asked.{Need, of_type, hash_of, shape_at, block_needs, IsBack}
+use Rattle.om_pass.specs.declared.state.State.{State}
+use Rattle.om_pass.specs.State.{types_in, needs_in, Took, TookLeaf, Spends}
+use Rattle.om_pass.specs.declared.words.Words.{Words}
+use Rattle.om_pass.specs.declared.places.Places.{Places}
+use Rattle.om_pass.specs.declared.places.Asked.{Asked}
+use Rattle.om_pass.specs.declared.places.Asked.TheVariants as places
+use Rattle.om_pass.specs.Places.{places_needs, need_of}
+use Rattle.om_model.specs.declared.code.Measure.TheVariants as measures
+
+module _ (table : Table) (state : State) where
+  pub took_integer : (t : ℕ) (z : ℤ) → IsTrue (fits_int (shape_at table t) z) → Took table state state (of_type t) (integer z)
+  took_integer t z fits = record {
+    next = [];
+    asks = (fits, refl);
+    types = sym (append-nil (types_in state));
+    needs = refl;
+    w32 = omega arith;
+    w64 = omega arith;
+  }
+
+  pub took_atom : (t tag : ℕ) → IsTrue (fits_atom (shape_at table t) tag) → Took table state state (of_type t) (atom tag)
+  took_atom t tag fits = record {
+    next = [];
+    asks = (fits, refl);
+    types = sym (append-nil (types_in state));
+    needs = refl;
+    w32 = omega arith;
+    w64 = omega arith;
+  }
+
+  pub took_shared : (t offset : ℕ) → IsBack [] table (types_in state) t offset → Took table state state (of_type t) (shared offset)
+  took_shared t offset back = record {
+    next = [];
+    asks = (back, refl);
+    types = sym (append-nil (types_in state));
+    needs = refl;
+    w32 = omega arith;
+    w64 = omega arith;
+  }
+
+-- a reference comes where a type is asked for
+pub took_back : (table : Table) (state : State) (asked : Asked) (t offset : ℕ) → asked ≡ places.Type t → IsBack [] table (types_in state) t offset
+    → (1 ≤ offset) × (offset ≤ length state.types.items) × Took table state state (need_of asked) (shared offset)
+took_back table state asked t offset is back = (back.some, back.few, subst (λ a. Took table state state (need_of a) (shared offset)) (sym is) (took_shared table state t offset back))
+
+-- the offset leads back to an object of an equal type
+pub back_at : (table : Table) (types : List ℕ) (t offset first : ℕ) → 1 ≤ offset → offset ≤ length types → slice_get types (length types - offset) ≡ Some first → (table_shapes table).equal first t → IsBack [] table types t offset
+back_at table types t offset first some few at equal = record { some = some; few = few; type = first; at = inl at; equal = equal }
+
+pub took_hash :
+    (table : Table) (old new : State) (tags : List (PolyTag ℕ)) (z : ℤ) (tag : PolyTag ℕ) (t : ℕ) → tag_with tags z ≡ Some tag → tag.arg ≡ Some t
+    → types_in new ≡ types_in old → needs_in new ≡ of_type t ∷ needs_in old → new.words ≡ old.words → Took table old new (hash_of tags) (integer z)
+took_hash table old new tags z tag t has_hash has_argument types needs words = record {
+  next = of_type t ∷ [];
+  asks = record { tag = tag; has_hash = has_hash; type = t; has_argument = has_argument; argument = refl };
+  types = types ∙ sym (append-nil (types_in old));
+  needs = needs;
+  w32 = let same = ap (λ (w : Words). w.w32) words in omega (arith, same);
+  w64 = let same = ap (λ (w : Words). w.w64) words in omega (arith, same);
+}
+
+pub took_block :
+    (table : Table) (old new : State) (t tag size : ℕ) (next : List Need) → block_needs (shape_at table t) tag size ≡ Some next → types_in new ≡ types_in old ++ t ∷ [] → needs_in new ≡ next ++ needs_in old
+    → Spends old.words (measures.Block size) new.words → Took table old new (of_type t) (block tag size)
+took_block table old new t tag size next asks types needs spends = record {
+  next = next;
+  asks = asks;
+  types = types;
+  needs = needs;
+  w32 = spends.w32;
+  w64 = spends.w64;
+}
+
+pub took_leaf :
+    (table : Table) (old new : State) (t : ℕ) (object : Obj) (measure : Measure) → leaf_measure object ≡ Some measure → IsSome (object_fields (shape_at table t) object) → TookLeaf old new t measure
+    → Took table old new (of_type t) (leaf object)
+took_leaf table old new t object measure is fits took = record {
+  next = [];
+  asks = (fits, refl);
+  types = took.types;
+  needs = ap (λ (p : Places). places_needs p) took.places;
+  w32 = ap (λ m. new.words.w32 + of_object words32 m) is ∙ took.w32;
+  w64 = ap (λ m. new.words.w64 + of_object words64 m) is ∙ took.w64;
+}

@@ -1,0 +1,17 @@
+-- Clauses on an answer that may be an error, or no.
+use Rattle.std.proofs.Common.{◌≡◌, Bool, true, false, Result, Ok, Err}
+use Rattle.std.specs.Prelude.{IfOk}
+use Rattle.std.specs.Bool.{OnTrue}
+
+pub on_true_weaker : {P Q : Type 0} (b : Bool) → (P → Q) → OnTrue b P → OnTrue b Q
+on_true_weaker true f h = f h
+on_true_weaker false f h = h
+
+pub taken_weaker : {E P Q : Type 0} (r : Result Bool E) → (P → Q) → IfOk r (λ took. OnTrue took P) → IfOk r (λ took. OnTrue took Q)
+taken_weaker (Ok true) f h = f h
+taken_weaker (Ok false) f h = h
+taken_weaker (Err e) f h = h
+
+pub if_true : {P : Type 0} (b : Bool) → b ≡ true → OnTrue b P → P
+if_true true is h = h
+if_true false is h = absurd (cc)

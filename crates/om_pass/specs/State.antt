@@ -1,0 +1,105 @@
+-- What a pass holds on its way, and what a token changes.
+use Rattle.std.specs.Prelude.{ℕ, ◌+◌, ◌-◌, ◌^◌, ◌<◌, ◌≤◌, ◌≡◌, if◌then◌else◌}
+use Rattle.std.specs.Prelude.{List, [], ◌∷◌, ◌++◌, length, map, take, ◌⊎◌, false}
+use Rattle.std.specs.Prelude.{Bool, Result, IfOk}
+use Rattle.std.specs.Bool.{OnTrue}
+use Rattle.om_model.specs.declared.code.CodeKind.{CodeKind}
+use Rattle.om_model.specs.declared.code.Measure.{Measure}
+use Rattle.om_model.specs.declared.header.Head.{Head}
+use Rattle.om_types.specs.Table.{Table}
+use Rattle.om_format.specs.Words.{of_object, words32, words64, all_words32, all_words64}
+use Rattle.om_format.specs.Header.{magic, small_magic, big_magic, header_length, head_of}
+use Rattle.om_format.specs.Token.{Token, IsToken, Spells, SpellsAfter, measure_of}
+use Rattle.om_format.specs.Tree.{RefersBack}
+use Rattle.om_format.specs.Spelled.{IsNoReference}
+use Rattle.om_pass_law.specs.Asked.{Need, Asks, type_in}
+use Rattle.om_pass_law.specs.OnePass.{IsPassing}
+use Rattle.om_pass.specs.declared.words.Words.{Words}
+use Rattle.om_pass.specs.declared.state.State.{State}
+use Rattle.om_pass.specs.Places.{places_needs}
+
+-- the types of the objects met, by their numbers
+abbrev pub types_in : State → List ℕ
+types_in state = state.types.items
+
+abbrev pub needs_in : State → List Need
+needs_in state = places_needs state.places
+
+-- the words on 32 bits that a header allows; a big one states none
+abbrev pub stated32 : Head → ℕ
+stated32 head = if head.big then 2 ^ 64 - 1 else head.w32
+
+-- the words before and after an object
+pub record Spends (old : Words) (measure : Measure) (new : Words) : Type 0 where
+  pub w32 : new.w32 + words32 measure ≡ old.w32
+  pub w64 : new.w64 + words64 measure ≡ old.w64
+
+-- where a token was taken, and memory was not out
+abbrev pub IfTook : {E : Type 0} → Result Bool E → Type 0 → Type 0
+IfTook result P = IfOk result (λ took. OnTrue took P)
+
+-- A token was taken in a place that asked for the need.
+pub record Took (table : Table) (old new : State) (need : Need) (token : Token) : Type 0 where
+  pub next : List Need
+  pub asks : Asks [] table (types_in old) need token next
+  pub types : types_in new ≡ types_in old ++ type_in need token
+  pub needs : needs_in new ≡ next ++ needs_in old
+  pub w32 : new.words.w32 + of_object words32 (measure_of token) ≡ old.words.w32
+  pub w64 : new.words.w64 + of_object words64 (measure_of token) ≡ old.words.w64
+
+-- an object without fields was taken, of this type and this measure
+pub record TookLeaf (old new : State) (type : ℕ) (measure : Measure) : Type 0 where
+  pub types : types_in new ≡ types_in old ++ type ∷ []
+  pub places : new.places ≡ old.places
+  pub w32 : new.words.w32 + words32 measure ≡ old.words.w32
+  pub w64 : new.words.w64 + words64 measure ≡ old.words.w64
+
+-- the token may stand after so many objects, where the header states so many
+pub record IsThere (token : Token) (made stated : ℕ) : Type 0 where
+  pub is_token : IsToken token
+  pub back : RefersBack token made
+  pub unshared : stated ≡ 0 → IsNoReference token
+
+-- the token was taken that the bytes after a code of this kind spell
+pub record TookPiece
+    (table : Table) (stated : ℕ) (old new : State) (need : Need) (kind : CodeKind) (piece : List ℕ)
+    : Type 0 where
+  pub token : Token
+  pub spells : SpellsAfter kind piece token
+  pub there : IsThere token (length (types_in old)) stated
+  pub took : Took table old new need token
+
+-- the token was taken that the first n bytes spell
+pub record TookFront
+    (table : Table) (stated : ℕ) (old new : State) (need : Need) (rest : List ℕ) (n : ℕ)
+    : Type 0 where
+  pub within : n ≤ length rest
+  pub token : Token
+  pub spells : Spells token (take n rest)
+  pub there : IsThere token (length (types_in old)) stated
+  pub took : Took table old new need token
+
+-- a header begins the bytes that states this, no more words than may be
+pub record BeginsAs (limit : ℕ) (bytes : List ℕ) (head : Head) : Type 0 where
+  pub magic_is : (magic bytes ≡ small_magic) ⊎ (magic bytes ≡ big_magic)
+  pub whole : header_length bytes ≤ length bytes
+  pub head_is : head ≡ head_of bytes
+  pub words : head.w64 ≤ limit
+  pub small : head.length < 2 ^ 48
+
+-- n bytes lead to here
+pub record Leads
+    (table : Table) (limit : ℕ) (bytes : List ℕ) (head : Head) (start n : ℕ) (state : State)
+    : Type 0 where
+  pub tokens : List Token
+  pub passing :
+      IsPassing [] table limit bytes head start n tokens (types_in state) (needs_in state)
+  pub w32 : state.words.w32 + all_words32 (map measure_of tokens) ≡ stated32 head
+  pub w64 : state.words.w64 + all_words64 (map measure_of tokens) ≡ head.w64
+
+-- nothing that the header states is still to come
+pub record IsSpent (head : Head) (start n : ℕ) (state : State) : Type 0 where
+  pub whole : n ≡ start + head.length
+  pub w32 : head.big ≡ false → state.words.w32 ≡ 0
+  pub w64 : state.words.w64 ≡ 0
+  pub count : (head.objects ≡ 0) ⊎ (head.objects ≡ length (types_in state))

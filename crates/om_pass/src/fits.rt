@@ -1,0 +1,137 @@
+//! What a shape says of the tokens that come where a value of it is asked for.
+
+ghost use Rattle.std.specs.Prelude.{◌≡◌, IfSome, option_map};
+ghost use Rattle.om_types.specs.Fitting as fitting;
+ghost use Rattle.om_types.specs.Fitting.{tag_with};
+ghost use Rattle.om_type_table.specs.Made.{table_of};
+ghost use Rattle.om_types.specs.Table.{table_shapes};
+ghost use Rattle.std.specs.Bool.{OnTrue};
+ghost use Rattle.std.specs.Prelude.{slice_get};
+ghost use Rattle.om_pass_law.specs.Asked.{shape_at, block_needs, constr_needs};
+ghost use Rattle.om_pass.specs.Places.{open_needs};
+
+use crate::places::Open;
+use om_type_table::TypeTable;
+use om_types::shape::{Constr, PolyTag, ShapeOf};
+
+/// The shape of a type, if it has one.
+#[inline(always)]
+pub fn shape_of(table: &TypeTable, ty: usize) -> Option<&ShapeOf<usize>>
+    ensures { IfSome result (λ shape. shape.now ≡ shape_at (table_of table.now) ty) }
+{
+    if ty < table.nodes.len() {
+        Some(table.shape(ty))
+    } else {
+        None
+    }
+}
+
+/// Whether an integer fits.
+#[inline(always)]
+pub fn fits_int(shape: &ShapeOf<usize>, z: i64) -> bool
+    ensures { result ≡ fitting.fits_int shape.now z }
+{
+    match shape {
+        ShapeOf::AnyInt => true,
+        ShapeOf::Below(limit) => is_below(*limit, z),
+        ShapeOf::Sum(constants, _) => is_below(*constants, z),
+        ShapeOf::Poly(tags) => match tag_of_hash(tags.as_slice(), z) {
+            Some(tag) => tag.arg.is_none(),
+            None => false,
+        },
+        _ => false,
+    }
+}
+
+/// Whether an integer is from 0 and below the limit.
+#[inline(always)]
+fn is_below(limit: u64, z: i64) -> bool
+    ensures { result ≡ fitting.is_below limit z }
+{
+    z >= 0 && (z as u64) < limit
+}
+
+/// The tag of this hash.
+pub fn tag_of_hash(tags: &[PolyTag<usize>], hash: i64) -> Option<&PolyTag<usize>>
+    ensures { option_map (λ tag. tag.now) result ≡ tag_with tags.now hash }
+{
+    tags.iter().find(|tag| is_hash(tag.hash, hash))
+}
+
+/// Whether a tag's hash is the number.
+fn is_hash(own: i64, hash: i64) -> bool
+    ensures { result ≡ fitting.is_number own hash }
+{
+    own == hash
+}
+
+/// Whether an atom fits.
+pub fn fits_atom(shape: &ShapeOf<usize>, tag: u8) -> bool
+    ensures { result ≡ fitting.fits_atom shape.now tag }
+{
+    match shape {
+        ShapeOf::ArrayOf(_) => tag == 0,
+        ShapeOf::FloatArray => tag == 0,
+        ShapeOf::ArrayOfVariable => tag == 0,
+        _ => false,
+    }
+}
+
+/// Whether an array of so many doubles fits.
+pub fn fits_doubles(shape: &ShapeOf<usize>, size: u64) -> bool
+    ensures { result ≡ fitting.has_doubles shape.now size }
+{
+    match shape {
+        ShapeOf::FloatArray => true,
+        ShapeOf::FlatFloats(_, fields) => *fields == size,
+        _ => false,
+    }
+}
+
+/// The places of a block, if it fits.
+#[inline(always)]
+pub fn block_places(shape: &ShapeOf<usize>, tag: u8, size: u64) -> Option<Open<'_>>
+    ensures { option_map open_needs result ≡ block_needs shape.now tag size }
+{
+    match shape {
+        ShapeOf::Sum(_, blocks) => constr_places(blocks.as_slice(), tag, size),
+        ShapeOf::Product(_, types) if tag == 0 && types.len() as u64 == size => {
+            Some(Open::Listed(types.as_slice()))
+        }
+        ShapeOf::ArrayOf(ty) if tag == 0 => Some(Open::Each(size, *ty)),
+        ShapeOf::Poly(tags) if tag == 0 && size == 2 => Some(Open::Tagged(tags.as_slice())),
+        _ => None,
+    }
+}
+
+/// The places of the block of a constructor, if it has so many.
+#[inline(always)]
+fn constr_places(blocks: &[Constr<usize>], tag: u8, size: u64) -> Option<Open<'_>>
+    ensures { option_map open_needs result ≡ constr_needs size (slice_get blocks.now tag) }
+{
+    if tag as usize >= blocks.len() {
+        return None;
+    }
+    let fields = blocks[tag as usize].fields.as_slice();
+    if fields.len() as u64 == size {
+        Some(Open::Listed(fields))
+    } else {
+        None
+    }
+}
+
+/// Whether two types have one class.
+#[inline(always)]
+pub fn is_equal(table: &TypeTable, first: usize, second: usize) -> bool
+    ensures { OnTrue result ((table_shapes (table_of table.now)).equal first second) }
+{
+    first == second || has_same_class(table, first, second)
+}
+
+/// The same by the classes.
+fn has_same_class(table: &TypeTable, first: usize, second: usize) -> bool
+    ensures { OnTrue result ((table_shapes (table_of table.now)).equal first second) }
+{
+    let many = table.classes.len();
+    first < many && second < many && table.class(first) == table.class(second)
+}

@@ -1,0 +1,12 @@
+//! A value is typed while its bytes are looked at once, without a heap: it is of the type, or nothing is said of it.
+#![tactic(auto)]
+
+mod fits;
+mod piece;
+mod places;
+mod state;
+mod step;
+mod whole;
+mod words;
+
+pub use whole::pass;

@@ -1,0 +1,53 @@
+//! How many bytes a token has, by its code and the bytes after it.
+
+ghost use Rattle.std.specs.Prelude.{◌≡◌, ◌≤◌, ◌+◌, ◌*◌, ◌<◌, ◌^◌, length, take, IfSome};
+ghost use Rattle.om_format.specs.Code.{IsKind};
+ghost use Rattle.om_format.specs.Raw.{fixed_bytes, variable_bytes};
+ghost use Rattle.om_model.specs.Bytes.{number};
+
+use om_model::bytes::big_endian;
+use om_model::code::CodeKind;
+
+/// How many bytes the token has after its code, if they are there. What a custom has is not told.
+#[inline(always)]
+pub fn piece_len(kind: CodeKind, rest: &[u8]) -> Option<usize>
+    requires { IsKind kind }
+    ensures { IfSome result
+        (λ len. (len ≤ length rest.now) × (len
+        ≡ fixed_bytes kind + variable_bytes kind rest.now)) }
+{
+    let len = match kind {
+        CodeKind::SmallBlock(_, _) | CodeKind::SmallInt(_) => 0,
+        CodeKind::SmallString(len) => usize::from(len),
+        CodeKind::Int(width) | CodeKind::Shared(width) | CodeKind::Block(width) => {
+            usize::from(width)
+        }
+        CodeKind::Double(_) => 8,
+        CodeKind::Str(width) => return counted(rest, usize::from(width), 1),
+        CodeKind::Doubles(width, _) => return counted(rest, usize::from(width), 8),
+        CodeKind::Custom(_) => return None,
+    };
+    if rest.len() < len {
+        return None;
+    }
+    Some(len)
+}
+
+/// A number of so many bytes and then so many items of so many bytes, if they are there.
+fn counted(rest: &[u8], width: usize, each: usize) -> Option<usize>
+    requires few { width ≤ 8 }
+    requires some { 0 < each }
+    requires little { each ≤ 8 }
+    ensures { IfSome result
+        (λ len. (len ≤ length rest.now) × (len ≡ width + each * number (take width rest.now))) }
+{
+    if rest.len() < width {
+        return None;
+    }
+    let count = big_endian(&rest[..width]);
+    let room = (rest.len() - width) / each;
+    if count > room as u64 {
+        return None;
+    }
+    Some(width + each * count as usize)
+}

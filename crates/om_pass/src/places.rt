@@ -1,0 +1,138 @@
+//! The places that are still open, by what each asks for.
+
+ghost use Rattle.std.specs.Prelude.{◌≡◌, ◌∷◌, ◌++◌, [], MatchOption, OnOk};
+ghost use Rattle.std.specs.Bool.{OnTrue};
+ghost use Rattle.om_pass_law.specs.Asked.{of_type};
+ghost use Rattle.om_pass.specs.Places.{open_needs, need_of, waiting_needs, places_needs};
+
+use om_model::Memory;
+use om_types::shape::PolyTag;
+use std::alloc::Global;
+
+/// The places of one block that are still open, in their order.
+#[derive(Clone, Copy)]
+pub enum Open<'a> {
+    /// A place for each of these types.
+    Listed(&'a [usize]),
+    /// So many places of one type.
+    Each(u64, usize),
+    /// The hash of one of these tags, and then its argument.
+    Tagged(&'a [PolyTag<usize>]),
+}
+
+/// What a place asks for.
+#[derive(Clone, Copy)]
+pub enum Asked<'a> {
+    Type(usize),
+    Hash(&'a [PolyTag<usize>]),
+}
+
+/// The first of open places, and the others.
+#[inline(always)]
+fn split<'a>(open: Open<'a>) -> Option<(Asked<'a>, Open<'a>)>
+    ensures { MatchOption result
+        (open_needs open.entry ≡ []) (λ first. open_needs open.entry ≡ need_of first.0
+        ∷ open_needs first.1) }
+{
+    match open {
+        Open::Listed(types) => {
+            if types.is_empty() {
+                return None;
+            }
+            Some((Asked::Type(types[0]), Open::Listed(&types[1..])))
+        }
+        Open::Each(count, ty) => {
+            if count == 0 {
+                return None;
+            }
+            Some((Asked::Type(ty), Open::Each(count - 1, ty)))
+        }
+        Open::Tagged(tags) => Some((Asked::Hash(tags), Open::Each(0, 0))),
+    }
+}
+
+/// Whether none is open any more.
+#[inline(always)]
+fn is_done(open: Open<'_>) -> bool
+    ensures { OnTrue result (open_needs open.entry ≡ []) }
+{
+    match open {
+        Open::Listed(types) => types.is_empty(),
+        Open::Each(count, _) => count == 0,
+        Open::Tagged(_) => false,
+    }
+}
+
+/// The open places of all blocks: of the innermost, and of those around it that have any.
+#[derive(Drop)]
+pub struct Places<'a> {
+    pub now: Open<'a>,
+    pub waiting: Vec<Open<'a>>,
+}
+
+impl<'a> Places<'a> {
+    /// The place of the value, which asks for the first type.
+    pub fn root(alloc: Global) -> Places<'a>
+        ensures { places_needs result ≡ of_type 0 ∷ [] }
+    {
+        Places {
+            now: Open::Each(1, 0),
+            waiting: Vec::new(alloc),
+        }
+    }
+
+    /// What the first open place asks for, which is then no longer open.
+    #[inline(always)]
+    pub fn next(&mut self) -> Option<Asked<'a>>
+        ensures { MatchOption result
+            (places_needs self.old ≡ []) (λ asked. places_needs self.old ≡ need_of asked
+            ∷ places_needs self.new) }
+    {
+        if let Some((asked, rest)) = split(self.now) {
+            self.now = rest;
+            return Some(asked);
+        }
+        self.next_waiting()
+    }
+
+    /// The same where the innermost block has none.
+    #[tactic(auto, using(crate::proofs::PlaceLemmas::waiting_needs_push))]
+    fn next_waiting(&mut self) -> Option<Asked<'a>>
+        requires { open_needs self.old.now ≡ [] }
+        ensures { MatchOption result
+            (places_needs self.old ≡ []) (λ asked. places_needs self.old ≡ need_of asked
+            ∷ places_needs self.new) }
+    {
+        while let Some(open) = self.waiting.pop() {
+            if let Some((asked, rest)) = split(open) {
+                self.now = rest;
+                return Some(asked);
+            }
+        }
+        None
+    }
+
+    /// The open places of the innermost block wait, if it has any.
+    #[tactic(auto, using(crate::proofs::PlaceLemmas::waiting_needs_push))]
+    #[inline(always)]
+    fn keep(&mut self) -> Result<(), Memory>
+        ensures { OnOk result (waiting_needs self.new.waiting.items ≡ places_needs self.old) }
+    {
+        if is_done(self.now) {
+            return Ok(());
+        }
+        self.waiting.push(self.now)?;
+        Ok(())
+    }
+
+    /// The places of a block inside come before all others.
+    #[inline(always)]
+    pub fn open(&mut self, inside: Open<'a>) -> Result<(), Memory>
+        ensures { OnOk result
+            (places_needs self.new ≡ open_needs inside.entry ++ places_needs self.old) }
+    {
+        self.keep()?;
+        self.now = inside;
+        Ok(())
+    }
+}

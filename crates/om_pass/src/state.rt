@@ -1,0 +1,254 @@
+//! What a pass holds on its way, and what each token changes.
+
+ghost use Rattle.std.specs.Prelude.{◌≡◌, ◌≤◌, ◌<◌, ◌^◌, ◌++◌, ◌∷◌, [], ℕ, List, Some, length};
+ghost use Rattle.std.specs.Prelude.{slice_get, IfOk};
+ghost use Rattle.std.specs.Bool.{OnTrue};
+ghost use Rattle.om_model.specs.declared.value.Obj.TheVariants as objects;
+ghost use Rattle.om_type_table.specs.Made.{table_of};
+ghost use Rattle.om_format.specs.Token.{integer, atom, shared, block, leaf, block_or_atom};
+ghost use Rattle.om_headers.specs.Counting.{IsCountable};
+ghost use Rattle.om_pass_law.specs.Asked.{hash_of, IsBack};
+ghost use Rattle.om_pass.specs.Places.{need_of};
+ghost use Rattle.om_pass.specs.State.{Took, TookLeaf, IfTook};
+
+use crate::fits::{
+    block_places, fits_atom, fits_doubles, fits_int, is_equal, shape_of, tag_of_hash,
+};
+use crate::places::{Asked, Open, Places};
+use crate::words::Words;
+use om_model::Memory;
+use om_model::code::Measure;
+use om_type_table::TypeTable;
+use om_types::shape::{PolyTag, ShapeOf};
+
+/// The places that are open, the types of the objects met, and the words that are still to come.
+#[derive(Drop)]
+pub struct State<'a> {
+    pub places: Places<'a>,
+    pub types: Vec<u16>,
+    pub words: Words,
+}
+
+/// One more object has the type, if there is room for its number.
+#[inline(always)]
+fn add_type(types: &mut Vec<u16>, ty: usize) -> Result<bool, Memory>
+    ensures { IfOk result (λ added. OnTrue added (types.new.items ≡ types.old.items ++ ty ∷ [])) }
+{
+    if ty >= 1 << 16 {
+        return Ok(false);
+    }
+    types.push(ty as u16)?;
+    Ok(true)
+}
+
+/// The type of an object.
+#[inline(always)]
+fn type_at(types: &[u16], object: usize) -> usize
+    requires { object < length types.now }
+    ensures { slice_get types.now object ≡ Some result }
+{
+    usize::from(types[object])
+}
+
+/// Whether so many places back an object stands of an equal type.
+#[inline(always)]
+fn is_back(table: &TypeTable, types: &[u16], ty: usize, offset: u64) -> bool
+    ensures { OnTrue result (IsBack [] (table_of table.now) types.now ty offset) }
+{
+    let made = types.len() as u64;
+    if offset == 0 || made < offset {
+        return false;
+    }
+    let first = type_at(types, (made - offset) as usize);
+    is_equal(table, first, ty)
+}
+
+impl<'a> State<'a> {
+    /// An integer comes.
+    #[inline(always)]
+    pub fn integer(
+        &mut self,
+        table: &'a TypeTable,
+        asked: Asked<'a>,
+        z: i64,
+    ) -> Result<bool, Memory>
+        ensures { IfTook result
+            (Took (table_of table.now) self.old self.new (need_of asked.entry) (integer z)) }
+    {
+        match asked {
+            Asked::Type(ty) => match shape_of(table, ty) {
+                Some(shape) => Ok(fits_int(shape, z)),
+                None => Ok(false),
+            },
+            Asked::Hash(tags) => self.hash(table, tags, z),
+        }
+    }
+
+    /// A tag's hash comes, after which its argument is asked for.
+    fn hash(
+        &mut self,
+        table: &'a TypeTable,
+        tags: &'a [PolyTag<usize>],
+        z: i64,
+    ) -> Result<bool, Memory>
+        ensures { IfTook result
+            (Took (table_of table.now) self.old self.new (hash_of tags.now) (integer z)) }
+    {
+        let Some(tag) = tag_of_hash(tags, z) else {
+            return Ok(false);
+        };
+        match tag.arg {
+            Some(ty) => {
+                self.places.open(Open::Each(1, ty))?;
+                Ok(true)
+            }
+            None => Ok(false),
+        }
+    }
+
+    /// An atom comes.
+    fn atom(&self, table: &TypeTable, asked: Asked<'_>, tag: u8) -> bool
+        ensures { OnTrue result
+            (Took (table_of table.now) self.now self.now (need_of asked.entry) (atom tag)) }
+    {
+        match asked {
+            Asked::Type(ty) => match shape_of(table, ty) {
+                Some(shape) => fits_atom(shape, tag),
+                None => false,
+            },
+            Asked::Hash(_) => false,
+        }
+    }
+
+    /// A reference to an earlier object comes.
+    #[inline(always)]
+    pub fn shared(&self, table: &TypeTable, asked: Asked<'_>, offset: u64) -> bool
+        ensures { OnTrue result
+            ((1 ≤ offset) × (offset ≤ length self.now.types.items)
+            × Took (table_of table.now) self.now self.now (need_of asked.entry) (shared offset)) }
+    {
+        match asked {
+            Asked::Type(ty) => is_back(table, self.types.as_slice(), ty, offset),
+            Asked::Hash(_) => false,
+        }
+    }
+
+    /// A block comes, and then its fields.
+    #[inline(always)]
+    fn block(
+        &mut self,
+        table: &'a TypeTable,
+        asked: Asked<'a>,
+        tag: u8,
+        size: u64,
+    ) -> Result<bool, Memory>
+        requires { size < 2 ^ 60 }
+        ensures { IfTook result
+            (Took (table_of table.now) self.old self.new (need_of asked.entry) (block tag size)) }
+    {
+        let Asked::Type(ty) = asked else {
+            return Ok(false);
+        };
+        let Some(shape) = shape_of(table, ty) else {
+            return Ok(false);
+        };
+        let Some(fields) = block_places(shape, tag, size) else {
+            return Ok(false);
+        };
+        if !self.words.spend(Measure::Block(size)) || !add_type(&mut self.types, ty)? {
+            return Ok(false);
+        }
+        self.places.open(fields)?;
+        Ok(true)
+    }
+
+    /// A block comes, or an atom where it has no fields.
+    #[inline(always)]
+    pub fn block_or_atom(
+        &mut self,
+        table: &'a TypeTable,
+        asked: Asked<'a>,
+        tag: u8,
+        size: u64,
+    ) -> Result<bool, Memory>
+        requires { size < 2 ^ 60 }
+        ensures { IfTook result
+            (Took (table_of table.now) self.old self.new
+            (need_of asked.entry) (block_or_atom tag size)) }
+    {
+        if size == 0 {
+            Ok(self.atom(table, asked, tag))
+        } else {
+            self.block(table, asked, tag, size)
+        }
+    }
+
+    /// An object without fields comes, which fits the type.
+    #[inline(always)]
+    fn leaf(&mut self, ty: usize, measure: Measure) -> Result<bool, Memory>
+        requires { IsCountable measure }
+        ensures { IfTook result (TookLeaf self.old self.new ty measure) }
+    {
+        if !self.words.spend(measure) {
+            return Ok(false);
+        }
+        add_type(&mut self.types, ty)
+    }
+
+    /// A string of so many bytes comes.
+    #[inline(always)]
+    pub fn bytes(&mut self, table: &TypeTable, asked: Asked<'_>, size: u64) -> Result<bool, Memory>
+        ensures { IfTook result
+            ((all : List ℕ) → length all ≡ size
+            → Took (table_of table.now) self.old self.new
+            (need_of asked.entry) (leaf (objects.Bytes all))) }
+    {
+        let Asked::Type(ty) = asked else {
+            return Ok(false);
+        };
+        match shape_of(table, ty) {
+            Some(ShapeOf::Bytes(_)) if size < 1 << 60 => self.leaf(ty, Measure::Bytes(size)),
+            _ => Ok(false),
+        }
+    }
+
+    /// A double comes.
+    #[inline(always)]
+    pub fn double(&mut self, table: &TypeTable, asked: Asked<'_>) -> Result<bool, Memory>
+        ensures { IfTook result
+            ((bits : ℕ)
+            → Took (table_of table.now) self.old self.new
+            (need_of asked.entry) (leaf (objects.Double bits))) }
+    {
+        let Asked::Type(ty) = asked else {
+            return Ok(false);
+        };
+        match shape_of(table, ty) {
+            Some(ShapeOf::Double) => self.leaf(ty, Measure::Double),
+            _ => Ok(false),
+        }
+    }
+
+    /// An array of so many doubles comes.
+    pub fn doubles(
+        &mut self,
+        table: &TypeTable,
+        asked: Asked<'_>,
+        size: u64,
+    ) -> Result<bool, Memory>
+        ensures { IfTook result
+            ((all : List ℕ) → length all ≡ size
+            → Took (table_of table.now) self.old self.new
+            (need_of asked.entry) (leaf (objects.Doubles all))) }
+    {
+        let Asked::Type(ty) = asked else {
+            return Ok(false);
+        };
+        match shape_of(table, ty) {
+            Some(shape) if size < 1 << 60 && fits_doubles(shape, size) => {
+                self.leaf(ty, Measure::Doubles(size))
+            }
+            _ => Ok(false),
+        }
+    }
+}

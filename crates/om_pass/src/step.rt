@@ -1,0 +1,168 @@
+//! One token.
+
+ghost use Rattle.std.specs.Prelude.{◌≡◌, ◌≤◌, ◌<◌, ◌+◌, ◌/◌, ◌%◌, ◌^◌, ℕ, List, length, IfOk};
+ghost use Rattle.std.specs.Bool.{OnTrue};
+ghost use Rattle.om_model.specs.declared.value.Obj.TheVariants as objects;
+ghost use Rattle.om_model.specs.Bytes.{signed as signed_number};
+ghost use Rattle.om_model.specs.Graph.{IsInteger};
+ghost use Rattle.om_format.specs.Code.{IsKind, kind_of};
+ghost use Rattle.om_format.specs.Raw.{fixed_bytes, variable_bytes};
+ghost use Rattle.om_format.specs.Token.{integer, shared, leaf, word_token};
+ghost use Rattle.om_type_table.specs.Made.{table_of};
+ghost use Rattle.om_pass.specs.Places.{need_of};
+ghost use Rattle.om_pass.specs.State.{Took, TookPiece, TookFront, IfTook};
+
+use crate::piece::piece_len;
+use crate::places::Asked;
+use crate::state::State;
+use om_codes::code_kind;
+use om_model::Memory;
+use om_model::bytes::{big_endian, signed};
+use om_model::code::CodeKind;
+use om_type_table::TypeTable;
+
+/// An integer of these bytes comes, which has 63 bits.
+#[inline(always)]
+fn take_integer<'a>(
+    table: &'a TypeTable,
+    state: &mut State<'a>,
+    asked: Asked<'a>,
+    piece: &[u8],
+) -> Result<bool, Memory>
+    requires some { 1 ≤ length piece.now }
+    requires few { length piece.now ≤ 8 }
+    ensures { IfTook result
+        (IsInteger (signed_number piece.now)
+        × Took (table_of table.now) state.old state.new (need_of asked.entry)
+        (integer (signed_number piece.now))) }
+{
+    let z = signed(piece);
+    if z < -(1 << 62) || z >= 1 << 62 {
+        return Ok(false);
+    }
+    state.integer(table, asked, z)
+}
+
+/// A reference comes, where the header states objects.
+#[inline(always)]
+fn take_shared(
+    table: &TypeTable,
+    stated: u64,
+    state: &State<'_>,
+    asked: Asked<'_>,
+    offset: u64,
+) -> bool
+    ensures { OnTrue result
+        ((0 < stated) × (1 ≤ offset) × (offset ≤ length state.now.types.items)
+        × Took (table_of table.now) state.now state.now (need_of asked.entry) (shared offset)) }
+{
+    if stated == 0 {
+        return false;
+    }
+    state.shared(table, asked, offset)
+}
+
+/// A block or an atom comes, by its header word.
+fn take_word<'a>(
+    table: &'a TypeTable,
+    state: &mut State<'a>,
+    asked: Asked<'a>,
+    word: u64,
+) -> Result<bool, Memory>
+    ensures { IfTook result
+        ((word % 256 ≤ 243)
+        × Took (table_of table.now) state.old state.new (need_of asked.entry) (word_token word)) }
+{
+    let tag = word % 256;
+    if tag > 243 {
+        return Ok(false);
+    }
+    state.block_or_atom(table, asked, tag as u8, word / 1024)
+}
+
+/// An array of so many doubles comes, which has some.
+fn take_doubles<'a>(
+    table: &'a TypeTable,
+    state: &mut State<'a>,
+    asked: Asked<'a>,
+    count: u64,
+) -> Result<bool, Memory>
+    ensures { IfTook result
+        ((0 < count) × ((all : List ℕ) → length all ≡ count
+        → Took (table_of table.now) state.old state.new
+        (need_of asked.entry) (leaf (objects.Doubles all)))) }
+{
+    if count == 0 {
+        return Ok(false);
+    }
+    state.doubles(table, asked, count)
+}
+
+/// The token comes of this kind, after whose code stands the piece, if it has what is asked for.
+#[inline(always)]
+fn take_piece<'a>(
+    table: &'a TypeTable,
+    stated: u64,
+    state: &mut State<'a>,
+    asked: Asked<'a>,
+    kind: CodeKind,
+    piece: &[u8],
+) -> Result<bool, Memory>
+    requires known { IsKind kind }
+    requires whole { length piece.now ≡ fixed_bytes kind + variable_bytes kind piece.now }
+    ensures { IfTook result
+        (TookPiece (table_of table.now) stated state.old state.new
+        (need_of asked.entry) kind piece.now) }
+{
+    match kind {
+        CodeKind::SmallBlock(tag, size) => {
+            state.block_or_atom(table, asked, tag, u64::from(size))
+        }
+        CodeKind::SmallInt(value) => state.integer(table, asked, i64::from(value)),
+        CodeKind::SmallString(len) => state.bytes(table, asked, u64::from(len)),
+        CodeKind::Int(_) => take_integer(table, state, asked, piece),
+        CodeKind::Shared(_) => Ok(take_shared(table, stated, state, asked, big_endian(piece))),
+        CodeKind::Block(_) => take_word(table, state, asked, big_endian(piece)),
+        CodeKind::Str(width) => {
+            let len = piece.len() - usize::from(width);
+            state.bytes(table, asked, len as u64)
+        }
+        CodeKind::Double(_) => state.double(table, asked),
+        CodeKind::Doubles(width, _) => {
+            let count = big_endian(&piece[..usize::from(width)]);
+            take_doubles(table, state, asked, count)
+        }
+        CodeKind::Custom(_) => Ok(false),
+    }
+}
+
+/// The first token of the bytes comes, if it has what is asked for: how many bytes it has, or 0.
+#[inline(always)]
+pub fn step<'a>(
+    table: &'a TypeTable,
+    stated: u64,
+    state: &mut State<'a>,
+    asked: Asked<'a>,
+    rest: &[u8],
+) -> Result<usize, Memory>
+    ensures { IfOk result
+        (λ n. 0 < n
+        → TookFront (table_of table.now) stated state.old state.new
+        (need_of asked.entry) rest.now n) }
+{
+    if rest.is_empty() {
+        return Ok(0);
+    }
+    let Ok(kind) = code_kind(rest[0]) else {
+        return Ok(0);
+    };
+    let after = &rest[1..];
+    let Some(len) = piece_len(kind, after) else {
+        return Ok(0);
+    };
+    if take_piece(table, stated, state, asked, kind, &after[..len])? {
+        Ok(1 + len)
+    } else {
+        Ok(0)
+    }
+}
