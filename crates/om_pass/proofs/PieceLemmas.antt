@@ -6,13 +6,17 @@ use Rattle.om_model.specs.declared.code.CodeKind.TheVariants as kinds
 use Rattle.om_model.specs.Bytes.{AreBytes, number, number_in, signed}
 use Rattle.om_model.specs.Graph.{IsInteger}
 use Rattle.om_types.specs.Table.{Table}
-use Rattle.om_format.specs.Code.{IsKind, kind_of}
-use Rattle.om_format.specs.Raw.{fixed_bytes, variable_bytes}
+use Rattle.om_format.specs.Code.{IsKind, kind_of, custom_of}
+use Rattle.om_format.specs.Raw.{fixed_bytes, variable_bytes, custom_bytes}
 use Rattle.om_format.specs.Token.{Token, integer, shared, leaf, block_or_atom, word_token, Spells, SpellsFrom, SpellsAfter}
-use Rattle.om_format.proofs.SpellFields.{AreSoundFields, spelled_of}
+use Rattle.om_format.proofs.SpellFields.{AreSoundFields, IsKnownData, spelled_of}
+use Rattle.om_format.proofs.ContentLemmas.{SpellsData, data_at}
+use Rattle.om_model.specs.declared.code.CustomKind.{CustomKind}
+use Rattle.om_model.specs.declared.code.CustomKind.TheVariants as customs
+use Rattle.std.specs.Prelude.{ℤ, slice_index, Some}
 use Rattle.om_pass_law.specs.Asked.{Need}
 use Rattle.om_pass.specs.declared.state.State.{State}
-use Rattle.om_pass.specs.State.{types_in, Took, TookPiece, TookFront}
+use Rattle.om_pass.specs.State.{types_in, Took, TookPiece, TookFront, custom_leaf}
 
 module _ (table : Table) (stated : ℕ) (old new : State) (need : Need) (piece : List ℕ) where
   spelled : (kind : CodeKind) → IsKind kind → AreBytes piece → length piece ≡ fixed_bytes kind + variable_bytes kind piece → AreSoundFields kind piece (length (types_in old)) stated
@@ -71,6 +75,29 @@ module _ (table : Table) (stated : ℕ) (old new : State) (need : Need) (piece :
       → ((all : List ℕ) → length all ≡ number (take width piece) → Took table old new need (leaf (objects.Doubles all))) → TookPiece table stated old new need (kinds.Doubles width little) piece
   doubles width little known bytes whole some took =
       spelled (kinds.Doubles width little) known bytes whole some (λ t s. subst (Took table old new need) (sym s.4) (took s.0 s.2))
+
+-- ---- customs
+
+-- a number of a `Nativeint` has bytes
+known_data : (kind : CustomKind) (size b : ℕ) → 5 ≤ size → size ≡ 3 + custom_bytes (Some kind) b → IsKnownData (Some kind) b
+known_data customs.Int32 size b some whole = tt
+known_data customs.Int64 size b some whole = tt
+known_data customs.Native size b some whole = omega (arith, some, whole)
+
+module _ (table : Table) (old new : State) (need : Need) (piece : List ℕ) where
+  data_took : (kind : CustomKind) (t : Token) → SpellsData (Some kind) piece t → ((z : ℤ) → Took table old new need (leaf (custom_leaf kind z))) → Took table old new need t
+  data_took customs.Int32 t data' took = subst (Took table old new need) (sym data'.1) (took (signed (drop 3 piece)))
+  data_took customs.Int64 t data' took = subst (Took table old new need) (sym data'.1) (took (signed (drop 3 piece)))
+  data_took customs.Native t data' took = subst (Took table old new need) (sym data'.2) (took (signed (drop 4 piece)))
+
+  pub custom : (named : CustomKind) → 5 ≤ length piece → AreBytes piece → length piece ≡ 3 + custom_bytes (custom_of (take 3 piece)) (slice_index piece 3) → custom_of (take 3 piece) ≡ Some named
+      → ((z : ℤ) → Took table old new need (leaf (custom_leaf named z)))
+      → (stated : ℕ) (kind : CodeKind) (by : Bool) → kind ≡ kinds.Custom by → TookPiece table stated old new need kind piece
+  custom named some bytes whole is took stated kind by same =
+      let known : IsKnownData (custom_of (take 3 piece)) (slice_index piece 3) = subst (λ k. IsKnownData k (slice_index piece 3)) (sym is)
+      (known_data named (length piece) (slice_index piece 3) some (subst (λ k. length piece ≡ 3 + custom_bytes k (slice_index piece 3)) is whole)) in
+      subst (λ k. TookPiece table stated old new need k piece) (sym same)
+      (spelled table stated old new need piece (kinds.Custom by) tt bytes whole known (λ t s. data_took named t (data_at (Some named) piece t s (sym is)) took))
 
 -- ---- by an equation of the kind
 

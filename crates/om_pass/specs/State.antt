@@ -1,10 +1,14 @@
 -- What a pass holds on its way, and what a token changes.
 use Rattle.std.specs.Prelude.{ℕ, ◌+◌, ◌-◌, ◌^◌, ◌<◌, ◌≤◌, ◌≡◌, if◌then◌else◌}
 use Rattle.std.specs.Prelude.{List, [], ◌∷◌, ◌++◌, length, map, take, ◌⊎◌, false}
-use Rattle.std.specs.Prelude.{Bool, Result, IfOk}
+use Rattle.std.specs.Prelude.{ℤ, Bool, Result, IfOk}
 use Rattle.std.specs.Bool.{OnTrue}
 use Rattle.om_model.specs.declared.code.CodeKind.{CodeKind}
 use Rattle.om_model.specs.declared.code.Measure.{Measure}
+use Rattle.om_model.specs.declared.code.CustomKind.{CustomKind}
+use Rattle.om_model.specs.declared.code.CustomKind.TheVariants as customs
+use Rattle.om_model.specs.declared.value.Obj.{Obj}
+use Rattle.om_model.specs.declared.value.Obj.TheVariants as objects
 use Rattle.om_model.specs.declared.header.Head.{Head}
 use Rattle.om_types.specs.Table.{Table}
 use Rattle.om_format.specs.Words.{of_object, words32, words64, all_words32, all_words64}
@@ -37,6 +41,12 @@ pub record Spends (old : Words) (measure : Measure) (new : Words) : Type 0 where
 -- where a token was taken, and memory was not out
 abbrev pub IfTook : {E : Type 0} → Result Bool E → Type 0 → Type 0
 IfTook result P = IfOk result (λ took. OnTrue took P)
+
+-- the object of a custom
+abbrev pub custom_leaf : CustomKind → ℤ → Obj
+custom_leaf customs.Int32 z = objects.I32 z
+custom_leaf customs.Int64 z = objects.I64 z
+custom_leaf customs.Native z = objects.Native z
 
 -- A token was taken in a place that asked for the need.
 pub record Took (table : Table) (old new : State) (need : Need) (token : Token) : Type 0 where

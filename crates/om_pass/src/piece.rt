@@ -1,14 +1,16 @@
 //! How many bytes a token has, by its code and the bytes after it.
 
 ghost use Rattle.std.specs.Prelude.{◌≡◌, ◌≤◌, ◌+◌, ◌*◌, ◌<◌, ◌^◌, length, take, IfSome};
-ghost use Rattle.om_format.specs.Code.{IsKind};
-ghost use Rattle.om_format.specs.Raw.{fixed_bytes, variable_bytes};
+ghost use Rattle.std.specs.Prelude.{slice_index};
+ghost use Rattle.om_format.specs.Code.{IsKind, custom_of, native_bytes};
+ghost use Rattle.om_format.specs.Raw.{fixed_bytes, variable_bytes, custom_bytes};
 ghost use Rattle.om_model.specs.Bytes.{number};
 
+use om_customs::ident;
 use om_model::bytes::big_endian;
-use om_model::code::CodeKind;
+use om_model::code::{CodeKind, CustomKind};
 
-/// How many bytes the token has after its code, if they are there. What a custom has is not told.
+/// How many bytes the token has after its code, if they are there.
 #[inline(always)]
 pub fn piece_len(kind: CodeKind, rest: &[u8]) -> Option<usize>
     requires { IsKind kind }
@@ -25,7 +27,7 @@ pub fn piece_len(kind: CodeKind, rest: &[u8]) -> Option<usize>
         CodeKind::Double(_) => 8,
         CodeKind::Str(width) => return counted(rest, usize::from(width), 1),
         CodeKind::Doubles(width, _) => return counted(rest, usize::from(width), 8),
-        CodeKind::Custom(_) => return None,
+        CodeKind::Custom(_) => return custom_len(rest),
     };
     if rest.len() < len {
         return None;
@@ -50,4 +52,44 @@ fn counted(rest: &[u8], width: usize, each: usize) -> Option<usize>
         return None;
     }
     Some(width + each * count as usize)
+}
+
+/// The custom that the first three bytes name.
+pub fn custom_at(rest: &[u8]) -> Option<CustomKind>
+    requires { 3 ≤ length rest.now }
+    ensures { result ≡ custom_of (take 3 rest.now) }
+{
+    ident([rest[0], rest[1], rest[2]])
+}
+
+/// How many bytes a custom has after its code, if they are there and it is one that is read.
+fn custom_len(rest: &[u8]) -> Option<usize>
+    ensures { IfSome result
+        (λ len. (len ≤ length rest.now)
+        × (len ≡ 3 + custom_bytes (custom_of (take 3 rest.now)) (slice_index rest.now 3))) }
+{
+    if rest.len() < 4 {
+        return None;
+    }
+    let len = match custom_at(rest) {
+        Some(CustomKind::Int32) => 7,
+        Some(CustomKind::Int64) => 11,
+        Some(CustomKind::Native) => native_len(rest[3]),
+        None => return None,
+    };
+    if rest.len() < len {
+        return None;
+    }
+    Some(len)
+}
+
+/// The same of a `Nativeint` whose number has the size that this byte names, if it names one.
+fn native_len(kind: u8) -> usize
+    ensures { result ≡ 4 + native_bytes kind }
+{
+    match kind {
+        1 => 8,
+        2 => 12,
+        _ => 4,
+    }
 }

@@ -1,7 +1,7 @@
 //! What a pass holds on its way, and what each token changes.
 
 ghost use Rattle.std.specs.Prelude.{◌≡◌, ◌≤◌, ◌<◌, ◌^◌, ◌++◌, ◌∷◌, [], ℕ, List, Some, length};
-ghost use Rattle.std.specs.Prelude.{slice_get, IfOk};
+ghost use Rattle.std.specs.Prelude.{slice_get, IfOk, ℤ};
 ghost use Rattle.std.specs.Bool.{OnTrue};
 ghost use Rattle.om_model.specs.declared.value.Obj.TheVariants as objects;
 ghost use Rattle.om_type_table.specs.Made.{table_of};
@@ -9,7 +9,7 @@ ghost use Rattle.om_format.specs.Token.{integer, atom, shared, block, leaf, bloc
 ghost use Rattle.om_headers.specs.Counting.{IsCountable};
 ghost use Rattle.om_pass_law.specs.Asked.{hash_of, IsBack};
 ghost use Rattle.om_pass.specs.Places.{need_of};
-ghost use Rattle.om_pass.specs.State.{Took, TookLeaf, IfTook};
+ghost use Rattle.om_pass.specs.State.{Took, TookLeaf, IfTook, custom_leaf};
 
 use crate::fits::{
     block_places, fits_atom, fits_doubles, fits_int, is_equal, shape_of, tag_of_hash,
@@ -17,7 +17,7 @@ use crate::fits::{
 use crate::places::{Asked, Open, Places};
 use crate::words::Words;
 use om_model::Memory;
-use om_model::code::Measure;
+use om_model::code::{CustomKind, Measure};
 use om_type_table::TypeTable;
 use om_types::shape::{PolyTag, ShapeOf};
 
@@ -37,7 +37,11 @@ fn add_type(types: &mut Vec<u16>, ty: usize) -> Result<bool, Memory>
     if ty >= 1 << 16 {
         return Ok(false);
     }
-    types.push(ty as u16)?;
+    if types.len() < types.capacity() {
+        types.push_reserved(ty as u16);
+    } else {
+        types.push(ty as u16)?;
+    }
     Ok(true)
 }
 
@@ -249,6 +253,40 @@ impl<'a> State<'a> {
                 self.leaf(ty, Measure::Doubles(size))
             }
             _ => Ok(false),
+        }
+    }
+
+    /// A custom comes.
+    pub fn custom(
+        &mut self,
+        table: &TypeTable,
+        asked: Asked<'_>,
+        kind: CustomKind,
+    ) -> Result<bool, Memory>
+        ensures { IfTook result
+            ((z : ℤ)
+            → Took (table_of table.now) self.old self.new (need_of asked.entry)
+            (leaf (custom_leaf kind z))) }
+    {
+        let Asked::Type(ty) = asked else {
+            return Ok(false);
+        };
+        let Some(shape) = shape_of(table, ty) else {
+            return Ok(false);
+        };
+        match kind {
+            CustomKind::Int32 => match shape {
+                ShapeOf::Int32 => self.leaf(ty, Measure::Custom(4, 4)),
+                _ => Ok(false),
+            },
+            CustomKind::Int64 => match shape {
+                ShapeOf::Int64 => self.leaf(ty, Measure::Custom(8, 8)),
+                _ => Ok(false),
+            },
+            CustomKind::Native => match shape {
+                ShapeOf::Native => self.leaf(ty, Measure::Custom(4, 8)),
+                _ => Ok(false),
+            },
         }
     }
 }

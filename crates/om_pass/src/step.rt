@@ -5,14 +5,17 @@ ghost use Rattle.std.specs.Bool.{OnTrue};
 ghost use Rattle.om_model.specs.declared.value.Obj.TheVariants as objects;
 ghost use Rattle.om_model.specs.Bytes.{signed as signed_number};
 ghost use Rattle.om_model.specs.Graph.{IsInteger};
-ghost use Rattle.om_format.specs.Code.{IsKind, kind_of};
-ghost use Rattle.om_format.specs.Raw.{fixed_bytes, variable_bytes};
+ghost use Rattle.om_format.specs.Code.{IsKind, kind_of, custom_of};
+ghost use Rattle.om_format.specs.Raw.{fixed_bytes, variable_bytes, custom_bytes};
+ghost use Rattle.om_model.specs.declared.code.CodeKind.{CodeKind};
+ghost use Rattle.om_model.specs.declared.code.CodeKind.TheVariants as kinds;
+ghost use Rattle.std.specs.Prelude.{take, slice_index, Bool};
 ghost use Rattle.om_format.specs.Token.{integer, shared, leaf, word_token};
 ghost use Rattle.om_type_table.specs.Made.{table_of};
 ghost use Rattle.om_pass.specs.Places.{need_of};
 ghost use Rattle.om_pass.specs.State.{Took, TookPiece, TookFront, IfTook};
 
-use crate::piece::piece_len;
+use crate::piece::{custom_at, piece_len};
 use crate::places::Asked;
 use crate::state::State;
 use om_codes::code_kind;
@@ -98,6 +101,29 @@ fn take_doubles<'a>(
     state.doubles(table, asked, count)
 }
 
+/// A custom of these bytes comes, which is known and has its data.
+fn take_custom<'a>(
+    table: &'a TypeTable,
+    state: &mut State<'a>,
+    asked: Asked<'a>,
+    piece: &[u8],
+) -> Result<bool, Memory>
+    requires { length piece.now
+        ≡ 3 + custom_bytes (custom_of (take 3 piece.now)) (slice_index piece.now 3) }
+    ensures { IfTook result
+        ((stated : ℕ) (kind : CodeKind) (by : Bool) → kind ≡ kinds.Custom by
+        → TookPiece (table_of table.now) stated state.old state.new (need_of asked.entry) kind
+        piece.now) }
+{
+    if piece.len() < 5 {
+        return Ok(false);
+    }
+    let Some(kind) = custom_at(piece) else {
+        return Ok(false);
+    };
+    state.custom(table, asked, kind)
+}
+
 /// The token comes of this kind, after whose code stands the piece, if it has what is asked for.
 #[inline(always)]
 fn take_piece<'a>(
@@ -132,7 +158,7 @@ fn take_piece<'a>(
             let count = big_endian(&piece[..usize::from(width)]);
             take_doubles(table, state, asked, count)
         }
-        CodeKind::Custom(_) => Ok(false),
+        CodeKind::Custom(_) => take_custom(table, state, asked, piece),
     }
 }
 

@@ -26,6 +26,15 @@ fn head_of(bytes: &[u8], limit: u64) -> Option<Head>
     }
 }
 
+/// Room for the types of the objects: as many as the header states, and no more than there are bytes.
+fn room_for(head: &Head, bytes: usize) -> usize {
+    if head.objects < bytes as u64 {
+        head.objects as usize
+    } else {
+        bytes
+    }
+}
+
 /// Whether all came that the header states.
 fn is_spent(head: &Head, start: usize, at: usize, state: &State<'_>) -> bool
     requires { start ≤ at }
@@ -86,9 +95,10 @@ pub fn pass(
         return Ok(None);
     };
     let start = if head.big { 32 } else { 20 };
+    let types = Vec::with_capacity(alloc, room_for(&head, bytes.len()))?;
     let mut state = State {
         places: Places::root(alloc),
-        types: Vec::new(alloc),
+        types,
         words: Words::stated(&head),
     };
     run(table, limit, &head, start, &mut state, bytes)
