@@ -1,0 +1,9 @@
+pub mod NumberLemmas
+pub mod SectionLemmas
+pub mod CutLemmas
+pub mod TextLemmas
+pub mod LineLemmas
+pub mod FaultLemmas
+pub mod HeadLemmas
+pub mod ReadLemmas
+pub mod PutLemmas

@@ -1,0 +1,15 @@
+-- Sections that are put one after another.
+use Rattle.std.proofs.Common.{ℕ, suc, ◌≡◌, ◌∙◌, List, [], ◌∷◌, ◌++◌, refl, sym, ap}
+use Rattle.std.proofs.lemmas.List.Concat.{flat_map-append}
+use Rattle.om_section.specs.declared.section.Section.{Section}
+use Rattle.om_section.specs.Format.{AreStated, section_lines, section_text, lines_from, text_of, IsCertificate}
+use Rattle.om_section.specs.Laws.{texts_from}
+
+texts_are_lines : (k : ℕ) (all : List Section) → texts_from k all ≡ text_of (lines_from k all)
+texts_are_lines k [] = refl
+texts_are_lines k (section ∷ all) =
+    ap (λ (z : List ℕ). section_text k section ++ z) (texts_are_lines (suc k) all)
+    ∙ sym (flat_map-append (λ (l : List ℕ). l ++ 10 ∷ []) (section_lines k section) (lines_from (suc k) all))
+
+pub put_sections : (all : List Section) → AreStated all → IsCertificate (texts_from 0 all) all
+put_sections all stated = record { stated = stated; spelled = texts_are_lines 0 all }

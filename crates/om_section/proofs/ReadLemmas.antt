@@ -1,0 +1,389 @@
+-- Reading a certificate line by line.
+use Rattle.std.proofs.Common.{ℕ, zero, suc, ◌≤◌, ◌+◌, ◌-◌, ◌≡◌, ◌∙◌, ⊎_elim, inl, inr, Bool, false, List, [], ◌∷◌, ◌++◌, length, Option, Some, None, refl, sym, ap, subst, arith, zero-add, length-append, append_assoc, take, drop}
+use Rattle.std.specs.Prelude.{Contains, All, IfSome, is_some, not, map, codes, decimal, slice_get}
+use Rattle.std.proofs.lemmas.Bool.{false≢true}
+use Rattle.std.proofs.lemmas.List.{append-nil, map-append, length_push, take_rest}
+use Rattle.std.proofs.lemmas.List.Concat.{flat_map-append}
+use Rattle.std.proofs.lemmas.List.Elements.{All-nil, All-head, All-push}
+use Rattle.std.proofs.lemmas.Option.{slice_get_within}
+use Rattle.om_section.specs.declared.section.Section.{Section}
+use Rattle.om_section.specs.declared.section.Section.TheVariants as sections
+use Rattle.om_section.specs.declared.read.Reading.{Reading}
+use Rattle.om_section.specs.Increasing.{AreIncreasing, IsAbove}
+use Rattle.om_section.specs.Numbers.{IsNumber}
+use Rattle.om_section.specs.Format.{IsStated, AreStated, pair_line, pair_lines, head_line, section_lines, lines_from, text_of, IsCertificate, AreFront, AreWhole, IsSyntaxAt}
+use Rattle.om_section.specs.Reading.{BeginsAt, IsCut, AreNumbers, IsPairLine, IsHead, IsNoHead, HasOneMore, HasNoMore, open_lines, lines_read, IsReading, GoesOn, GoesNowhere}
+use Rattle.om_section.proofs.TextLemmas.{pair_is_one, AreAlike, verdicts_are_alike, head_tells_verdict}
+use Rattle.om_section.proofs.LineLemmas.{HasPair, pairs_go_on, pairs_have_end, Begin, begin_with, lines_from-push}
+use Rattle.om_section.proofs.FaultLemmas.{fault_at_line, fault_behind}
+
+abbrev Lines : Type 0
+Lines = List (List ℕ)
+
+nil_is_no_cons : {A : Type 0} (x : A) (xs : List A) → [] ≡ x ∷ xs → ⊥
+nil_is_no_cons x xs is = cc
+
+first_is : {A : Type 0} (x y : A) (xs ys : List A) → x ∷ xs ≡ y ∷ ys → x ≡ y
+first_is x y xs ys is = cc
+
+rest_is : {A : Type 0} (x y : A) (xs ys : List A) → x ∷ xs ≡ y ∷ ys → xs ≡ ys
+rest_is x y xs ys is = cc
+
+-- ---- pairs
+
+at_push : (pairs : List (ℕ × ℕ)) (pair : ℕ × ℕ) (rest : List (ℕ × ℕ)) → slice_get (pairs ++ (pair ∷ rest)) (length pairs) ≡ Some pair
+at_push [] pair rest = refl
+at_push (p ∷ pairs) pair rest = at_push pairs pair rest
+
+at_before : (pairs others : List (ℕ × ℕ)) (k : ℕ) (one : ℕ × ℕ) → slice_get pairs k ≡ Some one → slice_get (pairs ++ others) k ≡ Some one
+at_before [] others k one at = absurd (let inside = slice_get_within [] k one at in omega (arith, inside))
+at_before (p ∷ pairs) others zero one at = at
+at_before (p ∷ pairs) others (suc k) one at = at_before pairs others k one at
+
+-- what comes next in a list that increases is above what came before
+next_is_above : (pairs : List (ℕ × ℕ)) (pair : ℕ × ℕ) (rest : List (ℕ × ℕ)) → AreIncreasing (pairs ++ (pair ∷ rest)) → IsAbove pairs pair
+next_is_above pairs pair rest increasing k one at =
+    increasing k (length pairs) one pair (slice_get_within pairs k one at) (at_before pairs (pair ∷ rest) k one at) (at_push pairs pair rest)
+
+all_at : (pairs : List (ℕ × ℕ)) (pair : ℕ × ℕ) (rest : List (ℕ × ℕ)) → All AreNumbers (pairs ++ (pair ∷ rest)) → AreNumbers pair
+all_at [] pair rest all = All-head AreNumbers pair rest all
+all_at (p ∷ pairs) pair rest all = all_at pairs pair rest (λ k d inside. all (suc k) d (omega (arith, inside)))
+
+pub longer_is :
+    (pairs longer : List (ℕ × ℕ)) (pair : ℕ × ℕ) (line : List ℕ) → IsStated (sections.Pairs pairs) → longer ≡ pairs ++ pair ∷ [] → AreIncreasing longer
+    → IsPairLine line pair → HasOneMore (sections.Pairs pairs) line (sections.Pairs longer)
+longer_is pairs longer pair line stated is increasing spelled = record {
+  stated = (increasing, subst (λ (ps : List (ℕ × ℕ)). All AreNumbers ps) (sym is) (All-push AreNumbers pairs pair stated.1 spelled.0));
+  spelled =
+      ap (λ (ps : List (ℕ × ℕ)). map pair_line ps) is
+      ∙ (map-append pair_line pairs (pair ∷ []) ∙ ap (λ (l : List ℕ). map pair_line pairs ++ l ∷ []) (sym spelled.1));
+  same = refl;
+}
+
+pub no_longer :
+    (pairs : List (ℕ × ℕ)) (pair : ℕ × ℕ) (line : List ℕ) → IsPairLine line pair → ¬ IsAbove pairs pair → HasNoMore (sections.Pairs pairs) line
+no_longer pairs pair line own below other above is =
+    below (subst (λ (p : ℕ × ℕ). IsAbove pairs p) (pair_is_one other pair is.0 own.0 (sym is.1 ∙ own.1)) above)
+
+-- ---- readings
+
+module _ (whole : List Section) (stated : AreStated whole) where
+  abbrev n : ℕ
+  n = length whole
+
+  -- what a certificate has that begins with the lines of the whole ones
+  rest_of : (all : List Section) → AreStated all → (more : Lines) → lines_from 0 all ≡ lines_from 0 whole ++ more → Begin 0 whole all more
+  rest_of all others more is = begin_with 0 whole all stated.stated others.stated more is
+
+  all_behind : (xs ys : List Section) → All IsStated (xs ++ ys) → All IsStated ys
+  all_behind [] ys all = all
+  all_behind (x ∷ xs) ys all = all_behind xs ys (λ k d inside. all (suc k) d (omega (arith, inside)))
+
+  -- the first of the sections behind the whole ones
+  next_stated : (all : List Section) → AreStated all → (section : Section) (rest : List Section) → all ≡ whole ++ (section ∷ rest) → IsStated section
+  next_stated all others section rest is =
+      All-head IsStated section rest (all_behind whole (section ∷ rest) (subst (λ (s : List Section). All IsStated s) is others.stated))
+
+  next_number : (all : List Section) → AreStated all → (section : Section) (rest : List Section) → all ≡ whole ++ (section ∷ rest) → IsNumber (length whole)
+  next_number all others section rest is =
+      let few = others.few in
+      let long = ap length is ∙ length-append whole (section ∷ rest) in
+      omega (arith, few, long)
+
+  -- ---- fronts
+
+  pub whole_is_front : AreFront (lines_from 0 whole ++ [])
+  whole_is_front = (whole, [], stated, sym (append-nil (lines_from 0 whole)) ∙ sym (append-nil (lines_from 0 whole ++ [])))
+
+  pushed : (section : Section) → IsStated section → IsNumber (length whole) → AreStated (whole ++ section ∷ [])
+  pushed section own number = record {
+    stated = All-push IsStated whole section stated.stated own;
+    few = let long = length_push whole section in omega (arith, long, number);
+  }
+
+  pushed_lines :
+      (section : Section) → lines_from 0 (whole ++ section ∷ []) ≡ (lines_from 0 whole ++ (head_line (length whole) section ∷ pair_lines section)) ++ codes "end" ∷ []
+  pushed_lines section =
+      lines_from-push 0 whole section
+      ∙ (ap (λ (k : ℕ). lines_from 0 whole ++ section_lines k section) (zero-add (length whole))
+      ∙ sym (append_assoc (lines_from 0 whole) (head_line (length whole) section ∷ pair_lines section) (codes "end" ∷ [])))
+
+  pub open_is_front :
+      (section : Section) → IsStated section → IsNumber (length whole) → AreFront (lines_from 0 whole ++ (head_line (length whole) section ∷ pair_lines section))
+  open_is_front section own number = (whole ++ section ∷ [], codes "end" ∷ [], pushed section own number, pushed_lines section)
+
+  -- ---- one line more
+
+  pub opened : (section : Section) (line : List ℕ) → IsHead (length whole) line section → GoesOn (record { whole = whole; begun = None }) line (record { whole = whole; begun = Some section })
+  opened section line head = record {
+    is = record { stated = stated; opened = (head.stated, head.number) };
+    lines =
+        ap (λ (l : Lines). lines_from 0 whole ++ l)
+        (ap (λ (l : Lines). head_line (length whole) section ∷ l) head.no_pair ∙ ap (λ (l : List ℕ). l ∷ []) (sym head.spelled))
+        ∙ ap (λ (l : Lines). l ++ line ∷ []) (sym (append-nil (lines_from 0 whole)));
+  }
+
+  pub closed :
+      (section : Section) (line : List ℕ) (longer : List Section) → IsStated section → IsNumber (length whole) → line ≡ codes "end" → longer ≡ whole ++ section ∷ []
+      → GoesOn (record { whole = whole; begun = Some section }) line (record { whole = longer; begun = None })
+  closed section line longer own number end is = record {
+    is = record { stated = subst (λ (s : List Section). AreStated s) (sym is) (pushed section own number); opened = tt };
+    lines =
+        append-nil (lines_from 0 longer)
+        ∙ (ap (λ (s : List Section). lines_from 0 s) is
+        ∙ (pushed_lines section
+        ∙ ap (λ (l : List ℕ). (lines_from 0 whole ++ (head_line (length whole) section ∷ pair_lines section)) ++ l ∷ []) (sym end)));
+  }
+
+  pub grown :
+      (section longer : Section) (line : List ℕ) → IsNumber (length whole) → HasOneMore section line longer
+      → GoesOn (record { whole = whole; begun = Some section }) line (record { whole = whole; begun = Some longer })
+  grown section longer line number has = record {
+    is = record { stated = stated; opened = (has.stated, number) };
+    lines =
+        ap (λ (l : Lines). lines_from 0 whole ++ l)
+        (ap (λ (v : List ℕ). (codes "value " ++ (decimal (length whole) ++ (codes " " ++ v))) ∷ pair_lines longer) has.same
+        ∙ ap (λ (l : Lines). head_line (length whole) section ∷ l) has.spelled)
+        ∙ sym (append_assoc (lines_from 0 whole) (head_line (length whole) section ∷ pair_lines section) (line ∷ []));
+  }
+
+  -- ---- a line with which nothing goes on
+
+  pub no_head : (line : List ℕ) → IsNoHead (length whole) line → GoesNowhere (record { whole = whole; begun = None }) line
+  no_head line none (all, more, others, is) =
+      by_rest begin.rest begin.is begin.lines where
+        begin : Begin 0 whole all (line ∷ more)
+        begin =
+            rest_of all others (line ∷ more)
+            (is ∙ (append_assoc (lines_from 0 whole ++ []) (line ∷ []) more ∙ ap (λ (l : Lines). l ++ (line ∷ more)) (append-nil (lines_from 0 whole))))
+
+        by_rest : (rest : List Section) → all ≡ whole ++ rest → lines_from (0 + length whole) rest ≡ line ∷ more → ⊥
+        by_rest [] whole' lines = nil_is_no_cons _ _ lines
+        by_rest (section ∷ rest) whole' lines =
+            none (next_number all others section rest whole') section (next_stated all others section rest whole')
+            (sym (first_is _ _ _ _ lines) ∙ ap (λ (k : ℕ). head_line k section) (zero-add (length whole)))
+
+  -- the lines behind the whole sections, where one is open
+  module _ (section : Section) (own : IsStated section) where
+    -- the first section behind them has the open one's verdict and lines
+    record IsNext (more : Lines) : Type 0 where
+      next : Section
+      stated' : IsStated next
+      alike : AreAlike next section
+      behind : Lines
+      lines : pair_lines next ++ (codes "end" ∷ behind) ≡ pair_lines section ++ more
+
+    next_is : (all : List Section) → AreStated all → (more : Lines)
+        → lines_from 0 all ≡ lines_from 0 whole ++ (head_line (length whole) section ∷ (pair_lines section ++ more)) → IsNext more
+    next_is all others more is = by_rest begin.rest begin.is begin.lines where
+      begin : Begin 0 whole all (head_line (length whole) section ∷ (pair_lines section ++ more))
+      begin = rest_of all others (head_line (length whole) section ∷ (pair_lines section ++ more)) is
+
+      by_rest : (rest : List Section) → all ≡ whole ++ rest
+          → lines_from (0 + length whole) rest ≡ head_line (length whole) section ∷ (pair_lines section ++ more) → IsNext more
+      by_rest [] whole' lines = absurd (nil_is_no_cons _ _ lines)
+      by_rest (next ∷ rest) whole' lines =
+          let its = next_stated all others next rest whole' in
+          let head : head_line (length whole) next ≡ head_line (length whole) section =
+          ap (λ (k : ℕ). head_line k next) (sym (zero-add (length whole))) ∙ first_is _ _ _ _ lines in
+          record {
+            next = next;
+            stated' = its;
+            alike = verdicts_are_alike next section its own (head_tells_verdict (length whole) next section head);
+            behind = lines_from (suc (0 + length whole)) rest;
+            lines = sym (append_assoc (pair_lines next) (codes "end" ∷ []) (lines_from (suc (0 + length whole)) rest)) ∙ rest_is _ _ _ _ lines;
+          }
+
+  no_more_here :
+      (section next : Section) (line : List ℕ) (behind more : Lines) → IsStated section → IsStated next → AreAlike next section
+      → (line ≡ codes "end" → ⊥) → HasNoMore section line → pair_lines next ++ (codes "end" ∷ behind) ≡ pair_lines section ++ (line ∷ more) → ⊥
+  no_more_here (sections.Pairs pairs) (sections.Pairs others) line behind more one two alike other none is =
+      ⊎_elim other of_pair (pairs_go_on pairs others one.1 two.1 line behind more is) where
+        of_pair : HasPair pairs others line → ⊥
+        of_pair has =
+            none has.pair (next_is_above pairs has.pair has.rest (subst AreIncreasing has.is two.0))
+            (all_at pairs has.pair has.rest (subst (λ (ps : List (ℕ × ℕ)). All AreNumbers ps) has.is two.1), has.spelled)
+  no_more_here (sections.Pairs pairs) (sections.Misfit path) line behind more one two alike other none is = alike
+  no_more_here (sections.Pairs pairs) (sections.Clash first second) line behind more one two alike other none is = alike
+  no_more_here (sections.Misfit path) (sections.Pairs pairs) line behind more one two alike other none is = alike
+  no_more_here (sections.Misfit path) (sections.Misfit its) line behind more one two alike other none is = other (sym (first_is _ _ _ _ is))
+  no_more_here (sections.Misfit path) (sections.Clash first second) line behind more one two alike other none is = alike
+  no_more_here (sections.Clash first second) (sections.Pairs pairs) line behind more one two alike other none is = alike
+  no_more_here (sections.Clash first second) (sections.Misfit path) line behind more one two alike other none is = alike
+  no_more_here (sections.Clash first second) (sections.Clash its others) line behind more one two alike other none is =
+      other (sym (first_is _ _ _ _ is))
+
+  pub no_more :
+      (section : Section) (line : List ℕ) → IsStated section → (line ≡ codes "end" → ⊥) → HasNoMore section line
+      → GoesNowhere (record { whole = whole; begun = Some section }) line
+  no_more section line own other none (all, more, others, is) =
+      no_more_here section next.next line next.behind more own next.stated' next.alike other none next.lines where
+        next : IsNext section own (line ∷ more)
+        next =
+            next_is section own all others (line ∷ more)
+            (is
+            ∙ (append_assoc (lines_from 0 whole ++ (head_line (length whole) section ∷ pair_lines section)) (line ∷ []) more
+            ∙ append_assoc (lines_from 0 whole) (head_line (length whole) section ∷ pair_lines section) (line ∷ more)))
+
+  never_whole_here : (section next : Section) (behind : Lines) → AreAlike next section → pair_lines next ++ (codes "end" ∷ behind) ≡ pair_lines section ++ [] → ⊥
+  never_whole_here (sections.Pairs pairs) (sections.Pairs others) behind alike is = pairs_have_end pairs others behind (is ∙ append-nil (map pair_line pairs))
+  never_whole_here (sections.Pairs pairs) (sections.Misfit path) behind alike is = alike
+  never_whole_here (sections.Pairs pairs) (sections.Clash first second) behind alike is = alike
+  never_whole_here (sections.Misfit path) (sections.Pairs pairs) behind alike is = alike
+  never_whole_here (sections.Misfit path) (sections.Misfit its) behind alike is = nil_is_no_cons _ _ (sym is)
+  never_whole_here (sections.Misfit path) (sections.Clash first second) behind alike is = alike
+  never_whole_here (sections.Clash first second) (sections.Pairs pairs) behind alike is = alike
+  never_whole_here (sections.Clash first second) (sections.Misfit path) behind alike is = alike
+  never_whole_here (sections.Clash first second) (sections.Clash its others) behind alike is = nil_is_no_cons _ _ (sym is)
+
+  -- a certificate does not end in an open section
+  pub never_whole : (section : Section) → IsStated section → ¬ AreWhole (lines_from 0 whole ++ (head_line (length whole) section ∷ pair_lines section))
+  never_whole section own (all, others, is) = never_whole_here section next.next next.behind next.alike next.lines where
+    next : IsNext section own []
+    next =
+        next_is section own all others []
+        (is ∙ ap (λ (l : Lines). lines_from 0 whole ++ (head_line (length whole) section ∷ l)) (sym (append-nil (pair_lines section))))
+
+-- ---- a reading as a whole
+
+begun_is :
+    (reading : Reading) (section : Section) → IsReading reading → reading.begun ≡ Some section → IsStated section × IsNumber (length reading.whole)
+begun_is reading section is some =
+    subst (λ (o : Option Section). IfSome o (λ s. IsStated s × IsNumber (length reading.whole))) some is.opened
+
+pub reading_closed :
+    (reading : Reading) (section : Section) (line : List ℕ) (longer : List Section) → IsReading reading → reading.begun ≡ Some section
+    → line ≡ codes "end" → longer ≡ reading.whole ++ section ∷ [] → GoesOn reading line (record { whole = longer; begun = None })
+reading_closed reading section line longer is some end more =
+    let own = begun_is reading section is some in
+    subst (λ (o : Option Section). GoesOn (record { whole = reading.whole; begun = o }) line (record { whole = longer; begun = None })) (sym some)
+    (closed reading.whole is.stated section line longer own.0 own.1 end more)
+
+pub reading_without_head :
+    (reading : Reading) (line : List ℕ) → IsReading reading → reading.begun ≡ None → IsNoHead (length reading.whole) line → GoesNowhere reading line
+reading_without_head reading line is none without =
+    subst (λ (o : Option Section). GoesNowhere (record { whole = reading.whole; begun = o }) line) (sym none)
+    (no_head reading.whole is.stated line without)
+
+pub reading_without_more :
+    (reading : Reading) (section : Section) (line : List ℕ) → IsReading reading → reading.begun ≡ Some section → (line ≡ codes "end" → ⊥)
+    → HasNoMore section line → GoesNowhere reading line
+reading_without_more reading section line is some other without =
+    subst (λ (o : Option Section). GoesNowhere (record { whole = reading.whole; begun = o }) line) (sym some)
+    (no_more reading.whole is.stated section line (begun_is reading section is some).0 other without)
+
+-- ---- all of the lines
+
+-- what has been read, by its parts
+pub front_of : (whole : List Section) (begun' : Option Section) → IsReading (record { whole = whole; begun = begun' }) → AreFront (lines_read (record { whole = whole; begun = begun' }))
+front_of whole None is = whole_is_front whole is.stated
+front_of whole (Some section) is = open_is_front whole is.stated section is.opened.0 is.opened.1
+
+-- Some lines have been read, and this is the next one, if something stands behind it.
+pub record IsAt (bytes : List ℕ) (reading : Reading) (lines : ℕ) (line rest : List ℕ) : Type 0 where
+  pub is : IsReading reading
+  pub counted : lines ≡ length (lines_read reading)
+  pub few : lines + length rest ≤ length bytes
+  pub spelled : bytes ≡ text_of (lines_read reading) ++ (line ++ rest)
+  pub none : ¬ Contains line 10
+  pub begins : BeginsAt 10 rest
+
+-- the line feed, and what stands behind it
+behind_feed : (rest : List ℕ) → BeginsAt 10 rest → (rest ≡ [] → ⊥) → rest ≡ 10 ∷ drop 1 rest
+behind_feed rest (inl none) some = absurd (some none)
+behind_feed rest (inr (more, is)) some = is ∙ ap (λ (z : List ℕ). 10 ∷ drop 1 z) (sym is)
+
+pub at_first : (bytes line rest : List ℕ) → IsCut bytes 10 line rest → IsAt bytes (record { whole = []; begun = None }) 0 line rest
+at_first bytes line rest cut = record {
+  is = record { stated = record { stated = All-nil IsStated; few = omega arith }; opened = tt };
+  counted = refl;
+  few = let long = ap length cut.whole ∙ length-append line rest in omega (arith, long);
+  spelled = cut.whole;
+  none = cut.none;
+  begins = cut.begins;
+}
+
+module _ (bytes : List ℕ) (reading : Reading) (lines : ℕ) (line rest : List ℕ) (at : IsAt bytes reading lines line rest) where
+  front : AreFront (lines_read reading)
+  front = front_of reading.whole reading.begun at.is
+
+  pub at_next :
+      (next : Reading) (line' rest' : List ℕ) → (rest ≡ [] → ⊥) → GoesOn reading line next → IsCut (drop 1 rest) 10 line' rest'
+      → IsAt bytes next (lines + 1) line' rest'
+  at_next next line' rest' some goes cut = record {
+    is = goes.is;
+    counted =
+        let counted = at.counted in
+        let long = ap length goes.lines ∙ length_push (lines_read reading) line in
+        omega (arith, counted, long);
+    few =
+        let few = at.few in
+        let long = ap length feed in
+        let both = ap length cut.whole ∙ length-append line' rest' in
+        omega (arith, few, long, both);
+    spelled =
+        at.spelled
+        ∙ (ap (λ (z : List ℕ). text_of (lines_read reading) ++ (line ++ z)) (feed ∙ ap (λ (z : List ℕ). 10 ∷ z) cut.whole)
+        ∙ (ap (λ (z : List ℕ). text_of (lines_read reading) ++ z) (sym one)
+        ∙ (sym (append_assoc (text_of (lines_read reading)) (text_of (line ∷ [])) (line' ++ rest'))
+        ∙ ap (λ (z : List ℕ). z ++ (line' ++ rest'))
+        (sym (flat_map-append (λ (l : List ℕ). l ++ 10 ∷ []) (lines_read reading) (line ∷ [])) ∙ ap text_of (sym goes.lines)))));
+    none = cut.none;
+    begins = cut.begins;
+  } where
+    feed : rest ≡ 10 ∷ drop 1 rest
+    feed = behind_feed rest at.begins some
+
+    one : text_of (line ∷ []) ++ (line' ++ rest') ≡ line ++ (10 ∷ (line' ++ rest'))
+    one = ap (λ (z : List ℕ). z ++ (line' ++ rest')) (append-nil (line ++ 10 ∷ [])) ∙ append_assoc line (10 ∷ []) (line' ++ rest')
+
+  -- the same where the rest is lent as a slice
+  pub at_next_slice :
+      (next : Reading) (line' rest' : List ℕ) → (rest ≡ [] → ⊥) → GoesOn reading line next
+      → IsCut (take (length rest - 1) (drop 1 rest)) 10 line' rest' → IsAt bytes next (lines + 1) line' rest'
+  at_next_slice next line' rest' some goes cut =
+      at_next next line' rest' some goes (subst (λ (z : List ℕ). IsCut z 10 line' rest') (take_rest rest 1) cut)
+
+  pub faulty_line : (rest ≡ [] → ⊥) → GoesNowhere reading line → IsSyntaxAt bytes (lines + 1)
+  faulty_line some nowhere =
+      subst (λ (n : ℕ). IsSyntaxAt bytes (n + 1)) (sym at.counted)
+      (fault_at_line bytes (lines_read reading) line (drop 1 rest)
+      (at.spelled ∙ ap (λ (z : List ℕ). text_of (lines_read reading) ++ (line ++ z)) (behind_feed rest at.begins some)) front at.none nowhere)
+
+  last_line : rest ≡ [] → bytes ≡ text_of (lines_read reading) ++ line
+  last_line none = at.spelled ∙ ap (λ (z : List ℕ). text_of (lines_read reading) ++ z) (ap (λ (z : List ℕ). line ++ z) none ∙ append-nil line)
+
+  pub unended : rest ≡ [] → (line ≡ [] → ⊥) → IsSyntaxAt bytes (lines + 1)
+  unended none some =
+      subst (λ (n : ℕ). IsSyntaxAt bytes (n + 1)) (sym at.counted)
+      (fault_behind bytes (lines_read reading) line (last_line none) front at.none (inl some))
+
+  pub unclosed : rest ≡ [] → (section : Section) → reading.begun ≡ Some section → IsSyntaxAt bytes (lines + 1)
+  unclosed none section is =
+      subst (λ (n : ℕ). IsSyntaxAt bytes (n + 1)) (sym at.counted)
+      (fault_behind bytes (lines_read reading) line (last_line none) front at.none (inr open_at_end)) where
+        own : IfSome (Some section) (λ s. IsStated s × IsNumber (length reading.whole))
+        own = subst (λ (o : Option Section). IfSome o (λ s. IsStated s × IsNumber (length reading.whole))) is at.is.opened
+
+        open_at_end : ¬ AreWhole (lines_read reading)
+        open_at_end =
+            subst (λ (o : Option Section). ¬ AreWhole (lines_from 0 reading.whole ++ open_lines (length reading.whole) o)) (sym is)
+            (never_whole reading.whole at.is.stated section own.0)
+
+  some_of : {A : Type 0} (o : Option A) (test : Bool) → is_some o ≡ not test → test ≡ false → (x : A) × (o ≡ Some x)
+  some_of None test is no' = absurd (false≢true (is ∙ ap not no'))
+  some_of (Some x) test is no' = (x, refl)
+
+  pub unclosed_by_test : rest ≡ [] → (test : Bool) → is_some reading.begun ≡ not test → test ≡ false → IsSyntaxAt bytes (lines + 1)
+  unclosed_by_test none test is no' = let some = some_of reading.begun test is no' in unclosed none some.0 some.1
+
+  pub all_read : rest ≡ [] → line ≡ [] → reading.begun ≡ None → IsCertificate bytes reading.whole
+  all_read none empty' is = record {
+    stated = at.is.stated;
+    spelled =
+        last_line none
+        ∙ (ap (λ (z : List ℕ). text_of (lines_read reading) ++ z) empty'
+        ∙ (append-nil (text_of (lines_read reading))
+        ∙ ap text_of
+        (ap (λ (o : Option Section). lines_from 0 reading.whole ++ open_lines (length reading.whole) o) is ∙ append-nil (lines_from 0 reading.whole))));
+  }

@@ -1,0 +1,9 @@
+use Rattle.std.proofs.Common.{◌∙◌, sym}
+use Rattle.std.proofs.lemmas.Bool.{false≢true}
+use Rattle.om_section.proofs.ReadLemmas.{no_longer}
+use Rattle.om_section.proofs.read.with_next.Goals as goal
+
+pub returns-then-not-is_above : goal.returns-then-not-is_above
+returns-then-not-is_above c pair above is =
+    no_longer c.args.pairs (c.in-Some.object, c.in-Some.ty) c.args.line.now c.in-Some.ensures
+    (λ own. false≢true (sym c.if-not-is_above.true ∙ c.is_above.ensures.1 own)) pair above is

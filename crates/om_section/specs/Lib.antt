@@ -1,0 +1,5 @@
+pub mod Increasing
+pub mod Numbers
+pub mod Format
+pub mod Reading
+pub mod Laws

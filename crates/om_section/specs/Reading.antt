@@ -1,0 +1,115 @@
+-- What reading a certificate knows on its way.
+use Rattle.std.specs.Prelude.{ℕ, ◌≡◌, ◌≢◌, ◌⊎◌, List, [], ◌∷◌, ◌++◌, length, Option, Some, None, IfSome, All, codes, decimal, Contains}
+use Rattle.om_model.specs.PathText.{path_text, steps_text}
+use Rattle.om_section.specs.declared.section.Section.{Section}
+use Rattle.om_section.specs.declared.section.Section.TheVariants as sections
+use Rattle.om_section.specs.declared.read.CertFault.{CertFault}
+use Rattle.om_section.specs.declared.read.CertFault.TheVariants as faults
+use Rattle.om_section.specs.declared.read.Reading.{Reading}
+use Rattle.om_section.specs.Increasing.{IsAbove}
+use Rattle.om_section.specs.Numbers.{IsNumber}
+use Rattle.om_section.specs.Format.{IsStated, AreStated, pair_line, pair_lines, verdict_text, head_line, lines_from, AreFront, IsSyntaxAt}
+
+-- ---- pieces of a line
+
+-- there are none, or the first is this one
+abbrev pub BeginsAt : ℕ → List ℕ → Type 0
+BeginsAt at bytes = (bytes ≡ []) ⊎ ((rest : List ℕ) × (bytes ≡ at ∷ rest))
+
+-- the bytes up to the first of these, and the others
+pub record IsCut (bytes : List ℕ) (at : ℕ) (front rest : List ℕ) : Type 0 where
+  pub whole : bytes ≡ front ++ rest
+  pub none : ¬ Contains front at
+  pub begins : BeginsAt at rest
+
+-- ---- lines
+
+abbrev pub AreNumbers : ℕ × ℕ → Type 0
+AreNumbers pair = IsNumber pair.0 × IsNumber pair.1
+
+abbrev pub IsPairLine : List ℕ → ℕ × ℕ → Type 0
+IsPairLine line pair = AreNumbers pair × (line ≡ pair_line pair)
+
+abbrev pub IsNoPairLine : List ℕ → Type 0
+IsNoPairLine line = (pair : ℕ × ℕ) → ¬ IsPairLine line pair
+
+abbrev pub IsPathText : List ℕ → List ℕ → Type 0
+IsPathText text path = All IsNumber path × (text ≡ path_text path)
+
+abbrev pub IsNoPathText : List ℕ → Type 0
+IsNoPathText text = (path : List ℕ) → ¬ IsPathText text path
+
+abbrev pub IsStepsText : List ℕ → List ℕ → Type 0
+IsStepsText text steps = All IsNumber steps × (text ≡ steps_text steps)
+
+abbrev pub IsNoStepsText : List ℕ → Type 0
+IsNoStepsText text = (steps : List ℕ) → ¬ IsStepsText text steps
+
+-- the text begins with a step, and goes on with others or ends
+pub record IsStep (text : List ℕ) (step : ℕ) (rest : List ℕ) : Type 0 where
+  pub number : IsNumber step
+  pub spelled : text ≡ codes "." ++ (decimal step ++ rest)
+  pub begins : BeginsAt 46 rest
+
+abbrev pub IsNoStep : List ℕ → Type 0
+IsNoStep text = (step : ℕ) (rest : List ℕ) → ¬ IsStep text step rest
+
+-- the text is that of the section's verdict, which has no pair yet
+pub record IsVerdict (text : List ℕ) (section : Section) : Type 0 where
+  pub stated : IsStated section
+  pub spelled : text ≡ verdict_text section
+  pub no_pair : pair_lines section ≡ []
+
+abbrev pub IsNoVerdict : List ℕ → Type 0
+IsNoVerdict text = (section : Section) → IsStated section → text ≢ verdict_text section
+
+-- the line is the first of section k, which has no pair yet
+pub record IsHead (k : ℕ) (line : List ℕ) (section : Section) : Type 0 where
+  pub number : IsNumber k
+  pub stated : IsStated section
+  pub spelled : line ≡ head_line k section
+  pub no_pair : pair_lines section ≡ []
+
+abbrev pub IsNoHead : ℕ → List ℕ → Type 0
+IsNoHead k line = IsNumber k → (section : Section) → IsStated section → line ≢ head_line k section
+
+-- ---- sections
+
+-- with the line, which is that of a pair, the section has one pair more
+pub record HasOneMore (section : Section) (line : List ℕ) (longer : Section) : Type 0 where
+  pub stated : IsStated longer
+  pub spelled : pair_lines longer ≡ pair_lines section ++ line ∷ []
+  pub same : verdict_text longer ≡ verdict_text section
+
+-- with no line of a pair it has one more
+abbrev pub HasNoMore : Section → List ℕ → Type 0
+HasNoMore (sections.Pairs pairs) line = (pair : ℕ × ℕ) → IsAbove pairs pair → ¬ IsPairLine line pair
+HasNoMore (sections.Misfit path) line = Unit {0}
+HasNoMore (sections.Clash first second) line = Unit {0}
+
+-- the lines of an open section
+abbrev pub open_lines : ℕ → Option Section → List (List ℕ)
+open_lines k None = []
+open_lines k (Some section) = head_line k section ∷ pair_lines section
+
+-- the lines read so far
+abbrev pub lines_read : Reading → List (List ℕ)
+lines_read reading = lines_from 0 reading.whole ++ open_lines (length reading.whole) reading.begun
+
+pub record IsReading (reading : Reading) : Type 0 where
+  pub stated : AreStated reading.whole
+  pub opened : IfSome reading.begun (λ section. IsStated section × IsNumber (length reading.whole))
+
+-- with the line more has been read
+pub record GoesOn (reading : Reading) (line : List ℕ) (next : Reading) : Type 0 where
+  pub is : IsReading next
+  pub lines : lines_read next ≡ lines_read reading ++ line ∷ []
+
+-- no certificate goes on with the line
+abbrev pub GoesNowhere : Reading → List ℕ → Type 0
+GoesNowhere reading line = ¬ AreFront (lines_read reading ++ line ∷ [])
+
+-- what a fault says of the bytes: nothing, where memory ran out
+abbrev pub IsFaultOf : List ℕ → CertFault → Type 0
+IsFaultOf bytes (faults.Syntax n) = IsSyntaxAt bytes n
+IsFaultOf bytes faults.Memory = Unit {0}

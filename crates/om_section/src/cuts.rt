@@ -1,0 +1,37 @@
+//! Bytes cut at a byte, or behind a front.
+
+ghost use Rattle.std.specs.Prelude.{ℕ, ◌≡◌, ◌≢◌, ◌<◌, ◌≤◌, ◌++◌, List, MatchOption, length, slice_index};
+ghost use Rattle.om_section.specs.Reading.{IsCut};
+
+/// The bytes up to the first of these, and the others.
+pub fn until(bytes: &[u8], at: u8) -> (&[u8], &[u8])
+    ensures { IsCut bytes.now at result.0.now result.1.now }
+{
+    let place = place_of(bytes, at);
+    (&bytes[..place], &bytes[place..])
+}
+
+// The place of the first of these bytes, or how many there are where none is.
+fn place_of(bytes: &[u8], at: u8) -> usize
+    ensures within { result ≤ length bytes.now }
+    ensures before { (k : ℕ) → k < result → slice_index bytes.now k ≢ at }
+    ensures found { result < length bytes.now → slice_index bytes.now result ≡ at }
+{
+    for i in 0..bytes.len() {
+        if bytes[i] == at {
+            return i;
+        }
+    }
+    bytes.len()
+}
+
+/// What stands behind this front.
+pub fn after<'a>(bytes: &'a [u8], front: &[u8]) -> Option<&'a [u8]>
+    ensures { MatchOption result ((rest : List ℕ) → bytes.now ≢ front.now ++ rest) (λ rest. bytes.now ≡ front.now ++ rest.now) }
+{
+    if bytes.starts_with(front) {
+        Some(&bytes[front.len()..])
+    } else {
+        None
+    }
+}

@@ -1,0 +1,18 @@
+//! The format of certificates: what a certificate states of each value, its text, and how it is read and put.
+#![tactic(auto)]
+
+mod cuts;
+mod heads;
+mod laws;
+mod number;
+mod put;
+mod read;
+mod section;
+mod sink;
+
+pub use laws::{put_sections_are_certificates, texts_are_one};
+pub use number::number_of;
+pub use put::put_section;
+pub use read::{Cert, CertFault, read_cert};
+pub use section::{Pairs, Section};
+pub use sink::put_cert;
