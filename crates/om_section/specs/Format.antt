@@ -1,5 +1,6 @@
--- The text of a certificate, and where a text that is none has its first fault (this project's own).
-use Rattle.std.specs.Prelude.{ℕ, suc, ◌+◌, ◌-◌, ◌^◌, ◌<◌, ◌≤◌, ◌≡◌, ◌≢◌, ◌⊎◌, List, [], ◌∷◌, ◌++◌, length, map, take, flat_map, All, codes, decimal, Contains}
+-- The text of a certificate, and where a text that is none has its first fault (of this project).
+use Rattle.std.specs.Prelude.{ℕ, suc, ◌+◌, ◌-◌, ◌^◌, ◌<◌, ◌≤◌, ◌≡◌, ◌≢◌, ◌⊎◌, List, [], ◌∷◌, ◌++◌}
+use Rattle.std.specs.Prelude.{length, map, take, flat_map, All, codes, decimal, Contains}
 use Rattle.om_model.specs.PathText.{path_text}
 use Rattle.om_section.specs.declared.section.Section.{Section}
 use Rattle.om_section.specs.declared.section.Section.TheVariants as sections
@@ -9,7 +10,8 @@ use Rattle.om_section.specs.Numbers.{IsNumber}
 -- ---- what is stated
 
 abbrev pub IsStated : Section → Type 0
-IsStated (sections.Pairs pairs) = AreIncreasing pairs × All (λ (pair : ℕ × ℕ). IsNumber pair.0 × IsNumber pair.1) pairs
+IsStated (sections.Pairs pairs) =
+    AreIncreasing pairs × All (λ (pair : ℕ × ℕ). IsNumber pair.0 × IsNumber pair.1) pairs
 IsStated (sections.Misfit path) = All IsNumber path
 IsStated (sections.Clash first second) = All IsNumber first × All IsNumber second
 
@@ -27,7 +29,8 @@ pair_line pair = codes "pair " ++ (decimal pair.0 ++ (codes " " ++ decimal pair.
 abbrev pub verdict_text : Section → List ℕ
 verdict_text (sections.Pairs pairs) = codes "yes"
 verdict_text (sections.Misfit path) = codes "misfit " ++ path_text path
-verdict_text (sections.Clash first second) = codes "clash " ++ (path_text first ++ (codes " " ++ path_text second))
+verdict_text (sections.Clash first second) =
+    codes "clash " ++ (path_text first ++ (codes " " ++ path_text second))
 
 -- the first line of section k, and the lines behind it
 abbrev pub head_line : ℕ → Section → List ℕ
@@ -68,13 +71,15 @@ pub record AreLinesOf (bytes : List ℕ) (lines : List (List ℕ)) (rest : List 
 
 -- some certificate begins with these lines, or has no others
 abbrev pub AreFront : List (List ℕ) → Type 0
-AreFront lines = (all : List Section) × (more : List (List ℕ)) × AreStated all × (lines_from 0 all ≡ lines ++ more)
+AreFront lines =
+    (all : List Section) × (more : List (List ℕ)) × AreStated all
+    × (lines_from 0 all ≡ lines ++ more)
 
 abbrev pub AreWhole : List (List ℕ) → Type 0
 AreWhole lines = (all : List Section) × AreStated all × (lines_from 0 all ≡ lines)
 
--- Line n, counted from 1, is the first with which no certificate goes on; or it is the one behind all lines, where the last
--- one does not end, or a section does not.
+-- Line n, counted from 1, is the first with which no certificate goes on; or it is the one behind
+-- all lines, where the last one does not end, or a section does not.
 pub record IsSyntaxAt (bytes : List ℕ) (n : ℕ) : Type 0 where
   pub lines : List (List ℕ)
   pub rest : List ℕ

@@ -8,8 +8,8 @@ IsSmaller one other = (one.0 < other.0) ⊎ ((one.0 ≡ other.0) × (one.1 < oth
 -- each is smaller than all behind it
 abbrev pub AreIncreasing : List (ℕ × ℕ) → Type 0
 AreIncreasing pairs =
-    (j k : ℕ) (one other : ℕ × ℕ) → j < k → slice_get pairs j ≡ Some one → slice_get pairs k ≡ Some other
-    → IsSmaller one other
+    (j k : ℕ) (one other : ℕ × ℕ) → j < k → slice_get pairs j ≡ Some one
+    → slice_get pairs k ≡ Some other → IsSmaller one other
 
 -- all are smaller than the pair
 abbrev pub IsAbove : List (ℕ × ℕ) → ℕ × ℕ → Type 0

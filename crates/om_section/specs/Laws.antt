@@ -6,11 +6,13 @@ use Rattle.om_section.specs.Format.{AreStated, section_text, IsCertificate, IsSy
 -- a text is the certificate of one list of sections
 abbrev pub SectionsAreOne : Type 0
 SectionsAreOne =
-    (bytes : List ℕ) (all others : List Section) → IsCertificate bytes all → IsCertificate bytes others → all ≡ others
+    (bytes : List ℕ) (all others : List Section) → IsCertificate bytes all
+    → IsCertificate bytes others → all ≡ others
 
 -- and has no faulty line then
 abbrev pub CertificatesHaveNoFault : Type 0
-CertificatesHaveNoFault = (bytes : List ℕ) (all : List Section) (n : ℕ) → IsCertificate bytes all → ¬ IsSyntaxAt bytes n
+CertificatesHaveNoFault =
+    (bytes : List ℕ) (all : List Section) (n : ℕ) → IsCertificate bytes all → ¬ IsSyntaxAt bytes n
 
 -- one line is the first that is faulty
 abbrev pub FaultsAreOne : Type 0
@@ -23,4 +25,5 @@ texts_from k (section ∷ more) = section_text k section ++ texts_from (suc k) m
 
 -- sections that are put one after another are a certificate
 abbrev pub PutSectionsAreCertificates : Type 0
-PutSectionsAreCertificates = (all : List Section) → AreStated all → IsCertificate (texts_from 0 all) all
+PutSectionsAreCertificates =
+    (all : List Section) → AreStated all → IsCertificate (texts_from 0 all) all

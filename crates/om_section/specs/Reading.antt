@@ -1,5 +1,6 @@
 -- What reading a certificate knows on its way.
-use Rattle.std.specs.Prelude.{ℕ, ◌≡◌, ◌≢◌, ◌⊎◌, List, [], ◌∷◌, ◌++◌, length, Option, Some, None, IfSome, All, codes, decimal, Contains}
+use Rattle.std.specs.Prelude.{ℕ, ◌≡◌, ◌≢◌, ◌⊎◌, List, [], ◌∷◌, ◌++◌, length, Option, Some, None}
+use Rattle.std.specs.Prelude.{IfSome, All, codes, decimal, Contains}
 use Rattle.om_model.specs.PathText.{path_text, steps_text}
 use Rattle.om_section.specs.declared.section.Section.{Section}
 use Rattle.om_section.specs.declared.section.Section.TheVariants as sections
@@ -8,7 +9,8 @@ use Rattle.om_section.specs.declared.read.CertFault.TheVariants as faults
 use Rattle.om_section.specs.declared.read.Reading.{Reading}
 use Rattle.om_section.specs.Increasing.{IsAbove}
 use Rattle.om_section.specs.Numbers.{IsNumber}
-use Rattle.om_section.specs.Format.{IsStated, AreStated, pair_line, pair_lines, verdict_text, head_line, lines_from, AreFront, IsSyntaxAt}
+use Rattle.om_section.specs.Format.{IsStated, AreStated, pair_line, pair_lines, verdict_text}
+use Rattle.om_section.specs.Format.{head_line, lines_from, AreFront, IsSyntaxAt}
 
 -- ---- pieces of a line
 

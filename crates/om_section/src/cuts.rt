@@ -27,7 +27,8 @@ fn place_of(bytes: &[u8], at: u8) -> usize
 
 /// What stands behind this front.
 pub fn after<'a>(bytes: &'a [u8], front: &[u8]) -> Option<&'a [u8]>
-    ensures { MatchOption result ((rest : List ℕ) → bytes.now ≢ front.now ++ rest) (λ rest. bytes.now ≡ front.now ++ rest.now) }
+    ensures { MatchOption result ((rest : List ℕ) → bytes.now ≢ front.now ++ rest)
+        (λ rest. bytes.now ≡ front.now ++ rest.now) }
 {
     if bytes.starts_with(front) {
         Some(&bytes[front.len()..])

@@ -24,7 +24,8 @@ pub fn pair_of(line: &[u8]) -> Option<(u64, u64)>
 
 /// A path by its text.
 fn path_of(alloc: Global, text: &[u8]) -> Result<Option<Path>, Memory>
-    ensures { IfOk result (λ found. MatchOption found (IsNoPathText text.now) (IsPathText text.now)) }
+    ensures { IfOk result (λ found.
+        MatchOption found (IsNoPathText text.now) (IsPathText text.now)) }
 {
     let Some(numbers) = after(text, b".") else {
         return Ok(None);
@@ -38,7 +39,8 @@ fn path_of(alloc: Global, text: &[u8]) -> Result<Option<Path>, Memory>
 /// The steps of a path by their text, which has a dot before each.
 fn steps_of(alloc: Global, text: &[u8]) -> Result<Option<Path>, Memory>
     requires { BeginsAt 46 text.now }
-    ensures { IfOk result (λ found. MatchOption found (IsNoStepsText text.now) (IsStepsText text.now)) }
+    ensures { IfOk result (λ found.
+        MatchOption found (IsNoStepsText text.now) (IsStepsText text.now)) }
 {
     let mut path = Path::new(alloc);
     let mut rest = text;
@@ -80,7 +82,9 @@ fn verdict_of(alloc: Global, text: &[u8]) -> Result<Option<Section>, Memory>
 
 /// The path of a misfit.
 fn misfit_of(alloc: Global, path: &[u8]) -> Result<Option<Section>, Memory>
-    ensures { IfOk result (λ found. MatchOption found (IsNoVerdict (codes "misfit " ++ path.now)) (IsVerdict (codes "misfit " ++ path.now))) }
+    ensures { IfOk result (λ found.
+        MatchOption found (IsNoVerdict (codes "misfit " ++ path.now))
+        (IsVerdict (codes "misfit " ++ path.now))) }
 {
     match path_of(alloc, path)? {
         Some(path) => Ok(Some(Section::Misfit(path))),
@@ -90,7 +94,9 @@ fn misfit_of(alloc: Global, path: &[u8]) -> Result<Option<Section>, Memory>
 
 /// The two paths of a clash.
 fn clash_of(alloc: Global, paths: &[u8]) -> Result<Option<Section>, Memory>
-    ensures { IfOk result (λ found. MatchOption found (IsNoVerdict (codes "clash " ++ paths.now)) (IsVerdict (codes "clash " ++ paths.now))) }
+    ensures { IfOk result (λ found.
+        MatchOption found (IsNoVerdict (codes "clash " ++ paths.now))
+        (IsVerdict (codes "clash " ++ paths.now))) }
 {
     let (one, behind) = until(paths, b' ');
     let Some(other) = after(behind, b" ") else {
@@ -107,7 +113,8 @@ fn clash_of(alloc: Global, paths: &[u8]) -> Result<Option<Section>, Memory>
 
 /// What the first line of a section of this number states.
 pub fn head_of(alloc: Global, line: &[u8], number: u64) -> Result<Option<Section>, Memory>
-    ensures { IfOk result (λ found. MatchOption found (IsNoHead number line.now) (IsHead number line.now)) }
+    ensures { IfOk result (λ found.
+        MatchOption found (IsNoHead number line.now) (IsHead number line.now)) }
 {
     let Some(text) = after(line, b"value ") else {
         return Ok(None);

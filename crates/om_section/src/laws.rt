@@ -2,7 +2,8 @@
 
 ghost use Rattle.om_section.specs.Laws.{SectionsAreOne, CertificatesHaveNoFault, FaultsAreOne, PutSectionsAreCertificates};
 
-/// A text is the certificate of one list of sections, and has no faulty line then; else one line is the first that is faulty.
+/// A text is the certificate of one list of sections, and has no faulty line then; else one line
+/// is the first that is faulty.
 pub fn texts_are_one()
     ensures sections { SectionsAreOne }
     ensures no_fault { CertificatesHaveNoFault }

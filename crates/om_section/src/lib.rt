@@ -1,4 +1,5 @@
-//! The format of certificates: what a certificate states of each value, its text, and how it is read and put.
+//! The format of certificates: what a certificate states of each value, its text, and how it is
+//! read and put.
 #![tactic(auto)]
 
 mod cuts;

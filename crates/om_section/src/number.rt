@@ -3,7 +3,8 @@
 ghost use Rattle.std.specs.Prelude.{MatchOption};
 ghost use Rattle.om_section.specs.Numbers.{IsNumberText, IsNoNumberText};
 
-/// The number whose text these bytes are: decimal digits without a leading zero, of a number below 2^63.
+/// The number whose text these bytes are: decimal digits without a leading zero, of a number
+/// below 2^63.
 pub fn number_of(digits: &[u8]) -> Option<u64>
     ensures { MatchOption result (IsNoNumberText digits.now) (IsNumberText digits.now) }
 {

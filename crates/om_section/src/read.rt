@@ -33,15 +33,16 @@ impl From<Memory> for CertFault {
     }
 }
 
-/// What was read up to the end of some line: the sections that are whole, and the one that is open, if there is one.
+/// What was read up to the end of some line: the sections that are whole, and the one that is
+/// open, if there is one.
 #[derive(Drop)]
 struct Reading {
     whole: List<Section>,
     begun: Option<Section>,
 }
 
-/// The sections of a certificate. What is outside the format is refused at the first line with which no certificate goes on,
-/// or at the one behind the last.
+/// The sections of a certificate. What is outside the format is refused at the first line with
+/// which no certificate goes on, or at the one behind the last.
 pub fn read_cert(alloc: Global, bytes: &[u8]) -> Result<Cert, CertFault>
     ensures ok { IfOk result (λ all. IsCertificate bytes.now all) }
     ensures err { IfErr result (IsFaultOf bytes.now) }
@@ -70,7 +71,8 @@ pub fn read_cert(alloc: Global, bytes: &[u8]) -> Result<Cert, CertFault>
 /// What has been read with one line more, if a certificate goes on with it.
 fn with_line(alloc: Global, reading: Reading, line: &[u8]) -> Result<Option<Reading>, Memory>
     requires { IsReading reading }
-    ensures { IfOk result (λ next. MatchOption next (GoesNowhere reading line.now) (GoesOn reading line.now)) }
+    ensures { IfOk result (λ next.
+        MatchOption next (GoesNowhere reading line.now) (GoesOn reading line.now)) }
 {
     let Reading { mut whole, begun } = reading;
     match begun {
@@ -100,7 +102,8 @@ fn with_line(alloc: Global, reading: Reading, line: &[u8]) -> Result<Option<Read
 /// The section with a pair more, by its line.
 fn with_pair(section: Section, line: &[u8]) -> Result<Option<Section>, Memory>
     requires { IsStated section }
-    ensures { IfOk result (λ longer. MatchOption longer (HasNoMore section line.now) (HasOneMore section line.now)) }
+    ensures { IfOk result (λ longer.
+        MatchOption longer (HasNoMore section line.now) (HasOneMore section line.now)) }
 {
     match section {
         Section::Pairs(pairs) => with_next(pairs, line),
@@ -112,7 +115,9 @@ fn with_pair(section: Section, line: &[u8]) -> Result<Option<Section>, Memory>
 /// Pairs with one more, by its line.
 fn with_next(mut pairs: Pairs, line: &[u8]) -> Result<Option<Section>, Memory>
     requires { IsStated (sections.Pairs pairs) }
-    ensures { IfOk result (λ longer. MatchOption longer (HasNoMore (sections.Pairs pairs) line.now) (HasOneMore (sections.Pairs pairs) line.now)) }
+    ensures { IfOk result (λ longer.
+        MatchOption longer (HasNoMore (sections.Pairs pairs) line.now)
+        (HasOneMore (sections.Pairs pairs) line.now)) }
 {
     let Some((object, ty)) = pair_of(line) else {
         return Ok(None);

@@ -51,7 +51,8 @@ impl Pairs {
         is_last_below(self.as_slice(), object, ty)
     }
 
-    /// Puts a pair at the end that is larger than all before it. After `Memory` nothing has changed.
+    /// Puts a pair at the end that is larger than all before it. After `Memory` nothing has
+    /// changed.
     pub fn push(&mut self, object: u64, ty: u64) -> Result<(), Memory>
         requires { IsAbove self.old (object, ty) }
         ensures ok { OnOk result (self.new ≡ self.old ++ (object, ty) ∷ []) }
