@@ -1,0 +1,132 @@
+-- The pairs that paths reach in a value that has the type are accepted, and are one list.
+use Rattle.std.proofs.Common.{ℕ, ◌≡◌, ◌∙◌, ◌++◌, inl, List, [], ◌∷◌, Some, refl, ap}
+use Rattle.std.specs.Prelude.{option_map, option_and_then, Contains, IsSomeAnd}
+use Rattle.om_model.proofs.Options.{Contains-none, IsSomeAnd-at}
+use Rattle.om_model.specs.declared.value.Val.{Val}
+use Rattle.om_model.specs.declared.value.Val.TheVariants as vals
+use Rattle.om_model.specs.declared.value.Obj.{Obj}
+use Rattle.om_types.specs.Shapes.{Shapes}
+use Rattle.om_types.specs.Lawful.{AreLawful, Everything}
+use Rattle.om_types.specs.Typing.{field_at, IsListed, IsHeld, IsTyping, HasType}
+use Rattle.om_types.specs.Fault.{type_of_field, step, value_at}
+use Rattle.om_types.specs.Table.{Table, table_shapes}
+use Rattle.om_types.proofs.FaultLemmas.{named_is_needed, place_is_held}
+use Rattle.om_typing.specs.Decidable.{AreDecidable}
+use Rattle.om_typing.proofs.NeedLemmas.{needed_is_named}
+use Rattle.om_typing.proofs.PathLemmas.{value_at-push}
+use Rattle.om_table.proofs.DecideLemmas.{tables_are_decidable}
+use Rattle.om_cert.specs.Accepted.{AreAccepted}
+use Rattle.om_cert.specs.Normal.{IsReachedBy, AreReached}
+use Rattle.om_cert.proofs.NormalLemmas.{normal_is_one}
+
+module _ {T : Type 0} (shapes : Shapes T) (lawful : AreLawful shapes Everything) (decidable : AreDecidable shapes) (graph : List Obj) where
+  nothing_is_typing : IsTyping shapes graph []
+  nothing_is_typing = record {
+    fits = λ o t among. absurd (Contains-none (o, t) among);
+    held = λ o t i u among. absurd (Contains-none (o, t) among);
+    one_type = λ o t u among. absurd (Contains-none (o, t) among);
+  }
+
+  -- a value that has a type is held by some typing
+  held_by_some : (v : Val) (t : T) → HasType shapes graph v t → (pairs : List (ℕ × T)) × IsTyping shapes graph pairs × IsHeld shapes graph pairs v t
+  held_by_some (vals.Int z) t has = ([], nothing_is_typing, record { fits = has.fits; listed = tt })
+  held_by_some (vals.Atom tag) t has = ([], nothing_is_typing, record { fits = has.fits; listed = tt })
+  held_by_some (vals.Ref o) t has =
+      (has.typed.0, has.typed.1, record { fits = has.fits; listed = (t, has.typed.2, lawful.reflexive t tt) })
+
+  pub needed_step :
+      (o i : ℕ) (t a : T) (w : Val) → Contains (shapes.needs graph (vals.Ref o) t) (i, a) → field_at graph o i ≡ Some w
+      → step shapes graph (vals.Ref o) t i ≡ Some (w, a)
+  needed_step o i t a w need field =
+      let needs = shapes.needs graph (vals.Ref o) t in
+      let named = needed_is_named needs i a need in
+      let is : named.0 ≡ a = decidable.once graph (vals.Ref o) t i named.0 a (named_is_needed needs i named.0 named.1) need in
+      ap (λ v. option_and_then (λ x. option_map (λ b. (x, b)) (type_of_field needs i)) v) field
+      ∙ ap (λ b. option_map (λ c. (w, c)) b) (named.1 ∙ ap Some is)
+
+  module _
+      (root : Val) (t : T) (has : HasType shapes graph root t) (pairs : List (ℕ × T))
+      (led : (o : ℕ) (u : T) → Contains pairs (o, u) → IsReachedBy shapes graph root t o u)
+      (all : (path : List ℕ) (o : ℕ) (u : T) → value_at shapes graph root t path ≡ Some (vals.Ref o, u) → IsListed shapes pairs (vals.Ref o) u) where
+    abbrev some_pairs : List (ℕ × T)
+    some_pairs = (held_by_some root t has).0
+
+    some_typing : IsTyping shapes graph some_pairs
+    some_typing = (held_by_some root t has).1
+
+    -- where a path leads there is a value that the typing holds
+    place : (path : List ℕ) (w : Val) (u : T) → value_at shapes graph root t path ≡ Some (w, u) → IsHeld shapes graph some_pairs w u
+    place path w u leads =
+        (place_is_held shapes Everything lawful graph some_pairs some_typing path root t w u tt (held_by_some root t has).2 leads).1
+
+    listed_where_led :
+        (path : List ℕ) (w : Val) (u a : T) → value_at shapes graph root t path ≡ Some (w, u) → shapes.equal u a → IsListed shapes pairs w a
+    listed_where_led path (vals.Int z) u a leads equal = tt
+    listed_where_led path (vals.Atom tag) u a leads equal = tt
+    listed_where_led path (vals.Ref o) u a leads equal =
+        let there = all path o u leads in (there.0, there.1, lawful.transitive there.0 u a there.2 equal)
+
+    own_fits : (o : ℕ) (u : T) → Contains pairs (o, u) → shapes.fits graph (vals.Ref o) u
+    own_fits o u among =
+        let r = led o u among in
+        lawful.fits graph (vals.Ref o) r.type u (inl tt) r.same (place r.path (vals.Ref o) r.type r.leads).fits
+
+    own_held :
+        (o : ℕ) (u : T) (i : ℕ) (a : T) → Contains pairs (o, u) → Contains (shapes.needs graph (vals.Ref o) u) (i, a)
+        → IsSomeAnd (field_at graph o i) (λ v. IsHeld shapes graph pairs v a)
+    own_held o u i a among need =
+        let r = led o u among in
+        let other = lawful.needs graph (vals.Ref o) u r.type i a (inl tt) (lawful.symmetric r.type u r.same) need in
+        let there = decidable.there graph (vals.Ref o) r.type i other.0 other.1 in
+        let leads =
+        value_at-push shapes graph r.path root t i (vals.Ref o, r.type) (there.0, other.0) r.leads
+        (needed_step o i r.type other.0 there.0 other.1 there.1) in
+        let back = lawful.symmetric a other.0 other.2 in
+        IsSomeAnd-at (field_at graph o i) there.0 (λ v. IsHeld shapes graph pairs v a) there.1 (record {
+          fits = lawful.fits graph there.0 other.0 a (inl tt) back (place (r.path ++ i ∷ []) there.0 other.0 leads).fits;
+          listed = listed_where_led (r.path ++ i ∷ []) there.0 other.0 a leads back;
+        })
+
+    own_type : (o : ℕ) (u a : T) → Contains pairs (o, u) → Contains pairs (o, a) → shapes.mutable graph o u → shapes.equal u a
+    own_type o u a among other mutable =
+        let r = led o u among in
+        let q = led o a other in
+        let one = (place r.path (vals.Ref o) r.type r.leads).listed in
+        let two = (place q.path (vals.Ref o) q.type q.leads).listed in
+        let here = lawful.transitive one.0 r.type u one.2 r.same in
+        let there = lawful.transitive two.0 q.type a two.2 q.same in
+        let back = lawful.symmetric one.0 u here in
+        let same = some_typing.one_type o one.0 two.0 one.1 two.1 (lawful.mutable graph o u one.0 (inl tt) back mutable) in
+        lawful.transitive u one.0 a back (lawful.transitive one.0 two.0 a same there)
+
+    pub reached_are_accepted : AreAccepted shapes graph root t pairs
+    reached_are_accepted = record {
+      typing = record { fits = own_fits; held = own_held; one_type = own_type };
+      held = record { fits = has.fits; listed = listed_where_led [] root t t refl (lawful.reflexive t tt) };
+    }
+
+-- what the one list has the other has at an equal type
+there_too :
+    (table : Table) → AreLawful (table_shapes table) Everything
+    → (graph : List Obj) (root : Val) (pairs others : List (ℕ × ℕ)) → AreReached table graph root pairs → AreReached table graph root others
+    → (o t : ℕ) → Contains pairs (o, t) → IsListed (table_shapes table) others (vals.Ref o) t
+there_too table lawful graph root pairs others one two o t among =
+    let r = one.led o t among in
+    let there = two.all r.path o r.type r.leads in
+    (there.0, there.1, lawful.transitive there.0 r.type t there.2 r.same)
+
+pub reached_are_one :
+    (table : Table) → AreLawful (table_shapes table) Everything
+    → (graph : List Obj) (root : Val) (pairs others : List (ℕ × ℕ)) → AreReached table graph root pairs → AreReached table graph root others
+    → pairs ≡ others
+reached_are_one table lawful graph root pairs others one two = normal_is_one table pairs others one.normal two.normal (record {
+  there = there_too table lawful graph root pairs others one two;
+  back = there_too table lawful graph root others pairs two one;
+})
+
+pub reached_pairs :
+    (table : Table) → AreLawful (table_shapes table) Everything
+    → (graph : List Obj) (root : Val) (pairs : List (ℕ × ℕ)) → HasType (table_shapes table) graph root 0 → AreReached table graph root pairs
+    → AreAccepted (table_shapes table) graph root 0 pairs
+reached_pairs table lawful graph root pairs has reached =
+    reached_are_accepted (table_shapes table) lawful (tables_are_decidable table) graph root 0 has pairs reached.led reached.all

@@ -1,0 +1,84 @@
+use Rattle.std.proofs.Common.{◌∙◌, sym, arith, slice_index_or}
+use Rattle.std.specs.Prelude.{ℕ, Contains}
+use Rattle.std.proofs.lemmas.Bool.{false≢true}
+use Rattle.std.proofs.lemmas.Option.{slice_get-get_or}
+use Rattle.om_type_table.specs.Made.{table_of}
+use Rattle.om_types.specs.Table.{table_shapes}
+use Rattle.om_scan.proofs.NeedLemmas.{never_unfit}
+use Rattle.om_cert.proofs.TestLemmas.{settled, does_fit, not_elsewhere, mutable_is, right_is, unfit_is_first, lack_is_first, two_is_first}
+use Rattle.om_cert.proofs.test.test_pair.Goals as goal
+use Rattle.om_cert.proofs.test.test_pair.Goals.{else-is_mutable-via-then-is_mutable+else-is_elsewhere, else-is_mutable-via-else-is_mutable}
+
+pub shape-requires : goal.shape-requires
+shape-requires c = (c.requires.there c.args.i _ (slice_get-get_or c.args.pairs.now c.args.i (0, 0) c.requires.in_range)).1
+
+pub needs_of-requires : goal.needs_of-requires
+needs_of-requires c = (c.requires.there c.args.i _ (slice_get-get_or c.args.pairs.now c.args.i (0, 0) c.requires.in_range)).0
+
+pub returns-in_default : goal.returns-in_default
+returns-in_default c =
+    let pair = slice_index_or c.args.pairs.now c.args.i (0, 0) in
+    unfit_is_first (table_of c.args.table.now) c.args.heap.now c.args.pairs.now c.args.i pair (slice_get-get_or c.args.pairs.now c.args.i (0, 0) c.requires.in_range)
+    (never_unfit (table_of c.args.table.now) c.args.heap.now pair.0 pair.1 c.shape.result.now c.needs_of.result c.shape.ensures c.needs_of.ensures c.in_default.is)
+
+pub first_lack-requires-clause-object : goal.first_lack-requires-clause-object
+first_lack-requires-clause-object c = (c.requires.there c.args.i _ (slice_get-get_or c.args.pairs.now c.args.i (0, 0) c.requires.in_range)).0
+
+pub first_lack-requires-clause-ty : goal.first_lack-requires-clause-ty
+first_lack-requires-clause-ty c = (c.requires.there c.args.i _ (slice_get-get_or c.args.pairs.now c.args.i (0, 0) c.requires.in_range)).1
+
+pub returns-in-Some-first_lack : goal.returns-in-Some-first_lack
+returns-in-Some-first_lack c =
+    let pair = slice_index_or c.args.pairs.now c.args.i (0, 0) in
+    lack_is_first (table_of c.args.table.now) c.args.heap.now c.args.pairs.now c.args.i pair (slice_get-get_or c.args.pairs.now c.args.i (0, 0) c.requires.in_range)
+    c.in-Some-first_lack.field
+    (does_fit (table_of c.args.table.now) c.args.heap.now c.args.pairs.now pair.0 pair.1 c.shape.result.now c.needs_of.result c.in-Some.needs c.shape.ensures c.needs_of.ensures c.in-Some.is)
+    c.in-Some-first_lack.ensures
+
+pub shape-requires-2 : goal.shape-requires-2
+shape-requires-2 c = (c.requires.there c.args.i _ (slice_get-get_or c.args.pairs.now c.args.i (0, 0) c.requires.in_range)).1
+
+pub is_mutable-requires : goal.is_mutable-requires
+is_mutable-requires c = (c.requires.there c.args.i _ (slice_get-get_or c.args.pairs.now c.args.i (0, 0) c.requires.in_range)).0
+
+pub is_elsewhere-requires-clause-there : goal.is_elsewhere-requires-clause-there
+is_elsewhere-requires-clause-there c = λ k o t at. let there = (c.requires.there k (o, t) at).1 in omega (arith, there, c.requires.lawful.classed)
+
+pub is_elsewhere-requires-clause-at : goal.is_elsewhere-requires-clause-at
+is_elsewhere-requires-clause-at c = slice_get-get_or c.args.pairs.now c.args.i (0, 0) c.requires.in_range
+
+pub is_elsewhere-requires-clause-settled : goal.is_elsewhere-requires-clause-settled
+is_elsewhere-requires-clause-settled c =
+    let t = table_of c.args.table.now in
+    let pair = slice_index_or c.args.pairs.now c.args.i (0, 0) in
+    settled t c.args.heap.now c.args.pairs.now c.requires.lawful.lawful c.args.i pair.0 pair.1 c.requires.before (
+      does_fit t c.args.heap.now c.args.pairs.now pair.0 pair.1 c.shape.result.now c.needs_of.result c.in-Some.needs c.shape.ensures c.needs_of.ensures c.in-Some.is,
+      sym (mutable_is t c.args.heap.now c.args.pairs.now pair.0 pair.1 c.shape-2.result.now c.is_mutable.result c.shape-2.ensures c.is_mutable.ensures) ∙ c.if-is_mutable.true,
+    )
+    (slice_get-get_or c.args.pairs.now c.args.i (0, 0) c.requires.in_range)
+
+pub returns-then-is_elsewhere : goal.returns-then-is_elsewhere
+returns-then-is_elsewhere c =
+    let pair = slice_index_or c.args.pairs.now c.args.i (0, 0) in
+    two_is_first (table_of c.args.table.now) c.args.heap.now c.args.pairs.now c.args.i pair (slice_get-get_or c.args.pairs.now c.args.i (0, 0) c.requires.in_range)
+    (does_fit (table_of c.args.table.now) c.args.heap.now c.args.pairs.now pair.0 pair.1 c.shape.result.now c.needs_of.result c.in-Some.needs c.shape.ensures c.needs_of.ensures c.in-Some.is)
+    c.in_default-first_lack.ensures
+    (sym (mutable_is (table_of c.args.table.now) c.args.heap.now c.args.pairs.now pair.0 pair.1 c.shape-2.result.now c.is_mutable.result c.shape-2.ensures c.is_mutable.ensures) ∙ c.if-is_mutable.true)
+    (c.is_elsewhere.ensures.0 c.if-is_elsewhere.true)
+
+pub returns : goal.returns
+returns c =
+    let pair = slice_index_or c.args.pairs.now c.args.i (0, 0) in
+    let t = table_of c.args.table.now in
+    let one_type : (u : ℕ) → Contains c.args.pairs.now (pair.0, u) → (table_shapes t).mutable c.args.heap.now pair.0 pair.1 → (table_shapes t).equal pair.1 u =
+    elim c.else-is_mutable.branch [
+      | else-is_mutable-via-then-is_mutable+else-is_elsewhere w ↦
+          λ u among mutable. not_elsewhere t c.args.heap.now c.args.pairs.now pair.0 pair.1
+          (λ elsewhere. false≢true (sym w.if-is_elsewhere.false ∙ w.is_elsewhere.ensures.1 elsewhere)) u among
+      | else-is_mutable-via-else-is_mutable w ↦
+          λ u among mutable. absurd (false≢true (sym w.if-is_mutable.false
+          ∙ (mutable_is t c.args.heap.now c.args.pairs.now pair.0 pair.1 c.shape-2.result.now c.is_mutable.result c.shape-2.ensures c.is_mutable.ensures ∙ mutable.1)))
+    ] in
+    right_is t c.args.heap.now c.args.pairs.now c.args.i pair (slice_get-get_or c.args.pairs.now c.args.i (0, 0) c.requires.in_range)
+    (does_fit t c.args.heap.now c.args.pairs.now pair.0 pair.1 c.shape.result.now c.needs_of.result c.in-Some.needs c.shape.ensures c.needs_of.ensures c.in-Some.is)
+    c.in_default-first_lack.ensures one_type

@@ -1,0 +1,28 @@
+-- When a section of a certificate is accepted for a value: what it states justifies itself, so
+-- that nothing is searched (this project's own, after Henry, Mauny, Chailloux and Manoury 2012).
+use Rattle.std.specs.Prelude.{ℕ, List}
+use Rattle.om_model.specs.declared.value.Val.{Val}
+use Rattle.om_model.specs.declared.value.Obj.{Obj}
+use Rattle.om_types.specs.declared.fault.Fault.TheVariants as faults
+use Rattle.om_types.specs.Shapes.{Shapes}
+use Rattle.om_types.specs.Fault.{IsFault}
+use Rattle.om_types.specs.Table.{Table, table_shapes}
+use Rattle.om_types.specs.Typing.{IsTyping, IsHeld}
+use Rattle.om_section.specs.declared.section.Section.{Section}
+use Rattle.om_section.specs.declared.section.Section.TheVariants as sections
+
+-- The pairs justify one another, and hold the value at the type: it fits, and where it is a
+-- reference its object is among them at an equal type.
+pub record AreAccepted {T : Type 0} (shapes : Shapes T) (graph : List Obj) (root : Val) (t : T)
+    (pairs : List (ℕ × T)) : Type 0 where
+  pub typing : IsTyping shapes graph pairs
+  pub held : IsHeld shapes graph pairs root t
+
+-- the pairs are accepted at the type that is number 0, or the paths are a fault there
+abbrev pub IsAccepted : Table → List Obj → Val → Section → Type 0
+IsAccepted table graph root (sections.Pairs pairs) =
+    AreAccepted (table_shapes table) graph root 0 pairs
+IsAccepted table graph root (sections.Misfit path) =
+    IsFault (table_shapes table) graph root 0 (faults.Misfit path)
+IsAccepted table graph root (sections.Clash first second) =
+    IsFault (table_shapes table) graph root 0 (faults.Clash first second)

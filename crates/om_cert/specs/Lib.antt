@@ -1,0 +1,5 @@
+pub mod Accepted
+pub mod Normal
+pub mod Verified
+pub mod Testing
+pub mod Laws

@@ -1,0 +1,42 @@
+-- The pairs that a check writes of a value that has the type: those that paths reach, in one order.
+use Rattle.std.specs.Prelude.{ℕ, ◌<◌, ◌≡◌, List, Some, Contains}
+use Rattle.om_model.specs.declared.value.Val.{Val}
+use Rattle.om_model.specs.declared.value.Val.TheVariants as vals
+use Rattle.om_model.specs.declared.value.Obj.{Obj}
+use Rattle.om_types.specs.Shapes.{Shapes}
+use Rattle.om_types.specs.Fault.{value_at}
+use Rattle.om_types.specs.Table.{Table, table_shapes}
+use Rattle.om_types.specs.Typing.{IsListed}
+use Rattle.om_section.specs.Increasing.{AreIncreasing}
+
+-- no smaller number is that of an equal type
+abbrev pub IsLeast : Table → ℕ → Type 0
+IsLeast table t = (u : ℕ) → u < t → ¬ (table_shapes table).equal u t
+
+-- they increase, and each type is the least of its class
+pub record AreNormal (table : Table) (pairs : List (ℕ × ℕ)) : Type 0 where
+  pub increasing : AreIncreasing pairs
+  pub least : (o t : ℕ) → Contains pairs (o, t) → IsLeast table t
+
+-- the two lists have the same objects at the same classes
+pub record AreTheSame {T : Type 0} (shapes : Shapes T) (pairs others : List (ℕ × T)) : Type 0 where
+  pub there : (o : ℕ) (t : T) → Contains pairs (o, t) → IsListed shapes others (vals.Ref o) t
+  pub back : (o : ℕ) (t : T) → Contains others (o, t) → IsListed shapes pairs (vals.Ref o) t
+
+-- some path leads to the object at an equal type
+pub record IsReachedBy {T : Type 0} (shapes : Shapes T) (graph : List Obj) (root : Val) (t : T)
+    (o : ℕ) (u : T) : Type 0 where
+  pub path : List ℕ
+  pub type : T
+  pub leads : value_at shapes graph root t path ≡ Some (vals.Ref o, type)
+  pub same : shapes.equal type u
+
+-- The pairs that paths reach, in a section's order.
+pub record AreReached (table : Table) (graph : List Obj) (root : Val)
+    (pairs : List (ℕ × ℕ)) : Type 0 where
+  pub normal : AreNormal table pairs
+  pub led : (o t : ℕ) → Contains pairs (o, t) → IsReachedBy (table_shapes table) graph root 0 o t
+  pub all :
+      (path : List ℕ) (o u : ℕ)
+      → value_at (table_shapes table) graph root 0 path ≡ Some (vals.Ref o, u)
+      → IsListed (table_shapes table) pairs (vals.Ref o) u

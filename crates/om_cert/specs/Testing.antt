@@ -1,0 +1,164 @@
+-- What verifying pairs knows on its way.
+use Rattle.std.specs.Prelude.{ℕ, ◌≡◌, ◌<◌, ◌≤◌, ◌+◌, List, length, IsTrue, IsSomeAnd, Some}
+use Rattle.std.specs.Prelude.{Contains, slice_get}
+use Rattle.std.specs.BTreeSet.{BTreeSet, contains}
+use Rattle.std.specs.Ordering.{nat_cmp, ordering_then}
+use Rattle.std.specs.declared.cmp.Ordering.{Ordering}
+use Rattle.om_model.specs.declared.value.Val.TheVariants as vals
+use Rattle.om_model.specs.declared.value.Obj.{Obj}
+use Rattle.om_types.specs.Fault.{IsLexicallyBefore}
+use Rattle.om_types.specs.Table.{Table, table_shapes}
+use Rattle.om_types.specs.Typing.{field_at, IsHeld}
+use Rattle.om_cert.specs.declared.verified.Why.{Why}
+use Rattle.om_cert.specs.declared.verified.Why.TheVariants.{Range, Unfit, Need, TwoTypes, Root}
+use Rattle.om_cert.specs.declared.verified.Why.TheVariants.{NotFault}
+use Rattle.om_cert.specs.Verified.{IsThere, LacksNeed, IsAtTwoTypes, place_of}
+
+-- ---- all pairs
+
+abbrev pub IsThereNow : Table → List Obj → ℕ × ℕ → Type 0
+IsThereNow table graph pair = IsThere table graph pair
+
+-- the objects and types of the first n pairs are there
+abbrev pub AreThere : Table → List Obj → List (ℕ × ℕ) → ℕ → Type 0
+AreThere table graph pairs n =
+    (k : ℕ) (pair : ℕ × ℕ) → k < n → slice_get pairs k ≡ Some pair → IsThere table graph pair
+
+-- those of all pairs
+abbrev pub AreAllThere : Table → List Obj → List (ℕ × ℕ) → Type 0
+AreAllThere table graph pairs =
+    (k : ℕ) (pair : ℕ × ℕ) → slice_get pairs k ≡ Some pair → IsThere table graph pair
+
+-- those of pair i are not, and of no pair before it
+pub record IsFirstOut (table : Table) (graph : List Obj) (pairs : List (ℕ × ℕ))
+    (i : ℕ) : Type 0 where
+  pub out : IsSomeAnd (slice_get pairs i) (λ pair. ¬ IsThere table graph pair)
+  pub before : AreThere table graph pairs i
+
+-- ---- where an object stands
+
+-- the pairs before this place have smaller objects, and those from it on do not
+pub record IsStart (pairs : List (ℕ × ℕ)) (object place : ℕ) : Type 0 where
+  pub within : place ≤ length pairs
+  pub smaller : (k : ℕ) (pair : ℕ × ℕ) → k < place → slice_get pairs k ≡ Some pair → pair.0 < object
+  pub others : (k : ℕ) (pair : ℕ × ℕ) → place ≤ k → slice_get pairs k ≡ Some pair → object ≤ pair.0
+
+-- the place is not before low, nor after high
+pub record IsBetween (pairs : List (ℕ × ℕ)) (object low high : ℕ) : Type 0 where
+  pub order : low ≤ high
+  pub within : high ≤ length pairs
+  pub smaller : (k : ℕ) (pair : ℕ × ℕ) → k < low → slice_get pairs k ≡ Some pair → pair.0 < object
+  pub others : (k : ℕ) (pair : ℕ × ℕ) → high ≤ k → slice_get pairs k ≡ Some pair → object ≤ pair.0
+
+-- before this place the object stands at no type of a kind, and from it on all are at least the
+-- object
+pub record IsPassing (pairs : List (ℕ × ℕ)) (object place : ℕ) (Is : ℕ → Type 0) : Type 0 where
+  pub within : place ≤ length pairs
+  pub none : (k t : ℕ) → k < place → slice_get pairs k ≡ Some (object, t) → ¬ Is t
+  pub others : (k : ℕ) (pair : ℕ × ℕ) → place ≤ k → slice_get pairs k ≡ Some pair → object ≤ pair.0
+
+-- two types are equal
+abbrev pub IsSame : Table → ℕ → ℕ → Type 0
+IsSame table t u = (table_shapes table).equal t u
+
+-- some pair has the object at an equal type
+abbrev pub IsAmongAt : Table → List (ℕ × ℕ) → ℕ → ℕ → Type 0
+IsAmongAt table pairs o t = (u : ℕ) × Contains pairs (o, u) × (table_shapes table).equal u t
+
+-- some pair has it at an unequal one
+abbrev pub IsElsewhere : Table → List (ℕ × ℕ) → ℕ → ℕ → Type 0
+IsElsewhere table pairs o t = (u : ℕ) × Contains pairs (o, u) × (¬ (table_shapes table).equal t u)
+
+-- objects with classes are ordered by the object, then by the class
+abbrev pub pair_cmp : ℕ × ℕ → ℕ × ℕ → Ordering
+pair_cmp x y = ordering_then (nat_cmp x.0 y.0) (nat_cmp x.1 y.1)
+
+-- What there is are objects of pairs at classes; all are there of the pairs before this place
+-- that have 16 of their object before them.
+pub record AreCrowded (table : Table) (pairs : List (ℕ × ℕ)) (place : ℕ)
+    (Has : ℕ → ℕ → Type 0) : Type 0 where
+  pub some :
+      (o c : ℕ) → Has o c → (t : ℕ) × Contains pairs (o, t) × (slice_get table.classes t ≡ Some c)
+  pub all :
+      (k o s t c : ℕ) → k + 16 < place → slice_get pairs k ≡ Some (o, s)
+      → slice_get pairs (k + 16) ≡ Some (o, t)
+      → slice_get table.classes t ≡ Some c → Has o c
+
+-- what a set has
+abbrev pub is_in : BTreeSet (ℕ × ℕ) → ℕ → ℕ → Type 0
+is_in crowd o c = IsTrue (contains pair_cmp crowd (o, c))
+
+abbrev pub IsCrowd : Table → List (ℕ × ℕ) → BTreeSet (ℕ × ℕ) → Type 0
+IsCrowd table pairs crowd = AreCrowded table pairs (length pairs) (is_in crowd)
+
+-- Where the pair before pair i has the same object at an equal type, no pair has it at an unequal
+-- one.
+abbrev pub IsSettled : Table → List (ℕ × ℕ) → ℕ → Type 0
+IsSettled table pairs i =
+    (j o s t : ℕ) → j + 1 ≡ i → slice_get pairs j ≡ Some (o, s) → slice_get pairs i ≡ Some (o, t)
+    → (table_shapes table).equal s t → ¬ IsElsewhere table pairs o s
+
+-- ---- one pair
+
+-- field i, which is needed at a type, is held
+abbrev pub HoldsNeed : Table → List Obj → List (ℕ × ℕ) → ℕ → ℕ × ℕ → Type 0
+HoldsNeed table graph pairs o need =
+    IsSomeAnd (field_at graph o need.0) (λ v. IsHeld (table_shapes table) graph pairs v need.1)
+
+-- all that the object needs at the type is held
+abbrev pub HoldsAll : Table → List Obj → List (ℕ × ℕ) → ℕ → ℕ → Type 0
+HoldsAll table graph pairs o t =
+    (i a : ℕ) → Contains ((table_shapes table).needs graph (vals.Ref o) t) (i, a)
+    → HoldsNeed table graph pairs o (i, a)
+
+-- the first n needs of an object are held
+abbrev pub HoldsFirst : Table → List Obj → List (ℕ × ℕ) → ℕ → List (ℕ × ℕ) → ℕ → Type 0
+HoldsFirst table graph pairs o needs n =
+    (j i a : ℕ) → j < n → slice_get needs j ≡ Some (i, a) → HoldsNeed table graph pairs o (i, a)
+
+-- the field is needed and not held, and none with a smaller number is so
+pub record IsFirstLack (table : Table) (graph : List Obj) (pairs : List (ℕ × ℕ))
+    (o t field : ℕ) : Type 0 where
+  pub lacks : LacksNeed table graph pairs (o, t) field
+  pub first :
+      (i a : ℕ) → i < field → Contains ((table_shapes table).needs graph (vals.Ref o) t) (i, a)
+      → HoldsNeed table graph pairs o (i, a)
+
+-- what is wrong with a pair by itself
+abbrev pub IsWrongWith : Table → List Obj → List (ℕ × ℕ) → ℕ → Why → Type 0
+IsWrongWith table graph pairs i (Range j) = ⊥
+IsWrongWith table graph pairs i (Unfit j) =
+    (j ≡ i) × IsSomeAnd (slice_get pairs i)
+    (λ pair. ¬ (table_shapes table).fits graph (vals.Ref pair.0) pair.1)
+IsWrongWith table graph pairs i (Need j field) =
+    (j ≡ i) × IsSomeAnd (slice_get pairs i) (λ pair. LacksNeed table graph pairs pair field)
+IsWrongWith table graph pairs i (TwoTypes j) =
+    (j ≡ i) × IsSomeAnd (slice_get pairs i) (λ pair. IsAtTwoTypes table graph pairs pair)
+IsWrongWith table graph pairs i Root = ⊥
+IsWrongWith table graph pairs i NotFault = ⊥
+
+-- The pair fits, holds all that it needs, and is at one type where it is mutable.
+pub record IsRight (table : Table) (graph : List Obj) (pairs : List (ℕ × ℕ))
+    (pair : ℕ × ℕ) : Type 0 where
+  pub fits : (table_shapes table).fits graph (vals.Ref pair.0) pair.1
+  pub holds : HoldsAll table graph pairs pair.0 pair.1
+  pub one_type :
+      (u : ℕ) → Contains pairs (pair.0, u) → (table_shapes table).mutable graph pair.0 pair.1
+      → (table_shapes table).equal pair.1 u
+
+-- so it is with pair i
+abbrev pub IsRightAt : Table → List Obj → List (ℕ × ℕ) → ℕ → Type 0
+IsRightAt table graph pairs i =
+    (pair : ℕ × ℕ) → slice_get pairs i ≡ Some pair → IsRight table graph pairs pair
+
+-- this is wrong with pair i, and nothing before it
+pub record IsFirstAt (table : Table) (graph : List Obj) (pairs : List (ℕ × ℕ)) (i : ℕ)
+    (why : Why) : Type 0 where
+  pub is : IsWrongWith table graph pairs i why
+  pub first :
+      (other : Why) → IsWrongWith table graph pairs i other
+      → ¬ IsLexicallyBefore (place_of other) (place_of why)
+
+-- so it is with the first n pairs
+abbrev pub AreRight : Table → List Obj → List (ℕ × ℕ) → ℕ → Type 0
+AreRight table graph pairs n = (k : ℕ) → k < n → IsRightAt table graph pairs k

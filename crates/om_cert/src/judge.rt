@@ -1,0 +1,142 @@
+//! Whether what a section states holds of a value.
+
+ghost use Rattle.std.specs.Prelude.{◌≡◌, ◌<◌, ◌↔◌, ◌++◌, ◌∷◌, [], length, IfOk, OnOk, IsTrue, MatchOption};
+ghost use Rattle.om_model.specs.Graph.{IsValue};
+ghost use Rattle.om_type_table.specs.Made.{table_of, IsLawful};
+ghost use Rattle.om_section.specs.Increasing.{AreIncreasing};
+ghost use Rattle.om_cert.specs.Testing.{AreThere, AreAllThere, IsFirstOut, IsThereNow};
+ghost use Rattle.om_cert.specs.Verified.{Shows, IsOneAnswer, IsVerified, fault_section};
+ghost use Rattle.om_section.specs.declared.section.Section.TheVariants as sections;
+
+use crate::held::{crowd_of, is_held};
+use crate::test::test_pair;
+use crate::verified::{Verified, Why};
+use om_fault::is_fault;
+use om_heap::Heap;
+use om_model::Memory;
+use om_model::path::Path;
+use om_model::value::Val;
+use om_section::Section;
+use om_type_table::TypeTable;
+use om_types::fault::Fault;
+use std::alloc::Global;
+
+/// What a section shows of a value, or why it is rejected. Nothing is searched: each pair is
+/// tested by itself, and each path is walked.
+pub fn verify(
+    alloc: Global,
+    heap: &Heap,
+    root: Val,
+    table: &TypeTable,
+    section: &Section,
+) -> Result<Verified, Memory>
+    requires value { IsValue (length heap.now) root }
+    requires lawful { IsLawful (table_of table.now) }
+    ensures answer { IfOk result (IsVerified (table_of table.now) heap.now root section.now) }
+    ensures shows { IfOk result (Shows (table_of table.now) heap.now root) }
+    ensures one { IfOk result (IsOneAnswer (table_of table.now) heap.now root section.now) }
+{
+    answer_of(alloc, heap, root, table, section)
+}
+
+/// The same by the kind of the section.
+fn answer_of(
+    alloc: Global,
+    heap: &Heap,
+    root: Val,
+    table: &TypeTable,
+    section: &Section,
+) -> Result<Verified, Memory>
+    requires value { IsValue (length heap.now) root }
+    requires lawful { IsLawful (table_of table.now) }
+    ensures { IfOk result (IsVerified (table_of table.now) heap.now root section.now) }
+{
+    match section {
+        Section::Pairs(pairs) => verify_pairs(alloc, heap, root, table, pairs.as_slice()),
+        Section::Misfit(path) => {
+            let path = copied(alloc, path)?;
+            Ok(verify_fault(heap, root, table, Fault::Misfit(path)))
+        }
+        Section::Clash(first, second) => {
+            let first = copied(alloc, first)?;
+            let second = copied(alloc, second)?;
+            Ok(verify_fault(heap, root, table, Fault::Clash(first, second)))
+        }
+    }
+}
+
+/// The same path.
+fn copied(alloc: Global, path: &Path) -> Result<Path, Memory>
+    ensures { IfOk result (λ copy. copy ≡ path.now) }
+{
+    let mut copy = Path::new(alloc);
+    for i in 0..path.len() {
+        copy.push(path.step(i))?;
+    }
+    Ok(copy)
+}
+
+/// Whether the paths that are stated are a fault.
+fn verify_fault(heap: &Heap, root: Val, table: &TypeTable, fault: Fault) -> Verified
+    requires value { IsValue (length heap.now) root }
+    requires lawful { IsLawful (table_of table.now) }
+    ensures { IsVerified (table_of table.now) heap.now root (fault_section fault) result }
+{
+    if is_fault(heap, root, table, &fault) {
+        Verified::No(fault)
+    } else {
+        Verified::Rejected(Why::NotFault)
+    }
+}
+
+/// Whether the object and the type of a pair are there.
+fn is_there(heap: &Heap, table: &TypeTable, pair: (u64, u64)) -> bool
+    requires lawful { IsLawful (table_of table.now) }
+    ensures { IsTrue result ↔ IsThereNow (table_of table.now) heap.now pair }
+{
+    pair.0 < heap.count() && pair.1 < table.nodes.len() as u64
+}
+
+/// The first pair whose object or type is not there.
+fn first_out(heap: &Heap, table: &TypeTable, pairs: &[(u64, u64)]) -> Option<usize>
+    requires lawful { IsLawful (table_of table.now) }
+    ensures { MatchOption result (AreAllThere (table_of table.now) heap.now pairs.now)
+        (IsFirstOut (table_of table.now) heap.now pairs.now) }
+{
+    for i in 0..pairs.len() {
+        if !is_there(heap, table, pairs[i]) {
+            return Some(i);
+        }
+    }
+    None
+}
+
+/// Whether the pairs justify one another and hold the root.
+fn verify_pairs(
+    alloc: Global,
+    heap: &Heap,
+    root: Val,
+    table: &TypeTable,
+    pairs: &[(u64, u64)],
+) -> Result<Verified, Memory>
+    requires value { IsValue (length heap.now) root }
+    requires lawful { IsLawful (table_of table.now) }
+    requires increasing { AreIncreasing pairs.now }
+    ensures { IfOk result
+        (IsVerified (table_of table.now) heap.now root (sections.Pairs pairs.now)) }
+{
+    if let Some(i) = first_out(heap, table, pairs) {
+        return Ok(Verified::Rejected(Why::Range(i as u64)));
+    }
+    let crowd = crowd_of(alloc, table, pairs)?;
+    for i in 0..pairs.len() {
+        if let Some(why) = test_pair(heap, table, pairs, &crowd, i) {
+            return Ok(Verified::Rejected(why));
+        }
+    }
+    if is_held(heap, table, pairs, &crowd, root, table.root()) {
+        Ok(Verified::Yes)
+    } else {
+        Ok(Verified::Rejected(Why::Root))
+    }
+}
