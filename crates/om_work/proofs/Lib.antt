@@ -1,0 +1,5 @@
+pub mod FirstLemmas
+pub mod PieceLemmas
+pub mod RunLemmas
+pub mod AccountLemmas
+pub mod OutsideLemmas

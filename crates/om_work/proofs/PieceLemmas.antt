@@ -1,0 +1,163 @@
+-- What the loop over a piece has done so far.
+use Rattle.std.proofs.Common.{◌≡◌, ℕ, ◌+◌, ◌<◌, List, [], ◌++◌, length, take, drop, Result, Ok, Err, refl, sym, ap, ◌∙◌, subst, append_assoc, append-nil, length-append, arith}
+use Rattle.std.proofs.lemmas.List.{length-drop, take-append-drop}
+use Rattle.std.specs.Prelude.{Bool, IsErrAnd}
+use Rattle.om_outcome.specs.Outcome.{Said, texts_of}
+use Rattle.om_edge.specs.Sink.{Puts}
+use Rattle.om_edge.specs.State.{ByteState, Change, change}
+use Rattle.om_stops.specs.declared.stop.Halt.{Halt}
+use Rattle.om_promises.specs.Commands.{Commands}
+use Rattle.om_promises.proofs.PutLemmas.{puts_then, puts_nothing}
+use Rattle.om_promises.proofs.ValueLemmas.{texts_of-append}
+use Rattle.om_work.specs.Works.{Has, HaltsIn, HaltsWithin, Feeds, FeedsAll, EndsAt}
+
+-- what is before the rest of the piece is taken, and what is said of its items is put
+pub record PieceSoFar (has : Has) (bytes : List ℕ) (said : List Said) (piece rest : List ℕ)
+    (out : Change ByteState) : Type 0 where
+  pub done : List ℕ
+  pub more : List Said
+  pub split : piece ≡ done ++ rest
+  pub there : has (bytes ++ done) (said ++ more)
+  pub put : Puts out (texts_of more)
+
+pub piece_begins :
+    (has : Has) (bytes : List ℕ) (said : List Said) (piece : List ℕ) (o : ByteState)
+    → has bytes said → PieceSoFar has bytes said piece piece (change o o)
+piece_begins has bytes said piece o there = record {
+  done = [];
+  more = [];
+  split = refl;
+  there = subst (λ b. has b (said ++ [])) (sym (append-nil bytes))
+      (subst (λ s. has bytes s) (sym (append-nil said)) there);
+  put = puts_nothing o;
+}
+
+module _ {A : Type 0} (c : Commands A) (a : A) (has : Has) (bytes : List ℕ) (said : List Said)
+    (piece rest : List ℕ) (o p : ByteState)
+    (s : PieceSoFar has bytes said piece rest (change o p)) where
+  -- the piece has no more bytes than before
+  pub piece_room :
+      (limit : ℕ) → length bytes + length piece < limit
+      → length (bytes ++ s.done) + length rest < limit
+  piece_room limit short =
+      let size : length piece ≡ length s.done + length rest =
+      ap length s.split ∙ length-append s.done rest in
+      let all = length-append bytes s.done in omega (arith, size, all, short)
+
+  pub piece_more :
+      (q : ByteState) (after : Has) (n : ℕ) → Feeds c a has after rest (change p q) (Ok n)
+      → PieceSoFar after bytes said piece (drop n rest) (change o q)
+  piece_more q after n (some, fits, feeds) =
+      let (more, there, put) = feeds (bytes ++ s.done) (said ++ s.more) s.there in record {
+        done = s.done ++ take n rest;
+        more = s.more ++ more;
+        split = s.split ∙ (ap (λ r. s.done ++ r) (sym (take-append-drop n rest))
+            ∙ sym (append_assoc s.done (take n rest) (drop n rest)));
+        there = subst (λ b. after b (said ++ (s.more ++ more)))
+            (append_assoc bytes s.done (take n rest))
+            (subst (λ all. after ((bytes ++ s.done) ++ take n rest) all)
+            (append_assoc said s.more more) there);
+        put = subst (λ text. Puts (change o q) text) (sym (texts_of-append s.more more))
+            (puts_then o p q (texts_of s.more) (texts_of more) s.put put);
+      }
+
+  pub piece_ends :
+      rest ≡ [] → (more : List Said) × has (bytes ++ piece) (said ++ more)
+      × Puts (change o p) (texts_of more)
+  piece_ends none = (
+    s.more,
+    subst (λ p. has (bytes ++ p) (said ++ s.more))
+        (sym (s.split ∙ (ap (λ r. s.done ++ r) none ∙ append-nil s.done))) s.there,
+    s.put,
+  )
+
+  pub piece_halts :
+      (q : ByteState) (halt : Halt)
+      → HaltsWithin c a (bytes ++ s.done) (said ++ s.more) rest (change p q) halt
+      → HaltsWithin c a bytes said piece (change o q) halt
+  piece_halts q halt h = record {
+    done = s.done ++ h.done;
+    in_hand = h.in_hand;
+    split = s.split ∙ (ap (λ r. s.done ++ r) h.split ∙ sym (append_assoc s.done h.done h.in_hand));
+    more = s.more ++ h.more;
+    between = h.between;
+    put = subst (λ text. Puts (change o h.between) text) (sym (texts_of-append s.more h.more))
+        (puts_then o p h.between (texts_of s.more) (texts_of h.more) s.put h.put);
+    halts = subst (λ b. HaltsIn c a b h.in_hand (said ++ (s.more ++ h.more)) (change h.between q) halt)
+        (append_assoc bytes s.done h.done)
+        (subst (λ all. HaltsIn c a ((bytes ++ s.done) ++ h.done) h.in_hand all (change h.between q) halt)
+        (append_assoc said s.more h.more) h.halts);
+  }
+
+pub piece_smaller :
+    {A : Type 0} (c : Commands A) (a : A) (has after : Has) (rest : List ℕ)
+    (out : Change ByteState) (n : ℕ) → Feeds c a has after rest out (Ok n)
+    → length (drop n rest) < length rest
+piece_smaller c a has after rest out n (some, fits, feeds) =
+    omega (arith, length-drop n rest, some, fits)
+
+-- nothing was put before the halt
+pub halts_at_once :
+    {A : Type 0} (c : Commands A) (a : A) (bytes : List ℕ) (said : List Said) (in_hand : List ℕ)
+    (o q : ByteState) (halt : Halt) → HaltsIn c a bytes in_hand said (change o q) halt
+    → HaltsWithin c a bytes said in_hand (change o q) halt
+halts_at_once c a bytes said in_hand o q halt halts = record {
+  done = [];
+  in_hand = in_hand;
+  split = refl;
+  more = [];
+  between = o;
+  put = puts_nothing o;
+  halts = subst (λ b. HaltsIn c a b in_hand (said ++ []) (change o q) halt) (sym (append-nil bytes))
+      (subst (λ s. HaltsIn c a bytes in_hand s (change o q) halt) (sym (append-nil said)) halts);
+}
+
+-- a call ends in a halt
+pub feeds_halt :
+    {A : Type 0} (c : Commands A) (a : A) (before after : Has) (in_hand : List ℕ)
+    (out : Change ByteState) (halt : Halt) (result : Result ℕ Halt)
+    → IsErrAnd result (λ e. e ≡ halt)
+    → ((bytes : List ℕ) (said : List Said) → before bytes said
+    → HaltsWithin c a bytes said in_hand out halt)
+    → Feeds c a before after in_hand out result
+feeds_halt c a before after in_hand out halt (Ok n) is halts = absurd is
+feeds_halt c a before after in_hand out halt (Err e) is halts =
+    subst (λ e. Feeds c a before after in_hand out (Err e)) (sym is) halts
+
+pub ends_halt :
+    {A : Type 0} (c : Commands A) (a : A) (has : Has) (out : Change ByteState) (halt : Halt)
+    (result : Result Bool Halt) → IsErrAnd result (λ e. e ≡ halt)
+    → EndsAt c a has out (Err halt) → EndsAt c a has out result
+ends_halt c a has out halt (Ok well) is ends = absurd is
+ends_halt c a has out halt (Err e) is ends =
+    subst (λ e. EndsAt c a has out (Err e)) (sym is) ends
+
+-- what was done so far, from any bytes and what is said of them
+abbrev pub FedSoFar : Has → Has → List ℕ → List ℕ → Change ByteState → Type 0
+FedSoFar before has piece rest out =
+    (bytes : List ℕ) (said : List Said) → before bytes said
+    → PieceSoFar has bytes said piece rest out
+
+module _ {A : Type 0} (c : Commands A) (a : A) (before has : Has) (piece rest : List ℕ)
+    (o p : ByteState) (s : FedSoFar before has piece rest (change o p)) where
+  pub fed_more :
+      (q : ByteState) (after : Has) (n : ℕ) → Feeds c a has after rest (change p q) (Ok n)
+      → FedSoFar before after piece (drop n rest) (change o q)
+  fed_more q after n feeds bytes said there =
+      piece_more c a has bytes said piece rest o p (s bytes said there) q after n feeds
+
+  pub fed_halts :
+      (q : ByteState) (after any : Has) (halt : Halt) (result : Result (Unit {0}) Halt)
+      → IsErrAnd result (λ e. e ≡ halt) → Feeds c a has after rest (change p q) (Err halt)
+      → FeedsAll c a before any piece (change o q) result
+  fed_halts q after any halt (Ok done) is feeds = absurd is
+  fed_halts q after any halt (Err e) is feeds =
+      subst (λ e. FeedsAll c a {U = Unit {0}} before any piece (change o q) (Err e)) (sym is)
+      (λ bytes said there.
+      let so_far = s bytes said there in
+      piece_halts c a has bytes said piece rest o p so_far q halt
+      (feeds (bytes ++ so_far.done) (said ++ so_far.more) so_far.there))
+
+  pub fed_all : rest ≡ [] → FeedsAll c a {U = Unit {0}} before has piece (change o p) (Ok tt)
+  fed_all none bytes said there =
+      piece_ends c a has bytes said piece rest o p (s bytes said there) none

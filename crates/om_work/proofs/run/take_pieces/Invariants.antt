@@ -1,0 +1,14 @@
+use Rattle.std.proofs.Common.{◌≡◌, ◌-◌, ◌^◌}
+use Rattle.om_edge.specs.State.{change}
+use Rattle.om_work.proofs.RunLemmas.{RunSoFar}
+use Rattle.om_work.proofs.run.take_pieces.Given as goal
+
+abbrev pub invariant-loop-taken : goal.invariant-loop-taken
+invariant-loop-taken g l = record {
+  kept : g.W.Work.act l.work ≡ g.W.Work.act l.initial.work;
+  so_far : RunSoFar (g.W.Work.has l.work) l.taken
+      (change (g.S.Source.state l.initial.input) (g.S.Source.state l.input)) (change (g.K.Sink.state l.initial.out) (g.K.Sink.state l.out));
+}
+
+abbrev pub decreases-loop-taken : goal.decreases-loop-taken
+decreases-loop-taken g l = 2 ^ 48 - l.taken

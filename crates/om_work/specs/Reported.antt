@@ -1,0 +1,58 @@
+-- What a run says at last, and what its status tells of the outside.
+use Rattle.std.specs.Prelude.{ℕ, ◌^◌, ◌≤◌, ◌≡◌, ◌⊎◌, Bool, if◌then◌else◌, List, [], length, Result, Ok, Err, IfSome}
+use Rattle.om_outcome.specs.declared.status.Status.{Status}
+use Rattle.om_outcome.specs.declared.status.Status.TheVariants as statuses
+use Rattle.om_outcome.specs.Outcome as outcome
+use Rattle.om_outcome.specs.Outcome.{read_fault, too_long, out_of_memory}
+use Rattle.om_edge.specs.Faults.{RoseOrLast}
+use Rattle.om_edge.specs.Sink.{Puts}
+use Rattle.om_edge.specs.State.{ByteState, FilesState, Change}
+use Rattle.om_stops.specs.declared.stop.Halt.{Halt}
+use Rattle.om_stops.specs.declared.stop.Halt.TheVariants as halts
+use Rattle.om_stops.specs.Stops.{stop_of, Reports}
+use Rattle.om_promises.specs.Account.{FetchesFor, Account}
+use Rattle.om_promises.specs.Call.{call}
+use Rattle.om_promises.specs.Commands.{Fetches, Commands, Prepares}
+use Rattle.om_promises.specs.Lawful.{IsInner, AreLawfulAt}
+use Rattle.om_work.specs.Runs.{Runs}
+
+-- the status of a run that went to its end
+abbrev pub ending_status : Bool → Status
+ending_status well = if well then statuses.Well else statuses.No
+
+-- The stop is reported, where the run stopped. Where out failed, or the run went to its end, err has nothing.
+abbrev pub IsReported : Result Bool Halt → Change ByteState → Status → Type 0
+IsReported (Ok well) err status = Puts err [] × (status ≡ ending_status well)
+IsReported (Err (halts.Stop stop)) err status = Reports (stop_of stop) err status
+IsReported (Err halts.WriteFault) err status = Puts err [] × (status ≡ statuses.WriteFault)
+
+-- The stop is the command's own; or the outside has it: memory ran out, a call on the input failed, or it has 2^48 bytes
+-- or more.
+abbrev pub HasReason : Change ByteState → outcome.Stop → Type 0
+HasReason input stop =
+    IsInner stop
+    ⊎ ((stop ≡ out_of_memory)
+    ⊎ (((stop ≡ read_fault) × RoseOrLast input.before.faults input.after.faults)
+    ⊎ ((stop ≡ too_long) × IfSome input.before.bytes (λ bytes. 2 ^ 48 ≤ length bytes))))
+
+-- a run stops for such a reason; and out fails only by a call that failed
+abbrev pub HaltsByOutside : Change ByteState → Change ByteState → Result Bool Halt → Type 0
+HaltsByOutside input out (Ok well) = Unit {0}
+HaltsByOutside input out (Err (halts.Stop stop)) = HasReason input (stop_of stop)
+HaltsByOutside input out (Err halts.WriteFault) =
+    RoseOrLast out.before.faults out.after.faults
+
+module _ {A : Type 0} (c : Commands A) where
+  -- the account of a call that came to this, whatever its words and files
+  abbrev pub HasAccount :
+      A → Change ByteState → Change ByteState → Change ByteState → Status → Type 0
+  HasAccount a input out err status =
+      (words : List (List ℕ)) (found : Fetches) (files : Change FilesState)
+      → FetchesFor c words files found → Prepares c words found (Ok a)
+      → Account c words (call input files out err status)
+
+  -- a command that is lawful answers no status of the outside but for a call that has it
+  abbrev pub TellsOutside : Type 0
+  TellsOutside = (a : A) → AreLawfulAt c a
+      → (input out : Change ByteState) (result : Result Bool Halt)
+      → Runs c a input out result → HaltsByOutside input out result

@@ -1,0 +1,91 @@
+-- What a command does with the bytes of its input, as they come.
+use Rattle.std.specs.Prelude.{ℕ, ◌<◌, ◌≤◌, ◌≡◌, ◌⊎◌, Bool, List, [], ◌∷◌, ◌++◌, length, take, Result, Ok, Err}
+use Rattle.om_outcome.specs.Outcome.{out_of_memory, Said, says, stops, texts_of, all_well}
+use Rattle.om_edge.specs.Sink.{Puts, PutsPart}
+use Rattle.om_edge.specs.State.{ByteState, Change, change}
+use Rattle.om_stops.specs.declared.stop.Halt.{Halt}
+use Rattle.om_stops.specs.declared.stop.Halt.TheVariants as halts
+use Rattle.om_stops.specs.Stops.{stop_of}
+use Rattle.om_promises.specs.Account.{HoldNoStop}
+use Rattle.om_promises.specs.Commands.{Item, Commands, SaysFirst}
+
+-- these bytes were taken, and this was said of their items
+abbrev pub Has : Type 1
+Has = List ℕ → List Said → Type 0
+
+module _ {A : Type 0} (c : Commands A) (a : A) where
+  -- an item stays one when bytes follow
+  abbrev pub ItemsStay : Type 0
+  ItemsStay = (bytes : List ℕ) (item : Item) (more later : List ℕ)
+      → c.IsFirst a bytes item more → c.IsFirst a (bytes ++ later) item (more ++ later)
+
+  -- this is said of the first items of the bytes
+  abbrev pub AreSaid : List ℕ → List Said → Type 0
+  AreSaid bytes said = (items : List Item) × (rest : List ℕ) × SaysFirst c a bytes items said rest
+
+  -- ---- in a piece
+
+  -- The bytes before those in hand hold no stop. With those in hand the run stops, or memory ran out; or the next item
+  -- ends, and its text could not be put whole.
+  abbrev pub HaltsIn : List ℕ → List ℕ → List Said → Change ByteState → Halt → Type 0
+  HaltsIn earlier in_hand said out (halts.Stop stop) =
+      (holds : HoldNoStop c a earlier said)
+      × (c.Stops a holds.items (holds.rest ++ in_hand) (stop_of stop)
+      ⊎ (stop_of stop ≡ out_of_memory))
+      × Puts out []
+  HaltsIn earlier in_hand said out halts.WriteFault =
+      HoldNoStop c a earlier said
+      × (next : Said) × AreSaid (earlier ++ in_hand) (said ++ next ∷ []) × PutsPart out next.text
+
+  -- it comes to a halt within a piece: before that what is said of the items that end there is put
+  pub record HaltsWithin (bytes : List ℕ) (said : List Said) (piece : List ℕ)
+      (out : Change ByteState) (halt : Halt) : Type 0 where
+    pub done : List ℕ
+    pub in_hand : List ℕ
+    pub split : piece ≡ done ++ in_hand
+    pub more : List Said
+    pub between : ByteState
+    pub put : Puts (change out.before between) (texts_of more)
+    pub halts : HaltsIn (bytes ++ done) in_hand (said ++ more) (change between out.after) halt
+
+  -- Some bytes in hand are taken, one at least, and what is said of the items that end in them is put; or it comes to a
+  -- halt within those in hand.
+  abbrev pub Feeds : Has → Has → List ℕ → Change ByteState → Result ℕ Halt → Type 0
+  Feeds before after in_hand out (Ok n) =
+      (0 < n) × (n ≤ length in_hand)
+      × ((bytes : List ℕ) (said : List Said) → before bytes said
+      → (more : List Said) × after (bytes ++ take n in_hand) (said ++ more)
+      × Puts out (texts_of more))
+  Feeds before after in_hand out (Err halt) =
+      (bytes : List ℕ) (said : List Said) → before bytes said
+      → HaltsWithin bytes said in_hand out halt
+
+  -- a piece is taken to its end, and what is said of the items that end in it is put; or it comes to a halt within it
+  abbrev pub FeedsAll :
+      {U : Type 0} → Has → Has → List ℕ → Change ByteState → Result U Halt → Type 0
+  FeedsAll before after piece out (Ok done) =
+      (bytes : List ℕ) (said : List Said) → before bytes said
+      → (more : List Said) × after (bytes ++ piece) (said ++ more) × Puts out (texts_of more)
+  FeedsAll before after piece out (Err halt) =
+      (bytes : List ℕ) (said : List Said) → before bytes said
+      → HaltsWithin bytes said piece out halt
+
+  -- ---- at the end
+
+  -- The last reply is put, and the answer is whether nothing is wrong with any of it; or it is a stop, or memory ran out;
+  -- or it could not be put whole.
+  abbrev pub PutsLast :
+      List Said → List Item → List ℕ → Change ByteState → Result Bool Halt → Type 0
+  PutsLast said items rest out (Ok well) =
+      (final : Said) × c.Ends a items rest (says final)
+      × (well ≡ all_well (said ++ final ∷ [])) × Puts out final.text
+  PutsLast said items rest out (Err (halts.Stop stop)) =
+      (c.Ends a items rest (stops (stop_of stop)) ⊎ (stop_of stop ≡ out_of_memory)) × Puts out []
+  PutsLast said items rest out (Err halts.WriteFault) =
+      (final : Said) × c.Ends a items rest (says final) × PutsPart out final.text
+
+  -- no more bytes come
+  abbrev pub EndsAt : Has → Change ByteState → Result Bool Halt → Type 0
+  EndsAt has out result =
+      (bytes : List ℕ) (said : List Said) → has bytes said
+      → (holds : HoldNoStop c a bytes said) × PutsLast said holds.items holds.rest out result

@@ -1,0 +1,145 @@
+-- The command that takes bytes.
+use Rattle.std.proofs.Common.{◌≡◌, ◌≢◌, ℕ, ◌+◌, ◌<◌, ◌≤◌, true, List, [], ◌∷◌, ◌++◌, length, get_or, take, Ok, inl, refl, sym, ap, ◌∙◌, subst, length-append, arith}
+use Rattle.std.specs.Prelude.{◌&&◌}
+use Rattle.om_model.specs.declared.refusal.ReadRefusal.TheVariants.{Compressed}
+use Rattle.om_outcome.specs.Outcome as outcome
+use Rattle.om_outcome.specs.Outcome.{Stop, Said, nothing_said, says, all_well}
+use Rattle.om_outcome.specs.RefusalText.{refusal_text}
+use Rattle.om_edge.specs.Sink.{Puts, PutsPart}
+use Rattle.om_edge.specs.State.{ByteState, change}
+use Rattle.om_stops.specs.declared.stop.Halt.TheVariants as halts
+use Rattle.om_stops.specs.declared.stop.Stop.TheVariants as codes
+use Rattle.om_promises.specs.Account.{HoldNoStop}
+use Rattle.om_promises.specs.Commands.{Item, text, Cut, SaysFirst}
+use Rattle.om_promises.proofs.PutLemmas.{puts_nothing}
+use Rattle.om_promises.proofs.ValueLemmas.{all_well-snoc}
+use Rattle.om_work.specs.Works.{ItemsStay, HaltsWithin, Feeds, PutsLast}
+use Rattle.om_work.proofs.FirstLemmas.{first_stays, first_next}
+use Rattle.om_work.proofs.PieceLemmas.{halts_at_once}
+use Rattle.om_work_examples.specs.Small.{fine, bytes_but}
+use Rattle.om_work_examples.specs.Taken.{HasBytes}
+
+pub bytes_stay : (refused : ℕ) → ItemsStay bytes_but refused
+bytes_stay refused bytes item more later is = (is.0, ap (λ b. b ++ later) is.1, is.2)
+
+-- each item has a byte
+few_items :
+    (refused : ℕ) (bytes : List ℕ) (items : List Item) (rest : List ℕ)
+    → Cut bytes_but refused bytes items rest → length items ≤ length bytes
+few_items refused bytes [] rest cut = omega arith
+few_items refused bytes (item ∷ items) rest (more, is, cut) =
+    let few = few_items refused more items rest cut in
+    let size : length bytes ≡ length (is.0 ∷ more) = ap length is.1 in omega (arith, few, size)
+
+module _ (refused count : ℕ) (bytes : List ℕ) (said : List Said)
+    (h : HasBytes refused count bytes said) where
+  pub count_few : count ≤ length bytes
+  count_few =
+      let counted = h.counted in
+      let few = few_items refused bytes h.items [] h.first.cut in omega (arith, counted, few)
+
+  abbrev pub bytes_hold : HoldNoStop bytes_but refused bytes said
+  bytes_hold = record {
+    items = h.items;
+    rest = [];
+    first = h.first;
+    goes_on = record { no_stop = λ stop s. cc s.1; no_item = λ item more is. cc is.1 };
+  }
+
+  -- one more byte is said
+  byte_said :
+      (b : ℕ) (more : List ℕ) → b ≢ refused
+      → SaysFirst bytes_but refused (bytes ++ b ∷ more) (h.items ++ text (b ∷ []) ∷ [])
+      (said ++ fine (b ∷ []) ∷ []) more
+  byte_said b more other =
+      first_next bytes_but refused (bytes ++ b ∷ more) h.items said (b ∷ more) (text (b ∷ [])) more
+      (fine (b ∷ []))
+      (first_stays bytes_but refused (bytes_stay refused) bytes h.items said [] (b ∷ more) h.first)
+      (b, refl, refl) (b, other, refl, refl)
+
+  pub byte_taken :
+      (b : ℕ) → b ≢ refused
+      → HasBytes refused (count + 1) (bytes ++ b ∷ []) (said ++ fine (b ∷ []) ∷ [])
+  byte_taken b other =
+      let counted = h.counted in
+      let size = length-append h.items (text (b ∷ []) ∷ []) in record {
+        items = h.items ++ text (b ∷ []) ∷ [];
+        first = byte_said b [] other;
+        counted = omega (arith, counted, size);
+        well = all_well-snoc said (fine (b ∷ [])) ∙ ap (λ w. w && true) h.well;
+      }
+
+  pub byte_refused :
+      (in_hand more : List ℕ) (o : ByteState) → in_hand ≡ refused ∷ more
+      → HaltsWithin bytes_but refused bytes said in_hand (change o o)
+      (halts.Stop (codes.Refused count Compressed))
+  byte_refused in_hand more o is =
+      halts_at_once bytes_but refused bytes said in_hand o o (halts.Stop (codes.Refused count Compressed)) (
+        bytes_hold,
+        inl (more, is, ap (λ n. outcome.value n (refusal_text Compressed)) h.counted),
+        puts_nothing o,
+      )
+
+  pub byte_fault :
+      (in_hand more : List ℕ) (b : ℕ) (o q : ByteState)
+      → in_hand ≡ b ∷ more → b ≢ refused → PutsPart (change o q) (b ∷ [])
+      → HaltsWithin bytes_but refused bytes said in_hand (change o q) halts.WriteFault
+  byte_fault in_hand more b o q begins other part =
+      halts_at_once bytes_but refused bytes said in_hand o q halts.WriteFault (
+        bytes_hold,
+        fine (b ∷ []),
+        (
+          h.items ++ text (b ∷ []) ∷ [],
+          more,
+          subst (λ t. SaysFirst bytes_but refused (bytes ++ t) (h.items ++ text (b ∷ []) ∷ [])
+              (said ++ fine (b ∷ []) ∷ []) more) (sym begins) (byte_said b more other),
+        ),
+        part,
+      )
+
+  pub bytes_end :
+      (o : ByteState)
+      → (holds : HoldNoStop bytes_but refused bytes said)
+      × PutsLast bytes_but refused said holds.items holds.rest (change o o) (Ok true)
+  bytes_end o = (
+    bytes_hold,
+    (
+      nothing_said,
+      refl,
+      sym (all_well-snoc said nothing_said ∙ ap (λ w. w && true) h.well),
+      puts_nothing o,
+    ),
+  )
+
+-- bytes begin with their first
+pub front_byte :
+    (bytes : List ℕ) → 0 < length bytes
+    → (more : List ℕ) × (bytes ≡ get_or bytes 0 0 ∷ more) × (take 1 bytes ≡ get_or bytes 0 0 ∷ [])
+front_byte [] some = absurd (omega arith)
+front_byte (b ∷ more) some = (more, refl, refl)
+
+pub byte_feeds :
+    (refused count : ℕ) (in_hand : List ℕ) (o q : ByteState) → 0 < length in_hand
+    → get_or in_hand 0 0 ≢ refused → Puts (change o q) (get_or in_hand 0 0 ∷ [])
+    → Feeds bytes_but refused (HasBytes refused count) (HasBytes refused (count + 1)) in_hand
+    (change o q) (Ok 1)
+byte_feeds refused count in_hand o q some other put = (
+  omega arith,
+  omega (arith, some),
+  λ bytes said h. (
+    fine (get_or in_hand 0 0 ∷ []) ∷ [],
+    subst (λ t. HasBytes refused (count + 1) (bytes ++ t)
+        (said ++ fine (get_or in_hand 0 0 ∷ []) ∷ [])) (sym (front_byte in_hand some).2)
+        (byte_taken refused count bytes said h (get_or in_hand 0 0) other),
+    put,
+  ),
+)
+
+-- no byte was taken
+pub bytes_begin : (refused : ℕ) → HasBytes refused 0 [] []
+bytes_begin refused = record {
+  items = [];
+  first = record { cut = refl; all_say = tt };
+  counted = refl;
+  well = refl;
+}

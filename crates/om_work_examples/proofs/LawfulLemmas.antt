@@ -1,0 +1,84 @@
+-- The small commands are lawful, whatever they are to do.
+use Rattle.std.proofs.Common.{◌≡◌, ℕ, List, [], ◌∷◌, ◌++◌, refl, sym, ap, ◌∙◌, subst, append_assoc, length-append, arith}
+use Rattle.om_promises.specs.Commands.{text}
+use Rattle.om_promises.specs.Lawful.{IsInner, AreLawfulAt}
+use Rattle.om_work_examples.specs.Small.{IsUnbroken, fine, telling, lines, bytes_but}
+use Rattle.om_work_examples.proofs.BytesLemmas.{bytes_stay}
+use Rattle.om_work_examples.proofs.LinesLemmas.{lines_stay}
+
+pub telling_lawful : (a : List ℕ) → AreLawfulAt telling a
+telling_lawful a = record {
+  first_once = λ bytes are_bytes item other more rest h k. absurd h;
+  says_once = λ items item said other h k. absurd h;
+  stops_once = λ items bytes are_bytes stop other h k. absurd h;
+  ends_once = λ items bytes are_bytes last other h k. h ∙ sym k;
+  front = λ bytes item more h. absurd h;
+  item_stays = λ bytes item more later h. h;
+  stop_stays = λ items bytes later stop h. h;
+  stops_inside = λ items bytes stop h. absurd h;
+  ends_inside = λ items bytes stop h. absurd (cc h);
+  apart = λ items bytes are_bytes item more said stop first h k. k;
+}
+
+pub bytes_lawful : (a : ℕ) → AreLawfulAt bytes_but a
+bytes_lawful a = record {
+  first_once = λ bytes are_bytes item other more rest h k.
+      let is : h.0 ∷ more ≡ k.0 ∷ rest = sym h.1 ∙ k.1 in
+      let byte : h.0 ≡ k.0 = cc is in
+      let tail : more ≡ rest = cc is in
+      (h.2 ∙ (ap (λ b. text (b ∷ [])) byte ∙ sym k.2), tail);
+  says_once = λ items item said other h k.
+      let is : text (h.0 ∷ []) ≡ text (k.0 ∷ []) = sym h.2 ∙ k.2 in
+      let byte : h.0 ≡ k.0 = cc is in
+      h.3 ∙ (ap (λ b. fine (b ∷ [])) byte ∙ sym k.3);
+  stops_once = λ items bytes are_bytes stop other h k. h.2 ∙ sym k.2;
+  ends_once = λ items bytes are_bytes last other h k. h ∙ sym k;
+  front = λ bytes item more h. (h.0 ∷ [], h.1, omega arith);
+  item_stays = bytes_stay a;
+  stop_stays = λ items bytes later stop h. (h.0 ++ later, ap (λ x. x ++ later) h.1, h.2);
+  stops_inside = λ items bytes stop h. subst IsInner (sym h.2) tt;
+  ends_inside = λ items bytes stop h. absurd (cc h);
+  apart = λ items bytes are_bytes item more said stop first h k.
+      let is : first.0 ∷ more ≡ a ∷ k.0 = sym first.1 ∙ k.1 in
+      let same : text (first.0 ∷ []) ≡ text (h.0 ∷ []) = sym first.2 ∙ h.2 in
+      let byte : h.0 ≡ a = cc (is, same) in h.1 byte;
+}
+
+-- the first line feed ends the line
+line_once :
+    (line other more rest : List ℕ) → IsUnbroken line → IsUnbroken other
+    → line ++ 10 ∷ more ≡ other ++ 10 ∷ rest → (line ≡ other) × (more ≡ rest)
+line_once [] [] more rest one two same = (refl, cc same)
+line_once [] (b ∷ other) more rest one (is, two) same =
+    let feed : b ≡ 10 = cc same in absurd (is feed)
+line_once (b ∷ line) [] more rest (is, one) two same =
+    let feed : b ≡ 10 = cc same in absurd (is feed)
+line_once (b ∷ line) (d ∷ other) more rest (is, one) (is', two) same =
+    let byte : b ≡ d = cc same in
+    let tail : line ++ 10 ∷ more ≡ other ++ 10 ∷ rest = cc same in
+    let next = line_once line other more rest one two tail in
+    (ap (λ b. b ∷ line) byte ∙ ap (λ l. d ∷ l) next.0, next.1)
+
+pub lines_lawful : (a : Unit {0}) → AreLawfulAt lines a
+lines_lawful a = record {
+  first_once = λ bytes are_bytes item other more rest h k.
+      let one = line_once h.line k.line more rest h.unbroken k.unbroken
+      (sym h.bytes_are ∙ k.bytes_are) in
+      (h.is ∙ (ap (λ l. text l) one.0 ∙ sym k.is), one.1);
+  says_once = λ items item said other h k.
+      let is : text h.0 ≡ text k.0 = sym h.1 ∙ k.1 in
+      let same : h.0 ≡ k.0 = cc is in
+      h.2 ∙ (ap (λ l. fine (l ++ 10 ∷ [])) same ∙ sym k.2);
+  stops_once = λ items bytes are_bytes stop other h k. absurd h;
+  ends_once = λ items bytes are_bytes last other h k. h ∙ sym k;
+  front = λ bytes item more h. (
+    h.line ++ 10 ∷ [],
+    h.bytes_are ∙ sym (append_assoc h.line (10 ∷ []) more),
+    (let size = length-append h.line (10 ∷ []) in omega (arith, size)),
+  );
+  item_stays = lines_stay;
+  stop_stays = λ items bytes later stop h. h;
+  stops_inside = λ items bytes stop h. absurd h;
+  ends_inside = λ items bytes stop h. absurd (cc h);
+  apart = λ items bytes are_bytes item more said stop first h k. k;
+}

@@ -1,0 +1,4 @@
+pub mod TellingLemmas
+pub mod LinesLemmas
+pub mod BytesLemmas
+pub mod LawfulLemmas

@@ -1,0 +1,82 @@
+-- Three small commands: one reads nothing, one takes lines, and one takes bytes and refuses one of them.
+use Rattle.std.specs.Prelude.{ℕ, ◌≡◌, ◌≢◌, true, List, [], ◌∷◌, ◌++◌, length, Ok, codes}
+use Rattle.std.specs.List.{AllByRecursion}
+use Rattle.om_model.specs.declared.refusal.ReadRefusal.TheVariants.{Compressed}
+use Rattle.om_outcome.specs.Outcome as outcome
+use Rattle.om_outcome.specs.Outcome.{Stop, Said, nothing_said, says}
+use Rattle.om_outcome.specs.RefusalText.{refusal_text}
+use Rattle.om_promises.specs.Commands.{Item, text, Commands}
+use Rattle.om_promises.specs.Example.{IsFirstByte}
+
+-- nothing is wrong
+abbrev pub fine : List ℕ → Said
+fine said = record { text = said; well = true }
+
+-- ---- the text is told, and nothing is read
+
+abbrev pub telling : Commands (List ℕ)
+telling = record {
+  Wants = λ request files turn name. ⊥;
+  Finds = λ request files found. found ≡ Ok (codes "told");
+  Reads = λ a. ⊥;
+  IsFirst = λ a bytes item more. ⊥;
+  Says = λ a items item said. ⊥;
+  Stops = λ a items bytes stop. ⊥;
+  Ends = λ a items bytes last. last ≡ says (fine a);
+}
+
+-- ---- each line is said again, and a last one gets its line feed
+
+-- there is no line feed
+abbrev pub IsUnbroken : List ℕ → Type 0
+IsUnbroken bytes = AllByRecursion (λ b. b ≢ 10) bytes
+
+-- the bytes are a line, its line feed, and then the rest
+pub record IsFirstLine (bytes : List ℕ) (item : Item) (more : List ℕ) : Type 0 where
+  pub line : List ℕ
+  pub unbroken : IsUnbroken line
+  pub bytes_are : bytes ≡ line ++ 10 ∷ more
+  pub is : item ≡ text line
+
+abbrev pub SaysLine : Item → Said → Type 0
+SaysLine item said =
+    (line : List ℕ) × (item ≡ text line) × (said ≡ fine (line ++ 10 ∷ []))
+
+-- what is said of the bytes after the last line feed
+abbrev pub last_line : List ℕ → Said
+last_line [] = nothing_said
+last_line (b ∷ rest) = fine ((b ∷ rest) ++ 10 ∷ [])
+
+abbrev pub lines : Commands (Unit {0})
+lines = record {
+  Wants = λ request files turn name. ⊥;
+  Finds = λ request files found. found ≡ Ok tt;
+  Reads = λ a. Unit {0};
+  IsFirst = λ a. IsFirstLine;
+  Says = λ a items. SaysLine;
+  Stops = λ a items bytes stop. ⊥;
+  Ends = λ a items bytes last. last ≡ says (last_line bytes);
+}
+
+-- ---- each byte is said again, but for one, which is refused
+
+abbrev pub SaysByte : ℕ → Item → Said → Type 0
+SaysByte refused item said =
+    (b : ℕ) × (b ≢ refused) × (item ≡ text (b ∷ [])) × (said ≡ fine (b ∷ []))
+
+-- it is refused by its number
+abbrev pub StopsAtByte : ℕ → List Item → List ℕ → Stop → Type 0
+StopsAtByte refused items bytes stop =
+    (more : List ℕ) × (bytes ≡ refused ∷ more)
+    × (stop ≡ outcome.value (length items) (refusal_text Compressed))
+
+abbrev pub bytes_but : Commands ℕ
+bytes_but = record {
+  Wants = λ request files turn name. ⊥;
+  Finds = λ request files found. found ≡ Ok 255;
+  Reads = λ a. Unit {0};
+  IsFirst = λ a. IsFirstByte;
+  Says = λ a items. SaysByte a;
+  Stops = StopsAtByte;
+  Ends = λ a items bytes last. last ≡ says nothing_said;
+}

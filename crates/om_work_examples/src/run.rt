@@ -1,0 +1,60 @@
+//! Whole runs of the small commands.
+
+ghost use Rattle.std.specs.Prelude.{◌≡◌};
+ghost use Rattle.om_edge.specs.State.{change};
+ghost use Rattle.om_work.specs.Reported.{HasAccount};
+ghost use Rattle.om_work_examples.specs.Small.{telling, lines, bytes_but};
+
+use crate::{BytesBut, Lines, Telling};
+use om_edge::{Sink, Source};
+use om_outcome::status::Status;
+use om_work::run_reported;
+use std::alloc::Global;
+
+/// Says the text, and leaves the input alone.
+pub fn run_telling<S: Source, K: Sink, E: Sink>(
+    alloc: Global,
+    text: &[u8],
+    input: &mut S,
+    out: &mut K,
+    err: &mut E,
+) -> Status
+    ensures account { HasAccount telling text.now
+        (change (S.state input.old) (S.state input.new))
+        (change (K.state out.old) (K.state out.new))
+        (change (E.state err.old) (E.state err.new)) result }
+    ensures unread { input.new ≡ input.old }
+{
+    run_reported(alloc, &mut Telling { text }, input, out, err)
+}
+
+/// Says each line again.
+pub fn run_lines<S: Source, K: Sink, E: Sink>(
+    alloc: Global,
+    input: &mut S,
+    out: &mut K,
+    err: &mut E,
+) -> Status
+    ensures { HasAccount lines tt
+        (change (S.state input.old) (S.state input.new))
+        (change (K.state out.old) (K.state out.new))
+        (change (E.state err.old) (E.state err.new)) result }
+{
+    run_reported(alloc, &mut Lines::new(alloc), input, out, err)
+}
+
+/// Says each byte again, but for one, which is refused.
+pub fn run_bytes<S: Source, K: Sink, E: Sink>(
+    alloc: Global,
+    refused: u8,
+    input: &mut S,
+    out: &mut K,
+    err: &mut E,
+) -> Status
+    ensures { HasAccount bytes_but refused
+        (change (S.state input.old) (S.state input.new))
+        (change (K.state out.old) (K.state out.new))
+        (change (E.state err.old) (E.state err.new)) result }
+{
+    run_reported(alloc, &mut BytesBut::new(refused), input, out, err)
+}
