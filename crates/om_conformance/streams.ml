@@ -92,6 +92,7 @@ let () =
   write "tag_16" (C16 (1, 2));
   write "tags" first_many;
   write "array_300" (Array.init 300 (fun k -> k));
+  write "wide" (Array.init 65537 (fun k -> if k = 65536 then [ 2 ] else []));
   write "variant" (`Blue 3);
   let cell = { content = [] } in
   cell.content <- [ Obj.repr cell ];
