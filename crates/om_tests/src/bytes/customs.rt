@@ -1,6 +1,6 @@
 //! Customs, as OCaml writes them.
 
-use om_customs::{Custom, spell};
+use om_customs::{Custom, NativeStep, read_native, spell};
 
 // From OCaml's `Marshal.to_string`, after the header.
 #[test]
@@ -23,5 +23,32 @@ fn spells_customs(rt: HostRuntime) {
     for (custom, bytes) in rows {
         let (spelled, n) = spell(custom);
         assert!(rt; &spelled[..n] == bytes);
+    }
+}
+
+// A letter for what the data of a `Nativeint` say, with how many bytes are missing or the kind byte, and the number.
+fn told(step: NativeStep) -> (char, usize, i64) {
+    match step {
+        NativeStep::More(missing) => ('m', missing, 0),
+        NativeStep::Value(number) => ('v', 0, number),
+        NativeStep::BadNative(kind) => ('b', usize::from(kind), 0),
+    }
+}
+
+// The data that OCaml's `Marshal.to_string` writes, some cut short and some with a byte after them; and a kind that it never writes.
+#[test]
+fn reads_nativeints(rt: HostRuntime) {
+    let rows: [(&[u8], (char, usize, i64)); 8] = [
+        (&[1, 0, 0, 0, 5], ('v', 0, 5)),
+        (&[1, 0xff, 0xff, 0xff, 0xfe, 7], ('v', 0, -2)),
+        (&[2, 0, 0, 0, 0, 0x80, 0, 0, 0], ('v', 0, 2147483648)),
+        (&[2, 0x80, 0, 0, 0, 0, 0, 0, 0], ('v', 0, i64::MIN)),
+        (&[], ('m', 1, 0)),
+        (&[1, 0, 0, 0], ('m', 1, 0)),
+        (&[2], ('m', 8, 0)),
+        (&[3, 0, 0, 0, 5], ('b', 3, 0)),
+    ];
+    for (bytes, want) in rows {
+        assert!(rt; told(read_native(bytes)) == want);
     }
 }

@@ -1,7 +1,8 @@
 //! What a reader answers that no stored question shows: deep values, and a refusal asked for once more.
 
+use om_model::Memory;
 use om_model::refusal::ReadRefusal;
-use om_read::Reader;
+use om_read::{Fed, Reader};
 use std::alloc::Global;
 use std::test::Fail;
 
@@ -34,15 +35,24 @@ fn reads_deep_values(rt: HostRuntime) -> Result<(), Fail> {
     Ok(())
 }
 
-// A reference in a stream that counts no objects.
+// The place of a reference in a stream that counts no objects, if that is why it was refused.
+fn uncounted(fed: Result<Fed, ReadRefusal>) -> Result<Option<u64>, Memory> {
+    match fed {
+        Err(ReadRefusal::NoTable(place)) => Ok(Some(place)),
+        Err(ReadRefusal::Memory) => Err(Memory),
+        _ => Ok(None),
+    }
+}
+
 #[test]
-fn keeps_a_refusal(rt: HostRuntime) {
+fn keeps_a_refusal(rt: HostRuntime) -> Result<(), Fail> {
     let bytes = [
         0x84, 0x95, 0xa6, 0xbe, 0, 0, 0, 4, 0, 0, 0, 0, 0, 0, 0, 3, 0, 0, 0, 3, 0xa0, 0x41, 0x04,
         0x01,
     ];
     let mut reader = Reader::new(rt.alloc(), 6);
-    let first = matches!(reader.feed(&bytes), Err(ReadRefusal::NoTable(22)));
-    let again = matches!(reader.feed(&bytes), Err(ReadRefusal::NoTable(22)));
-    assert!(rt; first && again);
+    let first = uncounted(reader.feed(&bytes))?;
+    let again = uncounted(reader.feed(&bytes))?;
+    assert!(rt; first == Some(22) && again == Some(22));
+    Ok(())
 }

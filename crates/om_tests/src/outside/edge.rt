@@ -8,6 +8,7 @@ use om_model::Memory;
 use std::fs::File;
 use std::io::{Error, ErrorKind, Read, Write};
 use std::process::Abort;
+use std::test::Fail;
 use std::{fs, io};
 
 // Takes with a buffer of two bytes: each call answers so, and these are the bytes.
@@ -27,6 +28,14 @@ fn expect_taken<S: Source>(
     assert!(rt; rest.is_empty());
 }
 
+// What became of a fetch. Out of memory is an error of its own.
+fn fetched(outcome: Result<(), OpenError>) -> Result<Result<(), OpenError>, Memory> {
+    match outcome {
+        Err(OpenError::Memory) => Err(Memory),
+        _ => Ok(outcome),
+    }
+}
+
 // Fetches a file, and takes as above.
 fn expect_file<O: Opener>(
     rt: &impl Abort,
@@ -35,8 +44,8 @@ fn expect_file<O: Opener>(
     opened: Result<(), OpenError>,
     answers: &[Result<usize, Failed>],
     bytes: &[u8],
-) {
-    assert!(rt; files.fetch(name) == opened);
+) -> Result<(), Memory> {
+    assert!(rt; fetched(files.fetch(name))? == opened);
     let mut rest = bytes;
     for answer in answers {
         let mut buf = [0; 2];
@@ -45,6 +54,7 @@ fn expect_file<O: Opener>(
         rest = without_front(rt, rest, &buf, taken.unwrap_or(0));
     }
     assert!(rt; rest.is_empty());
+    Ok(())
 }
 
 // The bytes after the first n, which stand in the buffer's front.
@@ -61,33 +71,35 @@ fn expect_put<K: Sink>(rt: &impl Abort, sink: &mut K, answers: &[Result<usize, F
 }
 
 #[test]
-fn a_source_over_a_file_gives_its_bytes(rt: HostRuntime) {
-    assert!(rt; fs::write(&rt, "read.bytes", b"abc").is_ok());
-    let mut source = StdSource::new(File::open(&rt, "read.bytes").expect(&rt, "it opens"));
+fn a_source_over_a_file_gives_its_bytes(rt: HostRuntime) -> Result<(), Fail> {
+    fs::write(&rt, "read.bytes", b"abc")?;
+    let mut source = StdSource::new(File::open(&rt, "read.bytes")?);
     expect_taken(&rt, &mut source, &[Ok(2), Ok(1), Ok(0)], b"abc");
     assert!(rt; source.faults() == 0);
 
     // A file that is open for writing alone cannot be read.
-    let mut source = StdSource::new(File::create(&rt, "read.bytes").expect(&rt, "it opens"));
+    let mut source = StdSource::new(File::create(&rt, "read.bytes")?);
     expect_taken(&rt, &mut source, &[Err(Failed), Err(Failed)], b"");
     assert!(rt; source.faults() == 2);
-    assert!(rt; fs::remove_file(&rt, "read.bytes").is_ok());
+    fs::remove_file(&rt, "read.bytes")?;
+    Ok(())
 }
 
 #[test]
-fn a_sink_over_a_file_keeps_its_bytes(rt: HostRuntime) {
-    let mut sink = StdSink::new(File::create(&rt, "put.bytes").expect(&rt, "it opens"));
+fn a_sink_over_a_file_keeps_its_bytes(rt: HostRuntime) -> Result<(), Fail> {
+    let mut sink = StdSink::new(File::create(&rt, "put.bytes")?);
     expect_put(&rt, &mut sink, &[Ok(3)]);
     assert!(rt; put_all(&mut sink, b"d").is_ok());
     assert!(rt; sink.faults() == 0);
 
     // A file that is open for reading alone has the bytes, and cannot be written.
-    let mut source = StdSource::new(File::open(&rt, "put.bytes").expect(&rt, "it opens"));
+    let mut source = StdSource::new(File::open(&rt, "put.bytes")?);
     expect_taken(&rt, &mut source, &[Ok(2), Ok(2), Ok(0)], b"abcd");
-    let mut sink = StdSink::new(File::open(&rt, "put.bytes").expect(&rt, "it opens"));
+    let mut sink = StdSink::new(File::open(&rt, "put.bytes")?);
     expect_put(&rt, &mut sink, &[Err(Failed), Err(Failed)]);
     assert!(rt; sink.faults() == 2);
-    assert!(rt; fs::remove_file(&rt, "put.bytes").is_ok());
+    fs::remove_file(&rt, "put.bytes")?;
+    Ok(())
 }
 
 #[test]
@@ -100,41 +112,44 @@ fn a_writer_that_takes_nothing_is_a_fault(rt: HostRuntime) {
 }
 
 #[test]
-fn files_on_the_disk_are_fetched_and_taken(rt: HostRuntime) {
-    assert!(rt; fs::write(&rt, "a.bytes", b"abc").is_ok());
+fn files_on_the_disk_are_fetched_and_taken(rt: HostRuntime) -> Result<(), Fail> {
+    fs::write(&rt, "a.bytes", b"abc")?;
     let mut files = DiskFiles::new(rt.alloc(), &rt);
-    expect_file(&rt, &mut files, "a.bytes", Ok(()), &[Ok(2)], b"ab");
+    expect_file(&rt, &mut files, "a.bytes", Ok(()), &[Ok(2)], b"ab")?;
     let missing = Err(OpenError::Failed);
-    expect_file(&rt, &mut files, "b.bytes", missing, &[Ok(0)], b"");
+    expect_file(&rt, &mut files, "b.bytes", missing, &[Ok(0)], b"")?;
     // A folder can be opened and not read.
-    expect_file(&rt, &mut files, ".", Ok(()), &[Err(Failed)], b"");
-    expect_file(&rt, &mut files, "a.bytes", Ok(()), &[Ok(2), Ok(1)], b"abc");
+    expect_file(&rt, &mut files, ".", Ok(()), &[Err(Failed)], b"")?;
+    expect_file(&rt, &mut files, "a.bytes", Ok(()), &[Ok(2), Ok(1)], b"abc")?;
     assert!(rt; files.last_open_fault() == Some("b.bytes"));
     assert!(rt; files.open_faults() == 1 && files.read_faults() == 1);
-    assert!(rt; fs::remove_file(&rt, "a.bytes").is_ok());
+    fs::remove_file(&rt, "a.bytes")?;
+    Ok(())
 }
 
 // A fetch that fails, and one of a file that is not there.
 #[test]
-fn files_in_memory_tell_which_fetch_failed(rt: HostRuntime) {
+fn files_in_memory_tell_which_fetch_failed(rt: HostRuntime) -> Result<(), Fail> {
     let alloc = rt.alloc();
-    let failing = Vec::from_slice(alloc, &[0]).expect(&rt, "there is memory");
+    let failing = Vec::from_slice(alloc, &[0])?;
     let mut files = MemFiles::new(alloc, Vec::new(alloc), failing, Vec::new(alloc));
-    assert!(rt; files.fetch("a.ml") == Err(OpenError::Failed));
-    assert!(rt; files.fetch("b.ml") == Err(OpenError::Missing));
+    assert!(rt; fetched(files.fetch("a.ml"))? == Err(OpenError::Failed));
+    assert!(rt; fetched(files.fetch("b.ml"))? == Err(OpenError::Missing));
     assert!(rt; files.last_open_fault() == Some("a.ml"));
+    Ok(())
 }
 
 #[test]
-fn errors_convert_and_print(rt: HostRuntime) {
+fn errors_convert_and_print(rt: HostRuntime) -> Result<(), Fail> {
     let alloc = rt.alloc();
     let (missing, failed) = (OpenError::Missing, OpenError::Failed);
     let memory = OpenError::from(Memory);
-    let text = format!(in alloc; "{missing}, {failed}, {memory}").expect(&rt, "there is memory");
+    let text = format!(in alloc; "{missing}, {failed}, {memory}")?;
     assert!(rt; text.as_str() == "there is no such file, the file cannot be opened, out of memory");
     let (fault, memory) = (WriteError::from(Failed), WriteError::from(Memory));
-    let text = format!(in alloc; "{fault}, {memory}").expect(&rt, "there is memory");
+    let text = format!(in alloc; "{fault}, {memory}")?;
     assert!(rt; text.as_str() == "write fault, out of memory");
+    Ok(())
 }
 
 // A reader and a writer whose first call fails. The others give or take one byte.

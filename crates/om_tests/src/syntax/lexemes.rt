@@ -2,6 +2,7 @@
 
 use om_lex::lexeme::{Integer, Keyword, LexFault, Lexeme, LexemeKind, Suffix, Symbol};
 use om_lex::tokens;
+use om_model::Memory;
 use std::alloc::{AllocError, Global};
 use std::test::Fail;
 
@@ -88,20 +89,21 @@ fn shown(alloc: Global, lexemes: &[Lexeme]) -> Result<String, AllocError> {
 }
 
 // A fault with its place.
-fn fault_text(alloc: Global, fault: LexFault) -> Result<String, AllocError> {
-    match fault {
-        LexFault::BadByte(place) => format!(in alloc; "BadByte {place}"),
-        LexFault::OpenString(place) => format!(in alloc; "OpenString {place}"),
-        LexFault::OpenComment(place) => format!(in alloc; "OpenComment {place}"),
-        LexFault::TooBig(place) => format!(in alloc; "TooBig {place}"),
-        LexFault::Memory => String::from_str(alloc, "Memory"),
-    }
+fn fault_text(alloc: Global, fault: LexFault) -> Result<String, Memory> {
+    let (name, place) = match fault {
+        LexFault::BadByte(place) => ("BadByte", place),
+        LexFault::OpenString(place) => ("OpenString", place),
+        LexFault::OpenComment(place) => ("OpenComment", place),
+        LexFault::TooBig(place) => ("TooBig", place),
+        LexFault::Memory => return Err(Memory),
+    };
+    Ok(format!(in alloc; "{name} {place}")?)
 }
 
 // What becomes of a text.
-fn told(alloc: Global, text: &[u8]) -> Result<String, AllocError> {
+fn told(alloc: Global, text: &[u8]) -> Result<String, Memory> {
     match tokens(alloc, text) {
-        Ok(lexemes) => shown(alloc, lexemes.as_slice()),
+        Ok(lexemes) => Ok(shown(alloc, lexemes.as_slice())?),
         Err(fault) => fault_text(alloc, fault),
     }
 }

@@ -1,8 +1,9 @@
 //! Trees of literals, and the lexemes at which no literal goes on.
 
-use om_lex::lexeme::Lexeme;
+use om_lex::lexeme::{LexFault, Lexeme};
 use om_lex::tokens;
 use om_literal_grammar::{Node, TreeFault, read_literal_tree};
+use om_model::Memory;
 use std::alloc::{AllocError, Global};
 use std::test::Fail;
 
@@ -16,19 +17,20 @@ fn nodes_text(alloc: Global, nodes: &[Node]) -> Result<String, AllocError> {
 }
 
 // What becomes of lexemes.
-fn tree_text(alloc: Global, lexemes: &[Lexeme]) -> Result<String, AllocError> {
+fn tree_text(alloc: Global, lexemes: &[Lexeme]) -> Result<String, Memory> {
     match read_literal_tree(alloc, lexemes) {
-        Ok(tree) => nodes_text(alloc, tree.as_slice()),
-        Err(TreeFault::Syntax(place)) => format!(in alloc; "Syntax {place}"),
-        Err(TreeFault::Memory) => String::from_str(alloc, "Memory"),
+        Ok(tree) => Ok(nodes_text(alloc, tree.as_slice())?),
+        Err(TreeFault::Syntax(place)) => Ok(format!(in alloc; "Syntax {place}")?),
+        Err(TreeFault::Memory) => Err(Memory),
     }
 }
 
 // What becomes of a text.
-fn told(alloc: Global, text: &[u8]) -> Result<String, AllocError> {
+fn told(alloc: Global, text: &[u8]) -> Result<String, Memory> {
     match tokens(alloc, text) {
         Ok(lexemes) => tree_text(alloc, lexemes.as_slice()),
-        Err(_) => String::from_str(alloc, "no lexemes"),
+        Err(LexFault::Memory) => Err(Memory),
+        Err(_) => Ok(String::from_str(alloc, "no lexemes")?),
     }
 }
 

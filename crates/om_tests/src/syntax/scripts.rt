@@ -1,16 +1,17 @@
 //! Faults of scripts.
 
+use om_model::Memory;
 use om_path::{ScriptFault, read_script};
-use std::alloc::{AllocError, Global};
+use std::alloc::Global;
 use std::test::Fail;
 
 // What becomes of a text.
-fn told(alloc: Global, text: &[u8]) -> Result<String, AllocError> {
+fn told(alloc: Global, text: &[u8]) -> Result<String, Memory> {
     match read_script(alloc, text) {
-        Ok(_) => String::from_str(alloc, "Ok"),
-        Err(ScriptFault::Lex(line, _)) => format!(in alloc; "Lex {line}"),
-        Err(ScriptFault::Syntax(line, place)) => format!(in alloc; "Syntax {line} {place}"),
-        Err(ScriptFault::Memory) => String::from_str(alloc, "Memory"),
+        Ok(_) => Ok(String::from_str(alloc, "Ok")?),
+        Err(ScriptFault::Lex(line, _)) => Ok(format!(in alloc; "Lex {line}")?),
+        Err(ScriptFault::Syntax(line, place)) => Ok(format!(in alloc; "Syntax {line} {place}")?),
+        Err(ScriptFault::Memory) => Err(Memory),
     }
 }
 
