@@ -20,6 +20,20 @@ type doubling = End | Both of doubling * doubling
 type block = Block of int
 type node = { number : int; left : node option; right : node option }
 
+(* The trees of a small language, each node with its place. *)
+type location = { line : int; column : int; length : int }
+type constant = Int of int | Text_constant of string | Unit
+
+type expression = { kind : kind; location : location }
+
+and kind =
+  | Constant of constant
+  | Variable of string
+  | Let of string * expression * expression
+  | Apply of expression * expression list
+  | If of expression * expression * expression option
+  | Record of (string * expression) list
+
 (* The state of a small generator, so that each run of this program writes the same bytes. *)
 let state = ref 1
 
@@ -77,6 +91,35 @@ let graph count =
   done;
   nodes
 
+(* Trees, in each of which one block is met at two types, as the compiler makes one of equal constants: `Int 0` is a block of
+   one field 0, and so is `Constant Unit`. No two trees share a part. *)
+let syntax count =
+  let tree k =
+    let twice = Obj.dup (Obj.repr (Int 0)) in
+    let zero : constant = Obj.obj twice and unit : kind = Obj.obj twice in
+    let next = ref 0 in
+    let at kind =
+      incr next;
+      { kind; location = { line = k; column = !next; length = 1 + draw 9 } }
+    in
+    let rec expression depth =
+      match if depth = 0 then draw 2 else draw 6 with
+      | 0 -> at (Constant (Int (draw 100)))
+      | 1 -> at (Variable (word ()))
+      | 2 ->
+          let bound = expression (depth - 1) in
+          at (Let (word (), bound, expression (depth - 1)))
+      | 3 ->
+          let called = expression (depth - 1) in
+          at (Apply (called, List.init 2 (fun _ -> expression (depth - 1))))
+      | 4 -> at (If (at (Constant zero), expression (depth - 1), None))
+      | _ -> at (Record (List.init 2 (fun _ -> (word (), expression (depth - 1)))))
+    in
+    let body = expression 5 in
+    at (Apply (at (Constant zero), [ at unit; body; expression 5 ]))
+  in
+  List.init count tree
+
 (* Blocks each of which has the next one twice. *)
 let rec doubling count =
   if count = 0 then End
@@ -98,6 +141,7 @@ let write file shape count =
   | "json" -> put (json count)
   | "nested" -> put (nested count)
   | "graph" -> put (graph count)
+  | "syntax" -> put (syntax count)
   | "doubling" -> put (doubling count)
   | "shared" -> put (shared count)
   | "references" -> put (Array.make count (ref 0))

@@ -2,7 +2,7 @@
 
     python3 benchmark.py FOLDER [PART ..]
 
-PART is `reading`, `checking`, `showing`, `editing` or `types`; with none it is each of them. Time is the median of the processor time (user and
+PART is `reading`, `checking`, `real`, `showing`, `editing` or `types`; with none it is each of them. Time is the median of the processor time (user and
 system) of some runs of the whole process; memory is the greatest resident set. The system counts to a process what this
 script held when it started it: smaller amounts than that are not told apart. Instructions are those of user code for each
 object of a value, by valgrind's callgrind: the difference of two sizes.
@@ -20,7 +20,7 @@ import sys
 
 RUNS = int(os.environ.get("RUNS", "7"))
 LIMIT = int(os.environ.get("LIMIT", "20"))
-PARTS = ("reading", "checking", "showing", "editing", "types")
+PARTS = ("reading", "checking", "real", "showing", "editing", "types")
 folder = sys.argv[1]
 parts = sys.argv[2:] or PARTS
 if not set(parts) <= set(PARTS):
@@ -39,7 +39,21 @@ SHAPES = {
     "values": (500_000, "int * string"),
     "graph": (1_000_000, "node array"),
     "nested": (1_000_000, "nested"),
+    "syntax": (75_000, "expression list"),
 }
+
+# Files of the installed compiler: the values with these numbers of each file with this ending, joined to one stream, and
+# their type over a type file of examples/, or `int`, where there is none.
+REAL = (
+    (".cmi", 0, "cmi.types", "string * types_signature"),
+    (".cmi", 1, "cmi.types", "misc_crcs"),
+    (".cmi", 2, "cmi.types", "cmi_format_pers_flags list"),
+    (".cmx", 0, "cmx.types", "cmx_format_unit_infos"),
+    (".cmxa", 0, "cmx.types", "cmx_format_library_infos"),
+    (".cma", -1, "cmo.types", "cmo_format_library"),
+    (".cmt", -1, "/dev/null", "int"),
+    (".cmti", -1, "/dev/null", "int"),
+)
 
 # Values that are deep, for a small stack.
 DEEP = (("nested", 1_000_000), ("list", 1_000_000), ("mixed", 1_000_000))
@@ -68,6 +82,39 @@ def words_of(path):
             words, objects = words + stated, objects + count
             it.seek(length, os.SEEK_CUR)
     return words, objects
+
+
+def values_in(whole):
+    """The values of a compiler's file: those that stand one after another behind a magic of 12 bytes, of which a .cmt may
+    have two; or the one at the end, whose place four bytes tell."""
+    place, found = 0, []
+    while place < len(whole):
+        if whole[place : place + 4] == b"Caml":
+            kind, place = whole[place + 8 : place + 9], place + 12
+            if kind in (b"O", b"A"):
+                place = int.from_bytes(whole[place : place + 4], "big")
+            continue
+        if whole[place : place + 4] != b"\x84\x95\xa6\xbe":
+            break
+        end = place + 20 + int.from_bytes(whole[place + 4 : place + 8], "big")
+        found.append(whole[place:end])
+        place = end
+    return found
+
+
+def joined(ending, number):
+    """The path of a stream of one value of each file of the installed compiler with this ending, and how many there are."""
+    path, count = os.path.join(folder, f"{ending[1:]}_{number}"), 0
+    library = subprocess.run(["ocamlc", "-where"], stdout=subprocess.PIPE, check=True).stdout.decode().strip()
+    with open(path, "wb") as out:
+        for inside, _, names in sorted(os.walk(library)):
+            for name in sorted(it for it in names if it.endswith(ending)):
+                with open(os.path.join(inside, name), "rb") as file:
+                    values = values_in(file.read())
+                if values:
+                    out.write(values[number])
+                    count += 1
+    return path, count
 
 
 def limited():
@@ -195,6 +242,31 @@ def checking():
     for shape, count in DEEP:
         words = [*SMALL_STACK, *ours(SHAPES[shape][1])]
         alone(f"{shape}_{count} at `{SHAPES[shape][1]}`", words, file_of(shape, count))
+
+
+def real():
+    """Files that the benchmark's makers did not choose: all that the installed compiler brings."""
+    print()
+    print("One value of each file of the installed compiler, joined by kind, in turn with OCaml's reader:")
+    print()
+    print("| values of | type | values | bytes | omarshal s | OCaml s | ratio | omarshal MB | OCaml MB | ratio | yes |")
+    print("|---|---|---|---|---|---|---|---|---|---|---|")
+    for ending, number, declarations, ty in REAL:
+        path, count = joined(ending, number)
+        if not count:
+            continue
+        pairs = [(run(ours(ty, declarations), path), run([*THEIRS, path], path)) for _ in range(RUNS)]
+        seconds = [statistics.median(pair[who][0] for pair in pairs) for who in (0, 1)]
+        peaks = [max(pair[who][1] for pair in pairs) for who in (0, 1)]
+        run(ours(ty, declarations), path)
+        with open(os.path.join(folder, "said"), "rb") as said:
+            well = sum(line == b"yes\n" for line in said)
+        print(
+            f"| {ending}, {'the last' if number < 0 else f'number {number + 1}'} | `{ty}` | {count} | {os.path.getsize(path)} "
+            f"| {seconds[0]:.3f} | {seconds[1]:.3f} | {seconds[0] / seconds[1]:.2f} "
+            f"| {memory(peaks[0])} | {memory(peaks[1])} | {peaks[0] / peaks[1]:.2f} | {well} |",
+            flush=True,
+        )
 
 
 def timed(words, path):
@@ -386,4 +458,4 @@ def types():
 
 
 for part in parts:
-    {"reading": reading, "checking": checking, "showing": showing, "editing": editing, "types": types}[part]()
+    {"reading": reading, "checking": checking, "real": real, "showing": showing, "editing": editing, "types": types}[part]()

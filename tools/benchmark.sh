@@ -4,8 +4,8 @@
 #
 #     tools/benchmark.sh [PROGRAM [PART ..]]
 #
-# PROGRAM is by default the one that `./omarshal` or `rt run` built. PART is `reading`, `checking`, `showing`, `editing` or
-# `types`; by default it is each of them. RUNS=3 before the command makes three runs of each, not seven; LIMIT=60 lets one take 60 s, not 20.
+# PROGRAM is by default the one that `./omarshal` or `rt run` built. PART is `reading`, `checking`, `real`, `showing`, `editing`
+# or `types`; by default it is each of them. RUNS=3 before the command makes three runs of each, not seven; LIMIT=60 lets one take 60 s, not 20.
 set -eu
 if ! command -v ocaml >/dev/null 2>&1; then
     echo "skipped: no ocaml"
@@ -25,7 +25,7 @@ fi
 work=$(mktemp -d)
 trap 'rm -rf "$work"' EXIT
 cp "$program" "$work/omarshal"
-cp "$here/benchmark.ml" "$here/benchmark.types" "$work"
+cp "$here/benchmark.ml" "$here/benchmark.types" "$here/../examples"/*.types "$work"
 cd "$work"
 if command -v ocamlopt >/dev/null 2>&1; then
     ocamlopt -o reader benchmark.ml
