@@ -1,19 +1,26 @@
 //! Whether a value has a type, and in how many steps that is found: one for the root, one for each object at each class of
-//! types at which it is met, and one for each of its fields there, up to the first that does not fit.
+//! types at which it is met, and one for each of its fields there, up to the first that does not fit. Of a value that has the
+//! type, its text is told too, and how many objects at types justify it.
 //!
 //! A question gives the bytes of a value in hexadecimal digits, a type and declarations, and then, each behind a tab, lines of a
 //! script. Each line edits the value, also after one that was refused, and then the value is checked anew.
 
 ghost use Rattle.std.specs.Prelude.{◌≡◌, ◌<◌, length, All, IfOk};
 ghost use Rattle.om_model.specs.Graph.{IsValue};
+ghost use Rattle.om_types.specs.Table.{table_shapes};
+ghost use Rattle.om_types.specs.Typing.{HasType};
 ghost use Rattle.om_type_table.specs.Made.{table_of, IsLawful};
+ghost use Rattle.om_check.specs.Verdict.{IsVerdict};
 
 use crate::compare::value_text;
 use crate::tables::{accepted, all_below};
-use om_check::{Steps, Verdict, check};
+use om_check::{Steps, Typing, Verdict, check};
+use om_edge::StdSink;
 use om_edit::{EditRefusal, apply, refusal_text};
+use om_fault::is_fault;
 use om_model::path::Path;
 use om_path::read_script;
+use om_print::show;
 use om_read::{Reader, Value};
 use om_type_table::TypeTable;
 use om_type_table::laws::tables_are_lawful;
@@ -76,11 +83,75 @@ fn put_fault(rt: &HostRuntime, fault: &Fault) -> io::Result<()> {
     }
 }
 
-fn put_told(rt: &HostRuntime, verdict: &Verdict) -> io::Result<()> {
+// How many objects at types justify that the value has its type.
+fn pairs_of(value: &Value, table: &TypeTable, typing: &Typing) -> u64 {
+    let mut pairs: u64 = 0;
+    for k in 0..typing.len() {
+        let (object, ty) = typing.get(k);
+        if object < value.heap.count() && ty < table.nodes.len() {
+            pairs = pairs.saturating_add(1);
+        }
+    }
+    pairs
+}
+
+// Prints the text of a value that has its type.
+fn put_shown(rt: &HostRuntime, value: &Value, table: &TypeTable) -> io::Result<()>
+    requires value { IsValue (length value.now.heap) value.now.root }
+    requires lawful { IsLawful (table_of table.now) }
+    requires typed { HasType (table_shapes (table_of table.now)) value.now.heap value.now.root 0 }
+{
+    if table.names.len() != table.nodes.len() {
+        return Err(ErrorKind::InvalidInput.into());
+    }
+    let mut out = StdSink::new(rt.stdout());
+    match show(rt.alloc(), &value.heap, value.root, table, &mut out) {
+        Ok(()) => Ok(()),
+        Err(_) => Err(ErrorKind::OutOfMemory.into()),
+    }
+}
+
+// Prints that a value has its type: its text, and how many objects at types justify it.
+fn put_typed(rt: &HostRuntime, value: &Value, table: &TypeTable, typing: &Typing) -> io::Result<()>
+    requires value { IsValue (length value.now.heap) value.now.root }
+    requires lawful { IsLawful (table_of table.now) }
+    requires typed { HasType (table_shapes (table_of table.now)) value.now.heap value.now.root 0 }
+{
+    print!(rt; "yes, ")?;
+    put_shown(rt, value, table)?;
+    print!(rt; ", pairs: {}", pairs_of(value, table, typing))
+}
+
+fn put_told(rt: &HostRuntime, value: &Value, table: &TypeTable, verdict: &Verdict) -> io::Result<()>
+    requires value { IsValue (length value.now.heap) value.now.root }
+    requires lawful { IsLawful (table_of table.now) }
+    requires verdict { IsVerdict (table_of table.now) value.now.heap value.now.root verdict.now }
+{
     match verdict {
-        Verdict::Yes(_) => print!(rt; "yes"),
+        Verdict::Yes(typing) => put_typed(rt, value, table, typing),
         Verdict::No(fault) => put_fault(rt, fault),
     }
+}
+
+// Prints where `is_fault` denies a fault that is told, or says that a value that has the type does not fit at its root.
+fn put_doubt(
+    rt: &HostRuntime,
+    value: &Value,
+    table: &TypeTable,
+    verdict: &Verdict,
+) -> io::Result<()>
+    requires value { IsValue (length value.now.heap) value.now.root }
+    requires lawful { IsLawful (table_of table.now) }
+{
+    let at_root = Fault::Misfit(Path::new(rt.alloc()));
+    let agrees = match verdict {
+        Verdict::Yes(_) => !is_fault(&value.heap, value.root, table, &at_root),
+        Verdict::No(fault) => is_fault(&value.heap, value.root, table, fault),
+    };
+    if agrees {
+        return Ok(());
+    }
+    print!(rt; " (but not for is_fault)")
 }
 
 // Prints whether the value has the type, and in how many steps that is found.
@@ -92,7 +163,8 @@ fn put_verdict(rt: &HostRuntime, value: &Value, table: &TypeTable) -> io::Result
     let Ok(verdict) = check(rt.alloc(), &value.heap, value.root, table, &mut steps) else {
         return Err(ErrorKind::OutOfMemory.into());
     };
-    put_told(rt, &verdict)?;
+    put_told(rt, value, table, &verdict)?;
+    put_doubt(rt, value, table, &verdict)?;
     println!(rt; ", steps: {}", steps.taken())
 }
 
