@@ -123,14 +123,8 @@ impl Builder {
     ghost use Rattle.om_read.specs.Build.{empty, in_room, fill_in, absorb_in, Fits};
     ghost use Rattle.om_model.specs.Graph.{IsInteger};
 
-    /// Nothing is built, and the objects may have so many words.
-    pub fn new(alloc: Global, room: u64) -> Builder
-        ensures { result ≡ empty room }
-    {
-        Builder::over(alloc, room, Heap::new(alloc))
-    }
-
-    /// The same, in the memory of a heap that is done with.
+    /// Nothing is built, in the memory of a heap that is done with, and the objects may have so many
+    /// words.
     pub fn over(alloc: Global, room: u64, heap: Heap) -> Builder
         ensures { result ≡ empty room }
     {

@@ -45,8 +45,6 @@ impl Drop for Region {
 const LARGEST: usize = 1 << 59;
 
 impl Region {
-    ghost use Rattle.om_words.specs.Parts.{lends_part};
-
     /// The region without words or room. It takes no memory.
     pub fn new(alloc: Global) -> Region
         ensures { result.words ≡ [] }
@@ -140,15 +138,6 @@ impl Region {
         ensures { result.now ≡ slice_range self.now.words i (i + n) }
     {
         &self.block.words(self.len)[i..i + n]
-    }
-
-    /// The n words from word i on, lent to be written.
-    pub fn part_mut(&mut self, i: usize, n: usize) -> &mut [u64]
-        requires { i + n ≤ length self.old.words }
-        ensures* writes_back { sem 𝓛 (lends_part self.entry i result) }
-        ensures value { result.now ≡ slice_range self.old.words i (i + n) }
-    {
-        self.block.part_mut(i, n)
     }
 
     /// Appends n copies of a word, for which there is room.
