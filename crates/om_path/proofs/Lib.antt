@@ -1,3 +1,4 @@
+pub mod OrderLemmas
 pub mod PathTable
 pub mod AnswerLemmas
 pub mod ReadLemmas

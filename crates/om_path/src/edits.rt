@@ -1,13 +1,17 @@
 //! Edits of values, as a script lists them, and why a text is no script.
 
-ghost use Rattle.std.specs.Prelude.{◌≡◌};
+ghost use Rattle.std.specs.Prelude.{◌≡◌, ◌∷◌, [], IfOk, MatchOption};
+ghost use Rattle.om_path.specs.Order.{lines_of};
 ghost use Rattle.om_path.specs.ScriptAnswer.{line_fault};
 ghost use Rattle.om_path.specs.declared.edits.ScriptFault.TheVariants as faults;
 
+use crate::order::{order_of, places_of};
 use om_lex::lexeme::{LexFault, Lexeme};
 use om_model::Memory;
 use om_model::list::List;
 use om_model::path::Path;
+use std::alloc::Global;
+use std::marker::Model;
 
 /// What is done at a place of a value.
 #[derive(Drop)]
@@ -34,7 +38,80 @@ pub struct ScriptLine {
 /// The edits of a text, in its order.
 #[derive(Drop)]
 pub struct Script {
-    pub lines: List<ScriptLine>,
+    lines: List<ScriptLine>,
+    /// Of each line its value's number and its place, by these numbers, and at one value in the lines' order.
+    order: Vec<(u64, usize)>,
+}
+
+impl Model for Script {
+    ghost use Rattle.om_path.specs.Order.{ScriptLines, IsOrder};
+
+    ghost Value = { ScriptLines };
+
+    ghost view = { λ s. record { lines = s.lines } };
+
+    ghost invariant = { λ s. IsOrder s.lines s.order.items };
+}
+
+impl Script {
+    /// The script of these lines.
+    pub fn of(alloc: Global, lines: List<ScriptLine>) -> Result<Script, Memory>
+        ensures { IfOk result (λ script. script.lines ≡ lines) }
+    {
+        let order = order_of(alloc, lines.as_slice())?;
+        Ok(Script { lines, order })
+    }
+
+    /// The lines, lent.
+    pub fn as_slice(&self) -> &[ScriptLine]
+        ensures { result.now ≡ self.now.lines }
+    {
+        self.lines.as_slice()
+    }
+
+    /// The lines that edit the value of this number, found without a look at the others.
+    pub fn lines_of(&self, value: u64) -> ValueLines<'_>
+        ensures { result ≡ lines_of value self.now.lines }
+    {
+        ValueLines {
+            lines: self.lines.as_slice(),
+            places: places_of(self.order.as_slice(), value),
+        }
+    }
+}
+
+/// The lines that edit a value, in the script's order: those that are left.
+#[derive(Drop)]
+pub struct ValueLines<'a> {
+    lines: &'a [ScriptLine],
+    places: &'a [(u64, usize)],
+}
+
+impl<'a> Model for ValueLines<'a> {
+    ghost use Rattle.std.specs.Prelude.{List};
+    ghost use Rattle.om_path.specs.declared.edits.ScriptLine.{ScriptLine};
+    ghost use Rattle.om_path.specs.Order.{AreWithin, lines_at};
+
+    ghost Value = { List ScriptLine };
+
+    ghost view = { λ l. lines_at l.lines.now l.places.now };
+
+    ghost invariant = { λ l. AreWithin l.lines.now l.places.now };
+}
+
+impl<'a> ValueLines<'a> {
+    /// The next one, which is left no more.
+    pub fn next(&mut self) -> Option<&'a ScriptLine>
+        ensures { MatchOption result (self.old ≡ []) (λ line. self.old ≡ line.now ∷ self.new) }
+    {
+        match self.places.split_first() {
+            Some((place, more)) => {
+                self.places = more;
+                Some(&self.lines[place.1])
+            }
+            None => None,
+        }
+    }
 }
 
 /// Why a text is no script, by its first faulty line, counted from 1.

@@ -6,10 +6,11 @@ mod fault;
 mod front;
 mod laws;
 mod line;
+mod order;
 mod read;
 mod text;
 
-pub use edits::{Edit, Script, ScriptFault, ScriptLine};
+pub use edits::{Edit, Script, ScriptFault, ScriptLine, ValueLines};
 pub use fault::PathFault;
 pub use laws::{one_answer, one_script_answer};
 pub use read::read_path;

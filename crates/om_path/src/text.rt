@@ -60,7 +60,7 @@ pub fn read_script(alloc: Global, text: &[u8]) -> Result<Script, ScriptFault>
     ensures only { (answer : Result Script ScriptFault) → IsScriptAnswer text.now answer → TellsScript result answer }
 {
     match read(alloc, text) {
-        Ok(lines) => Ok(Script { lines }),
+        Ok(lines) => Ok(Script::of(alloc, lines)?),
         Err(fault) => Err(fault),
     }
 }

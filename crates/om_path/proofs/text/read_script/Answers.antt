@@ -1,9 +1,12 @@
-use Rattle.std.proofs.Common.{Ok, Err}
+use Rattle.std.proofs.Common.{Ok, Err, subst, sym}
+use Rattle.om_path.specs.ScriptAnswer.{AreEdits}
 use Rattle.om_path.proofs.ScriptLemmas.{tells_script}
 use Rattle.om_path.proofs.text.read_script.Goals as goal
 
-pub returns-in-Ok-clause-only : goal.returns-in-Ok-clause-only
-returns-in-Ok-clause-only c = tells_script c.args.text.now (Ok (record { lines = c.in-Ok.lines })) c.in-Ok.ensures.lines tt
+pub returns-in_ok-of-in-Ok-clause-only : goal.returns-in_ok-of-in-Ok-clause-only
+returns-in_ok-of-in-Ok-clause-only c =
+    let text = c.args.text.now in
+    tells_script text (Ok c.in_ok-of-in-Ok.field-0) (subst (λ lines. AreEdits 1 text (Ok lines)) (sym c.in_ok-of-in-Ok.ensures) c.in-Ok.ensures.lines) tt
 
 pub returns-in-Err-clause-only : goal.returns-in-Err-clause-only
 returns-in-Err-clause-only c = tells_script c.args.text.now (Err c.in-Err.fault) tt c.in-Err.ensures.fault

@@ -1,0 +1,119 @@
+-- The places of a script's lines by the numbers of the values that they edit.
+use Rattle.std.proofs.Common.{ℕ, zero, suc, ◌+◌, ◌≡◌, ◌<◌, ◌≤◌, ◌∙◌, Bool, true, false, cond, ltb, leb, eqb, List, [], ◌∷◌, length, take, drop, get_or, Some, refl, sym, ap, subst, arith, tests}
+use Rattle.std.specs.Prelude.{filter, not, ◌&&◌, slice_get, All}
+use Rattle.std.specs.List.{cons_option, AllWithin}
+use Rattle.std.specs.List.Sorted.{IsPartitionPoint, IsStableByKey, ties}
+use Rattle.std.specs.Ordering.{nat_cmp, is_lt}
+use Rattle.std.proofs.lemmas.List.Elements.{filter_agree, All-cons, All-head, All-nil, All-tail, All-filter}
+use Rattle.std.proofs.lemmas.Option.{slice_get-get_or}
+use Rattle.om_path.specs.declared.edits.ScriptLine.{ScriptLine}
+use Rattle.om_path.specs.Order.{lines_of, places_from, places_of, IsOrder, AreWithin, lines_at}
+
+-- ---- where a test stops to hold
+
+module _ {X : Type 0} (test : X → Bool) where
+  abbrev fails : X → Bool
+  fails x = not (test x)
+
+  none_left : (xs : List X) → AllWithin (λ x. test x ≡ false) xs 0 (length xs) → filter test xs ≡ []
+  none_left [] out = refl
+  none_left (x ∷ xs) out =
+      let first : test x ≡ false = out 0 x (omega arith) (omega arith) in
+      rw first (none_left xs (λ k d above below. out (suc k) d (omega arith) (omega (arith, below))))
+
+  all_left : (xs : List X) → AllWithin (λ x. test x ≡ false) xs 0 (length xs) → filter fails xs ≡ xs
+  all_left [] out = refl
+  all_left (x ∷ xs) out =
+      let first : test x ≡ false = out 0 x (omega arith) (omega arith) in
+      rw first (ap (λ l. x ∷ l) (all_left xs (λ k d above below. out (suc k) d (omega arith) (omega (arith, below)))))
+
+  pub front_is : (xs : List X) (i : ℕ) → IsPartitionPoint (λ x. test x ≡ true) (λ x. test x ≡ false) xs i → i ≤ length xs → take i xs ≡ filter test xs
+  front_is xs zero (held, out) within = sym (none_left xs out)
+  front_is [] (suc i) (held, out) within = refl
+  front_is (x ∷ xs) (suc i) (held, out) within =
+      let first : test x ≡ true = held 0 x (omega arith) (omega arith) in
+      let rest : IsPartitionPoint (λ x. test x ≡ true) (λ x. test x ≡ false) xs i =
+      (λ k d above below. held (suc k) d (omega arith) (omega (arith, below)), λ k d above below. out (suc k) d (omega (arith, above)) (omega (arith, below))) in
+      rw first (ap (λ l. x ∷ l) (front_is xs i rest (omega (arith, within))))
+
+  pub back_is : (xs : List X) (i : ℕ) → IsPartitionPoint (λ x. test x ≡ true) (λ x. test x ≡ false) xs i → i ≤ length xs → drop i xs ≡ filter fails xs
+  back_is xs zero (held, out) within = sym (all_left xs out)
+  back_is [] (suc i) (held, out) within = refl
+  back_is (x ∷ xs) (suc i) (held, out) within =
+      let first : test x ≡ true = held 0 x (omega arith) (omega arith) in
+      let rest : IsPartitionPoint (λ x. test x ≡ true) (λ x. test x ≡ false) xs i =
+      (λ k d above below. held (suc k) d (omega arith) (omega (arith, below)), λ k d above below. out (suc k) d (omega (arith, above)) (omega (arith, below))) in
+      rw first (back_is xs i rest (omega (arith, within)))
+
+-- ---- one test after another
+
+module _ {X : Type 0} (one other both : X → Bool) (is : (x : X) → (one x && other x) ≡ both x) where
+  kept_twice : (x : X) (xs : List X) (a b : Bool) → one x ≡ a → other x ≡ b → filter one (filter other xs) ≡ filter both xs → filter one (cond b (x ∷ filter other xs) (filter other xs)) ≡ cond (a && b) (x ∷ filter both xs) (filter both xs)
+  kept_twice x xs true true p q h = rw p (ap (λ l. x ∷ l) h)
+  kept_twice x xs false true p q h = rw p h
+  kept_twice x xs true false p q h = h
+  kept_twice x xs false false p q h = h
+
+  pub filter_twice : (xs : List X) → filter one (filter other xs) ≡ filter both xs
+  filter_twice [] = refl
+  filter_twice (x ∷ xs) = kept_twice x xs (one x) (other x) refl refl (filter_twice xs) ∙ ap (λ b. cond b (x ∷ filter both xs) (filter both xs)) (is x)
+
+-- ---- the lines of a value
+
+-- what neither falls below a number nor stands above it is that number
+same_number : (a b : ℕ) → (not (ltb a b) && leb a b) ≡ eqb a b
+same_number a b = grind (arith, tests)
+
+pub value_is : (k : ℕ) (order : List (ℕ × ℕ)) → filter (λ place. not (ltb place.0 k)) (filter (λ place. leb place.0 k) order) ≡ places_of k order
+value_is k order = filter_twice (λ place. not (ltb place.0 k)) (λ place. leb place.0 k) (λ place. eqb place.0 k) (λ place. same_number place.0 k) order
+
+same_ties : (k : ℕ) (place : ℕ × ℕ) → ties (λ x y. is_lt (nat_cmp x.0 y.0)) (k, 0) place ≡ eqb place.0 k
+same_ties k (v, at) = grind (arith, tests)
+
+-- a stable sort by the values keeps the order of the lines of each
+pub order_kept : (from order : List (ℕ × ℕ)) → IsStableByKey (λ place. place.0) nat_cmp from order → (k : ℕ) → places_of k order ≡ places_of k from
+order_kept from order stable k =
+    sym (filter_agree (ties (λ x y. is_lt (nat_cmp x.0 y.0)) (k, 0)) (λ place. eqb place.0 k) (same_ties k) order)
+    ∙ (stable (k, 0) ∙ filter_agree (ties (λ x y. is_lt (nat_cmp x.0 y.0)) (k, 0)) (λ place. eqb place.0 k) (same_ties k) from)
+
+-- the lines at the places are those of the value
+module _ (all : List ScriptLine) (k : ℕ) where
+  picked : (line : ScriptLine) (place : ℕ × ℕ) (places : List (ℕ × ℕ)) (lines : List ScriptLine) → slice_get all place.1 ≡ Some line → lines_at all places ≡ lines
+      → (b : Bool) → lines_at all (cond b (place ∷ places) places) ≡ cond b (line ∷ lines) lines
+  picked line place places lines first more true = ap (λ o. cons_option o (lines_at all places)) first ∙ ap (λ l. line ∷ l) more
+  picked line place places lines first more false = more
+
+  pub lines_found : (n : ℕ) (rest : List ScriptLine) → ((i : ℕ) → slice_get all (n + i) ≡ slice_get rest i) → lines_at all (places_of k (places_from n rest)) ≡ lines_of k rest
+  lines_found n [] at = refl
+  lines_found n (line ∷ rest) at =
+      let here : n ≡ n + 0 = omega arith in
+      let next : (i : ℕ) → suc n + i ≡ n + suc i = λ i. omega arith in
+      picked line (line.value, n) (places_of k (places_from (suc n) rest)) (lines_of k rest) (ap (slice_get all) here ∙ at 0)
+      (lines_found (suc n) rest (λ i. ap (slice_get all) (next i) ∙ at (suc i))) (eqb line.value k)
+
+places_within : (m n : ℕ) (rest : List ScriptLine) → n + length rest ≤ m → All (λ (place : ℕ × ℕ). place.1 < m) (places_from n rest)
+places_within m n [] within = All-nil (λ (place : ℕ × ℕ). place.1 < m)
+places_within m n (line ∷ rest) within =
+    let here : n < m = omega (arith, within) in
+    let next : suc n + length rest ≤ m = omega (arith, within) in
+    All-cons (λ (place : ℕ × ℕ). place.1 < m) (line.value, n) (places_from (suc n) rest) here (places_within m (suc n) rest next)
+
+module _ (lines : List ScriptLine) (order : List (ℕ × ℕ)) (is : IsOrder lines order) (k : ℕ) (places : List (ℕ × ℕ)) (are : places ≡ places_of k order) where
+  pub found_within : AreWithin lines places
+  found_within =
+      let all : AreWithin lines (places_from 0 lines) = places_within (length lines) 0 lines (omega arith) in
+      subst (AreWithin lines) (sym (are ∙ is.stable k)) (All-filter (λ place. eqb place.0 k) (λ (place : ℕ × ℕ). place.1 < length lines) (places_from 0 lines) all)
+
+  pub found_lines : lines_at lines places ≡ lines_of k lines
+  found_lines = ap (lines_at lines) (are ∙ is.stable k) ∙ lines_found lines k 0 lines (λ i. let same : 0 + i ≡ i = omega arith in ap (slice_get lines) same)
+
+-- ---- one place after another
+
+module _ (lines : List ScriptLine) (places : List (ℕ × ℕ)) (place : ℕ × ℕ) (more : List (ℕ × ℕ)) (are : places ≡ place ∷ more) where
+  pub more_within : AreWithin lines places → AreWithin lines more
+  more_within within = All-tail (λ (p : ℕ × ℕ). p.1 < length lines) place more (subst (AreWithin lines) are within)
+
+  pub next_line : (d : ScriptLine) → AreWithin lines places → lines_at lines places ≡ get_or lines place.1 d ∷ lines_at lines more
+  next_line d within =
+      let here : place.1 < length lines = All-head (λ (p : ℕ × ℕ). p.1 < length lines) place more (subst (AreWithin lines) are within) in
+      ap (lines_at lines) are ∙ ap (λ o. cons_option o (lines_at lines more)) (slice_get-get_or lines place.1 d here)

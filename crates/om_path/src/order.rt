@@ -1,0 +1,56 @@
+//! The places of a script's lines, by the numbers of the values that they edit.
+
+ghost use Rattle.std.specs.Prelude.{◌≡◌, IfOk, filter, not, nat_lt, nat_le};
+ghost use Rattle.om_path.specs.Order.{places_from, places_of, IsByValue, IsOrder};
+
+use crate::edits::ScriptLine;
+use om_model::Memory;
+use std::alloc::Global;
+
+/// Of each line its value's number and its place.
+fn places(alloc: Global, lines: &[ScriptLine]) -> Result<Vec<(u64, usize)>, Memory>
+    ensures { IfOk result (λ places. places.items ≡ places_from 0 lines.now) }
+{
+    let mut places = Vec::new(alloc);
+    let mut place: usize = 0;
+    let mut rest = lines;
+    while let Some((line, more)) = rest.split_first() {
+        places.push((line.value, place))?;
+        place += 1;
+        rest = more;
+    }
+    Ok(places)
+}
+
+/// The places of the lines by the numbers of their values, and at one value in the lines' order.
+pub fn order_of(alloc: Global, lines: &[ScriptLine]) -> Result<Vec<(u64, usize)>, Memory>
+    ensures { IfOk result (λ order. IsOrder lines.now order.items) }
+{
+    let mut order = places(alloc, lines)?;
+    order.sort_by_key(|place| place.0)?;
+    Ok(order)
+}
+
+/// Those of no lower value.
+fn from_value(order: &[(u64, usize)], value: u64) -> &[(u64, usize)]
+    requires { IsByValue order.now }
+    ensures { result.now ≡ filter (λ place. not (nat_lt place.0 value)) order.now }
+{
+    &order[order.partition_point(|place| place.0 < value)..]
+}
+
+/// Those of no higher value.
+fn up_to_value(order: &[(u64, usize)], value: u64) -> &[(u64, usize)]
+    requires { IsByValue order.now }
+    ensures { result.now ≡ filter (λ place. nat_le place.0 value) order.now }
+{
+    &order[..order.partition_point(|place| place.0 <= value)]
+}
+
+/// Those of a value, found without a look at the others.
+pub fn places_of(order: &[(u64, usize)], value: u64) -> &[(u64, usize)]
+    requires { IsByValue order.now }
+    ensures { result.now ≡ places_of value order.now }
+{
+    from_value(up_to_value(order, value), value)
+}
