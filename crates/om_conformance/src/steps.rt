@@ -191,7 +191,7 @@ fn put_edit(rt: &HostRuntime, value: &mut Value, table: &TypeTable, line: &str) 
     let Ok(script) = read_script(alloc, line.as_bytes()) else {
         return Err(ErrorKind::InvalidInput.into());
     };
-    let [line] = script.lines.as_slice() else {
+    let [line] = script.as_slice() else {
         return Err(ErrorKind::InvalidInput.into());
     };
     match apply(alloc, &mut value.heap, &mut value.root, table, &line.edit) {

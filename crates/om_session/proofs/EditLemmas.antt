@@ -1,6 +1,6 @@
 -- Values that are edited: the type, the lines, and the bytes.
-use Rattle.std.proofs.Common.{◌≡◌, ◌∙◌, ◌==◌, ◌≢◌, ◌<◌, ◌≤◌, ℕ, Bool, true, false, List, [], ◌∷◌, length, Option, None, Some, Result, Ok, Err, inl, inr, refl, sym, ap, subst, lt-ltb, le-ltb, eq-eqb}
-use Rattle.std.specs.Prelude.{IsErrAnd, IsSomeAnd, option_map, nat_lt, if◌then◌else◌}
+use Rattle.std.proofs.Common.{◌≡◌, ◌∙◌, ◌==◌, ◌≢◌, ◌<◌, ◌≤◌, ℕ, Bool, true, false, cond, List, [], ◌∷◌, length, Option, None, Some, Result, Ok, Err, inl, inr, refl, sym, ap, subst, lt-ltb, le-ltb, eq-eqb}
+use Rattle.std.specs.Prelude.{filter, IsErrAnd, IsSomeAnd, option_map, nat_lt, if◌then◌else◌}
 use Rattle.om_model.specs.declared.value.Val.{Val}
 use Rattle.om_model.specs.declared.value.Obj.{Obj}
 use Rattle.om_model.specs.declared.value.Obj.TheVariants as objects
@@ -123,9 +123,21 @@ pub record EditedSoFar (r : Requested) (k : ℕ) (lines rest : List ScriptLine) 
   pub valid : IsValue (length value.heap) value.root
   pub goes_on : (all : Edited Ty) → Edit r (lines_at k rest) value.heap value.root all → Edit r (lines_at k lines) old.heap old.root all
 
+-- what a test keeps it keeps again
+same_kept : {X : Type 0} (test : X → Bool) (xs : List X) → filter test (filter test xs) ≡ filter test xs
+same_kept test [] = refl
+same_kept test (x ∷ xs) = at (same_kept test xs) (test x) refl where
+  at : filter test (filter test xs) ≡ filter test xs → (b : Bool) → test x ≡ b → filter test (cond b (x ∷ filter test xs) (filter test xs)) ≡ cond b (x ∷ filter test xs) (filter test xs)
+  at rest true is = rw is (ap (λ l. x ∷ l) rest)
+  at rest false is = rest
+
 module _ (r : Requested) (k : ℕ) (lines : List ScriptLine) (old : Value) where
-  pub edits_begin : IsValue (length old.heap) old.root → EditedSoFar r k lines lines old old
-  edits_begin valid = record { valid = valid; goes_on = λ all edits. edits }
+  -- the lines of a value are all that edit it
+  pub edits_begin : IsValue (length old.heap) old.root → (own : List ScriptLine) → own ≡ lines_at k lines → EditedSoFar r k lines own old old
+  edits_begin valid own are = record {
+    valid = valid;
+    goes_on = λ all edits. subst (λ l. Edit r l old.heap old.root all) (ap (lines_at k) are ∙ same_kept (λ line. line.value == k) lines) edits;
+  }
 
   module _ (rest : List ScriptLine) (value : Value) (s : EditedSoFar r k lines rest old value) (line : ScriptLine) (more : List ScriptLine) (is : rest ≡ line ∷ more) where
     pub edits_more : (new : Value) → EditsOn r k line value new → EditedSoFar r k lines more old new
@@ -143,9 +155,11 @@ module _ (r : Requested) (k : ℕ) (lines : List ScriptLine) (old : Value) where
       at (halts.Stop stop) (inr (reason, refused, told)) =
           inr (line.number, reason, s.goes_on (Err (line.number, reason)) (subst (λ l. Edit r (lines_at k l) value.heap value.root (Err (line.number, reason))) (sym is) (refused more)), told)
 
-  pub edits_end : (rest : List ScriptLine) (value : Value) → EditedSoFar r k lines rest old value → length rest ≡ 0 → EditsAll r k lines old value
-  edits_end [] value s none = record { valid = s.valid; made = s.goes_on (Ok (value.heap, value.root)) refl }
-  edits_end (line ∷ rest) value s none = absurd (cc none)
+  pub edits_end : (rest : List ScriptLine) (value : Value) → EditedSoFar r k lines rest old value → rest ≡ [] → EditsAll r k lines old value
+  edits_end rest value s none = record {
+    valid = s.valid;
+    made = s.goes_on (Ok (value.heap, value.root)) (subst (λ l. Edit r (lines_at k l) value.heap value.root (Ok (value.heap, value.root))) (sym none) refl);
+  }
 
 -- ---- the value
 

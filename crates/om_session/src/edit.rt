@@ -49,13 +49,7 @@ pub fn edit_value<K: Sink>(
     ensures { PutsEdited edits.entry number value.old.heap value.old.root (change (K.state out.old) (K.state out.new)) result }
 {
     check_type(alloc, &value.heap, value.root, number, edits.requested)?;
-    edit_by_lines(
-        alloc,
-        value,
-        number,
-        edits.requested,
-        edits.script.lines.as_slice(),
-    )?;
+    edit_by_lines(alloc, value, number, edits.requested, edits.script)?;
     put_bytes(alloc, &value.heap, value.root, number, edits.compat, out)
 }
 
@@ -115,22 +109,21 @@ fn refuse_value(
     Err(Halt::Stop(Stop::Untyped(number, List::of(text))))
 }
 
-/// Edits the value of this number by its lines among these, in their order.
+/// Edits the value of this number by its lines of the script, in their order.
 fn edit_by_lines(
     alloc: Global,
     value: &mut Value,
     number: u64,
     requested: &Requested,
-    lines: &[ScriptLine],
+    script: &Script,
 ) -> Result<(), Halt>
     requires value { IsValue (length value.old.heap) value.old.root }
     requires ready { IsReady requested.now }
-    ensures { EditsLines requested.now number lines.now value.old value.new result }
+    ensures { EditsLines requested.now number script.now.lines value.old value.new result }
 {
-    let mut rest = lines;
-    while let Some((line, more)) = rest.split_first() {
+    let mut rest = script.lines_of(number);
+    while let Some(line) = rest.next() {
         edit_by_line(alloc, value, number, requested, line)?;
-        rest = more;
     }
     Ok(())
 }

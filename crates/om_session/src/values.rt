@@ -260,7 +260,7 @@ impl Values {
     fn finish_script(&self, edits: Edits<'_>) -> Result<bool, Halt>
         ensures { (trees : List Tree) → self.now.count ≡ length trees → EndsScript edits.entry trees self.now.well result }
     {
-        match line_past(edits.script.lines.as_slice(), self.count) {
+        match line_past(edits.script.as_slice(), self.count) {
             Some(number) => Err(Halt::Stop(Stop::NoValue(number))),
             None => Ok(self.well),
         }

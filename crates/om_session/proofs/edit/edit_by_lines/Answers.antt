@@ -2,8 +2,8 @@ use Rattle.om_session.proofs.EditLemmas.{edits_begin, edits_end}
 use Rattle.om_session.proofs.edit.edit_by_lines.Goals as goal
 
 pub loop-line-init : goal.loop-line-init
-loop-line-init c = edits_begin c.args.requested.now c.args.number c.args.lines.now c.args.value.now c.requires.value
+loop-line-init c = edits_begin c.args.requested.now c.args.number c.args.script.now.lines c.args.value.now c.requires.value c.lines_of-rest.result c.lines_of-rest.ensures
 
 pub returns : goal.returns
 returns c =
-    edits_end c.args.requested.now c.args.number c.args.lines.now c.args.value.now c.loop-line.rest.now c.loop-line.value c.loop-line.invariant c.in_default.ensures.cases
+    edits_end c.args.requested.now c.args.number c.args.script.now.lines c.args.value.now c.loop-line.rest c.loop-line.value c.loop-line.invariant c.in_default.ensures

@@ -1,7 +1,5 @@
-use Rattle.std.proofs.Common.{Err, subst}
 use Rattle.om_edge.specs.State.{change}
 use Rattle.om_read.specs.declared.value.Value.{Value}
-use Rattle.om_session.specs.Edits.{EditsAll, EditsLines}
 use Rattle.om_session.proofs.EditLemmas.{checked_halt, lines_halt, edited_puts}
 use Rattle.om_session.proofs.edit.edit_value.Goals as goal
 
@@ -15,7 +13,7 @@ returns-in_err-edit_by_lines g c =
     let halt = c.in_err-edit_by_lines.field-0.0 in
     lines_halt c.args.edits c.args.number c.args.value.now c.in_ok-check_type.ensures new (g.K.Sink.state c.args.out.now) halt c.from_residual-in_err-edit_by_lines.result
     c.from_residual-in_err-edit_by_lines.ensures.1
-    (subst (λ lines. EditsLines {U = Unit {0}} c.args.edits.requested.now c.args.number lines c.args.value.now new (Err halt)) c.as_slice.ensures c.in_err-edit_by_lines.ensures)
+    c.in_err-edit_by_lines.ensures
 
 pub put_bytes-requires : goal.put_bytes-requires
 put_bytes-requires g c = c.in_ok-edit_by_lines.ensures.valid
@@ -24,5 +22,5 @@ pub returns : goal.returns
 returns g c =
     let new : Value = record { heap = c.edit_by_lines.new.value.heap; root = c.edit_by_lines.new.value.root } in
     edited_puts c.args.edits c.args.number c.args.value.now c.in_ok-check_type.ensures new
-    (subst (λ lines. EditsAll c.args.edits.requested.now c.args.number lines c.args.value.now new) c.as_slice.ensures c.in_ok-edit_by_lines.ensures)
+    c.in_ok-edit_by_lines.ensures
     (change (g.K.Sink.state c.args.out.now) (g.K.Sink.state c.put_bytes.new.out)) c.put_bytes.result c.put_bytes.ensures
