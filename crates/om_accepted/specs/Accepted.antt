@@ -18,13 +18,17 @@ pub record IsWritten (t : Ty) : Type 0 where
 pub record AreToldWhole (all : List DeclPlaces) : Type 0 where
   pub things : AllIsTold all
   pub uses : UsesAreTold all
-  pub written : (d : DeclPlaces) (t : Ty) → Contains all d → Contains (types_of_body d.decl.body) t → IsWritten t
+  pub written : (d : DeclPlaces) (t : Ty) → Contains all d → Contains (types_of_body d.decl.body) t
+      → IsWritten t
 
 abbrev pub AcceptedAreWellFormed : Type 0
-AcceptedAreWellFormed = (all : List DeclPlaces) → AreToldWhole all → KeepsAll (BreaksInFile all) → AreWellFormed (decls_of all)
+AcceptedAreWellFormed =
+    (all : List DeclPlaces) → AreToldWhole all → KeepsAll (BreaksInFile all)
+    → AreWellFormed (decls_of all)
 
 -- the same of one type over declarations
 abbrev pub AcceptedTypesAreSound : Type 0
 AcceptedTypesAreSound =
-    (decls : List Decl) (occurrences : List Occurrence) (t : Ty) → AreWellFormed decls → IsProper t → IsType t → TellsAll occurrences t
+    (decls : List Decl) (occurrences : List Occurrence) (t : Ty) → AreWellFormed decls → IsProper t
+    → IsType t → TellsAll occurrences t
     → KeepsAll (BreaksInType decls occurrences) → IsSoundType decls t

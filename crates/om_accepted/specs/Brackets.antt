@@ -1,5 +1,5 @@
--- Where no rule on brackets is broken, each bracket of a declared type includes polymorphic variants alone, and its tags have
--- hashes of their own.
+-- Where no rule on brackets is broken, each bracket of a declared type includes polymorphic
+-- variants alone, and its tags have hashes of their own.
 use Rattle.std.specs.Prelude.{◌≡◌, List, None, Contains}
 use Rattle.om_types.specs.declared.decl.Decl.{Decl}
 use Rattle.om_types.specs.Accepted.{types_of_body, HasSoundBrackets}
@@ -17,9 +17,11 @@ HeadsArePlain decls = (t : Ty) → unfolded decls t ≡ None → head decls t �
 
 abbrev pub BracketsAreSound : List DeclPlaces → Type 0
 BracketsAreSound all =
-    (d : DeclPlaces) (t : Ty) → Contains all d → Contains (types_of_body d.decl.body) t → IsProper t → HasSoundBrackets (decls_of all) t
+    (d : DeclPlaces) (t : Ty) → Contains all d → Contains (types_of_body d.decl.body) t → IsProper t
+    → HasSoundBrackets (decls_of all) t
 
 abbrev pub BracketsFollow : Type 0
 BracketsFollow =
-    (all : List DeclPlaces) → AllIsTold all → HeadsArePlain (decls_of all) → Keeps all not_variant → Keeps all hash_clash
+    (all : List DeclPlaces) → AllIsTold all → HeadsArePlain (decls_of all) → Keeps all not_variant
+    → Keeps all hash_clash
     → BracketsAreSound all

@@ -1,5 +1,5 @@
--- Where no rule on names is broken, the names of each declared type are known, with as many arguments as they take, and its
--- variables are parameters.
+-- Where no rule on names is broken, the names of each declared type are known, with as many
+-- arguments as they take, and its variables are parameters.
 use Rattle.std.specs.Prelude.{◌≡◌, List, None, Contains}
 use Rattle.om_types.specs.Accepted.{types_of_body, TakeArguments, VariablesAmong}
 use Rattle.om_types.specs.Declarations.{predeclared}
@@ -12,11 +12,14 @@ use Rattle.om_accepted.specs.Told.{IsProper, AllIsTold}
 pub record NamesAreSound (all : List DeclPlaces) : Type 0 where
   pub new_names : (d : DeclPlaces) → Contains all d → predeclared d.decl.name ≡ None
   pub arguments :
-      (d : DeclPlaces) (t : Ty) → Contains all d → Contains (types_of_body d.decl.body) t → IsProper t → TakeArguments (decls_of all) 0 t
+      (d : DeclPlaces) (t : Ty) → Contains all d → Contains (types_of_body d.decl.body) t
+      → IsProper t → TakeArguments (decls_of all) 0 t
   pub variables :
-      (d : DeclPlaces) (t : Ty) → Contains all d → Contains (types_of_body d.decl.body) t → IsProper t → VariablesAmong d.decl.parameters t
+      (d : DeclPlaces) (t : Ty) → Contains all d → Contains (types_of_body d.decl.body) t
+      → IsProper t → VariablesAmong d.decl.parameters t
 
 abbrev pub NamesFollow : Type 0
 NamesFollow =
-    (all : List DeclPlaces) → AllIsTold all → Keeps all twice → Keeps all unknown_name → Keeps all arity → Keeps all unbound_variable
+    (all : List DeclPlaces) → AllIsTold all → Keeps all twice → Keeps all unknown_name
+    → Keeps all arity → Keeps all unbound_variable
     → NamesAreSound all

@@ -9,15 +9,19 @@ use Rattle.om_types.specs.Ty.{Ty}
 -- Each name that an abbreviation uses outside tag arguments is among its occurrences.
 abbrev pub UsesAreTold : List DeclPlaces → Type 0
 UsesAreTold all =
-    (d : DeclPlaces) (t : Ty) (name : List ℕ) → Contains all d → abbreviated d.decl.body ≡ Some t → Contains (names_outside t) name
-    → (place : ℕ) × (arguments : List Ty) × Contains d.occurrences (use_of place name arguments false)
+    (d : DeclPlaces) (t : Ty) (name : List ℕ) → Contains all d → abbreviated d.decl.body ≡ Some t
+    → Contains (names_outside t) name
+    → (place : ℕ) × (arguments : List Ty)
+    × Contains d.occurrences (use_of place name arguments false)
 
 -- no lexeme breaks the rule
 abbrev pub Keeps : List DeclPlaces → Rule → Type 0
 Keeps all rule = (k : ℕ) → ¬ BreaksInFile all rule k
 
--- where names are declared once, are known, and no abbreviation comes back to itself, some rank falls with each use
+-- where names are declared once, are known, and no abbreviation comes back to itself, some rank
+-- falls with each use
 abbrev pub RanksFollow : Type 0
 RanksFollow =
-    (all : List DeclPlaces) → UsesAreTold all → Keeps all twice → Keeps all unknown_name → Keeps all cyclic
+    (all : List DeclPlaces) → UsesAreTold all → Keeps all twice → Keeps all unknown_name
+    → Keeps all cyclic
     → (rank : List ℕ → ℕ) × IsRanking (decls_of all) rank

@@ -5,7 +5,8 @@ use Rattle.om_types.specs.Occurrence.{Occurrence, PlacedItem, use_of, variable_a
 use Rattle.om_types.specs.Ty.{Ty, variable, named, tuple, bracket, part, tag, tag_of, including}
 use Rattle.om_types.specs.Ty.{parts}
 
--- a name with its arguments, a variable, or a bracket by its items, each as the bracket that has it alone
+-- a name with its arguments, a variable, or a bracket by its items, each as the bracket that has it
+-- alone
 pub data Thing : Type 0 where
   use_thing : (name : List ℕ) (arguments : List Ty) → Thing
   variable_thing : (name : List ℕ) → Thing
@@ -72,8 +73,10 @@ own_thing t = begins_as (parts t) (items_of t) t
 abbrev pub things_inside : Ty → List Thing
 things_inside (part whole added) = things_inside whole ++ (own_thing added ++ things_inside added)
 things_inside (tag whole x) = things_inside whole
-things_inside (tag_of whole x argument) = things_inside whole ++ (own_thing argument ++ things_inside argument)
-things_inside (including whole included) = things_inside whole ++ (own_thing included ++ things_inside included)
+things_inside (tag_of whole x argument) =
+    things_inside whole ++ (own_thing argument ++ things_inside argument)
+things_inside (including whole included) =
+    things_inside whole ++ (own_thing included ++ things_inside included)
 things_inside t = []
 
 abbrev pub things_in : Ty → List Thing
@@ -89,7 +92,8 @@ thing_of (bracket_of items) = bracket_thing (map (λ (item : PlacedItem). item.1
 
 -- some occurrence is this thing
 abbrev pub IsTold : List Occurrence → Thing → Type 0
-IsTold occurrences thing = (occurrence : Occurrence) × Contains occurrences occurrence × (thing_of occurrence ≡ thing)
+IsTold occurrences thing =
+    (occurrence : Occurrence) × Contains occurrences occurrence × (thing_of occurrence ≡ thing)
 
 -- what stands in the type is told
 abbrev pub TellsAll : List Occurrence → Ty → Type 0
@@ -98,4 +102,5 @@ TellsAll occurrences t = (thing : Thing) → Contains (things_in t) thing → Is
 -- so it is in each type of each declaration
 abbrev pub AllIsTold : List DeclPlaces → Type 0
 AllIsTold all =
-    (d : DeclPlaces) (t : Ty) → Contains all d → Contains (types_of_body d.decl.body) t → TellsAll d.occurrences t
+    (d : DeclPlaces) (t : Ty) → Contains all d → Contains (types_of_body d.decl.body) t
+    → TellsAll d.occurrences t

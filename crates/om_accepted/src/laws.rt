@@ -10,12 +10,14 @@ pub fn ranks_follow()
     ensures { RanksFollow }
 {}
 
-/// Names that break no rule are known, with as many arguments as they take, and variables are parameters.
+/// Names that break no rule are known, with as many arguments as they take, and variables are
+/// parameters.
 pub fn names_follow()
     ensures { NamesFollow }
 {}
 
-/// Brackets that break no rule include polymorphic variants alone, and their tags have hashes of their own.
+/// Brackets that break no rule include polymorphic variants alone, and their tags have hashes of
+/// their own.
 pub fn brackets_follow()
     ensures { BracketsFollow }
 {}
@@ -25,7 +27,8 @@ pub fn accepted_are_well_formed()
     ensures { AcceptedAreWellFormed }
 {}
 
-/// A type that breaks no rule over well-formed declarations is sound, where what stands in it is told.
+/// A type that breaks no rule over well-formed declarations is sound, where what stands in it is
+/// told.
 pub fn accepted_types_are_sound()
     ensures { AcceptedTypesAreSound }
 {}

@@ -1,4 +1,5 @@
-//! Declarations that break no rule of scope are well-formed. The functions do nothing: what each ensures is the law.
+//! Declarations that break no rule of scope are well-formed. The functions do nothing: what each
+//! ensures is the law.
 #![tactic(auto)]
 
 mod laws;

@@ -25,7 +25,8 @@ written_item decls item = (item.0, map (tag_with_part Some) (tags_of_item decls 
 
 -- The items stand for those that are written: each has its place and its tags, with the numbers of
 -- their arguments among distinct types.
-pub record AreItems (types : List Ty) (decls : List Decl) (items : List Item) (all : List PlacedItem)
+pub record AreItems (types : List Ty) (decls : List Decl) (items : List Item)
+    (all : List PlacedItem)
     : Type 0 where
   pub distinct : AreDistinct types
   pub same : map (typed_item types) items ≡ map (written_item decls) all

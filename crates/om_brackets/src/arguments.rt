@@ -19,7 +19,9 @@ fn add_arguments<'a>(
     table: &mut Sightings<&'a [u8], Option<usize>>,
     tags: &'a [TagOf<usize>],
 ) -> Result<(), Memory>
-    ensures { OnOk result ((seen : List (Tag ℕ)) → AreArguments seen table.old → AreArguments (seen ++ tags.now) table.new) }
+    ensures { OnOk result
+        ((seen : List (Tag ℕ)) → AreArguments seen table.old
+        → AreArguments (seen ++ tags.now) table.new) }
 {
     for tag in tags {
         add(table, tag.name.as_slice(), tag.argument)?;
@@ -29,7 +31,8 @@ fn add_arguments<'a>(
 
 /// Whether a tag was seen with another argument.
 fn clashes<'a>(table: &Sightings<&'a [u8], Option<usize>>, tags: &'a [TagOf<usize>]) -> bool
-    ensures { (seen : List (Tag ℕ)) → AreArguments seen table.now → IsTrue result ↔ SomeClashes seen tags.now }
+    ensures { (seen : List (Tag ℕ)) → AreArguments seen table.now → IsTrue result
+        ↔ SomeClashes seen tags.now }
 {
     for tag in tags {
         if other(table, tag.name.as_slice(), tag.argument).is_some() {
@@ -39,8 +42,8 @@ fn clashes<'a>(table: &Sightings<&'a [u8], Option<usize>>, tags: &'a [TagOf<usiz
     false
 }
 
-/// The least place of an item that brings a tag which an earlier item brings with another argument. Places may come in
-/// any order.
+/// The least place of an item that brings a tag which an earlier item brings with another argument.
+/// Places may come in any order.
 pub fn least_clash(alloc: Global, items: &[Item]) -> Result<Option<usize>, Memory>
     ensures least { IfOk result (IsLeast (ClashesIn items.now)) }
 

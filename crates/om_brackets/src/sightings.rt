@@ -75,7 +75,12 @@ pub fn add<K: Ord + Copy, V: Eq + Copy>(
     key: K,
     value: V,
 ) -> Result<(), Memory>
-    ensures { OnOk result ((q : K) → get_by (K.cmp q) table.new.entries ≡ (if is_eq (K.cmp key q) then Some (with_value V.eq (get_by (K.cmp key) table.old.entries) value) else get_by (K.cmp q) table.old.entries)) }
+    ensures { OnOk result
+        ((q : K)
+        → get_by (K.cmp q) table.new.entries
+        ≡ (if is_eq (K.cmp key q)
+        then Some (with_value V.eq (get_by (K.cmp key) table.old.entries) value)
+        else get_by (K.cmp q) table.old.entries)) }
 {
     let known = table.entries.get(&key).copied();
     table.entries.insert(key, with_value(known, value))?;

@@ -12,7 +12,8 @@ use om_polyvar::hash;
 use om_types::head::TagOf;
 use std::alloc::Global;
 
-/// Two names of tags that have one hash, and the first lexeme of the item that brings the other one.
+/// Two names of tags that have one hash, and the first lexeme of the item that brings the other
+/// one.
 #[derive(Clone, Copy)]
 pub struct Collision<'a> {
     pub place: usize,
@@ -28,7 +29,9 @@ fn add_spellings<'a>(
     table: &mut Sightings<i64, &'a [u8]>,
     tags: &'a [TagOf<usize>],
 ) -> Result<(), Memory>
-    ensures { OnOk result ((seen : List (Tag ℕ)) → AreSpellings seen table.old → AreSpellings (seen ++ tags.now) table.new) }
+    ensures { OnOk result
+        ((seen : List (Tag ℕ)) → AreSpellings seen table.old
+        → AreSpellings (seen ++ tags.now) table.new) }
 {
     for tag in tags {
         let name = tag.name.as_slice();
@@ -43,7 +46,9 @@ fn find_collision<'a>(
     tags: &'a [TagOf<usize>],
     place: usize,
 ) -> Option<Collision<'a>>
-    ensures { (seen : List (Tag ℕ)) → AreSpellings seen table.now → MatchOption result ((one other : List ℕ) → ¬ AreColliding seen tags.now one other) (λ c. (c.place ≡ place) × AreColliding seen tags.now c.one.now c.other.now) }
+    ensures { (seen : List (Tag ℕ)) → AreSpellings seen table.now
+        → MatchOption result ((one other : List ℕ) → ¬ AreColliding seen tags.now one other)
+        (λ c. (c.place ≡ place) × AreColliding seen tags.now c.one.now c.other.now) }
 {
     for tag in tags {
         let name = tag.name.as_slice();
@@ -73,8 +78,8 @@ pub fn nearer<'a>(
     }
 }
 
-/// The least place of an item that brings a tag whose hash another tag has, of an earlier item or its own, and the names
-/// of two such tags. Places may come in any order.
+/// The least place of an item that brings a tag whose hash another tag has, of an earlier item or
+/// its own, and the names of two such tags. Places may come in any order.
 pub fn least_collision<'a>(
     alloc: Global,
     items: &'a [Item],

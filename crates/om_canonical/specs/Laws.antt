@@ -35,11 +35,13 @@ HasSpelling (leaf object) = LeafHasSpelling object
 abbrev pub SpellingSpells : Type 0
 SpellingSpells = (t : Token) → IsToken t → HasSpelling t → Spells t (spelling t)
 
--- the canonical bytes of a tree spell it, where its words on 64 bits are within the limit and its data are not too long
+-- the canonical bytes of a tree spell it, where its words on 64 bits are within the limit and its
+-- data are not too long
 abbrev pub CanonSpells : Type 0
 CanonSpells =
     (limit : ℕ) (tree : Tree) → limit < 2 ^ 64 → IsTree tree → ReferBack tree 0
-    → all_words64 (map measure_of (tokens tree)) ≤ limit → length (data_spelling (tokens tree)) < 2 ^ 48
+    → all_words64 (map measure_of (tokens tree)) ≤ limit
+    → length (data_spelling (tokens tree)) < 2 ^ 48
     → SpelledUnder limit (canon tree) tree
 
 -- ---- the same value

@@ -7,7 +7,8 @@ pub fn spelling_spells()
     ensures { SpellingSpells }
 {}
 
-/// The canonical bytes of a tree spell it, under each limit on words that it keeps, where its data have fewer than 2^48 bytes.
+/// The canonical bytes of a tree spell it, under each limit on words that it keeps, where its data
+/// have fewer than 2^48 bytes.
 pub fn canon_spells()
     ensures { CanonSpells }
 {}

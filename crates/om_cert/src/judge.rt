@@ -1,10 +1,10 @@
 //! Whether what a section states holds of a value.
 
-ghost use Rattle.std.specs.Prelude.{◌≡◌, ◌<◌, ◌↔◌, ◌++◌, ◌∷◌, [], length, IfOk, OnOk, IsTrue, MatchOption};
+ghost use Rattle.std.specs.Prelude.{◌≡◌, ◌<◌, ◌↔◌, length, IfOk, IsTrue, MatchOption};
 ghost use Rattle.om_model.specs.Graph.{IsValue};
 ghost use Rattle.om_type_table.specs.Made.{table_of, IsLawful};
 ghost use Rattle.om_section.specs.Increasing.{AreIncreasing};
-ghost use Rattle.om_cert.specs.Testing.{AreThere, AreAllThere, IsFirstOut, IsThereNow};
+ghost use Rattle.om_cert.specs.Testing.{AreAllThere, IsFirstOut, IsThereNow};
 ghost use Rattle.om_cert.specs.Verified.{Shows, IsOneAnswer, IsVerified, fault_section};
 ghost use Rattle.om_section.specs.declared.section.Section.TheVariants as sections;
 

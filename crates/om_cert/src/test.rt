@@ -1,6 +1,6 @@
 //! What is wrong with a pair.
 
-ghost use Rattle.std.specs.Prelude.{ℕ, ◌≡◌, ◌<◌, length, slice_get, Some, MatchOption};
+ghost use Rattle.std.specs.Prelude.{◌≡◌, ◌<◌, length, Some, MatchOption};
 ghost use Rattle.om_model.specs.declared.value.Val.TheVariants as vals;
 ghost use Rattle.om_types.specs.Table.{table_shapes};
 ghost use Rattle.om_type_table.specs.Made.{table_of, IsLawful};

@@ -41,10 +41,3 @@ pub enters_named :
     (table : Table) (old new : List Visit) (need : Need) (v : Val) (o : ℕ) → v ≡ vals.Ref o
     → Enters table old new o need.ty need.parent need.step → EntersValue table old new need v
 enters_named table old new need v o same enters = subst (EntersValue table old new need) (sym same) enters
-
-pub enters_none :
-    (table : Table) (graph : List Obj) (old : List Visit) (need : Need) (v : Val) (word : ℕ) → word ≡ word_of graph v → ¬ (word % 8 ≡ 0)
-    → EntersValue table old old need v
-enters_none table graph old need (vals.Int z) word same other = refl
-enters_none table graph old need (vals.Atom tag) word same other = refl
-enters_none table graph old need (vals.Ref o) word same other = absurd (other (omega (arith, same)))

@@ -7,12 +7,6 @@ use Rattle.om_model.proofs.Options.{slice_get_there}
 use Rattle.om_check.specs.declared.visits.Visit.{Visit}
 use Rattle.om_check.specs.Told.{AreOrdered, IsPathOf, IsRestOf}
 
-pub rest_none : (all : List Visit) (k : ℕ) → k < length all → IsRestOf all k k []
-rest_none all k within = record {
-  within = within;
-  rest = λ told e f are at_k at. ap (λ g. g.path) (same_Some e f (sym at_k ∙ at)) ∙ sym (append-nil f.path);
-}
-
 -- one step back
 pub rest_back :
     (all : List Visit) (k at : ℕ) (old new : List ℕ) (v : Visit) → AreOrdered all → IsRestOf all k at (reverse old)

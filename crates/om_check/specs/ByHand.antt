@@ -7,13 +7,16 @@ use Rattle.om_types.specs.declared.shape.ShapeOf.TheVariants as shapes
 use Rattle.om_types.specs.Steps.{most_steps}
 use Rattle.om_types.specs.Table.{Table}
 
--- item list, where type item = Nil | Num of int | Text of string | Pair of item * item | Cell of item ref
+-- item list, where type item = Nil | Num of int | Text of string | Pair of item * item | Cell of
+-- item ref
 abbrev pub item_table : Table
 item_table = record {
   nodes =
       shapes.Sum 1 (record { mutable = false; fields = 1 ∷ 0 ∷ [] } ∷ [])
-      ∷ shapes.Sum 1 (record { mutable = false; fields = 2 ∷ [] } ∷ record { mutable = false; fields = 3 ∷ [] }
-      ∷ record { mutable = false; fields = 1 ∷ 1 ∷ [] } ∷ record { mutable = false; fields = 4 ∷ [] } ∷ [])
+      ∷ shapes.Sum 1
+      (record { mutable = false; fields = 2 ∷ [] } ∷ record { mutable = false; fields = 3 ∷ [] }
+      ∷ record { mutable = false; fields = 1 ∷ 1 ∷ [] }
+      ∷ record { mutable = false; fields = 4 ∷ [] } ∷ [])
       ∷ shapes.AnyInt ∷ shapes.Bytes false ∷ shapes.Product true (1 ∷ []) ∷ [];
   classes = 0 ∷ 1 ∷ 2 ∷ 3 ∷ 4 ∷ [];
 }
@@ -21,7 +24,8 @@ item_table = record {
 -- Nil, Nil and Text of 38 times c: five objects with seven fields
 abbrev pub items : List Obj
 items =
-    objects.Block 0 (vals.Int (pos 0) ∷ vals.Ref 1 ∷ []) ∷ objects.Block 0 (vals.Int (pos 0) ∷ vals.Ref 2 ∷ [])
+    objects.Block 0 (vals.Int (pos 0) ∷ vals.Ref 1 ∷ [])
+    ∷ objects.Block 0 (vals.Int (pos 0) ∷ vals.Ref 2 ∷ [])
     ∷ objects.Block 0 (vals.Ref 3 ∷ vals.Int (pos 0) ∷ []) ∷ objects.Block 1 (vals.Ref 4 ∷ [])
     ∷ objects.Bytes (replicate 38 99) ∷ []
 

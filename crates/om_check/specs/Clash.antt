@@ -11,9 +11,11 @@ IsWithin table graph v = (v.object < length graph) × (v.ty < length table.nodes
 
 -- whether the type says that the object, which fits it, may be changed
 abbrev pub mutable_at : Table → List Obj → Visit → Bool
-mutable_at table graph v = is_mutable (node_or_none (slice_get table.nodes v.ty)) (slice_get graph v.object)
+mutable_at table graph v =
+    is_mutable (node_or_none (slice_get table.nodes v.ty)) (slice_get graph v.object)
 
--- two visits of one object, the first of them before the other, and the object may be changed at one of their types
+-- two visits of one object, the first of them before the other, and the object may be changed at
+-- one of their types
 pub record ClashAt (table : Table) (graph : List Obj) (all : List Visit) (i k : ℕ) : Type 0 where
   pub one : Visit
   pub other : Visit
@@ -30,7 +32,8 @@ NoneClash table graph all n = (i k : ℕ) → k < n → ¬ ClashAt table graph a
 -- no object is visited twice at one class
 abbrev pub AreApart : Table → List Visit → Type 0
 AreApart table all =
-    (j k : ℕ) (v w : Visit) → slice_get all j ≡ Some v → slice_get all k ≡ Some w → v.object ≡ w.object
+    (j k : ℕ) (v w : Visit) → slice_get all j ≡ Some v → slice_get all k ≡ Some w
+    → v.object ≡ w.object
     → slice_get table.classes v.ty ≡ slice_get table.classes w.ty → j ≡ k
 
 -- visit f is of the object of visit k, and none before it is
@@ -46,7 +49,8 @@ abbrev pub ClashesBack : Table → List Obj → List Visit → ℕ → Type 0
 ClashesBack table graph all k = (f : ℕ) × IsFirstOf all k f × ClashAt table graph all f k
 
 -- visit k is the first that clashes with one before it, and i the first that it clashes with
-pub record IsFirstClash (table : Table) (graph : List Obj) (all : List Visit) (i k : ℕ) : Type 0 where
+pub record IsFirstClash (table : Table) (graph : List Obj) (all : List Visit) (i k : ℕ)
+    : Type 0 where
   pub clash : ClashAt table graph all i k
   pub second : NoneClash table graph all k
   pub first : (j : ℕ) → j < i → ¬ ClashAt table graph all j k

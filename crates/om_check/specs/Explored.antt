@@ -18,14 +18,16 @@ abbrev pub needs_at : Table → List Obj → Entry ℕ → List (ℕ × ℕ)
 needs_at table graph e = (table_shapes table).needs graph (vals.Ref e.object) e.type
 
 -- A need of an entry, at a type, is there, fits, and is entered.
-pub record IsMetNeed (table : Table) (graph : List Obj) (told : List (Entry ℕ)) (e : Entry ℕ) (i a : ℕ) : Type 0 where
+pub record IsMetNeed (table : Table) (graph : List Obj) (told : List (Entry ℕ)) (e : Entry ℕ)
+    (i a : ℕ) : Type 0 where
   pub value : Val
   pub there : field_of graph (vals.Ref e.object) i ≡ Some value
   pub fits : (table_shapes table).fits graph value a
   pub entered : IsEntered (table_shapes table) told value a (e.path ++ i ∷ [])
 
 -- The entry stands at need j, numbered i, of the entry before it that leads to it.
-pub record IsLedTo (table : Table) (graph : List Obj) (told : List (Entry ℕ)) (n r : ℕ) (e : Entry ℕ) : Type 0 where
+pub record IsLedTo (table : Table) (graph : List Obj) (told : List (Entry ℕ)) (n r : ℕ)
+    (e : Entry ℕ) : Type 0 where
   pub parent : ℕ
   pub need : ℕ
   pub entry : Entry ℕ
@@ -37,12 +39,15 @@ pub record IsLedTo (table : Table) (graph : List Obj) (told : List (Entry ℕ)) 
   pub path : e.path ≡ entry.path ++ number ∷ []
 
 -- The entries so far, where all needs before need r of entry n were tested.
-pub record AreExplored (table : Table) (graph : List Obj) (root : ℕ) (told : List (Entry ℕ)) (n r : ℕ) : Type 0 where
+pub record AreExplored (table : Table) (graph : List Obj) (root : ℕ) (told : List (Entry ℕ))
+    (n r : ℕ) : Type 0 where
   pub rooted : slice_get told 0 ≡ Some (record { path = []; object = root; type = 0 })
   pub leads :
       (k : ℕ) (e : Entry ℕ) → slice_get told k ≡ Some e
-      → value_at (table_shapes table) graph (vals.Ref root) 0 e.path ≡ Some (vals.Ref e.object, e.type)
-  pub fit : (k : ℕ) (e : Entry ℕ) → slice_get told k ≡ Some e → (table_shapes table).fits graph (vals.Ref e.object) e.type
+      → value_at (table_shapes table) graph (vals.Ref root) 0 e.path
+      ≡ Some (vals.Ref e.object, e.type)
+  pub fit : (k : ℕ) (e : Entry ℕ) → slice_get told k ≡ Some e
+      → (table_shapes table).fits graph (vals.Ref e.object) e.type
   pub increasing :
       (j k : ℕ) (a b : Entry ℕ) → j < k → slice_get told j ≡ Some a → slice_get told k ≡ Some b
       → IsBefore a.path b.path
@@ -51,7 +56,8 @@ pub record AreExplored (table : Table) (graph : List Obj) (root : ℕ) (told : L
       → a.object ≡ b.object → (table_shapes table).equal a.type b.type → j ≡ k
   pub objects : (k : ℕ) (e : Entry ℕ) → slice_get told k ≡ Some e → e.object < length graph
   pub types : (k : ℕ) (e : Entry ℕ) → slice_get told k ≡ Some e → e.type < length table.nodes
-  pub led : (k : ℕ) (e : Entry ℕ) → 0 < k → slice_get told k ≡ Some e → IsLedTo table graph told n r e
+  pub led : (k : ℕ) (e : Entry ℕ) → 0 < k → slice_get told k ≡ Some e
+      → IsLedTo table graph told n r e
   pub done :
       (k j i a : ℕ) (e : Entry ℕ) → ComesBefore k j n r → slice_get told k ≡ Some e
       → slice_get (needs_at table graph e) j ≡ Some (i, a) → IsMetNeed table graph told e i a

@@ -24,7 +24,8 @@ use Rattle.om_check.specs.Explored.{IsExplored, root_of}
 -- each visit's object fits the type of the visit
 abbrev pub FitAll : Table → List Obj → List Visit → Type 0
 FitAll table graph all =
-    (k : ℕ) (v : Visit) → slice_get all k ≡ Some v → (table_shapes table).fits graph (vals.Ref v.object) v.ty
+    (k : ℕ) (v : Visit) → slice_get all k ≡ Some v
+    → (table_shapes table).fits graph (vals.Ref v.object) v.ty
 
 -- an object is entered; other values are not
 abbrev pub EntersValue : Table → List Visit → List Visit → Need → Val → Type 0
@@ -33,37 +34,44 @@ EntersValue table old new need (vals.Atom tag) = new ≡ old
 EntersValue table old new need (vals.Ref o) = Enters table old new o need.ty need.parent need.step
 
 -- The value in question fits, and is entered; or it does not, and nothing changed.
-pub record TestsNeed (table : Table) (graph : List Obj) (old new : List Visit) (need : Need) (met : Bool) : Type 0 where
+pub record TestsNeed (table : Table) (graph : List Obj) (old new : List Visit) (need : Need)
+    (met : Bool) : Type 0 where
   pub value : Val
   pub valid : IsValue (length graph) value
   pub there : field_of graph (vals.Ref need.object) need.step ≡ Some value
   pub tested :
-      MatchBool met ((table_shapes table).fits graph value need.ty × EntersValue table old new need value)
+      MatchBool met
+      ((table_shapes table).fits graph value need.ty × EntersValue table old new need value)
       ((¬ (table_shapes table).fits graph value need.ty) × (new ≡ old))
 
 -- ---- one visit
 
 -- the path to visit n, and from there to the field, is the least fault
-pub record IsMisfitAt (table : Table) (graph : List Obj) (all : List Visit) (n step : ℕ) : Type 0 where
+pub record IsMisfitAt (table : Table) (graph : List Obj) (all : List Visit) (n step : ℕ)
+    : Type 0 where
   pub in_range : n < length all
   pub ordered : AreOrdered all
   pub least :
       (path : List ℕ) → IsPathOf all n path
-      → IsLeastFault (table_shapes table) graph (vals.Ref (root_of all)) 0 (Misfit (path ++ step ∷ []))
+      → IsLeastFault (table_shapes table) graph (vals.Ref (root_of all)) 0
+      (Misfit (path ++ step ∷ []))
 
 pub record Grows (old new : List Visit) : Type 0 where
   pub added : List Visit
   pub extends : new ≡ old ++ added
 
 -- The first r needs of visit n were tested.
-pub record IsTesting (table : Table) (graph : List Obj) (old now : List Visit) (n r : ℕ) : Type 0 where
+pub record IsTesting (table : Table) (graph : List Obj) (old now : List Visit) (n r : ℕ)
+    : Type 0 where
   pub grows : Grows old now
   pub explored : IsExplored table graph now n r
 
 -- All that visit n needs was tested, up to the first misfit.
-pub record TestsVisit (table : Table) (graph : List Obj) (old new : List Visit) (n : ℕ) (misfit : Option ℕ) : Type 0 where
+pub record TestsVisit (table : Table) (graph : List Obj) (old new : List Visit) (n : ℕ)
+    (misfit : Option ℕ) : Type 0 where
   pub grows : Grows old new
-  pub tested : MatchOption misfit (IsExplored table graph new (suc n) 0) (IsMisfitAt table graph new n)
+  pub tested : MatchOption misfit (IsExplored table graph new (suc n) 0)
+      (IsMisfitAt table graph new n)
 
 -- what a visit's object needs at its type
 abbrev pub visit_needs : Table → List Obj → Visit → List (ℕ × ℕ)
@@ -72,7 +80,8 @@ visit_needs table graph v = (table_shapes table).needs graph (vals.Ref v.object)
 -- a scan saw what the visit's object needs at the fields below a number
 abbrev pub AreSeen : Table → List Obj → Taken → Visit → ℕ → Type 0
 AreSeen table graph taken v seen =
-    (i a : ℕ) → i < seen → Contains (visit_needs table graph v) (i, a) → IsSeen table graph taken v.object i (heap.field_at graph v.object i) a
+    (i a : ℕ) → i < seen → Contains (visit_needs table graph v) (i, a)
+    → IsSeen table graph taken v.object i (heap.field_at graph v.object i) a
 
 -- the type is of the class of the one that is told
 abbrev pub is_of_class : Table → Option ℕ → ℕ → Bool
@@ -83,10 +92,12 @@ is_of_class table (Some u) t = slice_index table.classes u == slice_index table.
 abbrev pub is_taken : Table → Taken → Visit → Bool
 is_taken table taken v = is_of_class table (slice_get (types_in taken) v.object) v.ty
 
--- one step for the visit, and one for each field of its object; where a scan took it, one for each field that was not seen
+-- one step for the visit, and one for each field of its object; where a scan took it, one for each
+-- field that was not seen
 abbrev pub counted : Table → List Obj → Taken → Visit → ℕ
 counted table graph taken v =
-    if is_taken table taken v then rest_of (size_of graph v.object) (seen_of taken v.object) else 1 + size_of graph v.object
+    if is_taken table taken v then rest_of (size_of graph v.object) (seen_of taken v.object)
+    else 1 + size_of graph v.object
 
 abbrev pub cost_or_none : Table → List Obj → Taken → Option Visit → ℕ
 cost_or_none table graph taken None = 0
@@ -98,15 +109,18 @@ cost_at table graph taken all n = cost_or_none table graph taken (slice_get all 
 -- ---- all visits
 
 -- All that each visit needs was tested, up to the first misfit.
-pub record Searches (table : Table) (graph : List Obj) (old new : List Visit) (misfit : Option (ℕ × ℕ)) : Type 0 where
+pub record Searches (table : Table) (graph : List Obj) (old new : List Visit)
+    (misfit : Option (ℕ × ℕ)) : Type 0 where
   pub grows : Grows old new
-  pub tested : MatchOption misfit (IsExplored table graph new (length new) 0) (λ at. IsMisfitAt table graph new at.0 at.1)
+  pub tested : MatchOption misfit (IsExplored table graph new (length new) 0)
+      (λ at. IsMisfitAt table graph new at.0 at.1)
 
 -- the steps of the first n visits
 abbrev pub spent : Table → List Obj → Taken → List Visit → ℕ → ℕ
 spent table graph taken [] n = 0
 spent table graph taken (v ∷ all) zero = 0
-spent table graph taken (v ∷ all) (suc n) = counted table graph taken v + spent table graph taken all n
+spent table graph taken (v ∷ all) (suc n) =
+    counted table graph taken v + spent table graph taken all n
 
 -- visits as objects at types
 abbrev pub pairs_of : List Visit → List (ℕ × ℕ)
@@ -114,18 +128,22 @@ pairs_of all = map (λ (v : Visit). (v.object, v.ty)) all
 
 -- ---- loops
 
--- The first r needs of visit n were tested, up to the fields below `reached`, in a step for each field that no scan saw.
-pub record IsTestingVisit (table : Table) (graph : List Obj) (old now : Visits) (v : Visit) (n r seen start steps : ℕ) : Type 0 where
+-- The first r needs of visit n were tested, up to the fields below `reached`, in a step for each
+-- field that no scan saw.
+pub record IsTestingVisit (table : Table) (graph : List Obj) (old now : Visits) (v : Visit)
+    (n r seen start steps : ℕ) : Type 0 where
   pub linked : AreLinked table (length graph) now
   pub testing : IsTesting table graph (listed old) (listed now) n r
   pub reached : ℕ
   pub inside : reached ≤ size_of graph v.object
   pub small : reached < 2 ^ 64
-  pub later : (j i a : ℕ) → r ≤ j → slice_get (visit_needs table graph v) j ≡ Some (i, a) → reached ≤ i
+  pub later : (j i a : ℕ) → r ≤ j → slice_get (visit_needs table graph v) j ≡ Some (i, a)
+      → reached ≤ i
   pub few : steps ≤ start + (reached - seen)
 
 -- The needs of the first n visits were tested, in at most so many steps.
-pub record IsSearching (table : Table) (graph : List Obj) (taken : Taken) (old now : Visits) (n start steps : ℕ) : Type 0 where
+pub record IsSearching (table : Table) (graph : List Obj) (taken : Taken) (old now : Visits)
+    (n start steps : ℕ) : Type 0 where
   pub linked : AreLinked table (length graph) now
   pub grows : Grows (listed old) (listed now)
   pub explored : IsExplored table graph (listed now) n 0

@@ -9,7 +9,8 @@ use Rattle.om_check.specs.declared.visits.Visit.{Visit}
 abbrev pub AreOrdered : List Visit → Type 0
 AreOrdered all = (k : ℕ) (v : Visit) → 0 < k → slice_get all k ≡ Some v → v.parent < k
 
--- The same objects at the same types; the first has the empty path, and each other one the path of its parent with its step.
+-- The same objects at the same types; the first has the empty path, and each other one the path of
+-- its parent with its step.
 pub record AreTold (all : List Visit) (told : List (Entry ℕ)) : Type 0 where
   pub many : length told ≡ length all
   pub objects :
@@ -21,7 +22,8 @@ pub record AreTold (all : List Visit) (told : List (Entry ℕ)) : Type 0 where
   pub root : (e : Entry ℕ) → slice_get told 0 ≡ Some e → e.path ≡ []
   pub paths :
       (k : ℕ) (v : Visit) (e p : Entry ℕ) → 0 < k → slice_get all k ≡ Some v
-      → slice_get told k ≡ Some e → slice_get told v.parent ≡ Some p → e.path ≡ p.path ++ v.step ∷ []
+      → slice_get told k ≡ Some e → slice_get told v.parent ≡ Some p
+      → e.path ≡ p.path ++ v.step ∷ []
 
 -- the path to visit k
 abbrev pub IsPathOf : List Visit → ℕ → List ℕ → Type 0

@@ -9,9 +9,10 @@ use Rattle.om_typing.specs.StepLaws.{AreApart, key_of}
 use Rattle.om_check.specs.declared.verdict.Verdict.{Verdict}
 use Rattle.om_check.specs.declared.verdict.Verdict.TheVariants.{Yes, No}
 
--- The pairs justify one another, have the root's object at an equal type where the root is a reference, and no object twice at
--- one class.
-pub record IsYes (table : Table) (graph : List Obj) (root : Val) (pairs : List (ℕ × ℕ)) : Type 0 where
+-- The pairs justify one another, have the root's object at an equal type where the root is a
+-- reference, and no object twice at one class.
+pub record IsYes (table : Table) (graph : List Obj) (root : Val) (pairs : List (ℕ × ℕ))
+    : Type 0 where
   pub typing : IsTyping (table_shapes table) graph pairs
   pub rooted : IsListed (table_shapes table) pairs root 0
   pub apart : AreApart (map (key_of table) pairs)

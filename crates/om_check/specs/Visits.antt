@@ -30,17 +30,21 @@ abbrev pub pair_cmp : ℕ × ℕ → ℕ × ℕ → Ordering
 pair_cmp x y = ordering_then (nat_cmp x.0 y.0) (nat_cmp x.1 y.1)
 
 -- For each object it is noted at which type it was met first, and at which other classes.
-pub record AreNoted (table : Table) (all : List Visit) (first : List ℕ) (later : ℕ → ℕ → Type 0) : Type 0 where
-  pub unmet : (o k : ℕ) (v : Visit) → slice_get first o ≡ Some 0 → slice_get all k ≡ Some v → ¬ (v.object ≡ o)
+pub record AreNoted (table : Table) (all : List Visit) (first : List ℕ) (later : ℕ → ℕ → Type 0)
+    : Type 0 where
+  pub unmet : (o k : ℕ) (v : Visit) → slice_get first o ≡ Some 0 → slice_get all k ≡ Some v
+      → ¬ (v.object ≡ o)
   pub met : (o t : ℕ) → slice_get first o ≡ Some (suc t) → IsFirstAt all o t
   pub known :
-      (o t k c : ℕ) (v : Visit) → slice_get first o ≡ Some (suc t) → slice_get all k ≡ Some v → v.object ≡ o
+      (o t k c : ℕ) (v : Visit) → slice_get first o ≡ Some (suc t) → slice_get all k ≡ Some v
+      → v.object ≡ o
       → slice_get table.classes v.ty ≡ Some c → (slice_get table.classes t ≡ Some c) ⊎ later o c
   pub there : (o c : ℕ) → later o c → IsMet table all o (Some c)
 
 pub record AreLinked (table : Table) (objects : ℕ) (visits : Visits) : Type 0 where
   pub many : length visits.first ≡ objects
-  pub noted : AreNoted table (listed visits) visits.first (λ o c. IsTrue (contains pair_cmp visits.later (o, c)))
+  pub noted : AreNoted table (listed visits) visits.first
+      (λ o c. IsTrue (contains pair_cmp visits.later (o, c)))
 
 -- one visit more, at the end
 abbrev pub IsAppended : List Visit → List Visit → ℕ → ℕ → ℕ → ℕ → Type 0

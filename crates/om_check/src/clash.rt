@@ -1,6 +1,7 @@
-//! The first two visits of one object that clash: their types differ, and at one of them the object may be changed.
+//! The first two visits of one object that clash: their types differ, and at one of them the object
+//! may be changed.
 
-ghost use Rattle.std.specs.Prelude.{◌≡◌, ◌<◌, ◌↔◌, length, slice_get, Some, All, IsTrue, MatchOption};
+ghost use Rattle.std.specs.Prelude.{◌≡◌, ◌<◌, ◌↔◌, length, Some, All, IsTrue, MatchOption};
 ghost use Rattle.om_type_table.specs.Made.{table_of};
 ghost use Rattle.om_check.specs.Visits.{listed, AreLinked};
 ghost use Rattle.om_check.specs.Clash.{mutable_at, IsWithin, AreApart, ClashesBack, IsFirstOf, NoneClash, IsFirstClash};
@@ -10,14 +11,16 @@ use om_fits::is_mutable;
 use om_heap::Heap;
 use om_type_table::TypeTable;
 
-/// The first visit that clashes with one before it, and the first one that it clashes with, which comes first here. Where
-/// nothing was met at a second class, no two visits are of one object.
+/// The first visit that clashes with one before it, and the first one that it clashes with, which
+/// comes first here. Where nothing was met at a second class, no two visits are of one object.
 pub fn first_clash(heap: &Heap, table: &TypeTable, visits: &Visits) -> Option<(usize, usize)>
     requires within { All (IsWithin (table_of table.now) heap.now) (listed visits.now) }
     requires classed { length table.now.classes ≡ length table.now.nodes }
     requires apart { AreApart (table_of table.now) (listed visits.now) }
     requires linked { AreLinked (table_of table.now) (length heap.now) visits.now }
-    ensures { MatchOption result (NoneClash (table_of table.now) heap.now (listed visits.now) (length (listed visits.now))) (λ two. IsFirstClash (table_of table.now) heap.now (listed visits.now) two.0 two.1) }
+    ensures { MatchOption result
+        (NoneClash (table_of table.now) heap.now (listed visits.now) (length (listed visits.now)))
+        (λ two. IsFirstClash (table_of table.now) heap.now (listed visits.now) two.0 two.1) }
 {
     if visits.later.is_empty() {
         return None;
@@ -30,8 +33,8 @@ pub fn first_clash(heap: &Heap, table: &TypeTable, visits: &Visits) -> Option<(u
     None
 }
 
-/// Whether visit k is of an object that was met before at another class, and may be changed at the type of the visit or
-/// at the first one.
+/// Whether visit k is of an object that was met before at another class, and may be changed at the
+/// type of the visit or at the first one.
 fn clashes_back(heap: &Heap, table: &TypeTable, visits: &Visits, k: usize) -> bool
     requires in_range { k < length (listed visits.now) }
     requires within { All (IsWithin (table_of table.now) heap.now) (listed visits.now) }

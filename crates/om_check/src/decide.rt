@@ -1,12 +1,12 @@
 //! Whether a value has the type that is number 0 of a table.
 
-ghost use Rattle.std.specs.Prelude.{◌≡◌, ◌≤◌, ◌<◌, ◌+◌, length, IfOk, OnOk};
+ghost use Rattle.std.specs.Prelude.{◌≡◌, ◌≤◌, ◌<◌, ◌+◌, length, IfOk};
 ghost use Rattle.om_model.specs.declared.value.Val.TheVariants as vals;
 ghost use Rattle.om_model.specs.Graph.{IsValue, IsGraph};
 ghost use Rattle.om_types.specs.Table.{table_shapes};
 ghost use Rattle.om_types.specs.Steps.{most_steps};
 ghost use Rattle.om_type_table.specs.Made.{table_of, IsLawful};
-ghost use Rattle.om_scan.specs.Rows.{AreRows};
+ghost use Rattle.om_scan.specs.FittingRows.{AreRows};
 ghost use Rattle.om_scan.specs.Taken.{types_in};
 ghost use Rattle.om_scan.specs.Scanned.{AreTaken, cost_of, left_of};
 ghost use Rattle.om_check.specs.Told.{AreOrdered, IsClashOf};
@@ -52,7 +52,8 @@ pub fn check(
     }
 }
 
-/// The same of an object that fits the type: mostly a scan of the objects tells it, where the object is the first.
+/// The same of an object that fits the type: mostly a scan of the objects tells it, where the
+/// object is the first.
 fn check_object(
     alloc: Global,
     heap: &Heap,
@@ -99,7 +100,8 @@ fn search_object(
     requires fits { (table_shapes (table_of table.now)).fits heap.now (vals.Ref object) 0 }
     requires taken { AreTaken (table_of table.now) heap.now taken.now }
     ensures verdict { IfOk result (IsVerdict (table_of table.now) heap.now (vals.Ref object)) }
-    ensures steps { steps.new + cost_of heap.now (types_in taken.now) + 1 ≤ steps.old + left_of heap.now taken.now + most_steps (table_of table.now) heap.now }
+    ensures steps { steps.new + cost_of heap.now (types_in taken.now) + 1
+        ≤ steps.old + left_of heap.now taken.now + most_steps (table_of table.now) heap.now }
 {
     let mut visits = Visits::new(alloc, objects, table, object)?;
     if let Some((n, step)) = search(heap, table, rows, &mut visits, taken, steps)? {

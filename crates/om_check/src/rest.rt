@@ -17,8 +17,8 @@ pub struct Short {
     pub step: u32,
 }
 
-/// Visits, which contracts see as their list. Each takes 16 bytes while the numbers of all are below 2^32, and those from
-/// then on twice as many.
+/// Visits, which contracts see as their list. Each takes 16 bytes while the numbers of all are
+/// below 2^32, and those from then on twice as many.
 #[derive(Drop)]
 pub struct Rest {
     shorts: Vec<Short>,
@@ -87,9 +87,12 @@ impl Rest {
 #[inline(always)]
 fn put(shorts: &mut Vec<Short>, longs: &mut Vec<Visit>, visit: Visit) -> Result<(), Memory>
     requires { vec_len shorts.old + vec_len longs.old < 2 ^ 64 }
-    ensures put { OnOk result (visits_in shorts.new.items longs.new.items ≡ visits_in shorts.old.items longs.old.items ++ visit ∷ []) }
+    ensures put { OnOk result
+        (visits_in shorts.new.items longs.new.items
+        ≡ visits_in shorts.old.items longs.old.items ++ visit ∷ []) }
     ensures few { vec_len shorts.new + vec_len longs.new < 2 ^ 64 }
-    ensures more { vec_len shorts.new + vec_len longs.new ≤ vec_len shorts.old + vec_len longs.old + 1 }
+    ensures more { vec_len shorts.new + vec_len longs.new
+        ≤ vec_len shorts.old + vec_len longs.old + 1 }
 {
     if longs.is_empty() && is_short(visit) {
         shorts.push(narrow(visit))?;

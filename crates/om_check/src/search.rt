@@ -2,15 +2,15 @@
 
 ghost use Rattle.std.specs.Prelude.{ℕ, ◌≡◌, ◌≢◌, ◌<◌, ◌≤◌, ◌+◌, ◌%◌, ◌↔◌, length, All, IfOk, OnOk, IsTrue, Some, slice_get};
 ghost use Rattle.std.specs.Bool.{OnTrue};
-ghost use Rattle.om_model.specs.Graph.{IsValue, IsGraph};
+ghost use Rattle.om_model.specs.Graph.{IsGraph};
 ghost use Rattle.om_model.specs.declared.value.Val.{Val};
 ghost use Rattle.om_model.specs.declared.value.Val.TheVariants as vals;
-ghost use Rattle.om_heap.specs.Heap.{object_at, fields_of, field_at, word_of, IsFieldWord, IsReferenceWord};
+ghost use Rattle.om_heap.specs.Heap.{object_at, fields_of, field_at, word_of, IsReferenceWord};
 ghost use Rattle.om_types.specs.Table.{table_shapes};
 ghost use Rattle.om_fits.specs.Needs.{needs_in};
 ghost use Rattle.om_types.specs.Steps.{most_steps};
 ghost use Rattle.om_type_table.specs.Made.{table_of, IsLawful};
-ghost use Rattle.om_scan.specs.Rows.{AreRows};
+ghost use Rattle.om_scan.specs.FittingRows.{AreRows};
 ghost use Rattle.om_scan.specs.Taken.{types_in, seen_of, size_of, rest_of};
 ghost use Rattle.om_scan.specs.Scanned as scans;
 ghost use Rattle.om_scan.specs.Scanned.{AreTaken, IsSeen, IsSeenObject, left_of};
@@ -35,8 +35,9 @@ pub struct Need {
     pub ty: usize,
 }
 
-/// Tests what each visit needs, and enters the objects that are met. The answer is the first misfit: the place of a
-/// visit, and the number of its field that does not fit. What a scan tested was counted there, and is not tested again.
+/// Tests what each visit needs, and enters the objects that are met. The answer is the first
+/// misfit: the place of a visit, and the number of its field that does not fit. What a scan tested
+/// was counted there, and is not tested again.
 pub fn search(
     heap: &Heap,
     table: &TypeTable,
@@ -52,8 +53,10 @@ pub fn search(
     requires explored { IsExplored (table_of table.now) heap.now (listed visits.old) 0 0 }
     requires taken { AreTaken (table_of table.now) heap.now taken.now }
     ensures linked { OnOk result (AreLinked (table_of table.now) (length heap.now) visits.new) }
-    ensures searches { IfOk result (Searches (table_of table.now) heap.now (listed visits.old) (listed visits.new)) }
-    ensures steps { steps.new + scans.cost_of heap.now (types_in taken.now) + 1 ≤ steps.old + left_of heap.now taken.now + most_steps (table_of table.now) heap.now }
+    ensures searches { IfOk result
+        (Searches (table_of table.now) heap.now (listed visits.old) (listed visits.new)) }
+    ensures steps { steps.new + scans.cost_of heap.now (types_in taken.now) + 1
+        ≤ steps.old + left_of heap.now taken.now + most_steps (table_of table.now) heap.now }
 {
     let mut n = 0;
     while visits.has(n) {
@@ -83,8 +86,10 @@ fn test_visit(
     requires explored { IsExplored (table_of table.now) heap.now (listed visits.old) n 0 }
     requires taken { AreTaken (table_of table.now) heap.now taken.now }
     ensures linked { OnOk result (AreLinked (table_of table.now) (length heap.now) visits.new) }
-    ensures tests { IfOk result (TestsVisit (table_of table.now) heap.now (listed visits.old) (listed visits.new) n) }
-    ensures steps { steps.new ≤ steps.old + cost_at (table_of table.now) heap.now taken.now (listed visits.old) n }
+    ensures tests { IfOk result
+        (TestsVisit (table_of table.now) heap.now (listed visits.old) (listed visits.new) n) }
+    ensures steps { steps.new
+        ≤ steps.old + cost_at (table_of table.now) heap.now taken.now (listed visits.old) n }
 {
     let visit = visits.get(n);
     if was_taken(table, taken, visit) {
@@ -98,7 +103,8 @@ fn test_visit(
 #[inline(always)]
 fn was_taken(table: &TypeTable, taken: &Taken, visit: Visit) -> bool
     requires ty { visit.ty < length table.now.classes }
-    requires types { (o t : ℕ) → slice_get (types_in taken.now) o ≡ Some t → t < length table.now.classes }
+    requires types { (o t : ℕ) → slice_get (types_in taken.now) o ≡ Some t
+        → t < length table.now.classes }
     ensures { result ≡ is_taken (table_of table.now) taken.now visit }
 {
     match taken.type_of(visit.object as usize) {
@@ -128,14 +134,17 @@ fn take_seen(
     requires taken { AreTaken (table_of table.now) heap.now taken.now }
     requires equal { IsTrue (is_taken (table_of table.now) taken.now visit) }
     ensures linked { OnOk result (AreLinked (table_of table.now) (length heap.now) visits.new) }
-    ensures tests { IfOk result (TestsVisit (table_of table.now) heap.now (listed visits.old) (listed visits.new) n) }
-    ensures steps { steps.new ≤ steps.old + rest_of (size_of heap.now visit.object) (seen_of taken.now visit.object) }
+    ensures tests { IfOk result
+        (TestsVisit (table_of table.now) heap.now (listed visits.old) (listed visits.new) n) }
+    ensures steps { steps.new
+        ≤ steps.old + rest_of (size_of heap.now visit.object) (seen_of taken.now visit.object) }
 {
     let seen = taken.seen_of(visit.object);
     take_visit(heap, table, rows, visits, taken, n, visit, seen, steps)
 }
 
-/// Tests what visit n needs, in a step for each need. A scan saw the needs at fields below a number.
+/// Tests what visit n needs, in a step for each need. A scan saw the needs at fields below a
+/// number.
 #[inline(always)]
 fn take_visit(
     heap: &Heap,
@@ -157,7 +166,8 @@ fn take_visit(
     requires taken { AreTaken (table_of table.now) heap.now taken.now }
     requires seen { AreSeen (table_of table.now) heap.now taken.now visit seen }
     ensures linked { OnOk result (AreLinked (table_of table.now) (length heap.now) visits.new) }
-    ensures tests { IfOk result (TestsVisit (table_of table.now) heap.now (listed visits.old) (listed visits.new) n) }
+    ensures tests { IfOk result
+        (TestsVisit (table_of table.now) heap.now (listed visits.old) (listed visits.new) n) }
     ensures steps { steps.new ≤ steps.old + rest_of (size_of heap.now visit.object) seen }
 {
     let Some(needs) = known_needs(heap, visit.object, table.shape(visit.ty)) else {
@@ -210,7 +220,8 @@ fn test_needs(
     requires taken { AreTaken (table_of table.now) heap.now taken.now }
     requires seen { AreSeen (table_of table.now) heap.now taken.now visit seen }
     ensures linked { OnOk result (AreLinked (table_of table.now) (length heap.now) visits.new) }
-    ensures tests { IfOk result (TestsVisit (table_of table.now) heap.now (listed visits.old) (listed visits.new) n) }
+    ensures tests { IfOk result
+        (TestsVisit (table_of table.now) heap.now (listed visits.old) (listed visits.new) n) }
     ensures steps { steps.new ≤ steps.old + rest_of (size_of heap.now visit.object) seen }
 {
     if needs.len() == 0 {
@@ -270,9 +281,12 @@ fn take_need(
     requires linked { AreLinked (table_of table.now) (length heap.now) visits.old }
     requires fit { FitAll (table_of table.now) heap.now (listed visits.old) }
     requires taken { AreTaken (table_of table.now) heap.now taken.now }
-    requires seen { need.step < seen → IsSeen (table_of table.now) heap.now taken.now need.object need.step (field_at heap.now need.object need.step) need.ty }
+    requires seen { need.step < seen
+        → IsSeen (table_of table.now) heap.now taken.now need.object need.step
+        (field_at heap.now need.object need.step) need.ty }
     ensures linked { OnOk result (AreLinked (table_of table.now) (length heap.now) visits.new) }
-    ensures tests { IfOk result (TestsNeed (table_of table.now) heap.now (listed visits.old) (listed visits.new) need) }
+    ensures tests { IfOk result
+        (TestsNeed (table_of table.now) heap.now (listed visits.old) (listed visits.new) need) }
     ensures steps { steps.new ≤ steps.old + 1 }
     ensures counted { need.step < seen → steps.new ≡ steps.old }
 {
@@ -283,8 +297,9 @@ fn take_need(
     test_need(heap, table, rows, visits, taken, need, word, false, next)
 }
 
-/// Tests a need, whose field has this word, and enters the object that is met. That is often object `next`; from then on
-/// the one after it may be the next. What a scan saw of the need is not tested again.
+/// Tests a need, whose field has this word, and enters the object that is met. That is often object
+/// `next`; from then on the one after it may be the next. What a scan saw of the need is not tested
+/// again.
 #[inline(always)]
 fn test_need(
     heap: &Heap,
@@ -309,9 +324,12 @@ fn test_need(
     requires linked { AreLinked (table_of table.now) (length heap.now) visits.old }
     requires fit { FitAll (table_of table.now) heap.now (listed visits.old) }
     requires taken { AreTaken (table_of table.now) heap.now taken.now }
-    requires seen { OnTrue seen (IsSeen (table_of table.now) heap.now taken.now need.object need.step (field_at heap.now need.object need.step) need.ty) }
+    requires seen { OnTrue seen
+        (IsSeen (table_of table.now) heap.now taken.now need.object need.step
+        (field_at heap.now need.object need.step) need.ty) }
     ensures linked { OnOk result (AreLinked (table_of table.now) (length heap.now) visits.new) }
-    ensures tests { IfOk result (TestsNeed (table_of table.now) heap.now (listed visits.old) (listed visits.new) need) }
+    ensures tests { IfOk result
+        (TestsNeed (table_of table.now) heap.now (listed visits.old) (listed visits.new) need) }
 {
     if word % 8 != 0 {
         return Ok(value_fits(heap, table, rows, taken, need, word, seen));
@@ -329,7 +347,8 @@ fn test_need(
     Ok(true)
 }
 
-/// Whether the value of a need's field, which is no object and has this word, fits: where a scan saw it, that is known.
+/// Whether the value of a need's field, which is no object and has this word, fits: where a scan
+/// saw it, that is known.
 #[inline(always)]
 fn value_fits(
     heap: &Heap,
@@ -347,8 +366,12 @@ fn value_fits(
     requires word { word ≡ word_of heap.now (field_at heap.now need.object need.step) }
     requires value { word % 8 ≢ 0 }
     requires node { need.ty < length table.now.nodes }
-    requires seen { OnTrue seen (IsSeen (table_of table.now) heap.now taken.now need.object need.step (field_at heap.now need.object need.step) need.ty) }
-    ensures { IsTrue result ↔ (table_shapes (table_of table.now)).fits heap.now (field_at heap.now need.object need.step) need.ty }
+    requires seen { OnTrue seen
+        (IsSeen (table_of table.now) heap.now taken.now need.object need.step
+        (field_at heap.now need.object need.step) need.ty) }
+    ensures { IsTrue result
+        ↔ (table_shapes (table_of table.now)).fits heap.now
+        (field_at heap.now need.object need.step) need.ty }
 {
     if seen {
         return !taken.is_unfit_field(need.object, need.step);
@@ -356,8 +379,8 @@ fn value_fits(
     fits_type(heap, table, rows, need.ty, word)
 }
 
-/// Whether an object, which has this word, fits a type at which it is met. Where a scan saw it at the type, that is known
-/// if the scan took the object, or found it unfit.
+/// Whether an object, which has this word, fits a type at which it is met. Where a scan saw it at
+/// the type, that is known if the scan took the object, or found it unfit.
 #[inline(always)]
 fn object_fits(
     heap: &Heap,
@@ -377,7 +400,8 @@ fn object_fits(
     requires node { ty < length table.now.nodes }
     requires taken { AreTaken (table_of table.now) heap.now taken.now }
     requires seen { OnTrue seen (IsSeenObject (table_of table.now) heap.now taken.now object ty) }
-    ensures { IsTrue result ↔ (table_shapes (table_of table.now)).fits heap.now (vals.Ref object) ty }
+    ensures { IsTrue result
+        ↔ (table_shapes (table_of table.now)).fits heap.now (vals.Ref object) ty }
 {
     if seen {
         if let Some(_) = taken.type_of(object as usize) {

@@ -18,8 +18,8 @@ pub struct Tiny {
     pub step: u16,
 }
 
-/// Visits, which contracts see as their list. Each takes 12 bytes while all are tiny; from the first one on that is not,
-/// 16 bytes or 32.
+/// Visits, which contracts see as their list. Each takes 12 bytes while all are tiny; from the
+/// first one on that is not, 16 bytes or 32.
 #[derive(Drop)]
 pub struct Trail {
     tinies: Vec<Tiny>,
@@ -98,7 +98,8 @@ impl Trail {
 #[inline(always)]
 fn put(tinies: &mut Vec<Tiny>, rest: &mut Rest, visit: Visit) -> Result<(), Memory>
     requires { vec_len tinies.old + length rest.old < 2 ^ 64 }
-    ensures put { OnOk result (trail_of tinies.new.items rest.new ≡ trail_of tinies.old.items rest.old ++ visit ∷ []) }
+    ensures put { OnOk result
+        (trail_of tinies.new.items rest.new ≡ trail_of tinies.old.items rest.old ++ visit ∷ []) }
     ensures few { vec_len tinies.new + length rest.new < 2 ^ 64 }
 {
     if rest.len() == 0 && is_tiny(visit) {
@@ -114,7 +115,8 @@ fn put(tinies: &mut Vec<Tiny>, rest: &mut Rest, visit: Visit) -> Result<(), Memo
     )
 }
 
-/// Puts a visit behind the tiny ones. It comes in parts, so that no tiny one is stored for this call.
+/// Puts a visit behind the tiny ones. It comes in parts, so that no tiny one is stored for this
+/// call.
 #[inline(never)]
 fn put_in_rest(
     tinies: &Vec<Tiny>,
@@ -124,8 +126,11 @@ fn put_in_rest(
     parent: usize,
     step: u64,
 ) -> Result<(), Memory>
-    ensures put { OnOk result (rest.new ≡ rest.old ++ record { object = object; ty = ty; parent = parent; step = step } ∷ []) }
-    ensures few { vec_len tinies.now + length rest.old < 2 ^ 64 → vec_len tinies.now + length rest.new < 2 ^ 64 }
+    ensures put { OnOk result
+        (rest.new
+        ≡ rest.old ++ record { object = object; ty = ty; parent = parent; step = step } ∷ []) }
+    ensures few { vec_len tinies.now + length rest.old < 2 ^ 64
+        → vec_len tinies.now + length rest.new < 2 ^ 64 }
 {
     if rest.len() >= 1 << 62 || tinies.len() >= 1 << 63 {
         return Err(Memory);

@@ -1,9 +1,9 @@
 //! The objects that a check has met, each at a type, in the order in which it meets them.
 
-ghost use Rattle.std.specs.Prelude.{ℕ, suc, ◌≡◌, ◌<◌, ◌^◌, ◌↔◌, ◌∷◌, ◌++◌, [], length, All, Some, slice_get, slice_index, IfOk, OnOk, IsTrue};
+ghost use Rattle.std.specs.Prelude.{suc, ◌≡◌, ◌<◌, ◌^◌, ◌↔◌, ◌∷◌, [], length, All, Some, slice_get, slice_index, IfOk, OnOk, IsTrue};
 ghost use Rattle.std.specs.Bool.{OnTrue};
 ghost use Rattle.om_type_table.specs.Made.{table_of};
-ghost use Rattle.om_check.specs.Visits.{listed, AreLinked, IsMet, IsAppended, Enters};
+ghost use Rattle.om_check.specs.Visits.{listed, AreLinked, IsAppended, Enters};
 
 use crate::trail::Trail;
 use om_model::Memory;
@@ -12,7 +12,8 @@ use om_type_table::TypeTable;
 use std::alloc::Global;
 use std::collections::BTreeSet;
 
-/// An object at a type: a field, by its number, of the visit at `parent` leads to it. The first visit is the root's.
+/// An object at a type: a field, by its number, of the visit at `parent` leads to it. The first
+/// visit is the root's.
 #[derive(Clone, Copy)]
 pub struct Visit {
     pub object: u64,
@@ -45,7 +46,9 @@ impl Visits {
         requires root { root < objects }
         requires rooted { 0 < length table.now.classes }
         ensures linked { IfOk result (AreLinked (table_of table.now) objects) }
-        ensures root { IfOk result (λ visits. listed visits ≡ record { object = root; ty = 0; parent = 0; step = 0 } ∷ []) }
+        ensures root { IfOk result
+            (λ visits. listed visits
+            ≡ record { object = root; ty = 0; parent = 0; step = 0 } ∷ []) }
     {
         let mut visits = Visits {
             all: Trail::new(alloc),
@@ -103,7 +106,8 @@ impl Visits {
         self.first.get(object as usize)
     }
 
-    /// Enters an object, of whose first visit this is noted, at a type, unless it was met at an equal one.
+    /// Enters an object, of whose first visit this is noted, at a type, unless it was met at an
+    /// equal one.
     #[inline(always)]
     pub fn enter(
         &mut self,
@@ -119,8 +123,11 @@ impl Visits {
         requires types { All (λ visit. visit.ty < length table.now.classes) (listed self.old) }
         requires linked { AreLinked (table_of table.now) (length self.old.first) self.old }
         requires noted { first ≡ slice_index self.old.first object }
-        ensures linked { OnOk result (AreLinked (table_of table.now) (length self.old.first) self.new) }
-        ensures enters { OnOk result (Enters (table_of table.now) (listed self.old) (listed self.new) object ty parent step) }
+        ensures linked { OnOk result
+            (AreLinked (table_of table.now) (length self.old.first) self.new) }
+        ensures enters { OnOk result
+            (Enters (table_of table.now) (listed self.old) (listed self.new) object ty parent
+            step) }
     {
         if first == 0 {
             let Some(cell) = (ty as u64).checked_add(1) else {
@@ -133,7 +140,8 @@ impl Visits {
         self.enter_again(table, object, ty, parent, step, first)
     }
 
-    /// Enters an object that was met before, first at the type one below the number, unless it was met at an equal one.
+    /// Enters an object that was met before, first at the type one below the number, unless it was
+    /// met at an equal one.
     #[inline(never)]
     fn enter_again(
         &mut self,
@@ -150,8 +158,11 @@ impl Visits {
         requires linked { AreLinked (table_of table.now) (length self.old.first) self.old }
         requires noted { first ≡ slice_index self.old.first object }
         requires met { 0 < first }
-        ensures linked { OnOk result (AreLinked (table_of table.now) (length self.old.first) self.new) }
-        ensures enters { OnOk result (Enters (table_of table.now) (listed self.old) (listed self.new) object ty parent step) }
+        ensures linked { OnOk result
+            (AreLinked (table_of table.now) (length self.old.first) self.new) }
+        ensures enters { OnOk result
+            (Enters (table_of table.now) (listed self.old) (listed self.new) object ty parent
+            step) }
     {
         let class = table.class(ty);
         if table.class(first as usize - 1) == class {
@@ -168,7 +179,8 @@ impl Visits {
     /// Puts a visit of an object at the end.
     #[inline(always)]
     fn append(&mut self, object: u64, ty: usize, parent: usize, step: u64) -> Result<(), Memory>
-        ensures all { OnOk result (IsAppended (listed self.old) (listed self.new) object ty parent step) }
+        ensures all { OnOk result
+            (IsAppended (listed self.old) (listed self.new) object ty parent step) }
         ensures first { self.new.first ≡ self.old.first }
         ensures later { self.new.later ≡ self.old.later }
     {

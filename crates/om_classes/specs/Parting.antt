@@ -37,23 +37,29 @@ SignAt signs d s = (v : Vec ℕ) × (slice_get signs d ≡ Some v) × (v.items �
 
 -- the sign at this place is that of the number
 abbrev pub SignedAt : List Form → (ℕ → ℕ) → List (List ℕ) → ℕ → ℕ → Type 0
-SignedAt forms class found i p = (s : List ℕ) × (slice_get found p ≡ Some s) × IsSignOf forms class i s
+SignedAt forms class found i p =
+    (s : List ℕ) × (slice_get found p ≡ Some s) × IsSignOf forms class i s
 
 -- each number has the place of its sign
 abbrev pub AreSigned : List Form → (ℕ → ℕ) → List (List ℕ) → List ℕ → List ℕ → Type 0
 AreSigned forms class found = AllZip (SignedAt forms class found)
 
--- Each place has a class of its sign. The kept place has the class that is parted, and the others have new ones.
-pub record AreNamed (found : List (List ℕ)) (parted kept : ℕ) (numbers : List ℕ) (old new : List (Vec ℕ)) : Type 0 where
+-- Each place has a class of its sign. The kept place has the class that is parted, and the others
+-- have new ones.
+pub record AreNamed (found : List (List ℕ)) (parted kept : ℕ) (numbers : List ℕ)
+    (old new : List (Vec ℕ)) : Type 0 where
   pub many : length numbers ≡ length found
   pub more : length old ≤ length new
-  pub signs : (p d : ℕ) (s : List ℕ) → slice_get found p ≡ Some s → slice_get numbers p ≡ Some d → SignAt new d s
-  pub fresh : (p d : ℕ) → slice_get numbers p ≡ Some d → ((d ≡ parted) ⊎ (length old ≤ d)) × (d < length new)
+  pub signs : (p d : ℕ) (s : List ℕ) → slice_get found p ≡ Some s → slice_get numbers p ≡ Some d
+      → SignAt new d s
+  pub fresh : (p d : ℕ) → slice_get numbers p ≡ Some d
+      → ((d ≡ parted) ⊎ (length old ≤ d)) × (d < length new)
   pub kept_is : (d : ℕ) → slice_get numbers kept ≡ Some d → d ≡ parted
   pub others : (d : ℕ) (s : List ℕ) → d ≢ parted → SignAt old d s → SignAt new d s
 
 -- the places before this one have classes
-pub record NamedSoFar (found : List (List ℕ)) (parted kept below : ℕ) (numbers : List ℕ) (old new : List (Vec ℕ))
+pub record NamedSoFar (found : List (List ℕ)) (parted kept below : ℕ) (numbers : List ℕ)
+    (old new : List (Vec ℕ))
     : Type 0 where
   pub many : length numbers ≡ below
   pub grown : Grows old new
@@ -73,11 +79,13 @@ pub record IsPlaced (looked places numbers : List ℕ) (below i d : ℕ) : Type 
   pub placed : slice_get places at ≡ Some place
   pub named : slice_get numbers place ≡ Some d
 
--- of the numbers before this one each has the class of its place, and the others have the class that they had
+-- of the numbers before this one each has the class of its place, and the others have the class
+-- that they had
 abbrev pub AreMoved : List ℕ → List ℕ → List ℕ → ℕ → List ℕ → List ℕ → Type 0
 AreMoved looked places numbers below old new =
     (i : ℕ) → IsPlaced looked places numbers below i (slice_index new i)
-    ⊎ (((k : ℕ) → k < below → slice_get looked k ≢ Some i) × (slice_index new i ≡ slice_index old i))
+    ⊎ (((k : ℕ) → k < below → slice_get looked k ≢ Some i)
+    × (slice_index new i ≡ slice_index old i))
 
 -- those that left a class are members of their classes
 abbrev pub HasMembers : List ℕ → ℕ → List ℕ → List (Vec ℕ) → Type 0
@@ -86,9 +94,11 @@ HasMembers class left looked members =
 
 -- ---- what is looked at
 
--- Numbers of the class with the places of their signs. Those of the class that are not looked at have the kept sign.
+-- Numbers of the class with the places of their signs. Those of the class that are not looked at
+-- have the kept sign.
 pub record IsLook (forms : List Form) (class : List ℕ) (wanted : ℕ) (look : Look) : Type 0 where
-  pub is : (i : ℕ) → Contains look.looked.items i → (i < length class) × (slice_index class i ≡ wanted)
+  pub is : (i : ℕ) → Contains look.looked.items i
+      → (i < length class) × (slice_index class i ≡ wanted)
   pub covers :
       (i : ℕ) → i < length class → slice_index class i ≡ wanted
       → Contains look.looked.items i ⊎ SignedAt forms (slice_index class) look.found i look.kept
@@ -99,7 +109,8 @@ pub record IsLook (forms : List Form) (class : List ℕ) (wanted : ℕ) (look : 
 -- ---- the whole
 
 -- A number waits, or has the sign of its class.
-pub record IsUnderWay (forms : List Form) (class : List ℕ) (signs members waiting : List (Vec ℕ)) (todo : List ℕ)
+pub record IsUnderWay (forms : List Form) (class : List ℕ) (signs members waiting : List (Vec ℕ))
+    (todo : List ℕ)
     : Type 0 where
   pub many : length class ≡ length forms
   pub within : (i : ℕ) → slice_index class i < length signs
@@ -108,11 +119,14 @@ pub record IsUnderWay (forms : List Form) (class : List ℕ) (signs members wait
   pub has : (i : ℕ) → i < length class → Has members (slice_index class i) i
   pub settled :
       (i : ℕ) → i < length class → Has waiting (slice_index class i) i
-      ⊎ ((s : List ℕ) × SignAt signs (slice_index class i) s × IsSignOf forms (slice_index class) i s)
+      ⊎ ((s : List ℕ) × SignAt signs (slice_index class i) s
+      × IsSignOf forms (slice_index class) i s)
   pub ready : IsReady waiting todo
 
--- The same, but for the numbers of one class: they are among those that waited, or have the sign of the class.
-pub record IsOpen (forms : List Form) (class : List ℕ) (signs members waiting : List (Vec ℕ)) (todo waited : List ℕ)
+-- The same, but for the numbers of one class: they are among those that waited, or have the sign of
+-- the class.
+pub record IsOpen (forms : List Form) (class : List ℕ) (signs members waiting : List (Vec ℕ))
+    (todo waited : List ℕ)
     (parted : ℕ) : Type 0 where
   pub many : length class ≡ length forms
   pub inside : parted < length signs
@@ -124,8 +138,10 @@ pub record IsOpen (forms : List Form) (class : List ℕ) (signs members waiting 
       (i : ℕ) → i < length class → slice_index class i ≡ parted → Contains waited i
       ⊎ ((s : List ℕ) × SignAt signs parted s × IsSignOf forms (slice_index class) i s)
   pub settled :
-      (i : ℕ) → i < length class → slice_index class i ≢ parted → Has waiting (slice_index class i) i
-      ⊎ ((s : List ℕ) × SignAt signs (slice_index class i) s × IsSignOf forms (slice_index class) i s)
+      (i : ℕ) → i < length class → slice_index class i ≢ parted
+      → Has waiting (slice_index class i) i
+      ⊎ ((s : List ℕ) × SignAt signs (slice_index class i) s
+      × IsSignOf forms (slice_index class) i s)
   pub ready : IsReady waiting todo
 
 -- no two equal numbers are parted

@@ -10,11 +10,13 @@ use Rattle.om_classes.specs.Form.{AreForms}
 use Rattle.om_classes.specs.Parting.{SignAt, IsSignOf, IsUnderWay, IsOpen}
 
 abbrev pub IsUnderWayAt : List Form → Parting → Type 0
-IsUnderWayAt forms p = IsUnderWay forms p.class.items p.signs.items p.members.items p.waiting.items p.todo.items
+IsUnderWayAt forms p =
+    IsUnderWay forms p.class.items p.signs.items p.members.items p.waiting.items p.todo.items
 
 abbrev pub IsOpenAt : List Form → Parting → List ℕ → ℕ → Type 0
 IsOpenAt forms p waited parted =
-    IsOpen forms p.class.items p.signs.items p.members.items p.waiting.items p.todo.items waited parted
+    IsOpen forms p.class.items p.signs.items p.members.items p.waiting.items p.todo.items waited
+    parted
 
 -- equal numbers have one class
 abbrev pub KeepsEqual : List Form → List ℕ → Type 0

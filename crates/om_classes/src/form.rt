@@ -18,7 +18,8 @@ pub struct TagForm {
     pub argument: Option<usize>,
 }
 
-/// A head whose names are numbers: what it says besides its parts and tags, its parts, and its tags.
+/// A head whose names are numbers: what it says besides its parts and tags, its parts, and its
+/// tags.
 #[derive(Drop)]
 pub struct Form {
     pub label: List<usize>,

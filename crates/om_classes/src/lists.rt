@@ -72,7 +72,8 @@ pub fn of_class(
 
 /// Whether a number has this class.
 fn has_class(class: &[usize], number: usize, wanted: usize) -> bool
-    ensures { IsTrue result ↔ ((number < length class.now) × (slice_index class.now number ≡ wanted)) }
+    ensures { IsTrue result
+        ↔ ((number < length class.now) × (slice_index class.now number ≡ wanted)) }
 {
     match class.get(number) {
         Some(found) => *found == wanted,

@@ -20,7 +20,8 @@ pub struct Look {
     pub kept: usize,
 }
 
-/// Looks at those that wait alone. Those that do not wait have the sign of the class, which is kept.
+/// Looks at those that wait alone. Those that do not wait have the sign of the class, which is
+/// kept.
 pub fn look_at_few(
     alloc: Global,
     forms: &[Form],
@@ -31,7 +32,10 @@ pub fn look_at_few(
 ) -> Result<Look, Memory>
     requires many { length class.now ≡ length forms.now }
     requires wanted { wanted < length signs.now }
-    requires settled { (i : ℕ) → i < length class.now → slice_index class.now i ≡ wanted → Contains waiting.now i ⊎ ((s : List ℕ) × SignAt signs.now wanted s × IsSignOf forms.now (slice_index class.now) i s) }
+    requires settled { (i : ℕ) → i < length class.now → slice_index class.now i ≡ wanted
+        → Contains waiting.now i
+        ⊎ ((s : List ℕ) × SignAt signs.now wanted s
+        × IsSignOf forms.now (slice_index class.now) i s) }
     ensures { IfOk result (IsLook forms.now class.now wanted) }
 {
     let looked = of_class(alloc, waiting, class, wanted)?;
@@ -58,7 +62,8 @@ pub fn look_at_all(
 ) -> Result<Look, Memory>
     requires many { length class.now ≡ length forms.now }
     requires wanted { wanted < length signs.now }
-    requires members { (i : ℕ) → i < length class.now → slice_index class.now i ≡ wanted → Contains members.now i }
+    requires members { (i : ℕ) → i < length class.now → slice_index class.now i ≡ wanted
+        → Contains members.now i }
     ensures { IfOk result (IsLook forms.now class.now wanted) }
 {
     let looked = of_class(alloc, members, class, wanted)?;

@@ -23,7 +23,8 @@ pub fn places_of(
 ) -> Result<Vec<usize>, Memory>
     requires within { All (λ i. i < length forms.now) looked.now }
     requires distinct { AreDistinct found.old }
-    ensures signed { IfOk result (λ places. AreSigned forms.now (slice_index class.now) found.new looked.now places.items) }
+    ensures signed { IfOk result
+        (λ places. AreSigned forms.now (slice_index class.now) found.new looked.now places.items) }
     ensures grown { OnOk result (Grows found.old found.new) }
     ensures distinct { OnOk result (AreDistinct found.new) }
 {
@@ -46,7 +47,8 @@ pub fn name_places(
 ) -> Result<Vec<usize>, Memory>
     requires parted { parted < vec_len signs.old }
     requires kept { kept < length found.now }
-    ensures { IfOk result (λ numbers. AreNamed found.now parted kept numbers.items signs.old.items signs.new.items) }
+    ensures { IfOk result
+        (λ numbers. AreNamed found.now parted kept numbers.items signs.old.items signs.new.items) }
 {
     let mut numbers = Vec::new(alloc);
     for place in 0..found.len() {
@@ -68,7 +70,11 @@ fn name_place(
     numbers: &mut Vec<usize>,
 ) -> Result<(), Memory>
     requires { place < length found.now }
-    ensures { OnOk result ((first : List (Items ℕ)) → NamedSoFar found.now parted kept place numbers.old.items first signs.old.items → NamedSoFar found.now parted kept (place + 1) numbers.new.items first signs.new.items) }
+    ensures { OnOk result
+        ((first : List (Items ℕ))
+        → NamedSoFar found.now parted kept place numbers.old.items first signs.old.items
+        → NamedSoFar found.now parted kept (place + 1) numbers.new.items first
+        signs.new.items) }
 {
     if place == kept {
         numbers.push(parted)?;
@@ -84,7 +90,8 @@ pub fn move_all(class: &mut Vec<usize>, looked: &[usize], places: &[usize], numb
     requires looked { All (λ i. i < length class.old.items) looked.now }
     requires places { All (λ p. p < length numbers.now) places.now }
     requires many { length places.now ≡ length looked.now }
-    ensures moved { AreMoved looked.now places.now numbers.now (length looked.now) class.old.items class.new.items }
+    ensures moved { AreMoved looked.now places.now numbers.now (length looked.now) class.old.items
+        class.new.items }
     ensures long { length class.new.items ≡ length class.old.items }
 {
     for at in 0..looked.len() {
@@ -118,7 +125,9 @@ fn add_member(
 ) -> Result<(), Memory>
     requires { (i : ℕ) → slice_index class.now i < vec_len members.old }
     ensures keeps { OnOk result (Keeps members.old.items members.new.items) }
-    ensures has { OnOk result (slice_index class.now number ≢ left → Has members.new.items (slice_index class.now number) number) }
+    ensures has { OnOk result
+        (slice_index class.now number ≢ left
+        → Has members.new.items (slice_index class.now number) number) }
 {
     let to = class_at(class, number);
     if to == left {

@@ -22,7 +22,8 @@ pub struct Parting {
     pub class: Vec<usize>,
     /// For each class the sign of those that do not wait.
     pub signs: Vec<Vec<usize>>,
-    /// For each class its members, among numbers that have left it since all members were looked at.
+    /// For each class its members, among numbers that have left it since all members were looked
+    /// at.
     pub members: Vec<Vec<usize>>,
     /// For each class the members that wait to be looked at.
     pub waiting: Vec<Vec<usize>>,
@@ -32,8 +33,8 @@ pub struct Parting {
     pub todo: Vec<usize>,
 }
 
-/// Parts a class by the signs of those that wait. It takes a step for each of them, or twice as many, and for each part
-/// of their heads.
+/// Parts a class by the signs of those that wait. It takes a step for each of them, or twice as
+/// many, and for each part of their heads.
 pub fn turn(
     alloc: Global,
     forms: &[Form],
@@ -42,9 +43,11 @@ pub fn turn(
     class: usize,
 ) -> Result<(), Memory>
     requires users { AreUsers forms.now users.now }
-    requires under_way { IsUnderWay forms.now parting.old.class.items parting.old.signs.items parting.old.members.items parting.old.waiting.items (parting.old.todo.items ++ class ∷ []) }
+    requires under_way { IsUnderWay forms.now parting.old.class.items parting.old.signs.items
+        parting.old.members.items parting.old.waiting.items (parting.old.todo.items ++ class ∷ []) }
     ensures under_way { OnOk result (IsUnderWayAt forms.now parting.new) }
-    ensures keeps { OnOk result (PartsNoEqual forms.now parting.old.class.items parting.new.class.items) }
+    ensures keeps { OnOk result
+        (PartsNoEqual forms.now parting.old.class.items parting.new.class.items) }
 {
     let waited = taken(alloc, &mut parting.waiting, class);
     shorten_members(alloc, parting, waited.as_slice(), class)?;
@@ -52,8 +55,9 @@ pub fn turn(
     Ok(())
 }
 
-/// Where all members of a class will be looked at, it forgets those that left it. So it takes a step for each that stays
-/// or left since the time before, and a class that shrinks by little is not walked whole again and again.
+/// Where all members of a class will be looked at, it forgets those that left it. So it takes a
+/// step for each that stays or left since the time before, and a class that shrinks by little is
+/// not walked whole again and again.
 fn shorten_members(
     alloc: Global,
     parting: &mut Parting,
@@ -65,7 +69,8 @@ fn shorten_members(
     ensures signs { parting.new.signs ≡ parting.old.signs }
     ensures waiting { parting.new.waiting ≡ parting.old.waiting }
     ensures todo { parting.new.todo ≡ parting.old.todo }
-    ensures members { OnOk result (KeepsMembers parting.old.class.items parting.old.members.items parting.new.members.items) }
+    ensures members { OnOk result
+        (KeepsMembers parting.old.class.items parting.old.members.items parting.new.members.items) }
 {
     if waits_few(parting, waited, parted) {
         return Ok(());
@@ -96,7 +101,8 @@ fn part(
     requires users { AreUsers forms.now users.now }
     requires open { IsOpenAt forms.now parting.old waited.now parted }
     ensures under_way { OnOk result (IsUnderWayAt forms.now parting.new) }
-    ensures keeps { OnOk result (PartsNoEqual forms.now parting.old.class.items parting.new.class.items) }
+    ensures keeps { OnOk result
+        (PartsNoEqual forms.now parting.old.class.items parting.new.class.items) }
 {
     let look = look_at(alloc, forms, parting, waited, parted)?;
     let looked = look.looked.as_slice();
@@ -120,8 +126,8 @@ fn part(
     Ok(())
 }
 
-/// Looks at those that waited alone, where they are fewer than half of the members, so that those that did not wait are
-/// the most.
+/// Looks at those that waited alone, where they are fewer than half of the members, so that those
+/// that did not wait are the most.
 fn look_at(
     alloc: Global,
     forms: &[Form],

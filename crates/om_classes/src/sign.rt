@@ -35,7 +35,8 @@ pub fn sign_of(alloc: Global, class: &[usize], form: &Form) -> Result<Vec<usize>
 
 /// Adds the class of each part.
 fn add_classes(class: &[usize], parts: &[usize], sign: &mut Vec<usize>) -> Result<(), Memory>
-    ensures { OnOk result (sign.new.items ≡ sign.old.items ++ map (slice_index class.now) parts.now) }
+    ensures { OnOk result
+        (sign.new.items ≡ sign.old.items ++ map (slice_index class.now) parts.now) }
 {
     for part in parts {
         sign.push(class_at(class, *part))?;

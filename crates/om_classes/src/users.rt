@@ -25,7 +25,9 @@ pub fn users_of(alloc: Global, forms: &[Form]) -> Result<Vec<Vec<usize>>, Memory
 /// Adds a user of each part of a form.
 fn add_user(users: &mut Vec<Vec<usize>>, form: &Form, user: usize) -> Result<(), Memory>
     ensures keeps { OnOk result (Keeps users.old.items users.new.items) }
-    ensures added { OnOk result ((k : ℕ) → Contains (parts_in form.now) k → k < length users.old.items → Has users.new.items k user) }
+    ensures added { OnOk result
+        ((k : ℕ) → Contains (parts_in form.now) k → k < length users.old.items
+        → Has users.new.items k user) }
 {
     for part in form.parts.as_slice() {
         use_part(users, *part, user)?;
@@ -43,7 +45,9 @@ fn use_argument(
     user: usize,
 ) -> Result<(), Memory>
     ensures keeps { OnOk result (Keeps users.old.items users.new.items) }
-    ensures added { OnOk result ((k : ℕ) → Contains (listed_if argument) k → k < length users.old.items → Has users.new.items k user) }
+    ensures added { OnOk result
+        ((k : ℕ) → Contains (listed_if argument) k → k < length users.old.items
+        → Has users.new.items k user) }
 {
     match argument {
         Some(part) => {

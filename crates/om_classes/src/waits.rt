@@ -21,7 +21,8 @@ pub fn mark_users(
     requires ready { IsReady waiting.old.items todo.old.items }
     ensures keeps { OnOk result (Keeps waiting.old.items waiting.new.items) }
     ensures ready { OnOk result (IsReady waiting.new.items todo.new.items) }
-    ensures marked { OnOk result (MarksUsers class.now users.now left looked.now waiting.new.items) }
+    ensures marked { OnOk result
+        (MarksUsers class.now users.now left looked.now waiting.new.items) }
 {
     for number in looked {
         mark_users_of(waiting, todo, class, users, *number, left)?;
@@ -42,7 +43,9 @@ fn mark_users_of(
     requires ready { IsReady waiting.old.items todo.old.items }
     ensures keeps { OnOk result (Keeps waiting.old.items waiting.new.items) }
     ensures ready { OnOk result (IsReady waiting.new.items todo.new.items) }
-    ensures marked { OnOk result (slice_index class.now number ≢ left → (u : ℕ) → Has users.now number u → Has waiting.new.items (slice_index class.now u) u) }
+    ensures marked { OnOk result
+        (slice_index class.now number ≢ left → (u : ℕ) → Has users.now number u
+        → Has waiting.new.items (slice_index class.now u) u) }
 {
     if class_at(class, number) == left {
         return Ok(());
@@ -65,7 +68,8 @@ fn mark_all(
     requires ready { IsReady waiting.old.items todo.old.items }
     ensures keeps { OnOk result (Keeps waiting.old.items waiting.new.items) }
     ensures ready { OnOk result (IsReady waiting.new.items todo.new.items) }
-    ensures marked { OnOk result ((u : ℕ) → Contains numbers.now u → Has waiting.new.items (slice_index class.now u) u) }
+    ensures marked { OnOk result
+        ((u : ℕ) → Contains numbers.now u → Has waiting.new.items (slice_index class.now u) u) }
 {
     for number in numbers {
         mark(waiting, todo, class_at(class, *number), *number)?;

@@ -9,7 +9,8 @@ use om_model::code::{CodeFault, CodeKind};
 #[tactic(auto, unfolding(om_format::specs::Code::kind_of))]
 pub fn code_kind(code: u8) -> Result<CodeKind, CodeFault>
     ensures kind { result ≡ kind_of code }
-    // The numbers that it carries have the bits that the code leaves them, and a width is from one byte to eight.
+    // The numbers that it carries have the bits that the code leaves them, and a width is from one
+    // byte to eight.
     ensures known { IfOk result IsKind }
 {
     match code {

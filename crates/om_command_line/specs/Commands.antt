@@ -18,7 +18,11 @@ edit_app = with_rule (with_rule (typed (codes "edit")) (wanted (codes "SCRIPT"))
 
 -- the commands that read values at a type
 abbrev pub typed_commands : App
-typed_commands = with_subcommand (with_subcommand (with_subcommand (with_subcommand program check_command) show_command) get_command) edit_command
+typed_commands =
+    with_subcommand
+    (with_subcommand (with_subcommand (with_subcommand program check_command) show_command)
+    get_command)
+    edit_command
 
 -- the command was made, and was added
 abbrev pub AddsMade : Command → Result Command AllocError → Command → Type 0

@@ -5,12 +5,17 @@ use Rattle.om_outcome.specs.CommandLine.{command_set, Request, Asks, ArePlain}
 
 -- words ask for one thing at most
 abbrev pub HasOneRequest : Type 0
-HasOneRequest = (words : List (List ℕ)) (request other : Request) → Asks words request → Asks words other → request ≡ other
+HasOneRequest =
+    (words : List (List ℕ)) (request other : Request) → Asks words request → Asks words other
+    → request ≡ other
 
 -- plain words ask for what they say
 abbrev pub PlainWordsAsk : Type 0
-PlainWordsAsk = (words : List (List ℕ)) (request : Request) → ArePlain words request → Asks words request
+PlainWordsAsk =
+    (words : List (List ℕ)) (request : Request) → ArePlain words request → Asks words request
 
 -- words in which clap finds no fault ask for something
 abbrev pub AcceptedWordsAsk : Type 0
-AcceptedWordsAsk = (words : List (List ℕ)) → fault_of command_set words ≡ [] → (request : Request) × Asks words request
+AcceptedWordsAsk =
+    (words : List (List ℕ)) → fault_of command_set words ≡ []
+    → (request : Request) × Asks words request

@@ -18,7 +18,8 @@ abbrev pub request_of : Request → outcome.Request
 request_of (requests.Check file type limit) = outcome.check file.now type.now limit
 request_of (requests.Show file type limit) = outcome.show file.now type.now limit
 request_of (requests.Get file type path limit) = outcome.get file.now type.now path.now limit
-request_of (requests.Edit file type script compat limit) = outcome.edit file.now type.now script.now compat limit
+request_of (requests.Edit file type script compat limit) =
+    outcome.edit file.now type.now script.now compat limit
 request_of (requests.Dump limit) = outcome.dump limit
 request_of (requests.Same limit) = outcome.compare limit
 
@@ -33,8 +34,10 @@ ReadsLimit arguments None = (limit : ℕ) → HasLimit arguments limit → ⊥
 
 -- FILE, TYPE and the limit are read, if they are there
 abbrev pub ReadsTyped : List Row → Option Typed → Type 0
-ReadsTyped arguments (Some typed) = HasTyped arguments typed.file.now typed.type_text.now typed.limit
-ReadsTyped arguments None = (file type : List ℕ) (limit : ℕ) → HasTyped arguments file type limit → ⊥
+ReadsTyped arguments (Some typed) =
+    HasTyped arguments typed.file.now typed.type_text.now typed.limit
+ReadsTyped arguments None =
+    (file type : List ℕ) (limit : ℕ) → HasTyped arguments file type limit → ⊥
 
 -- whether the flag is used is read, if that is told
 abbrev pub ReadsCompat : List Row → Option Bool → Type 0
@@ -44,14 +47,18 @@ ReadsCompat arguments None = (compat : Bool) → HasCompat arguments compat → 
 -- what a command with these arguments asks for is read, if it is anything
 abbrev pub ReadsBy : List ℕ → List Row → Option Request → Type 0
 ReadsBy command arguments (Some request) = outcome.AsksBy command arguments (request_of request)
-ReadsBy command arguments None = (request : outcome.Request) → outcome.AsksBy command arguments request → ⊥
+ReadsBy command arguments None =
+    (request : outcome.Request) → outcome.AsksBy command arguments request → ⊥
 
 -- the same of the command that was met
 abbrev pub ReadsMet : ArgMatches → Option Request → Type 0
 ReadsMet matches (Some request) =
-    (command : List ℕ) × (arguments : List Row) × (subcommand_rows_of matches ≡ Some (command, arguments)) × outcome.AsksBy command arguments (request_of request)
+    (command : List ℕ) × (arguments : List Row)
+    × (subcommand_rows_of matches ≡ Some (command, arguments))
+    × outcome.AsksBy command arguments (request_of request)
 ReadsMet matches None =
-    (command : List ℕ) (arguments : List Row) → subcommand_rows_of matches ≡ Some (command, arguments)
+    (command : List ℕ) (arguments : List Row)
+    → subcommand_rows_of matches ≡ Some (command, arguments)
     → (request : outcome.Request) → outcome.AsksBy command arguments request → ⊥
 
 -- the same, where it is a refusal that it asks for nothing

@@ -33,8 +33,8 @@ pub enum Request<'a> {
         path_text: &'a str,
         limit: u64,
     },
-    /// The bytes of the values of the input at the type, after the lines of a script that edit them; where `compat` asks for
-    /// that, a value that a reader on 32 bits cannot hold is refused.
+    /// The bytes of the values of the input at the type, after the lines of a script that edit
+    /// them; where `compat` asks for that, a value that a reader on 32 bits cannot hold is refused.
     Edit {
         file: &'a str,
         type_text: &'a str,

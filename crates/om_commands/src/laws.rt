@@ -38,7 +38,8 @@ pub fn commands_are_lawful<L: Speaks>()
     ensures { AreLawful (commands L.language) }
 {}
 
-/// So words, files and an input have one outcome, and the input holds one stop at most, which stays and comes last.
+/// So words, files and an input have one outcome, and the input holds one stop at most, which stays
+/// and comes last.
 pub fn commands_answer_once<L: Speaks>()
     requires { IsLawful L.language }
     ensures outcome { HaveOneOutcome (commands L.language) }

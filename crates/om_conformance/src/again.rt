@@ -13,7 +13,8 @@ use std::{fs, io};
 /// So many words a value may have.
 const LIMIT: u64 = 1 << 27;
 
-// Writes the value that the bytes begin with: how many bytes it took, or none where they begin with no whole value.
+// Writes the value that the bytes begin with: how many bytes it took, or none where they begin with
+// no whole value.
 fn write_first<K: Sink>(alloc: Global, bytes: &[u8], sink: &mut K) -> io::Result<Option<usize>> {
     let mut reader = Reader::new(alloc, LIMIT);
     let Ok(fed) = reader.feed(bytes) else {
@@ -43,8 +44,8 @@ fn write_values<K: Sink>(alloc: Global, bytes: &[u8], sink: &mut K) -> io::Resul
     Ok(bytes.len() - rest.len())
 }
 
-/// Prints what is written of the values of the stream `NAME`: the same bytes, up to a place where no whole value begins, or
-/// else the bytes.
+/// Prints what is written of the values of the stream `NAME`: the same bytes, up to a place where
+/// no whole value begins, or else the bytes.
 pub fn answer(rt: &HostRuntime, stream: &str) -> io::Result<()> {
     let alloc = rt.alloc();
     let name = format!(in alloc; "{stream}.stream")?;

@@ -1,9 +1,11 @@
-//! Answers that are compared with stored ones. The first word of a line of standard input says which table it belongs to:
-//! `stream NAME at TYPE` asks what `run` says of a stream of the folder that OCaml wrote (`make.sh`), `value NAME at TYPE` of
-//! one with declarations of its own, `prefixes LIMIT BYTES` what becomes of each prefix of some bytes, `again NAME` what is
-//! written of the values of such a stream, `decls TEXT` what becomes of declarations, `type TYPE over TEXT` of a type over
-//! them, `table TYPE over TEXT` the table of the types that it reaches, `steps BYTES at TYPE over TEXT` in how many steps a
-//! value is checked (`steps.rt`), and `run`, with what a run is given between tabs, how it ends (`runs.rt`).
+//! Answers that are compared with stored ones. The first word of a line of standard input says
+//! which table it belongs to: `stream NAME at TYPE` asks what `run` says of a stream of the folder
+//! that OCaml wrote (`make.sh`), `value NAME at TYPE` of one with declarations of its own,
+//! `prefixes LIMIT BYTES` what becomes of each prefix of some bytes, `again NAME` what is written
+//! of the values of such a stream, `decls TEXT` what becomes of declarations, `type TYPE over TEXT`
+//! of a type over them, `table TYPE over TEXT` the table of the types that it reaches, `steps BYTES
+//! at TYPE over TEXT` in how many steps a value is checked (`steps.rt`), and `run`, with what a run
+//! is given between tabs, how it ends (`runs.rt`).
 #![tactic(auto)]
 
 mod again;
@@ -33,7 +35,8 @@ fn put_answer(rt: &HostRuntime, kind: &str, rest: &str) -> io::Result<()> {
     }
 }
 
-// Prints what is answered to a question, and tells the number of texts that the plain program answers alike.
+// Prints what is answered to a question, and tells the number of texts that the plain program
+// answers alike.
 fn answer(rt: &HostRuntime, question: &str) -> io::Result<u64> {
     let Some((kind, rest)) = question.split_once(' ') else {
         return Err(ErrorKind::InvalidInput.into());

@@ -35,8 +35,8 @@ fn read_by_byte(alloc: Global, bytes: &[u8], limit: u64) -> Result<Option<Read>,
     Ok(None)
 }
 
-/// What the reader answers to the bytes in one piece; what it answers to them one by one, and what the plain program does,
-/// where they differ.
+/// What the reader answers to the bytes in one piece; what it answers to them one by one, and what
+/// the plain program does, where they differ.
 fn answer_text(rt: &HostRuntime, bytes: &[u8], limit: u64) -> io::Result<String> {
     let alloc = rt.alloc();
     let mut text = read_text(alloc, &read_whole(alloc, bytes, limit))?;
@@ -68,7 +68,8 @@ fn answer_prefixes(rt: &HostRuntime, bytes: &[u8], limit: u64) -> io::Result<()>
     Ok(())
 }
 
-/// Prints what becomes of the prefixes for `LIMIT BYTES`: a limit of words, and the bytes in hexadecimal digits.
+/// Prints what becomes of the prefixes for `LIMIT BYTES`: a limit of words, and the bytes in
+/// hexadecimal digits.
 pub fn answer(rt: &HostRuntime, question: &str) -> io::Result<()> {
     let Some((limit, digits)) = question.split_once(' ') else {
         return Err(ErrorKind::InvalidInput.into());

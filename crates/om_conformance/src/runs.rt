@@ -1,9 +1,11 @@
-//! What whole runs end with, in memory: the input comes in pieces of several sizes, and calls may fail. A question gives
-//! between tabs settings, the input in hexadecimal digits, the text of `f.ml` behind `=`, or `none`, and the words.
+//! What whole runs end with, in memory: the input comes in pieces of several sizes, and calls may
+//! fail. A question gives between tabs settings, the input in hexadecimal digits, the text of
+//! `f.ml` behind `=`, or `none`, and the words.
 //!
-//! A setting is `fetch=N`, `read=N`, `take=N` or `put=N` where the call N of this kind fails, counted from 0; `out=N` or
-//! `err=N` where so many bytes fit there; `piece=N` where a take gives at most so many bytes; and `script=` with hexadecimal
-//! digits where there is a file `script` of these bytes.
+//! A setting is `fetch=N`, `read=N`, `take=N` or `put=N` where the call N of this kind fails,
+//! counted from 0; `out=N` or `err=N` where so many bytes fit there; `piece=N` where a take gives
+//! at most so many bytes; and `script=` with hexadecimal digits where there is a file `script` of
+//! these bytes.
 
 use om_edge::{MemFiles, MemSink, MemSource};
 use om_outcome::status::Status;
@@ -203,8 +205,8 @@ fn text_of(
     Ok(text)
 }
 
-/// What a run puts on out, what on err, its status, and how many calls failed, with the input in pieces of at most so many
-/// bytes.
+/// What a run puts on out, what on err, its status, and how many calls failed, with the input in
+/// pieces of at most so many bytes.
 fn ending(alloc: Global, given: &Given, piece: usize) -> io::Result<Vec<u8>> {
     let mut outside = outside_of(alloc, given, piece)?;
     let status = run_outside(alloc, given.words.as_slice(), &mut outside);
@@ -239,7 +241,8 @@ fn given_by(alloc: Global, question: &str) -> io::Result<Given> {
     })
 }
 
-/// Prints the ending of a run. Where no size of pieces is set, it prints too where the run ends otherwise with smaller ones.
+/// Prints the ending of a run. Where no size of pieces is set, it prints too where the run ends
+/// otherwise with smaller ones.
 pub fn answer(rt: &HostRuntime, question: &str) -> io::Result<()> {
     let alloc = rt.alloc();
     let given = given_by(alloc, question)?;

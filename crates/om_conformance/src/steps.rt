@@ -1,11 +1,13 @@
-//! Whether a value has a type, and in how many steps that is found: one for the root, one for each object at each class of
-//! types at which it is met, and one for each of its fields there, up to the first that does not fit. Of a value that has the
-//! type, its text is told too, and how many objects at types justify it.
+//! Whether a value has a type, and in how many steps that is found: one for the root, one for each
+//! object at each class of types at which it is met, and one for each of its fields there, up to
+//! the first that does not fit. Of a value that has the type, its text is told too, and how many
+//! objects at types justify it.
 //!
-//! A question gives the bytes of a value in hexadecimal digits, a type and declarations, and then, each behind a tab, lines of a
-//! script. Each line edits the value, also after one that was refused, and then the value is checked anew.
+//! A question gives the bytes of a value in hexadecimal digits, a type and declarations, and then,
+//! each behind a tab, lines of a script. Each line edits the value, also after one that was
+//! refused, and then the value is checked anew.
 
-ghost use Rattle.std.specs.Prelude.{◌≡◌, ◌<◌, length, All, IfOk};
+ghost use Rattle.std.specs.Prelude.{◌<◌, length, IfOk};
 ghost use Rattle.om_model.specs.Graph.{IsValue};
 ghost use Rattle.om_types.specs.Table.{table_shapes};
 ghost use Rattle.om_types.specs.Typing.{HasType};
@@ -133,7 +135,8 @@ fn put_told(rt: &HostRuntime, value: &Value, table: &TypeTable, verdict: &Verdic
     }
 }
 
-// Prints where `is_fault` denies a fault that is told, or says that a value that has the type does not fit at its root.
+// Prints where `is_fault` denies a fault that is told, or says that a value that has the type does
+// not fit at its root.
 fn put_doubt(
     rt: &HostRuntime,
     value: &Value,
@@ -228,7 +231,8 @@ fn answer_edits(
     Ok(())
 }
 
-// Prints what a check says of the value of these digits, and what becomes of it by lines, if there are some.
+// Prints what a check says of the value of these digits, and what becomes of it by lines, if there
+// are some.
 fn answer_over(
     rt: &HostRuntime,
     digits: &str,
@@ -245,7 +249,8 @@ fn answer_over(
     }
 }
 
-/// Prints what a check says of the value of `BYTES at TYPE over TEXT`, and what becomes of it by the lines behind that.
+/// Prints what a check says of the value of `BYTES at TYPE over TEXT`, and what becomes of it by
+/// the lines behind that.
 pub fn answer(rt: &HostRuntime, question: &str) -> io::Result<()> {
     let (first, lines) = match question.split_once('\t') {
         Some((first, lines)) => (first, Some(lines)),

@@ -7,8 +7,8 @@ use std::fs::File;
 use std::io;
 use std::io::ErrorKind;
 
-/// Checks the values of a stream at a type over the declarations of a file, by the adapters of the program itself. What
-/// belongs on out goes there, and what belongs on err into `told`.
+/// Checks the values of a stream at a type over the declarations of a file, by the adapters of the
+/// program itself. What belongs on out goes there, and what belongs on err into `told`.
 fn check(
     rt: &HostRuntime,
     file: &str,
@@ -37,7 +37,8 @@ fn check(
     ))
 }
 
-/// Prints what `run` puts on out for a stream at a type over the declarations of a file, what on err, and its status.
+/// Prints what `run` puts on out for a stream at a type over the declarations of a file, what on
+/// err, and its status.
 pub fn put_answer(rt: &HostRuntime, file: &str, stream: &str, ty: &str) -> io::Result<()> {
     let mut told = Vec::new(rt.alloc());
     let status = check(rt, file, stream, ty, &mut told)?;

@@ -1,5 +1,5 @@
-//! The table of the types that a type reaches: a line for each, with its text, its shape over numbers, the first type that is
-//! equal to it, and its names.
+//! The table of the types that a type reaches: a line for each, with its text, its shape over
+//! numbers, the first type that is equal to it, and its names.
 
 ghost use Rattle.std.specs.Prelude.{◌<◌, length, All, IsTrue, IfSome};
 ghost use Rattle.om_types.specs.Accepted.{AreWellFormed, AreSound, IsSoundType};
@@ -105,8 +105,8 @@ fn put_line(out: &mut Vec<u8>, word: &[u8], text: &[u8]) -> Result<(), Memory> {
     Ok(())
 }
 
-// What the calls over types as they are written say: what the type expands to, whether its values lie flat, and which
-// declarations are records that do.
+// What the calls over types as they are written say: what the type expands to, whether its values
+// lie flat, and which declarations are records that do.
 fn written_lines(alloc: Global, decls: &[Decl], t: &Ty) -> Result<Vec<u8>, Memory>
     requires { AreSound decls.now }
 {

@@ -1,4 +1,5 @@
-//! What is answered to texts of declarations, and of types over them, by the proved reader and by the plain program.
+//! What is answered to texts of declarations, and of types over them, by the proved reader and by
+//! the plain program.
 
 ghost use Rattle.om_types.specs.Accepted.{AreWellFormed};
 
@@ -85,7 +86,8 @@ fn compare(
     put_plain(rt, agrees, refusal)
 }
 
-/// Prints what becomes of a text of declarations. The answer is the number of texts that the plain program answers alike.
+/// Prints what becomes of a text of declarations. The answer is the number of texts that the plain
+/// program answers alike.
 pub fn answer(rt: &HostRuntime, text: &str) -> io::Result<u64> {
     let plain = plain_decls(rt.alloc(), text.as_bytes());
     let (same, refusal, fault) = match (read_decls(rt.alloc(), text.as_bytes()), plain) {
@@ -124,7 +126,8 @@ fn answer_over<'a>(
     compare(rt, same, refusal, fault.as_ref())
 }
 
-/// Prints what becomes of `TYPE over TEXT`, a type and declarations. The answer is as for declarations.
+/// Prints what becomes of `TYPE over TEXT`, a type and declarations. The answer is as for
+/// declarations.
 pub fn answer_type(rt: &HostRuntime, question: &str) -> io::Result<u64> {
     let Some((ty, text)) = question.split_once(" over ") else {
         return Err(ErrorKind::InvalidInput.into());

@@ -1,10 +1,12 @@
-//! What `run` says of values that small programs wrote (`values/`), at types over the declarations of these programs.
+//! What `run` says of values that small programs wrote (`values/`), at types over the declarations
+//! of these programs.
 
 use crate::streams;
 use std::io;
 use std::io::ErrorKind;
 
-/// Prints what `run` says of `NAME at TYPE`: of the stream `NAME.stream`, over the declarations in `NAME.types`.
+/// Prints what `run` says of `NAME at TYPE`: of the stream `NAME.stream`, over the declarations in
+/// `NAME.types`.
 pub fn answer(rt: &HostRuntime, question: &str) -> io::Result<()> {
     let Some((name, ty)) = question.split_once(" at ") else {
         return Err(ErrorKind::InvalidInput.into());

@@ -5,7 +5,8 @@ ghost use Rattle.om_customs.specs.Data.{number_step, native_step, IsStep};
 
 use om_model::bytes::signed;
 
-/// What the first bytes of a `Nativeint`'s data say: that more of them are missing, or which number it is.
+/// What the first bytes of a `Nativeint`'s data say: that more of them are missing, or which number
+/// it is.
 #[derive(Clone, Copy)]
 pub enum NativeStep {
     /// How many bytes are missing to the kind byte's end, or after it to the number's.
@@ -16,7 +17,8 @@ pub enum NativeStep {
     BadNative(u8),
 }
 
-/// The step that the first bytes of a `Nativeint`'s data decide (`ints.c`). Bytes may follow the number.
+/// The step that the first bytes of a `Nativeint`'s data decide (`ints.c`). Bytes may follow the
+/// number.
 pub fn read_native(bytes: &[u8]) -> NativeStep
     ensures step { result ≡ native_step bytes.now }
     ensures says { IsStep bytes.now result }

@@ -7,7 +7,8 @@ use om_model::code::Custom;
 
 const CODE: u8 = 0x19;
 
-/// The bytes of a custom from its code on, and how many they are. A `Nativeint` has four bytes where it fits them.
+/// The bytes of a custom from its code on, and how many they are. A `Nativeint` has four bytes
+/// where it fits them.
 #[tactic(auto, unfolding(om_format::specs::Canonical::custom_spelling))]
 pub fn spell(c: Custom) -> ([u8; 13], usize)
     ensures spelled { take result.1 result.0 ≡ custom_spelling c }

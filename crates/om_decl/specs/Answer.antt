@@ -1,5 +1,5 @@
--- What a text of declarations, or of a type, is: a tree of its grammar that breaks no rule of scope,
--- or a fault. Lexer, grammar and rules are asked one after the other.
+-- What a text of declarations, or of a type, is: a tree of its grammar that breaks no rule of
+-- scope, or a fault. Lexer, grammar and rules are asked one after the other.
 use Rattle.std.specs.Prelude.{ℕ, ◌≡◌, List, length, Result, Ok, Err, false}
 use Rattle.om_lex.specs.declared.lexeme.Lexeme.{Lexeme}
 use Rattle.om_lex.specs.declared.lexeme.LexFault.{LexFault}

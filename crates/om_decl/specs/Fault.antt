@@ -46,7 +46,8 @@ broken_at rules.TooManyConstructors place = faults.TooManyConstructors place
 abbrev pub head_at : List Lexeme → ℕ → HeadBreak → DeclFault
 head_at lexemes end (heads.NotVariant k) = faults.NotVariant (byte_of lexemes end k)
 head_at lexemes end (heads.TagClash k) = faults.TagClash (byte_of lexemes end k)
-head_at lexemes end (heads.HashClash k one other) = faults.HashClash (byte_of lexemes end k) one other
+head_at lexemes end (heads.HashClash k one other) =
+    faults.HashClash (byte_of lexemes end k) one other
 head_at lexemes end (heads.FloatInGroup k) = faults.FloatInGroup (byte_of lexemes end k)
 
 -- ---- what a fault tells
@@ -76,7 +77,8 @@ IsRefused Is fault = MatchOption (told fault) (Unit {0}) Is
 
 module _ {Tree : Type 0} (spelled : Tree → Kinds) (ends : Tree → List ℕ)
     (Hashes : Tree → ℕ → List ℕ → List ℕ → Type 0) (text : List ℕ) where
-  -- a tree of the text has two tags of these names in one bracket, with one hash, the later at this byte
+  -- a tree of the text has two tags of these names in one bracket, with one hash, the later at this
+  -- byte
   pub record NameTags (place : ℕ) (one other : List ℕ) : Type 0 where
     pub lexemes : List Lexeme
     pub tree : Tree

@@ -15,7 +15,8 @@ use Rattle.om_scope.specs.First.{KeepsBefore}
 use Rattle.om_decl.specs.declared.read.Named.{Named}
 use Rattle.om_decl.specs.declared.read.NamedType.{NamedType}
 
--- the text is a file that keeps the rules on names, and these are its lexemes, marks and declarations
+-- the text is a file that keeps the rules on names, and these are its lexemes, marks and
+-- declarations
 pub record IsNamed (text : List ℕ) (named : Named) : Type 0 where
   pub tree : FileTree
   pub lexed : Lexes text named.lexemes.items

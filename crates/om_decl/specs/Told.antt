@@ -13,17 +13,20 @@ use Rattle.om_sites.specs.InText.{in_texpr}
 
 abbrev pub FilesAreWellFormed : Type 0
 FilesAreWellFormed =
-    (lexemes : Kinds) (tree : FileTree) → IsText file_kinds file_ends lexemes tree → KeepsAll (BreaksInFile (file_places tree))
+    (lexemes : Kinds) (tree : FileTree) → IsText file_kinds file_ends lexemes tree
+    → KeepsAll (BreaksInFile (file_places tree))
     → AreWellFormed (declarations_of tree)
 
 -- the rules on names, which are the first seven, make declarations sound
 abbrev pub NamesMakeSound : Type 0
 NamesMakeSound =
-    (lexemes : Kinds) (tree : FileTree) → IsText file_kinds file_ends lexemes tree → KeepsBefore (BreaksInFile (file_places tree)) 7
+    (lexemes : Kinds) (tree : FileTree) → IsText file_kinds file_ends lexemes tree
+    → KeepsBefore (BreaksInFile (file_places tree)) 7
     → AreSound (declarations_of tree)
 
 -- of a type over such declarations
 abbrev pub TypesAreSound : Type 0
 TypesAreSound =
-    (decls : List Decl) (tree : Texpr) → AreWellFormed decls → KeepsAll (BreaksInType decls (in_texpr 0 false tree))
+    (decls : List Decl) (tree : Texpr) → AreWellFormed decls
+    → KeepsAll (BreaksInType decls (in_texpr 0 false tree))
     → IsSoundType decls (type_of_texpr tree)

@@ -21,7 +21,8 @@ pub enum DeclFault {
     Syntax(usize),
     /// The 201st open bracket, or the end of a type of depth above 200.
     TooDeep(usize),
-    /// A type name, constructor, field, parameter or tag that stands earlier too; or a predeclared type's name.
+    /// A type name, constructor, field, parameter or tag that stands earlier too; or a predeclared
+    /// type's name.
     Twice(usize),
     /// A name that is neither predeclared nor declared in this group or an earlier one.
     UnknownName(usize),
@@ -41,7 +42,8 @@ pub enum DeclFault {
     TagClash(usize),
     /// An item whose tag has the hash of another tag of the bracket. The two names.
     HashClash(usize, List<u8>, List<u8>),
-    /// The declared name of a record all of whose fields are `float`, one through an abbreviation of its group.
+    /// The declared name of a record all of whose fields are `float`, one through an abbreviation
+    /// of its group.
     FloatInGroup(usize),
     /// Out of memory.
     Memory,

@@ -37,14 +37,17 @@ fn first_of_file(
     first_head_break(alloc, decls, names, brackets)
 }
 
-/// The first of these rules that declarations with these marks break, with the least lexeme at which they do.
+/// The first of these rules that declarations with these marks break, with the least lexeme at
+/// which they do.
 pub fn first_file_head(
     alloc: Global,
     marks: &[usize],
     decls: &[Decl],
 ) -> Result<Option<HeadBreak>, Memory>
     requires { AreSound decls.now }
-    ensures { IfOk result (IsFirstOfHeads (BreaksInFile (counted_file marks.now decls.now)) (FileHashes (counted_file marks.now decls.now))) }
+    ensures { IfOk result
+        (IsFirstOfHeads (BreaksInFile (counted_file marks.now decls.now))
+        (FileHashes (counted_file marks.now decls.now))) }
 {
     let FileSites {
         names,
@@ -66,12 +69,14 @@ fn first_of_type(
     requires marks { occurrences ≡ in_type _marks.now false _ty.now }
     requires brackets { AreBrackets brackets.now occurrences }
     requires sound { AreSound decls.now }
-    ensures { IfOk result (IsFirstOfHeads (BreaksInType decls.now occurrences) (TypeHashes decls.now occurrences)) }
+    ensures { IfOk result
+        (IsFirstOfHeads (BreaksInType decls.now occurrences) (TypeHashes decls.now occurrences)) }
 {
     first_head_break_in_type(alloc, decls, brackets)
 }
 
-/// The first of these rules that a type with these marks breaks, with the least lexeme at which it does.
+/// The first of these rules that a type with these marks breaks, with the least lexeme at which it
+/// does.
 pub fn first_type_head(
     alloc: Global,
     marks: &[usize],
@@ -79,7 +84,9 @@ pub fn first_type_head(
     decls: &[Decl],
 ) -> Result<Option<HeadBreak>, Memory>
     requires { AreSound decls.now }
-    ensures { IfOk result (IsFirstOfHeads (BreaksInType decls.now (in_type marks.now false ty.now)) (TypeHashes decls.now (in_type marks.now false ty.now))) }
+    ensures { IfOk result
+        (IsFirstOfHeads (BreaksInType decls.now (in_type marks.now false ty.now))
+        (TypeHashes decls.now (in_type marks.now false ty.now))) }
 {
     let TypeFound { brackets, .. } = type_site(alloc, marks, ty)?;
     first_of_type(alloc, marks, ty, decls, brackets.as_slice())

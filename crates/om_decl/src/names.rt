@@ -31,7 +31,8 @@ fn first_of_sites(
     first_break(alloc, decls, names, sites)
 }
 
-/// The first rule on names that declarations with these marks break, with the least lexeme at which they do.
+/// The first rule on names that declarations with these marks break, with the least lexeme at which
+/// they do.
 pub fn first_name_break(
     alloc: Global,
     marks: &[usize],
@@ -59,14 +60,16 @@ fn first_of_type_site(
     first_break_in_type(alloc, decls, site)
 }
 
-/// The first rule on names that a type with these marks breaks, with the least lexeme at which it does.
+/// The first rule on names that a type with these marks breaks, with the least lexeme at which it
+/// does.
 pub fn first_type_break(
     alloc: Global,
     marks: &[usize],
     ty: &Ty,
     decls: &[Decl],
 ) -> Result<Option<Broken>, Memory>
-    ensures { IfOk result (IsFirstBefore (BreaksInType decls.now (in_type marks.now false ty.now)) 7) }
+    ensures { IfOk result
+        (IsFirstBefore (BreaksInType decls.now (in_type marks.now false ty.now)) 7) }
 {
     let TypeFound { site, .. } = type_site(alloc, marks, ty)?;
     first_of_type_site(alloc, marks, ty, decls, &site)

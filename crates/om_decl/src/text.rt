@@ -38,8 +38,12 @@ fn lexer_text(alloc: Global, fault: LexFault) -> Result<List<u8>, Memory>
 /// The text of a fault: its name, and ` at ` with the place. Want of memory has none.
 pub fn fault_text(alloc: Global, fault: &DeclFault) -> Result<List<u8>, Memory>
     requires { fault.now ≢ faults.Memory }
-    ensures files { IfOk result (λ text. (answer : Answer FileTree) → told fault.now ≡ Some answer → text ≡ answer_text answer) }
-    ensures types { IfOk result (λ text. (answer : Answer Texpr) → told fault.now ≡ Some answer → text ≡ answer_text answer) }
+    ensures files { IfOk result
+        (λ text. (answer : Answer FileTree) → told fault.now ≡ Some answer
+        → text ≡ answer_text answer) }
+    ensures types { IfOk result
+        (λ text. (answer : Answer Texpr) → told fault.now ≡ Some answer
+        → text ≡ answer_text answer) }
 {
     match fault {
         DeclFault::Lex(fault) => lexer_text(alloc, *fault),

@@ -1,5 +1,5 @@
-//! What stands in a text is told by its tree, so a text that breaks no rule of scope is well-formed. The functions do
-//! nothing: what each ensures is the law.
+//! What stands in a text is told by its tree, so a text that breaks no rule of scope is
+//! well-formed. The functions do nothing: what each ensures is the law.
 
 ghost use Rattle.om_decl.specs.Told.{FilesAreWellFormed, NamesMakeSound, TypesAreSound};
 

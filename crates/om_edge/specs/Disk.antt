@@ -1,5 +1,5 @@
--- What is known of the file system: whether a file is held open, the bytes that it has left where it tells them, the
--- counts of faults, and the name at the last fetch that failed.
+-- What is known of the file system: whether a file is held open, the bytes that it has left where
+-- it tells them, the counts of faults, and the name at the last fetch that failed.
 use Rattle.std.specs.Prelude.{ℕ, Bool, List, Option}
 
 pub record DiskValue : Type 0 where

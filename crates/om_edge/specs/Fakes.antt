@@ -5,7 +5,8 @@ use Rattle.om_edge.specs.Faults.{last_count, count_after}
 use Rattle.om_edge.specs.Files.{File}
 use Rattle.om_edge.specs.State.{ByteState, FilesState}
 
--- the calls of one kind: the numbers of those that fail, the number of the next, and how many failed
+-- the calls of one kind: the numbers of those that fail, the number of the next, and how many
+-- failed
 pub record Plan : Type 0 where
   pub failing : List ℕ
   pub calls : ℕ
@@ -39,7 +40,8 @@ pub record SinkValue : Type 0 where
   pub room : ℕ
   pub puts : Plan
 
--- files in memory: the map, the bytes left of the file fetched last, and the name at the last fetch that failed
+-- files in memory: the map, the bytes left of the file fetched last, and the name at the last fetch
+-- that failed
 pub record FilesValue : Type 0 where
   pub files : List File
   pub left : List ℕ
@@ -77,4 +79,5 @@ left_at files (Some place) offset = drop offset (slice_index_or files place ([],
 
 -- the place is one of the files', and the offset is within its bytes
 abbrev pub IsWithin : List File → Option ℕ → ℕ → Type 0
-IsWithin files place offset = IfSome place (λ k. (k < length files) × (offset ≤ length (slice_index_or files k ([], [])).1))
+IsWithin files place offset =
+    IfSome place (λ k. (k < length files) × (offset ≤ length (slice_index_or files k ([], [])).1))

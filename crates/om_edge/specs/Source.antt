@@ -3,7 +3,8 @@ use Rattle.std.specs.Prelude.{◌≡◌, ◌↔◌, ℕ, ◌<◌, ◌≤◌, Lis
 use Rattle.om_edge.specs.Faults.{HasCause}
 use Rattle.om_edge.specs.State.{ByteState}
 
--- The next n bytes have gone into the front of the buffer. A buffer with room gets none exactly where none is left.
+-- The next n bytes have gone into the front of the buffer. A buffer with room gets none exactly
+-- where none is left.
 pub record Moves (bytes : List ℕ) (n : ℕ) (buffer : List ℕ) (after : Option (List ℕ)) : Type 0 where
   pub enough : n ≤ length bytes
   pub front : take n buffer ≡ take n bytes
@@ -12,7 +13,8 @@ pub record Moves (bytes : List ℕ) (n : ℕ) (buffer : List ℕ) (after : Optio
 
 -- The answer n is within the buffer, and where the bytes are told, the next n of them have moved.
 -- A failed call moves none. The count of faults tells which call failed.
-pub record TakesFront {E : Type 0} (before after : ByteState) (result : Result ℕ E) (buffer : List ℕ) : Type 0 where
+pub record TakesFront {E : Type 0} (before after : ByteState) (result : Result ℕ E)
+    (buffer : List ℕ) : Type 0 where
   pub within : IfOk result (λ n. n ≤ length buffer)
   pub moved : IfOk result (λ n. IfSome before.bytes (λ bytes. Moves bytes n buffer after.bytes))
   pub failed : OnErr result (after.bytes ≡ before.bytes)

@@ -48,13 +48,14 @@ impl From<AllocError> for OpenError {
 pub trait Opener {
     ghost use Rattle.om_edge.specs.Files.{contents_of, Opens, has_failed};
 
-    /// The map from names to bytes and the bytes left of the file fetched last, where they are told; how often a fetch
-    /// failed, the name at the last of these, and how often a take failed.
+    /// The map from names to bytes and the bytes left of the file fetched last, where they are
+    /// told; how often a fetch failed, the name at the last of these, and how often a take failed.
     ghost state: { Self → FilesState };
 
     /// Takes the next bytes of the file fetched last, as a source does.
     fn take(&mut self, buf: &mut [u8]) -> Result<usize, Failed>
-        ensures takes { TakesFront (as_source (state self.old)) (as_source (state self.new)) result buf.new }
+        ensures takes { TakesFront (as_source (state self.old)) (as_source (state self.new))
+            result buf.new }
         ensures frame { state self.new ≡ record (state self.old) {
           left = (state self.new).left;
           read_faults = (state self.new).read_faults;
@@ -62,13 +63,18 @@ pub trait Opener {
 
     /// Leaves the bytes of the named file to be taken. After a refusal none are left.
     fn fetch(&mut self, name: &str) -> Result<(), OpenError>
-        ensures opened { OnOk result (IfSome (state self.old).map (λ all. Opens all name.now (state self.new).left)) }
-        ensures refused { OnErr result (IsSome (state self.old).map → (state self.new).left ≡ Some []) }
+        ensures opened { OnOk result
+            (IfSome (state self.old).map (λ all. Opens all name.now (state self.new).left)) }
+        ensures refused { OnErr result
+            (IsSome (state self.old).map → (state self.new).left ≡ Some []) }
         ensures missing { IsErrOf result OpenError.Missing →
             IsSomeAnd (state self.old).map (λ all. contents_of all name.now ≡ None) }
-        ensures cause { HasCause (state self.old).open_faults (state self.new).open_faults (has_failed result) }
-        ensures named { OnTrue (has_failed result) ((state self.new).last_open_fault ≡ Some name.now) }
-        ensures last { OnFalse (has_failed result) ((state self.new).last_open_fault ≡ (state self.old).last_open_fault) }
+        ensures cause { HasCause (state self.old).open_faults (state self.new).open_faults
+            (has_failed result) }
+        ensures named { OnTrue (has_failed result)
+            ((state self.new).last_open_fault ≡ Some name.now) }
+        ensures last { OnFalse (has_failed result)
+            ((state self.new).last_open_fault ≡ (state self.old).last_open_fault) }
         ensures told { is_some (state self.new).left ≡ is_some (state self.old).left }
         ensures frame { state self.new ≡ record (state self.old) {
           left = (state self.new).left;

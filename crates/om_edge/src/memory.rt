@@ -57,7 +57,8 @@ impl MemSource {
     /// Gives at most `piece` bytes in a call. The calls of these numbers fail, counted from 0.
     pub fn new(bytes: Vec<u8>, piece: usize, failing: Vec<u64>) -> MemSource
         requires { 1 ≤ piece }
-        ensures { result ≡ record { left = bytes.items; piece = piece; takes = plan_of failing.items } }
+        ensures { result
+            ≡ record { left = bytes.items; piece = piece; takes = plan_of failing.items } }
     {
         MemSource {
             bytes,
@@ -85,7 +86,8 @@ impl Source for MemSource {
 
         // Which calls fail, and how many bytes the others give.
         ensures fails { IsErr result ↔ FailsNext self.old.takes }
-        ensures amount { IfOk result (λ n. n ≡ min (min self.old.piece (length self.old.left)) (length buf.new)) }
+        ensures amount { IfOk result
+            (λ n. n ≡ min (min self.old.piece (length self.old.left)) (length buf.new)) }
         ensures counted { self.new.takes ≡ after_call self.old.takes (is_err result) }
         ensures piece { self.new.piece ≡ self.old.piece }
     {
@@ -130,7 +132,8 @@ impl MemSink {
     /// Holds at most `room` bytes, for which it takes the memory at once. A call that finds it full
     /// fails, and so do the calls of these numbers, counted from 0.
     pub fn new(alloc: Global, room: usize, failing: Vec<u64>) -> Result<MemSink, Memory>
-        ensures { IfOk result (λ sink. sink ≡ record { written = []; room = room; puts = plan_of failing.items }) }
+        ensures { IfOk result
+            (λ sink. sink ≡ record { written = []; room = room; puts = plan_of failing.items }) }
     {
         Ok(MemSink {
             bytes: Vec::with_capacity(alloc, room)?,
@@ -161,11 +164,14 @@ impl Sink for MemSink {
     ghost state = { sink_state };
 
     fn put(&mut self, piece: &[u8]) -> Result<usize, Failed>
-        ensures appends { AppendsFront (sink_state self.old) (sink_state self.new) result piece.now }
+        ensures appends { AppendsFront (sink_state self.old) (sink_state self.new) result
+            piece.now }
 
         // Which calls fail, and how many bytes the others take.
-        ensures fails { IsErr result ↔ (FailsNext self.old.puts ⊎ (length self.old.written ≡ self.old.room)) }
-        ensures amount { IfOk result (λ n. n ≡ min (self.old.room - length self.old.written) (length piece.now)) }
+        ensures fails { IsErr result
+            ↔ (FailsNext self.old.puts ⊎ (length self.old.written ≡ self.old.room)) }
+        ensures amount { IfOk result
+            (λ n. n ≡ min (self.old.room - length self.old.written) (length piece.now)) }
         ensures counted { self.new.puts ≡ after_call self.old.puts (is_err result) }
         ensures room { self.new.room ≡ self.old.room }
     {
@@ -298,8 +304,10 @@ impl Opener for MemFiles {
     ghost state = { files_state };
 
     fn take(&mut self, buf: &mut [u8]) -> Result<usize, Failed>
-        ensures takes { TakesFront (as_source (files_state self.old)) (as_source (files_state self.new)) result buf.new }
-        ensures frame { self.new ≡ record self.old { left = self.new.left; reads = self.new.reads } }
+        ensures takes { TakesFront (as_source (files_state self.old))
+            (as_source (files_state self.new)) result buf.new }
+        ensures frame { self.new
+            ≡ record self.old { left = self.new.left; reads = self.new.reads } }
 
         // Which calls fail, and how many bytes the others give.
         ensures fails { IsErr result ↔ FailsNext self.old.reads }
@@ -322,10 +330,13 @@ impl Opener for MemFiles {
     fn fetch(&mut self, name: &str) -> Result<(), OpenError>
         ensures opened { OnOk result (Opens self.old.files name.now (Some self.new.left)) }
         ensures refused { OnErr result (self.new.left ≡ []) }
-        ensures missing { IsErrOf result OpenError.Missing → contents_of self.old.files name.now ≡ None }
-        ensures cause { HasCause self.old.fetches.faults self.new.fetches.faults (has_failed result) }
+        ensures missing { IsErrOf result OpenError.Missing
+            → contents_of self.old.files name.now ≡ None }
+        ensures cause { HasCause self.old.fetches.faults self.new.fetches.faults
+            (has_failed result) }
         ensures named { OnTrue (has_failed result) (self.new.last_open_fault ≡ Some name.now) }
-        ensures last { OnFalse (has_failed result) (self.new.last_open_fault ≡ self.old.last_open_fault) }
+        ensures last { OnFalse (has_failed result)
+            (self.new.last_open_fault ≡ self.old.last_open_fault) }
         ensures frame { self.new ≡ record self.old {
           left = self.new.left;
           fetches = self.new.fetches;

@@ -1,4 +1,5 @@
-//! Readers, writers and the file system. Each tells its faults, and as a source or a sink nothing of its bytes.
+//! Readers, writers and the file system. Each tells its faults, and as a source or a sink nothing
+//! of its bytes.
 
 ghost use Rattle.std.specs.Prelude.{◌≡◌, None, Some, option_copied, is_ok, is_err, IsErrOf, false};
 ghost use Rattle.std.specs.Bool.{OnTrue, OnFalse};
@@ -47,10 +48,13 @@ impl<R: Read> Source for StdSource<R> {
     ghost state = { λ source. untold (read_faults_of source) };
 
     fn take(&mut self, buf: &mut [u8]) -> Result<usize, Failed>
-        ensures takes { TakesFront (untold (read_faults_of self.old)) (untold (read_faults_of self.new)) result buf.new }
-        ensures counted { read_faults_of self.new ≡ count_after (read_faults_of self.old) (is_err result) }
+        ensures takes { TakesFront (untold (read_faults_of self.old))
+            (untold (read_faults_of self.new)) result buf.new }
+        ensures counted { read_faults_of self.new
+            ≡ count_after (read_faults_of self.old) (is_err result) }
         // It gives what the reader gives, where the reader tells it.
-        ensures bytes { ReadConsumes (R.remaining (reader_of self.old)) (R.remaining (reader_of self.new)) result buf.new }
+        ensures bytes { ReadConsumes (R.remaining (reader_of self.old))
+            (R.remaining (reader_of self.new)) result buf.new }
     {
         match self.reader.read(buf) {
             Ok(n) => Ok(n),
@@ -96,10 +100,13 @@ impl<W: Write> Sink for StdSink<W> {
     ghost state = { λ sink. untold (write_faults_of sink) };
 
     fn put(&mut self, piece: &[u8]) -> Result<usize, Failed>
-        ensures appends { AppendsFront (untold (write_faults_of self.old)) (untold (write_faults_of self.new)) result piece.now }
-        ensures counted { write_faults_of self.new ≡ count_after (write_faults_of self.old) (is_err result) }
+        ensures appends { AppendsFront (untold (write_faults_of self.old))
+            (untold (write_faults_of self.new)) result piece.now }
+        ensures counted { write_faults_of self.new
+            ≡ count_after (write_faults_of self.old) (is_err result) }
         // The writer takes what the answer says, where it tells what it holds.
-        ensures bytes { WriteAppends (W.contents (writer_of self.old)) (W.contents (writer_of self.new)) result piece.now }
+        ensures bytes { WriteAppends (W.contents (writer_of self.old))
+            (W.contents (writer_of self.new)) result piece.now }
     {
         match self.writer.write(piece) {
             Ok(n) if n > 0 || piece.is_empty() => Ok(n),
@@ -141,7 +148,14 @@ impl<R: Files> Model for DiskFiles<R> {
 impl<R: Files> DiskFiles<R> {
     /// No call has failed.
     pub fn new(alloc: Global, rt: R) -> DiskFiles<R>
-        ensures { result ≡ record { is_open = false; left = None; open_faults = 0; last_open_fault = None; read_faults = 0 } }
+        ensures { result
+            ≡ record {
+              is_open = false;
+              left = None;
+              open_faults = 0;
+              last_open_fault = None;
+              read_faults = 0;
+            } }
     {
         DiskFiles {
             alloc,
@@ -190,7 +204,8 @@ impl<R: Files> Opener for DiskFiles<R> {
     } };
 
     fn take(&mut self, buf: &mut [u8]) -> Result<usize, Failed>
-        ensures takes { TakesFront (untold self.old.read_faults) (untold self.new.read_faults) result buf.new }
+        ensures takes { TakesFront (untold self.old.read_faults) (untold self.new.read_faults)
+            result buf.new }
         ensures counted { self.new ≡ record {
           is_open = self.old.is_open;
           left = self.new.left;
@@ -219,9 +234,11 @@ impl<R: Files> Opener for DiskFiles<R> {
     fn fetch(&mut self, name: &str) -> Result<(), OpenError>
         ensures missing { IsErrOf result OpenError.Missing → ⊥ }
         ensures cause { HasCause self.old.open_faults self.new.open_faults (has_failed result) }
-        ensures counted { self.new.open_faults ≡ count_after self.old.open_faults (has_failed result) }
+        ensures counted { self.new.open_faults
+            ≡ count_after self.old.open_faults (has_failed result) }
         ensures named { OnTrue (has_failed result) (self.new.last_open_fault ≡ Some name.now) }
-        ensures last { OnFalse (has_failed result) (self.new.last_open_fault ≡ self.old.last_open_fault) }
+        ensures last { OnFalse (has_failed result)
+            (self.new.last_open_fault ≡ self.old.last_open_fault) }
         ensures reads { self.new.read_faults ≡ self.old.read_faults }
         ensures opened { self.new.is_open ≡ is_ok result }
     {

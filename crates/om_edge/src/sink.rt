@@ -55,7 +55,8 @@ pub trait Sink {
 
 /// Puts all the bytes, in as many calls as the sink asks for. For no bytes there is no call.
 pub fn put_all<K: Sink>(sink: &mut K, bytes: &[u8]) -> Result<(), Failed>
-    ensures puts { MatchResult result (λ _. Puts (change (K.state sink.old) (K.state sink.new)) bytes.now)
+    ensures puts { MatchResult result
+        (λ _. Puts (change (K.state sink.old) (K.state sink.new)) bytes.now)
         (λ _. PutsPart (change (K.state sink.old) (K.state sink.new)) bytes.now) }
     ensures nothing { bytes.now ≡ [] → IsOk result }
     ensures untouched { bytes.now ≡ [] → sink.new ≡ sink.old }

@@ -21,7 +21,7 @@ use Rattle.om_type_table.specs.declared.table.TypeTable.{TypeTable}
 use Rattle.om_type_table.specs.Made.{types_of, table_of, IsTypeTable}
 use Rattle.om_fault.specs.Text.{text_or_none, text_at}
 use Rattle.om_literal_grammar.specs.Literal.{Literal}
-use Rattle.om_literal.specs.Answers.{shape_in, names_in, byte_of, in_bytes}
+use Rattle.om_literal.specs.LiteralAnswers.{shape_in, names_in, byte_of, in_bytes}
 use Rattle.om_literal.specs.Reading.{Reading, Refusal, misfit_at, int_range_at, label_at, literal_read}
 use Rattle.om_path.specs.declared.edits.Edit.{Edit}
 use Rattle.om_path.specs.declared.edits.Edit.TheVariants as edits
@@ -30,7 +30,7 @@ use Rattle.om_edit.specs.declared.spots.Place.{Place}
 use Rattle.om_edit.specs.declared.refusal.Side.TheVariants.{Left}
 use Rattle.om_edit.specs.Places.{spot_after, or_step, place_from, place_at}
 use Rattle.om_edit.specs.Reasons.{Reason, no_field, not_block, no_literal, misread, ill_typed, reason_text}
-use Rattle.om_edit.specs.Answers.{Answer, put_at, linked, copied, object_of, unshared, IsSetAt, IsSet, IsMade}
+use Rattle.om_edit.specs.EditedValues.{Answer, put_at, linked, copied, object_of, unshared, IsSetAt, IsSet, IsMade}
 use Rattle.om_edit.specs.Tables.{SameClass, IsAnswerIn}
 use Rattle.om_edit.specs.Laws.{IsDeclaredAnswer, SayTheSame}
 use Rattle.om_edit.proofs.MadeLemmas.{Follows, parted, joined}

@@ -17,7 +17,7 @@ use Rattle.om_types.proofs.FaultLemmas.{fault_excludes_type}
 use Rattle.om_type_table.specs.Made.{table_of, IsLawful}
 use Rattle.om_literal.specs.declared.fault.LiteralFault.{LiteralFault}
 use Rattle.om_literal.specs.declared.fault.LiteralFault.TheVariants as faults
-use Rattle.om_literal.specs.Answers.{shape_in, names_in, in_bytes, fault_of, IsMisread, IsAnswered}
+use Rattle.om_literal.specs.LiteralAnswers.{shape_in, names_in, in_bytes, fault_of, IsMisread, IsAnswered}
 use Rattle.om_literal.specs.Reading.{Refusal, misfit_at, int_range_at, label_at}
 use Rattle.om_path.specs.declared.edits.Edit.{Edit}
 use Rattle.om_path.specs.declared.edits.Edit.TheVariants as edits
@@ -28,7 +28,7 @@ use Rattle.om_edit.specs.declared.refusal.EditRefusal.{EditRefusal}
 use Rattle.om_edit.specs.declared.refusal.EditRefusal.TheVariants as refusals
 use Rattle.om_edit.specs.Places.{place_at, on_side}
 use Rattle.om_edit.specs.Reasons.{Reason, no_field, not_block, no_literal, misread, literal_reason, reason_of}
-use Rattle.om_edit.specs.Answers.{Answer, put_at, linked, copied, object_of, unshared, IsSet, IsMade}
+use Rattle.om_edit.specs.EditedValues.{Answer, put_at, linked, copied, object_of, unshared, IsSet, IsMade}
 use Rattle.om_edit.specs.Tables.{SameClass, IsAnswerIn, IsApplied, IsKept, IsRefusedFor, IsReason, Gives}
 use Rattle.om_edit.proofs.MadeLemmas.{answer_once}
 

@@ -16,14 +16,14 @@ use Rattle.om_grammar.proofs.LawLemmas.{one_tree, text_or_syntax, no_syntax}
 use Rattle.om_literal_grammar.specs.Literal.{Literal, literal_kinds}
 use Rattle.om_literal_grammar.specs.Nodes.{kinds_of}
 use Rattle.om_literal_grammar.proofs.LiteralTable.{literal_table}
-use Rattle.om_literal.specs.Answers.{byte_of, in_bytes}
+use Rattle.om_literal.specs.LiteralAnswers.{byte_of, in_bytes}
 use Rattle.om_literal.specs.Reading.{Reading, Refusal, reading, literal_read}
 use Rattle.om_path.specs.declared.edits.Edit.{Edit}
 use Rattle.om_path.specs.declared.edits.Edit.TheVariants as edits
 use Rattle.om_path.specs.declared.edits.ScriptLine.{ScriptLine}
 use Rattle.om_edit.specs.declared.spots.Place.{Place}
 use Rattle.om_edit.specs.Reasons.{Reason, no_field, not_block, no_literal, misread, ill_typed}
-use Rattle.om_edit.specs.Answers.{Answer, Edited, put_at, linked, copied, object_of, unshared, IsSetAt, IsSet, IsMade, IsAnswer, IsContinued, AreEdited, place_in}
+use Rattle.om_edit.specs.EditedValues.{Answer, Edited, put_at, linked, copied, object_of, unshared, IsSetAt, IsSet, IsMade, IsAnswer, IsContinued, AreEdited, place_in}
 
 -- ---- set
 

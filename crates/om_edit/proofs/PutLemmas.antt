@@ -12,7 +12,7 @@ use Rattle.om_heap.specs.Heap.{object_at, fields_of, with_field, set_field}
 use Rattle.om_edit.specs.declared.spots.Spot.{Spot}
 use Rattle.om_edit.specs.declared.spots.Spot.TheVariants as spots
 use Rattle.om_edit.specs.Places.{IsThere, StandsAt}
-use Rattle.om_edit.specs.Answers.{put_at}
+use Rattle.om_edit.specs.EditedValues.{put_at}
 
 abbrev none_there : Obj
 none_there = objects.I32 (pos 0)
@@ -58,10 +58,6 @@ field_there graph o i w at =
     let inside = slice_get_within (values_of held.0) i w held.2 in
     subst (λ all. i < length all) (parts_same held.0 ∙ sym all) inside
 
-pub stands_there : (graph : List Obj) (root : Val) (spot : Spot) (w : Val) → StandsAt graph root spot w → IsThere graph spot
-stands_there graph root spots.Root w at = tt
-stands_there graph root (spots.Field o i) w at = field_there graph o i w at
-
 -- what stood there is put back
 pub put_back : (spot : Spot) (v w : Val) (graph : List Obj) (root : Val) → StandsAt graph root spot w
     → put_at spot w (put_at spot v graph root).0 (put_at spot v graph root).1 ≡ (graph, root)
@@ -74,21 +70,6 @@ pub restored : (spot : Spot) (v w : Val) (graph : List Obj) (root : Val) (one : 
     → ◌≡◌ {A = List Obj × Val} (two, two_root) (put_at spot w one one_root) → ◌≡◌ {A = List Obj × Val} (two, two_root) (graph, root)
 restored spot v w graph root one one_root two two_root stands first second =
     second ∙ ap (λ (m : List Obj × Val). put_at spot w m.0 m.1) first ∙ put_back spot v w graph root stands
-
--- a field is there after one was set
-fields_kept : (object : Obj) (i : ℕ) (v : Val) → length (fields_of (with_field object i v)) ≡ length (fields_of object)
-fields_kept (objects.Block tag values) i v = length-set values i v
-fields_kept object i v = refl
-
-pub there_still : (graph : List Obj) (root : Val) (spot : Spot) (v w : Val) → StandsAt graph root spot w → IsThere (put_at spot v graph root).0 spot
-there_still graph root spots.Root v w at = tt
-there_still graph root (spots.Field o i) v w at =
-    let held = held_in graph o i w at in
-    let new : Obj = with_field (object_at graph o) i v in
-    let inside = slice_get_within graph o held.0 held.1 in
-    subst (λ n. i < n)
-    (sym (ap (λ object. length (fields_of object)) (get_or-set_same graph o new none_there inside) ∙ fields_kept (object_at graph o) i v))
-    (field_there graph o i w at)
 
 pub as_many : (spot : Spot) (v : Val) (graph : List Obj) (root : Val) → length (put_at spot v graph root).0 ≡ length graph
 as_many spots.Root v graph root = refl

@@ -15,17 +15,19 @@ use Rattle.om_type_table.specs.Made.{table_of, IsLawful, IsTypeTable}
 use Rattle.om_fault.specs.Text.{text_at}
 use Rattle.om_path.specs.declared.edits.Edit.{Edit}
 use Rattle.om_path.specs.declared.edits.ScriptLine.{ScriptLine}
-use Rattle.om_edit.specs.Answers.{Answer, Edited, IsAnswer, AreEdited}
+use Rattle.om_edit.specs.EditedValues.{Answer, Edited, IsAnswer, AreEdited}
 use Rattle.om_edit.specs.Reasons.{reason_text}
 use Rattle.om_edit.specs.Tables.{IsAnswerIn}
 
 -- what is answered to an edit of a value at a declared type
 abbrev pub IsDeclaredAnswer : List Decl → Ty → Edit → List Obj → Val → Answer Ty → Type 0
-IsDeclaredAnswer decls t edit graph root answer = IsAnswer (shape decls) (names_of decls) (Equal decls) t edit graph root answer
+IsDeclaredAnswer decls t edit graph root answer =
+    IsAnswer (shape decls) (names_of decls) (Equal decls) t edit graph root answer
 
 -- what lines, one after the other, make of a value of a declared type
 abbrev pub AreDeclaredEdits : List Decl → Ty → List ScriptLine → List Obj → Val → Edited Ty → Type 0
-AreDeclaredEdits decls t lines graph root all = AreEdited (shape decls) (names_of decls) (Equal decls) t lines graph root all
+AreDeclaredEdits decls t lines graph root all =
+    AreEdited (shape decls) (names_of decls) (Equal decls) t lines graph root all
 
 -- there are no two
 abbrev pub IsAtMostOne : {A : Type 0} → (A → Type 0) → Type 0
@@ -34,16 +36,22 @@ IsAtMostOne {A} Is = (answer other : A) → Is answer → Is other → answer �
 -- an edit has one answer at most, by the numbers of a table and by types, and so have lines
 pub record EditsHaveOneAnswer : Type 0 where
   pub by_numbers : (table : TypeTable) → IsLawful (table_of table)
-      → (edit : Edit) (graph : List Obj) (root : Val) → IsAtMostOne (IsAnswerIn table edit graph root)
-  pub by_types : (decls : List Decl) (t : Ty) (types : List Ty) → AreWellFormed decls → IsSoundType decls t → IsReached decls t types
-      → (edit : Edit) (graph : List Obj) (root : Val) → IsAtMostOne (IsDeclaredAnswer decls t edit graph root)
-  pub in_order : (decls : List Decl) (t : Ty) (types : List Ty) → AreWellFormed decls → IsSoundType decls t → IsReached decls t types
-      → (lines : List ScriptLine) (graph : List Obj) (root : Val) → IsAtMostOne (AreDeclaredEdits decls t lines graph root)
+      → (edit : Edit) (graph : List Obj) (root : Val)
+      → IsAtMostOne (IsAnswerIn table edit graph root)
+  pub by_types : (decls : List Decl) (t : Ty) (types : List Ty) → AreWellFormed decls
+      → IsSoundType decls t → IsReached decls t types
+      → (edit : Edit) (graph : List Obj) (root : Val)
+      → IsAtMostOne (IsDeclaredAnswer decls t edit graph root)
+  pub in_order : (decls : List Decl) (t : Ty) (types : List Ty) → AreWellFormed decls
+      → IsSoundType decls t → IsReached decls t types
+      → (lines : List ScriptLine) (graph : List Obj) (root : Val)
+      → IsAtMostOne (AreDeclaredEdits decls t lines graph root)
 
 -- the same value, or reasons of one text
 abbrev pub SayTheSame : TypeTable → Answer ℕ → Answer Ty → Type 0
 SayTheSame table (Ok edited) (Ok other) = edited ≡ other
-SayTheSame table (Err reason) (Err other) = reason_text (text_at table) reason ≡ reason_text type_text other
+SayTheSame table (Err reason) (Err other) =
+    reason_text (text_at table) reason ≡ reason_text type_text other
 SayTheSame table (Ok edited) (Err other) = ⊥
 SayTheSame table (Err reason) (Ok other) = ⊥
 
@@ -51,5 +59,7 @@ SayTheSame table (Err reason) (Ok other) = ⊥
 abbrev pub TablesEditAlike : Type 0
 TablesEditAlike =
     (decls : List Decl) (t : Ty) (table : TypeTable) → IsTypeTable decls t table
-    → (edit : Edit) (graph : List Obj) (root : Val) (answer : Answer ℕ) → IsAnswerIn table edit graph root answer
-    → (other : Answer Ty) × IsDeclaredAnswer decls t edit graph root other × SayTheSame table answer other
+    → (edit : Edit) (graph : List Obj) (root : Val) (answer : Answer ℕ)
+    → IsAnswerIn table edit graph root answer
+    → (other : Answer Ty) × IsDeclaredAnswer decls t edit graph root other
+    × SayTheSame table answer other

@@ -1,6 +1,6 @@
 pub mod Reasons
 pub mod Places
-pub mod Answers
+pub mod EditedValues
 pub mod Tables
 pub mod Laws
-pub mod Rows
+pub mod WorkedEdits

@@ -22,20 +22,25 @@ spot_after v i = spots.Root
 -- the next place, if the step is prescribed
 abbrev pub next_place : {T : Type 0} → Shapes T → List Obj → Place T → ℕ → Option (Place T)
 next_place shapes graph p i =
-    option_map (λ next. record { spot = spot_after p.value i; value = next.0; ty = next.1 }) (step shapes graph p.value p.ty i)
+    option_map (λ next. record { spot = spot_after p.value i; value = next.0; ty = next.1 })
+    (step shapes graph p.value p.ty i)
 
 abbrev pub or_step : {A B : Type 0} → ℕ → (A → Result B ℕ) → Option A → Result B ℕ
 or_step n go None = Err n
 or_step n go (Some next) = go next
 
--- the place at the end of a path, or the number of the first step that is not prescribed, counted from n
-abbrev pub place_from : {T : Type 0} → Shapes T → List Obj → ℕ → Place T → List ℕ → Result (Place T) ℕ
+-- the place at the end of a path, or the number of the first step that is not prescribed, counted
+-- from n
+abbrev pub place_from : {T : Type 0} → Shapes T → List Obj → ℕ → Place T → List ℕ
+    → Result (Place T) ℕ
 place_from shapes graph n p [] = Ok p
-place_from shapes graph n p (i ∷ path) = or_step n (λ next. place_from shapes graph (suc n) next path) (next_place shapes graph p i)
+place_from shapes graph n p (i ∷ path) =
+    or_step n (λ next. place_from shapes graph (suc n) next path) (next_place shapes graph p i)
 
 -- the same from the root on
 abbrev pub place_at : {T : Type 0} → Shapes T → List Obj → Val → T → List ℕ → Result (Place T) ℕ
-place_at shapes graph v t path = place_from shapes graph 0 (record { spot = spots.Root; value = v; ty = t }) path
+place_at shapes graph v t path =
+    place_from shapes graph 0 (record { spot = spots.Root; value = v; ty = t }) path
 
 -- ---- what the code says of a place
 

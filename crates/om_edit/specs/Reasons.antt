@@ -35,10 +35,12 @@ fault_places (Clash first second) = path_text first ++ codes " and " ++ path_tex
 
 module _ {T : Type 0} (type_text : T → List ℕ) where
   abbrev pub reason_text : Reason T → List ℕ
-  reason_text (no_field side step) = codes "NoField(" ++ side_text side ++ codes ", " ++ decimal step ++ codes ")"
+  reason_text (no_field side step) =
+      codes "NoField(" ++ side_text side ++ codes ", " ++ decimal step ++ codes ")"
   reason_text not_block = codes "NotBlock"
   reason_text (no_literal place) = codes "Literal Syntax at " ++ decimal place
-  reason_text (misread (misfit_at place t)) = codes "Literal Misfit at " ++ decimal place ++ codes ": expected " ++ type_text t
+  reason_text (misread (misfit_at place t)) =
+      codes "Literal Misfit at " ++ decimal place ++ codes ": expected " ++ type_text t
   reason_text (misread (int_range_at place)) = codes "Literal IntRange at " ++ decimal place
   reason_text (misread (label_at place)) = codes "Literal Label at " ++ decimal place
   reason_text (ill_typed fault) = codes "IllTyped at " ++ fault_places fault

@@ -1,6 +1,6 @@
 //! One edit of a value.
 
-ghost use Rattle.std.specs.Prelude.{ℕ, ◌<◌, ◌≤◌, ◌≡◌, length, take, Result, List, IfOk};
+ghost use Rattle.std.specs.Prelude.{ℕ, ◌<◌, ◌≤◌, ◌≡◌, length, take, Result, List};
 ghost use Rattle.om_model.specs.declared.value.Val.{Val};
 ghost use Rattle.om_model.specs.declared.value.Obj.{Obj};
 ghost use Rattle.om_model.specs.Graph.{IsValue, IsGraph};
@@ -9,7 +9,7 @@ ghost use Rattle.om_path.specs.declared.edits.Edit.TheVariants as edits;
 ghost use Rattle.om_edit.specs.Reasons.{Reason};
 ghost use Rattle.om_edit.specs.Places.{StandsAt, IsThere};
 ghost use Rattle.om_edit.specs.Tables.{IsAnswerIn, IsApplied, IsKept, Gives};
-ghost use Rattle.om_edit.specs.Answers.{put_at};
+ghost use Rattle.om_edit.specs.EditedValues.{put_at};
 
 use crate::refusal::{EditRefusal, Side};
 use crate::spots::{Place, Spot, find_place};
@@ -38,7 +38,9 @@ pub fn apply(
     // the edited value, or the refusal and the value as it was
     ensures answer { IsApplied table.now edit.now heap.old root.old heap.new root.new result }
     // the one answer is given, unless memory runs out
-    ensures only { (answer : Result (List Obj × Val) (Reason ℕ)) → IsAnswerIn table.now edit.now heap.old root.old answer → Gives answer heap.new root.new result }
+    ensures only { (answer : Result (List Obj × Val) (Reason ℕ))
+        → IsAnswerIn table.now edit.now heap.old root.old answer
+        → Gives answer heap.new root.new result }
     ensures value { IsValue (length heap.new) root.new }
 {
     match edit {
@@ -63,7 +65,8 @@ fn set(
     requires value { IsValue (length heap.old) root.old }
     requires lawful { IsLawful (table_of table.now) }
     requires named { length table.now.names ≡ length table.now.nodes }
-    ensures answer { IsApplied table.now (edits.Set path.now lexemes.now end) heap.old root.old heap.new root.new result }
+    ensures answer { IsApplied table.now (edits.Set path.now lexemes.now end) heap.old root.old
+        heap.new root.new result }
     ensures value { IsValue (length heap.new) root.new }
 {
     let place = find_place(heap, *root, table, Side::Left, path)?;
@@ -83,7 +86,8 @@ fn link(
 ) -> Result<(), EditRefusal>
     requires value { IsValue (length heap.old) root.old }
     requires lawful { IsLawful (table_of table.now) }
-    ensures answer { IsApplied table.now (edits.Link path.now source.now) heap.old root.old heap.new root.new result }
+    ensures answer { IsApplied table.now (edits.Link path.now source.now) heap.old root.old
+        heap.new root.new result }
     ensures value { IsValue (length heap.new) root.new }
 {
     let place = find_place(heap, *root, table, Side::Left, path)?;
@@ -102,7 +106,8 @@ fn unshare(
 ) -> Result<(), EditRefusal>
     requires value { IsValue (length heap.old) root.old }
     requires lawful { IsLawful (table_of table.now) }
-    ensures answer { IsApplied table.now (edits.Unshare path.now) heap.old root.old heap.new root.new result }
+    ensures answer { IsApplied table.now (edits.Unshare path.now) heap.old root.old heap.new
+        root.new result }
     ensures value { IsValue (length heap.new) root.new }
 {
     let place = find_place(heap, *root, table, Side::Left, path)?;
@@ -114,7 +119,8 @@ fn unshare(
     put_if_typed(alloc, heap, root, table, place, Val::Ref(copy), count)
 }
 
-/// Puts a value at a place, where the whole then has its type. Else the heap keeps its first `count` objects, as they were.
+/// Puts a value at a place, where the whole then has its type. Else the heap keeps its first
+/// `count` objects, as they were.
 fn put_if_typed(
     alloc: Global,
     heap: &mut Heap,
@@ -131,7 +137,8 @@ fn put_if_typed(
     requires before { IsValue count place.value }
     requires closed { IsGraph (take count heap.old) }
     requires valid { IsValue (length heap.old) value }
-    ensures kept { IsKept table.now (put_at place.spot value heap.old root.old) (take count heap.old) root.old heap.new root.new result }
+    ensures kept { IsKept table.now (put_at place.spot value heap.old root.old)
+        (take count heap.old) root.old heap.new root.new result }
     ensures value { IsValue (length heap.new) root.new }
 {
     put(heap, root, place.spot, value);

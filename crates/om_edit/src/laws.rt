@@ -1,7 +1,7 @@
 //! Laws over the definitions. The functions do nothing: what each ensures is the law.
 
 ghost use Rattle.om_edit.specs.Laws.{EditsHaveOneAnswer, TablesEditAlike};
-ghost use Rattle.om_edit.specs.Rows.{Rows};
+ghost use Rattle.om_edit.specs.WorkedEdits.{Rows};
 
 /// An edit of a value has one answer at most.
 pub fn edits_have_one_answer()
@@ -13,7 +13,8 @@ pub fn tables_edit_alike()
     ensures { TablesEditAlike }
 {}
 
-/// Worked edits make the values that they should, or are refused for the reasons that they should be.
+/// Worked edits make the values that they should, or are refused for the reasons that they should
+/// be.
 pub fn worked_edits_are_made()
     ensures { Rows }
 {}

@@ -39,7 +39,8 @@ pub(crate) fn find_place(
 ) -> Result<Place<usize>, EditRefusal>
     requires value { IsValue (length heap.now) root }
     requires lawful { IsLawful (table_of table.now) }
-    ensures place { result ≡ on_side side (place_at (table_shapes (table_of table.now)) heap.now root 0 path.now) }
+    ensures place { result
+        ≡ on_side side (place_at (table_shapes (table_of table.now)) heap.now root 0 path.now) }
     ensures number { IfOk result (λ place. place.ty < length table.now.nodes) }
     ensures value { IfOk result (λ place. IsValue (length heap.now) place.value) }
     ensures stands { IfOk result (λ place. StandsAt heap.now root place.spot place.value) }

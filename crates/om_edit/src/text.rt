@@ -23,7 +23,8 @@ pub fn refusal_text(
     refusal: &EditRefusal,
 ) -> Result<List<u8>, Memory>
     requires within { All (λ i. i < length table.now.store) table.now.stored }
-    ensures { IfOk result (λ text. text ≡ reason_or_none (text_at table.now) (reason_of refusal.now)) }
+    ensures { IfOk result
+        (λ text. text ≡ reason_or_none (text_at table.now) (reason_of refusal.now)) }
 {
     let mut text = Vec::new(alloc);
     match refusal {
@@ -41,7 +42,10 @@ pub fn refusal_text(
 
 /// Puts which step is not prescribed.
 fn put_no_field(text: &mut Vec<u8>, side: Side, step: usize) -> Result<(), Memory>
-    ensures { OnOk result (text.new.items ≡ text.old.items ++ codes "NoField(" ++ side_text side ++ codes ", " ++ decimal step ++ codes ")") }
+    ensures { OnOk result
+        (text.new.items
+        ≡ text.old.items ++ codes "NoField(" ++ side_text side ++ codes ", " ++ decimal step
+        ++ codes ")") }
 {
     put(text, b"NoField(")?;
     match side {
@@ -61,7 +65,9 @@ fn put_literal(
     fault: LiteralFault,
 ) -> Result<(), Memory>
     requires within { All (λ i. i < length table.now.store) table.now.stored }
-    ensures { OnOk result (text.new.items ≡ text.old.items ++ reason_or_none (text_at table.now) (literal_reason fault)) }
+    ensures { OnOk result
+        (text.new.items
+        ≡ text.old.items ++ reason_or_none (text_at table.now) (literal_reason fault)) }
 {
     match fault {
         LiteralFault::Syntax(place) => put_at(text, b"Literal Syntax at ", place),
@@ -81,7 +87,9 @@ fn put_misfit(
     ty: usize,
 ) -> Result<(), Memory>
     requires within { All (λ i. i < length table.now.store) table.now.stored }
-    ensures { OnOk result (text.new.items ≡ text.old.items ++ reason_text (text_at table.now) (misread (misfit_at place ty))) }
+    ensures { OnOk result
+        (text.new.items
+        ≡ text.old.items ++ reason_text (text_at table.now) (misread (misfit_at place ty))) }
 {
     put_at(text, b"Literal Misfit at ", place)?;
     put(text, b": expected ")?;

@@ -3,8 +3,8 @@
 ghost use Rattle.om_equal.specs.EqualLaws.{ReplacementsLeaveTheHead, HeadsAreAsWritten, OnlyTheHead};
 ghost use Rattle.om_equal.specs.EqualLaws.{ReachedAreLawful};
 
-/// Over accepted declarations the head of a type is that of what it is replaced by; without an abbreviation at it, it
-/// is as written. No other function is so.
+/// Over accepted declarations the head of a type is that of what it is replaced by; without an
+/// abbreviation at it, it is as written. No other function is so.
 pub fn heads_are_found()
     ensures replaced { ReplacementsLeaveTheHead }
     ensures written { HeadsAreAsWritten }

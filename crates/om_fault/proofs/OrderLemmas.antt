@@ -33,19 +33,3 @@ lexical_never (x ∷ xs) (y ∷ ys) same below lex =
     ⊎_elim (λ less. absurd (omega (arith, first, less)))
     (λ eq. lexical_never xs ys (omega (arith, same)) (λ k less. below (suc k) (omega arith)) eq.1)
     lex
-
-pub before_at_length :
-    {A : Type 0} (xs ys : List ℕ) → length xs ≡ length ys → A ↔ IsLexicallyBefore xs ys
-    → A ↔ IsBefore xs ys
-before_at_length xs ys same lex = (
-  λ a. inr (same, lex.0 a),
-  λ before. ⊎_elim (λ less. absurd (omega (arith, same, less))) (λ eq. lex.1 eq.1) before,
-)
-
-pub before_by_length :
-    {A : Type 0} (xs ys : List ℕ) → (length xs ≡ length ys → ⊥) → A ↔ (length xs < length ys)
-    → A ↔ IsBefore xs ys
-before_by_length xs ys other less = (
-  λ a. inl (less.0 a),
-  λ before. ⊎_elim less.1 (λ eq. absurd (other eq.0)) before,
-)

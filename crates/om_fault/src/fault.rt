@@ -20,7 +20,8 @@ use om_types::fault::Fault;
 pub fn is_fault(heap: &Heap, root: Val, table: &TypeTable, fault: &Fault) -> bool
     requires value { IsValue (length heap.now) root }
     requires lawful { IsLawful (table_of table.now) }
-    ensures { IsTrue result ↔ IsFault (table_shapes (table_of table.now)) heap.now root 0 fault.now }
+    ensures { IsTrue result
+        ↔ IsFault (table_shapes (table_of table.now)) heap.now root 0 fault.now }
 {
     match fault {
         Fault::Misfit(path) => is_misfit(heap, root, table, path),
@@ -32,7 +33,8 @@ pub fn is_fault(heap: &Heap, root: Val, table: &TypeTable, fault: &Fault) -> boo
 fn is_misfit(heap: &Heap, root: Val, table: &TypeTable, path: &Path) -> bool
     requires value { IsValue (length heap.now) root }
     requires lawful { IsLawful (table_of table.now) }
-    ensures { IsTrue result ↔ IsMisfit (table_shapes (table_of table.now)) heap.now root 0 path.now }
+    ensures { IsTrue result
+        ↔ IsMisfit (table_shapes (table_of table.now)) heap.now root 0 path.now }
 {
     match walk(heap, root, table, path) {
         Some((value, at)) => !fits(heap, value, table, at),
@@ -44,7 +46,8 @@ fn is_misfit(heap: &Heap, root: Val, table: &TypeTable, path: &Path) -> bool
 fn is_clash(heap: &Heap, root: Val, table: &TypeTable, first: &Path, second: &Path) -> bool
     requires value { IsValue (length heap.now) root }
     requires lawful { IsLawful (table_of table.now) }
-    ensures { IsTrue result ↔ IsClash (table_shapes (table_of table.now)) heap.now root 0 first.now second.now }
+    ensures { IsTrue result
+        ↔ IsClash (table_shapes (table_of table.now)) heap.now root 0 first.now second.now }
 {
     match walk(heap, root, table, first) {
         Some((value, one)) => match walk(heap, root, table, second) {
@@ -70,7 +73,8 @@ fn is_shared(
     requires lawful { IsLawful (table_of table.now) }
     requires one { one < length table.now.nodes }
     requires other { other < length table.now.nodes }
-    ensures { IsTrue result ↔ IsShared (table_shapes (table_of table.now)) heap.now value one again other }
+    ensures { IsTrue result
+        ↔ IsShared (table_shapes (table_of table.now)) heap.now value one again other }
 {
     match value {
         Val::Ref(object) => again == value && are_at_odds(heap, object, table, one, other),
@@ -84,7 +88,8 @@ fn are_at_odds(heap: &Heap, object: u64, table: &TypeTable, one: usize, other: u
     requires lawful { IsLawful (table_of table.now) }
     requires one { one < length table.now.nodes }
     requires other { other < length table.now.nodes }
-    ensures { IsTrue result ↔ AreAtOdds (table_shapes (table_of table.now)) heap.now object one other }
+    ensures { IsTrue result
+        ↔ AreAtOdds (table_shapes (table_of table.now)) heap.now object one other }
 {
     table.class(one) != table.class(other)
         && (may_change(heap, object, table, one) || may_change(heap, object, table, other))

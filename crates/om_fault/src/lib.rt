@@ -1,4 +1,5 @@
-//! Faults of a value by a table of types: what a path leads to, whether something is a fault, and its text.
+//! Faults of a value by a table of types: what a path leads to, whether something is a fault, and
+//! its text.
 #![tactic(auto)]
 
 mod fault;

@@ -53,7 +53,8 @@ fn field_type(heap: &Heap, value: Val, table: &TypeTable, at: usize, i: u64) -> 
     requires value { IsValue (length heap.now) value }
     requires lawful { IsLawful (table_of table.now) }
     requires number { at < length table.now.nodes }
-    ensures is { result ≡ type_of_field ((table_shapes (table_of table.now)).needs heap.now value at) i }
+    ensures is { result
+        ≡ type_of_field ((table_shapes (table_of table.now)).needs heap.now value at) i }
     ensures number { IfSome result (λ ty. ty < length table.now.nodes) }
 {
     match needs_of(heap, value, table.shape(at)) {

@@ -33,7 +33,9 @@ pub fn fault_text(
     requires within { All (λ i. i < length table.now.store) table.now.stored }
     requires same_length { length table.now.stored ≡ length table.now.nodes }
     requires fault { IsFault (table_shapes (table_of table.now)) heap.now root 0 fault.now }
-    ensures { IfOk result (IsFaultText (table_shapes (table_of table.now)) (text_at table.now) heap.now root 0 fault.now) }
+    ensures { IfOk result
+        (IsFaultText (table_shapes (table_of table.now)) (text_at table.now) heap.now root 0
+        fault.now) }
 {
     let mut text = Vec::new(alloc);
     match fault {
@@ -59,7 +61,8 @@ fn put_misfit(
     requires within { All (λ i. i < length table.now.store) table.now.stored }
     requires same_length { length table.now.stored ≡ length table.now.nodes }
     requires misfit { IsMisfit (table_shapes (table_of table.now)) heap.now root 0 path.now }
-    ensures { OnOk result (PutsFault table.now heap.now root (faults.Misfit path.now) text.old.items text.new.items) }
+    ensures { OnOk result
+        (PutsFault table.now heap.now root (faults.Misfit path.now) text.old.items text.new.items) }
 {
     let Some((found, expected)) = walk(heap, root, table, path) else {
         unreachable!()
@@ -85,8 +88,11 @@ fn put_clash(
     requires lawful { IsLawful (table_of table.now) }
     requires within { All (λ i. i < length table.now.store) table.now.stored }
     requires same_length { length table.now.stored ≡ length table.now.nodes }
-    requires clash { IsClash (table_shapes (table_of table.now)) heap.now root 0 first.now second.now }
-    ensures { OnOk result (PutsFault table.now heap.now root (faults.Clash first.now second.now) text.old.items text.new.items) }
+    requires clash { IsClash (table_shapes (table_of table.now)) heap.now root 0 first.now
+        second.now }
+    ensures { OnOk result
+        (PutsFault table.now heap.now root (faults.Clash first.now second.now) text.old.items
+        text.new.items) }
 {
     let Some((_, one)) = walk(heap, root, table, first) else {
         unreachable!()

@@ -16,8 +16,10 @@ IsNear row header = (row.header ≤ header) × (header ≤ row.header + row.more
 -- what has an integer's word up to most, a header near the one, or one that has the tag, fits
 pub record IsRowOf (shape : ShapeOf ℕ) (row : Row) : Type 0 where
   pub ints : (z : ℤ) → IsInteger z → integer_word z ≤ row.most → IsTrue (fits_int shape z)
-  pub headers : (n : ℕ) (object : Obj) → IsObject n object → IsNear row (header_of object) → IsSome (object_fields shape object)
-  pub tags : (n : ℕ) (object : Obj) → IsObject n object → header_of object % 1024 ≡ row.tag → IsSome (object_fields shape object)
+  pub headers : (n : ℕ) (object : Obj) → IsObject n object → IsNear row (header_of object)
+      → IsSome (object_fields shape object)
+  pub tags : (n : ℕ) (object : Obj) → IsObject n object → header_of object % 1024 ≡ row.tag
+      → IsSome (object_fields shape object)
 
 -- the header of a block of tag 0 with so many fields, or one that no object has
 abbrev pub IsSized : ℕ → ℕ → Type 0
@@ -30,21 +32,25 @@ IsFirstHeader (constr ∷ blocks) header = IsSized header (length constr.fields)
 
 -- how many fields the constructor has
 abbrev pub IsSizeAt : List (Constr ℕ) → ℕ → ℕ → Type 0
-IsSizeAt blocks k size = (constr : Constr ℕ) → slice_get blocks k ≡ Some constr → size ≡ length constr.fields
+IsSizeAt blocks k size =
+    (constr : Constr ℕ) → slice_get blocks k ≡ Some constr → size ≡ length constr.fields
 
--- so many constructors behind the first one have as many fields; none where these are too many for a header
+-- so many constructors behind the first one have as many fields; none where these are too many for
+-- a header
 pub record IsAlike (first : Constr ℕ) (blocks : List (Constr ℕ)) (more : ℕ) : Type 0 where
   pub few : more < 244
   pub there : more < length (first ∷ blocks)
   pub small : 2 ^ 53 ≤ length first.fields → more ≡ 0
-  pub alike : (k : ℕ) (constr : Constr ℕ) → k ≤ more → slice_get (first ∷ blocks) k ≡ Some constr → length constr.fields ≡ length first.fields
+  pub alike : (k : ℕ) (constr : Constr ℕ) → k ≤ more → slice_get (first ∷ blocks) k ≡ Some constr
+      → length constr.fields ≡ length first.fields
 
 -- the same of the first so many
 pub record AreAlikeTo (blocks : List (Constr ℕ)) (more : ℕ) : Type 0 where
   pub few : more < 244
   pub there : more < length blocks
   pub alike :
-      (k : ℕ) (first constr : Constr ℕ) → k ≤ more → slice_get blocks 0 ≡ Some first → slice_get blocks k ≡ Some constr
+      (k : ℕ) (first constr : Constr ℕ) → k ≤ more → slice_get blocks 0 ≡ Some first
+      → slice_get blocks k ≡ Some constr
       → length constr.fields ≡ length first.fields
 
 abbrev pub AreAlike : List (Constr ℕ) → ℕ → Type 0

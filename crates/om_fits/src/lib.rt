@@ -1,4 +1,5 @@
-//! What a value of a heap is at a shape: whether it fits, which fields it then needs, and whether it may be changed.
+//! What a value of a heap is at a shape: whether it fits, which fields it then needs, and whether
+//! it may be changed.
 #![tactic(auto)]
 
 mod needs;

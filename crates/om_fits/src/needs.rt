@@ -141,7 +141,8 @@ fn tagged_needs(blocks: &[Constr<usize>], tag: u8) -> Option<Needs<'_>>
 /// What an object needs at a shape, if it fits.
 fn object_needs<'a>(heap: &Heap, o: u64, shape: &'a ShapeOf<usize>) -> Option<Needs<'a>>
     requires { o < length heap.now }
-    ensures { option_map needs_in result ≡ option_and_then (object_fields shape.now) (slice_get heap.now o) }
+    ensures { option_map needs_in result
+        ≡ option_and_then (object_fields shape.now) (slice_get heap.now o) }
 {
     match heap.kind(o) {
         Kind::Block(tag, size) => block_needs(heap, o, tag, size, shape),

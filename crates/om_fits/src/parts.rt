@@ -94,7 +94,8 @@ pub fn block_needs<'a>(
 ) -> Option<Needs<'a>>
     requires object { o < length heap.now }
     requires size { size ≡ length (fields_of (object_at heap.now o)) }
-    ensures { option_map needs_in result ≡ block_fields shape.now tag (fields_of (object_at heap.now o)) }
+    ensures { option_map needs_in result
+        ≡ block_fields shape.now tag (fields_of (object_at heap.now o)) }
 {
     match shape {
         ShapeOf::Sum(_, blocks) => constr_needs(blocks.as_slice(), tag, size),
@@ -139,7 +140,8 @@ fn tag_needs<'a>(heap: &Heap, o: u64, size: u64, tags: &'a [PolyTag<usize>]) -> 
 
 /// What the argument of the tag of this hash needs.
 fn argument_needs(tags: &[PolyTag<usize>], hash: i64) -> Option<Needs<'_>>
-    ensures { option_map needs_in result ≡ option_and_then (λ tag. argument_field tag.arg) (tag_with tags.now hash) }
+    ensures { option_map needs_in result
+        ≡ option_and_then (λ tag. argument_field tag.arg) (tag_with tags.now hash) }
 {
     match tag_of_hash(tags, hash)?.arg {
         Some(ty) => Some(Needs::Argument(ty)),

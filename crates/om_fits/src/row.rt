@@ -110,7 +110,8 @@ fn first_header(blocks: &[Constr<usize>]) -> u64
     }
 }
 
-/// How many constructors right behind the first one have as many fields, of those with tags below 244.
+/// How many constructors right behind the first one have as many fields, of those with tags below
+/// 244.
 fn more_alike(blocks: &[Constr<usize>]) -> u64
     ensures { AreAlike blocks.now result }
 {
@@ -152,7 +153,9 @@ fn is_of(row: Row, header: u64) -> bool
 pub fn surely_fits(heap: &Heap, row: Row, word: u64) -> bool
     requires graph { IsGraph heap.now }
     requires word { IsFieldWord heap.now word }
-    ensures { (shape : ShapeOf ℕ) (v : Val) → IsTrue result → IsRowOf shape row → IsValue (length heap.now) v → word ≡ word_of heap.now v → IsSome (fitting.fields_of heap.now v shape) }
+    ensures { (shape : ShapeOf ℕ) (v : Val) → IsTrue result → IsRowOf shape row
+        → IsValue (length heap.now) v → word ≡ word_of heap.now v
+        → IsSome (fitting.fields_of heap.now v shape) }
 {
     if word % 2 == 1 {
         return word <= row.most;

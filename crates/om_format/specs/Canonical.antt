@@ -1,4 +1,5 @@
--- The bytes that the runtime writes (`extern.c`): one spelling of each token, and a header with the full count.
+-- The bytes that the runtime writes (`extern.c`): one spelling of each token, and a header with the
+-- full count.
 use Rattle.std.specs.Prelude.{ℕ, suc, ◌+◌, ◌-◌, ◌*◌, ◌^◌, Bool, ◌&&◌, ◌||◌, nat_lt, nat_le, List, [], ◌∷◌, ◌++◌, length, map, flat_map, if◌then◌else◌, ℤ, pos, negsuc}
 use Rattle.std.specs.Int.{bytes_high_first, bytes_low_first}
 use Rattle.om_model.specs.declared.value.Obj.{Obj}
@@ -48,7 +49,8 @@ block_word tag size = tag + 1024 * size
 unfoldable pub block_spelling : ℕ → ℕ → List ℕ
 block_spelling tag size =
     if nat_lt tag 16 && nat_lt size 8 then (0x80 + 16 * size + tag) ∷ []
-    else if nat_lt (block_word tag size) (2 ^ 32) then 0x08 ∷ bytes_high_first 4 (block_word tag size)
+    else if nat_lt (block_word tag size) (2 ^ 32)
+    then 0x08 ∷ bytes_high_first 4 (block_word tag size)
     else 0x13 ∷ bytes_high_first 8 (block_word tag size)
 
 -- what comes before the content of a string, by its length
@@ -103,11 +105,15 @@ spelling (leaf object) = leaf_spelling object
 
 -- ---- a value
 
--- five numbers of four bytes; in a big header reserved bytes after the magic number, and then three numbers of eight bytes
+-- five numbers of four bytes; in a big header reserved bytes after the magic number, and then three
+-- numbers of eight bytes
 unfoldable pub header_spelling : Head → List ℕ
 header_spelling head =
-    if head.big then flat_map (bytes_high_first 4) (big_magic ∷ 0 ∷ []) ++ flat_map (bytes_high_first 8) (head.length ∷ head.objects ∷ head.w64 ∷ [])
-    else flat_map (bytes_high_first 4) (small_magic ∷ head.length ∷ head.objects ∷ head.w32 ∷ head.w64 ∷ [])
+    if head.big
+    then flat_map (bytes_high_first 4) (big_magic ∷ 0 ∷ [])
+    ++ flat_map (bytes_high_first 8) (head.length ∷ head.objects ∷ head.w64 ∷ [])
+    else flat_map (bytes_high_first 4)
+    (small_magic ∷ head.length ∷ head.objects ∷ head.w32 ∷ head.w64 ∷ [])
 
 abbrev pub data_spelling : List Token → List ℕ
 data_spelling all = flat_map spelling all
@@ -122,7 +128,13 @@ canonical_head all =
     let n = length (data_spelling all) in
     let w32 = all_words32 (map measure_of all) in
     let w64 = all_words64 (map measure_of all) in
-    record { big = is_big n w32 w64; length = n; objects = object_count (map measure_of all); w32 = w32; w64 = w64 }
+    record {
+      big = is_big n w32 w64;
+      length = n;
+      objects = object_count (map measure_of all);
+      w32 = w32;
+      w64 = w64;
+    }
 
 -- the bytes of a value
 unfoldable pub canon : Tree → List ℕ

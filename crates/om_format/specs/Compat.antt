@@ -1,4 +1,5 @@
--- What a reader on 32 bits cannot hold (`extern.c`, flag `Compat_32`; the `Nativeint` is this project's own addition).
+-- What a reader on 32 bits cannot hold (`extern.c`, flag `Compat_32`; the `Nativeint` is this
+-- project's own addition).
 use Rattle.std.specs.Prelude.{ℕ, Bool, false, not, nat_lt, max, length, find, Option, Some, None, if◌then◌else◌}
 use Rattle.om_model.specs.declared.value.Obj.{Obj}
 use Rattle.om_model.specs.declared.value.Obj.TheVariants as objects
@@ -31,7 +32,8 @@ pub data TooLargeFor32 : Type 0 where
   header : ℕ → TooLargeFor32
 
 abbrev pub large_header : Head → Option TooLargeFor32
-large_header head = if head.big then Some (header (max head.length (max head.w32 head.w64))) else None
+large_header head =
+    if head.big then Some (header (max head.length (max head.w32 head.w64))) else None
 
 abbrev pub first_large : Option Token → Head → Option TooLargeFor32
 first_large (Some t) head = Some (token t)

@@ -1,4 +1,5 @@
--- Which bytes may still become a value, and which are refused (this project's own, over the format of `intern.c`).
+-- Which bytes may still become a value, and which are refused (this project's own, over the format
+-- of `intern.c`).
 use Rattle.std.specs.Prelude.{ℕ, ◌<◌, ◌≡◌, ◌⊎◌, List, [], ◌∷◌, ◌++◌, length, take, map, Option, Some, None}
 use Rattle.std.specs.List.{concat}
 use Rattle.om_model.specs.declared.refusal.ReadRefusal.{ReadRefusal}
@@ -22,7 +23,8 @@ with_next before rest = before ++ take (raw_length rest) rest ∷ []
 
 -- the refusal of the first step that these bytes of a token decide and fail
 abbrev pub token_refusal : List ℕ → List (List ℕ) → List ℕ → Option ReadRefusal
-token_refusal header before token = first_refusal (length token) (token_steps (context header before) token)
+token_refusal header before token =
+    first_refusal (length token) (token_steps (context header before) token)
 
 abbrev pub header_refusal : ℕ → List ℕ → Option ReadRefusal
 header_refusal limit bytes = first_refusal (length bytes) (header_steps limit bytes)
@@ -40,7 +42,8 @@ pub record TokenPasses (header : List ℕ) (before : List (List ℕ)) (token : L
 -- tokens that pass, one after another
 abbrev pub TokensPass : List ℕ → List (List ℕ) → List (List ℕ) → Type 0
 TokensPass header before [] = Unit {0}
-TokensPass header before (token ∷ tokens) = TokenPasses header before token × TokensPass header (before ++ token ∷ []) tokens
+TokensPass header before (token ∷ tokens) =
+    TokenPasses header before token × TokensPass header (before ++ token ∷ []) tokens
 
 -- a raw header that passes its steps
 pub record HeaderPasses (limit : ℕ) (header : List ℕ) : Type 0 where
@@ -53,7 +56,8 @@ pub record InHeader (limit : ℕ) (bytes : List ℕ) : Type 0 where
   pub passes : header_refusal limit bytes ≡ None
 
 -- a header and tokens that pass, and a part of the next token, which passes the steps decided in it
-pub record InTokens (limit : ℕ) (bytes header : List ℕ) (tokens : List (List ℕ)) (last : List ℕ) : Type 0 where
+pub record InTokens (limit : ℕ) (bytes header : List ℕ) (tokens : List (List ℕ)) (last : List ℕ)
+    : Type 0 where
   pub bytes_are : bytes ≡ header ++ (concat tokens ++ last)
   pub header_passes : HeaderPasses limit header
   pub tokens_pass : TokensPass header [] tokens
@@ -64,7 +68,9 @@ pub record InTokens (limit : ℕ) (bytes header : List ℕ) (tokens : List (List
 -- the bytes are a front of a value: more have to come
 abbrev pub IsFront : ℕ → List ℕ → Type 0
 IsFront limit bytes =
-    InHeader limit bytes ⊎ ((header : List ℕ) × (tokens : List (List ℕ)) × (last : List ℕ) × InTokens limit bytes header tokens last)
+    InHeader limit bytes
+    ⊎ ((header : List ℕ) × (tokens : List (List ℕ)) × (last : List ℕ)
+    × InTokens limit bytes header tokens last)
 
 -- the last byte decides a step of the header that fails, or one of the token that it belongs to
 pub record RefusedInHeader (limit : ℕ) (bytes : List ℕ) (refusal : ReadRefusal) : Type 0 where
@@ -86,4 +92,5 @@ pub record RefusedInTokens (limit : ℕ) (bytes : List ℕ) (refusal : ReadRefus
 
 -- all but the last byte are a front, and the last decides the first step that fails
 abbrev pub IsRefused : ℕ → List ℕ → ReadRefusal → Type 0
-IsRefused limit bytes refusal = RefusedInHeader limit bytes refusal ⊎ RefusedInTokens limit bytes refusal
+IsRefused limit bytes refusal =
+    RefusedInHeader limit bytes refusal ⊎ RefusedInTokens limit bytes refusal

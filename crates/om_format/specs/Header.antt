@@ -19,8 +19,9 @@ magic bytes = number (take 4 bytes)
 abbrev pub header_length : List ℕ → ℕ
 header_length bytes = if magic bytes == big_magic then 32 else 20
 
--- what a header states: data length, objects, words on 32 bits, words on 64 bits, of four bytes each; in a big one four
--- reserved bytes come first, the numbers have eight bytes, and there are no words on 32 bits
+-- what a header states: data length, objects, words on 32 bits, words on 64 bits, of four bytes
+-- each; in a big one four reserved bytes come first, the numbers have eight bytes, and there are no
+-- words on 32 bits
 abbrev pub small_head : List ℕ → Head
 small_head bytes = record {
   big = false;

@@ -16,7 +16,8 @@ AreAlike pairs v w = ⊥
 
 -- blocks of one tag and size, with fields alike; or equal objects without fields
 abbrev pub AreAlikeObjects : List (ℕ × ℕ) → Obj → Obj → Type 0
-AreAlikeObjects pairs (objects.Block tag values) (objects.Block tag' values') = (tag ≡ tag') × AllZip (AreAlike pairs) values values'
+AreAlikeObjects pairs (objects.Block tag values) (objects.Block tag' values') =
+    (tag ≡ tag') × AllZip (AreAlike pairs) values values'
 AreAlikeObjects pairs (objects.Bytes bytes) b = objects.Bytes bytes ≡ b
 AreAlikeObjects pairs (objects.Double bits) b = objects.Double bits ≡ b
 AreAlikeObjects pairs (objects.Doubles all) b = objects.Doubles all ≡ b
@@ -25,11 +26,12 @@ AreAlikeObjects pairs (objects.I64 z) b = objects.I64 z ≡ b
 AreAlikeObjects pairs (objects.Native z) b = objects.Native z ≡ b
 AreAlikeObjects pairs (objects.Block tag values) b = ⊥
 
--- the pairs go from the objects of one graph to those of the other: no number is twice on one side, and the two objects of
--- each pair are there and alike
+-- the pairs go from the objects of one graph to those of the other: no number is twice on one side,
+-- and the two objects of each pair are there and alike
 pub record IsPairing (g h : List Obj) (pairs : List (ℕ × ℕ)) : Type 0 where
   pub one_to_one : (k l m n : ℕ) → Contains pairs (k, l) → Contains pairs (m, n) → (k ≡ m) ↔ (l ≡ n)
-  pub alike : (k l : ℕ) → Contains pairs (k, l) → IsSomeAnd (slice_get g k) (λ a. IsSomeAnd (slice_get h l) (λ b. AreAlikeObjects pairs a b))
+  pub alike : (k l : ℕ) → Contains pairs (k, l)
+      → IsSomeAnd (slice_get g k) (λ a. IsSomeAnd (slice_get h l) (λ b. AreAlikeObjects pairs a b))
 
 -- some pairs make the two values alike
 abbrev pub Iso : List Obj → Val → List Obj → Val → Type 0

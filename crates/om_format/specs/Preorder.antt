@@ -8,7 +8,8 @@ use Rattle.om_format.specs.Tree.{made_by, RefersBack}
 -- after these measures each token comes while a value is still to come
 abbrev pub OpenBefore : List (Option Measure) → List Token → Type 0
 OpenBefore before [] = Unit {0}
-OpenBefore before (token ∷ tokens) = (0 < pending before) × OpenBefore (before ++ measure_of token ∷ []) tokens
+OpenBefore before (token ∷ tokens) =
+    (0 < pending before) × OpenBefore (before ++ measure_of token ∷ []) tokens
 
 -- after c objects each reference leads to one that was made before it
 abbrev pub EachRefersBack : ℕ → List Token → Type 0

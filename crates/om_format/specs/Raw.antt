@@ -23,7 +23,8 @@ fixed_bytes (kinds.Double little) = 8
 fixed_bytes (kinds.Doubles width little) = width
 fixed_bytes (kinds.Custom old) = 3
 
--- those of them that say more than a content: a header word, an offset, a length, an identifier, an integer of eight bytes
+-- those of them that say more than a content: a header word, an offset, a length, an identifier, an
+-- integer of eight bytes
 abbrev pub field_bytes : CodeKind → ℕ
 field_bytes (kinds.SmallBlock tag size) = 0
 field_bytes (kinds.SmallInt n) = 0

@@ -24,11 +24,13 @@ abbrev pub StatesWords32 : Bool → ℕ → ℕ → Type 0
 StatesWords32 true stated found = Unit {0}
 StatesWords32 false stated found = stated ≡ found
 
--- the header states what the tokens take: the words, and the number of objects, or 0 where nothing refers to one
+-- the header states what the tokens take: the words, and the number of objects, or 0 where nothing
+-- refers to one
 pub record States (head : Head) (all : List Token) : Type 0 where
   pub w32 : StatesWords32 head.big head.w32 (all_words32 (map measure_of all))
   pub w64 : head.w64 ≡ all_words64 (map measure_of all)
-  pub objects : (head.objects ≡ objects (map measure_of all)) ⊎ ((head.objects ≡ 0) × All IsNoReference all)
+  pub objects : (head.objects ≡ objects (map measure_of all))
+      ⊎ ((head.objects ≡ 0) × All IsNoReference all)
 
 -- the bytes spell the tree, cut into its header and its tokens
 pub record SpellsTree (tree : Tree) (header : List ℕ) (pieces : List (List ℕ)) : Type 0 where

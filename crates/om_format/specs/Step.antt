@@ -1,5 +1,5 @@
--- The steps that a header, a token and the end of a tree have to pass, in their order (`intern.c`; the limits and the
--- places are this project's own).
+-- The steps that a header, a token and the end of a tree have to pass, in their order (`intern.c`;
+-- the limits and the places are this project's own).
 use Rattle.std.specs.Prelude.{ℕ, ◌+◌, ◌-◌, ◌%◌, ◌^◌, ◌==◌, ◌||◌, ◌&&◌, not, nat_lt, Bool, true, false, List, [], ◌∷◌, ◌++◌, take, Option, Some, None, is_none, Result, Ok, Err, slice_index, if◌then◌else◌, ℤ, pos, negsuc}
 use Rattle.om_model.specs.declared.refusal.ReadRefusal.{ReadRefusal}
 use Rattle.om_model.specs.declared.refusal.ReadRefusal.TheVariants.{BadMagic, Compressed, TooLarge, BadCode, PointerCode, OtherCustom, BadTag, BadShared, NoTable, BadNative, IntRange, ZeroArray, Overlong, SizeMismatch, CountMismatch, LengthMismatch}
@@ -18,7 +18,8 @@ use Rattle.om_format.specs.Header.{magic, small_magic, big_magic, compressed_mag
 use Rattle.om_format.specs.Raw.{fixed_bytes, field_bytes, sizing_bytes, variable_bytes, measure_after}
 use Rattle.om_format.specs.Words.{Sums, one_more}
 
--- a step: how many bytes of the header or the token hold the fields that it reads, and the refusal where it fails
+-- a step: how many bytes of the header or the token hold the fields that it reads, and the refusal
+-- where it fails
 pub record Step : Type 0 where
   pub ends : ℕ
   pub refusal : Option ReadRefusal
@@ -34,11 +35,12 @@ abbrev pub or_else : Option ReadRefusal → Option ReadRefusal → Option ReadRe
 or_else None next = next
 or_else (Some r) next = Some r
 
--- A step is decided once the fields that it and the earlier ones read are among the first n bytes. The refusal of the
--- first step that is decided and fails.
+-- A step is decided once the fields that it and the earlier ones read are among the first n bytes.
+-- The refusal of the first step that is decided and fails.
 abbrev pub first_refusal : ℕ → List Step → Option ReadRefusal
 first_refusal n [] = None
-first_refusal n (s ∷ steps) = if nat_lt n s.ends then None else or_else s.refusal (first_refusal n steps)
+first_refusal n (s ∷ steps) =
+    if nat_lt n s.ends then None else or_else s.refusal (first_refusal n steps)
 
 -- ---- the header
 
@@ -64,8 +66,8 @@ header_steps limit header =
 
 -- ---- a token
 
--- where a token stands: after which header, after how many of its bytes and of those of the data, and the sums over the
--- tokens before it
+-- where a token stands: after which header, after how many of its bytes and of those of the data,
+-- and the sums over the tokens before it
 pub record Context : Type 0 where
   pub head : Head
   pub start : ℕ
@@ -81,7 +83,8 @@ left_after c n = c.head.length - (c.taken + n)
 
 -- more bytes, or more values, are needed than there are bytes left after the first n of the token
 abbrev pub overlong : Context → ℕ → ℕ → Option ReadRefusal
-overlong c need n = fails_if (nat_lt (left_after c n) need) (Overlong (place c) need (left_after c n))
+overlong c need n =
+    fails_if (nat_lt (left_after c n) need) (Overlong (place c) need (left_after c n))
 
 abbrev pub code_refusal : CodeFault → ℕ → ℕ → ReadRefusal
 code_refusal faults.BadCode p code = BadCode p code
@@ -101,22 +104,27 @@ integer_refusal c z = fails_if (not (is_integer z)) (IntRange (place c) z)
 abbrev pub shared_refusal : Context → ℕ → Option ReadRefusal
 shared_refusal c offset =
     or_else
-    (fails_if ((offset == 0) || nat_lt (c.sums.objects) offset) (BadShared (place c) offset (c.sums.objects)))
+    (fails_if ((offset == 0) || nat_lt (c.sums.objects) offset)
+    (BadShared (place c) offset (c.sums.objects)))
     (fails_if (c.head.objects == 0) (NoTable (place c)))
 
--- what is wrong with the token's fields: its tag, its offset, its identifier, its integer or its length
+-- what is wrong with the token's fields: its tag, its offset, its identifier, its integer or its
+-- length
 abbrev pub field_refusal : Context → ℕ → CodeKind → List ℕ → Option ReadRefusal
 field_refusal c code (kinds.SmallBlock tag size) rest = None
 field_refusal c code (kinds.SmallInt n) rest = None
 field_refusal c code (kinds.SmallString n) rest = None
-field_refusal c code (kinds.Int width) rest = if width == 8 then integer_refusal c (signed (take 8 rest)) else None
+field_refusal c code (kinds.Int width) rest =
+    if width == 8 then integer_refusal c (signed (take 8 rest)) else None
 field_refusal c code (kinds.Shared width) rest = shared_refusal c (number (take width rest))
 field_refusal c code (kinds.Block width) rest =
     let tag = number (take width rest) % 256 in fails_if (nat_lt 243 tag) (BadTag (place c) tag)
 field_refusal c code (kinds.Str width) rest = None
 field_refusal c code (kinds.Double little) rest = None
-field_refusal c code (kinds.Doubles width little) rest = fails_if (number (take width rest) == 0) (ZeroArray (place c))
-field_refusal c code (kinds.Custom old) rest = fails_if (is_none (custom_of (take 3 rest))) (OtherCustom (place c) code)
+field_refusal c code (kinds.Doubles width little) rest =
+    fails_if (number (take width rest) == 0) (ZeroArray (place c))
+field_refusal c code (kinds.Custom old) rest =
+    fails_if (is_none (custom_of (take 3 rest))) (OtherCustom (place c) code)
 
 -- the kind byte of a `Nativeint` is taken first, and then its number
 abbrev pub native_steps : Context → ℕ → List Step
@@ -150,7 +158,9 @@ end_steps c n all =
     step n (fails_if (nat_lt 0 (left_after c n)) (LengthMismatch p (left_after c n)))
     ∷ step n (words32_refusal nat_ne p c.head all.w32)
     ∷ step n (words64_refusal nat_ne p c.head all.w64)
-    ∷ step n (fails_if (not (c.head.objects == 0) && nat_ne c.head.objects all.objects) (CountMismatch p c.head.objects all.objects))
+    ∷ step n
+    (fails_if (not (c.head.objects == 0) && nat_ne c.head.objects all.objects)
+    (CountMismatch p c.head.objects all.objects))
     ∷ []
 
 -- the bytes of each token of the kind, and its fields
@@ -174,7 +184,8 @@ closing_steps c kind rest =
 -- the steps of a token of this kind
 abbrev pub steps_after : Context → ℕ → CodeKind → List ℕ → List Step
 steps_after c code kind rest =
-    entry_steps c code kind rest ++ (variable_steps c kind (custom_of (take 3 rest)) rest ++ closing_steps c kind rest)
+    entry_steps c code kind rest
+    ++ (variable_steps c kind (custom_of (take 3 rest)) rest ++ closing_steps c kind rest)
 
 abbrev pub steps_from : Context → ℕ → Result CodeKind CodeFault → List ℕ → List Step
 steps_from c code (Ok kind) rest = steps_after c code kind rest

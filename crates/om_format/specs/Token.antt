@@ -11,8 +11,8 @@ use Rattle.om_model.specs.Bytes.{number, number_in, signed, SpellsDoubles}
 use Rattle.om_model.specs.Graph.{IsInteger, IsObject}
 use Rattle.om_format.specs.Code.{kind_of}
 
--- an integer; an atom, by its tag; a reference to the object so many places back from the next one; a block, by tag and
--- size, whose fields are the values after it; and an object without fields
+-- an integer; an atom, by its tag; a reference to the object so many places back from the next one;
+-- a block, by tag and size, whose fields are the values after it; and an object without fields
 pub data Token : Type 0 where
   integer : ℤ → Token
   atom : ℕ → Token
@@ -59,31 +59,41 @@ abbrev pub block_or_atom : ℕ → ℕ → Token
 block_or_atom tag zero = atom tag
 block_or_atom tag (suc n) = block tag (suc n)
 
--- what a header word says: the tag in bits 0 to 7, the size from bit 10 on, and bits 8 and 9 anything
+-- what a header word says: the tag in bits 0 to 7, the size from bit 10 on, and bits 8 and 9
+-- anything
 abbrev pub word_token : ℕ → Token
 word_token word = block_or_atom (word % 256) (word / 1024)
 
 -- after the code of a custom: its identifier, and then its data
 abbrev pub SpellsCustom : List ℕ → Token → Type 0
 SpellsCustom rest token =
-    ((content : List ℕ) × (rest ≡ 95 ∷ 105 ∷ 0 ∷ content) × (length content ≡ 4) × (token ≡ leaf (objects.I32 (signed content))))
-    ⊎ (((content : List ℕ) × (rest ≡ 95 ∷ 106 ∷ 0 ∷ content) × (length content ≡ 8) × (token ≡ leaf (objects.I64 (signed content))))
-    ⊎ (((content : List ℕ) × (rest ≡ 95 ∷ 110 ∷ 0 ∷ 1 ∷ content) × (length content ≡ 4) × (token ≡ leaf (objects.Native (signed content))))
-    ⊎ ((content : List ℕ) × (rest ≡ 95 ∷ 110 ∷ 0 ∷ 2 ∷ content) × (length content ≡ 8) × (token ≡ leaf (objects.Native (signed content))))))
+    ((content : List ℕ) × (rest ≡ 95 ∷ 105 ∷ 0 ∷ content) × (length content ≡ 4)
+    × (token ≡ leaf (objects.I32 (signed content))))
+    ⊎ (((content : List ℕ) × (rest ≡ 95 ∷ 106 ∷ 0 ∷ content) × (length content ≡ 8)
+    × (token ≡ leaf (objects.I64 (signed content))))
+    ⊎ (((content : List ℕ) × (rest ≡ 95 ∷ 110 ∷ 0 ∷ 1 ∷ content) × (length content ≡ 4)
+    × (token ≡ leaf (objects.Native (signed content))))
+    ⊎ ((content : List ℕ) × (rest ≡ 95 ∷ 110 ∷ 0 ∷ 2 ∷ content) × (length content ≡ 8)
+    × (token ≡ leaf (objects.Native (signed content))))))
 
 -- what may come after a code of this kind, and the token that it spells
 abbrev pub SpellsAfter : CodeKind → List ℕ → Token → Type 0
 SpellsAfter (kinds.SmallBlock tag size) rest token = (rest ≡ []) × (token ≡ block_or_atom tag size)
 SpellsAfter (kinds.SmallInt n) rest token = (rest ≡ []) × (token ≡ integer (pos n))
-SpellsAfter (kinds.SmallString n) rest token = (length rest ≡ n) × (token ≡ leaf (objects.Bytes rest))
+SpellsAfter (kinds.SmallString n) rest token =
+    (length rest ≡ n) × (token ≡ leaf (objects.Bytes rest))
 SpellsAfter (kinds.Int width) rest token = (length rest ≡ width) × (token ≡ integer (signed rest))
 SpellsAfter (kinds.Shared width) rest token = (length rest ≡ width) × (token ≡ shared (number rest))
-SpellsAfter (kinds.Block width) rest token = (length rest ≡ width) × (token ≡ word_token (number rest))
+SpellsAfter (kinds.Block width) rest token =
+    (length rest ≡ width) × (token ≡ word_token (number rest))
 SpellsAfter (kinds.Str width) rest token =
-    (width ≤ length rest) × (length (drop width rest) ≡ number (take width rest)) × (token ≡ leaf (objects.Bytes (drop width rest)))
-SpellsAfter (kinds.Double little) rest token = (length rest ≡ 8) × (token ≡ leaf (objects.Double (number_in little rest)))
+    (width ≤ length rest) × (length (drop width rest) ≡ number (take width rest))
+    × (token ≡ leaf (objects.Bytes (drop width rest)))
+SpellsAfter (kinds.Double little) rest token =
+    (length rest ≡ 8) × (token ≡ leaf (objects.Double (number_in little rest)))
 SpellsAfter (kinds.Doubles width little) rest token =
-    (all : List ℕ) × (width ≤ length rest) × (length all ≡ number (take width rest)) × SpellsDoubles little all (drop width rest)
+    (all : List ℕ) × (width ≤ length rest) × (length all ≡ number (take width rest))
+    × SpellsDoubles little all (drop width rest)
     × (token ≡ leaf (objects.Doubles all))
 SpellsAfter (kinds.Custom old) rest token = SpellsCustom rest token
 

@@ -1,4 +1,5 @@
--- A value as a tree of tokens: a token with as many subtrees as its size (`intern.c` reads it in preorder).
+-- A value as a tree of tokens: a token with as many subtrees as its size (`intern.c` reads it in
+-- preorder).
 use Rattle.std.specs.Prelude.{ℕ, suc, ◌+◌, ◌-◌, ◌≤◌, ◌≡◌, List, [], ◌∷◌, ◌++◌}
 use Rattle.om_model.specs.declared.value.Val.{Val}
 use Rattle.om_model.specs.declared.value.Val.TheVariants as vals
@@ -22,7 +23,8 @@ trees_in (more tree forest) = suc (trees_in forest)
 
 abbrev mutual
   pub IsTree : Tree → Type 0
-  IsTree (node token forest) = IsToken token × (trees_in forest ≡ of_object fields (measure_of token)) × AreTrees forest
+  IsTree (node token forest) =
+      IsToken token × (trees_in forest ≡ of_object fields (measure_of token)) × AreTrees forest
 
   pub AreTrees : Forest → Type 0
   AreTrees none = Unit {0}
@@ -73,10 +75,12 @@ object_of (shared offset) values = []
 object_of (block tag size) values = objects.Block tag values ∷ []
 object_of (leaf object) values = object ∷ []
 
--- the objects of a tree, numbered from c on in the order of their tokens: a block comes before its fields
+-- the objects of a tree, numbered from c on in the order of their tokens: a block comes before its
+-- fields
 abbrev mutual
   pub objects_of : Tree → ℕ → List Obj
-  objects_of (node token forest) c = object_of token (roots forest (c + made_by token)) ++ all_objects forest (c + made_by token)
+  objects_of (node token forest) c =
+      object_of token (roots forest (c + made_by token)) ++ all_objects forest (c + made_by token)
 
   pub all_objects : Forest → ℕ → List Obj
   all_objects none c = []

@@ -42,7 +42,8 @@ all_words32 tokens = sum_by (of_object words32) tokens
 abbrev pub all_words64 : List (Option Measure) → ℕ
 all_words64 tokens = sum_by (of_object words64) tokens
 
--- how many values are still to come: one at first, each token is one of them, and its fields come on top
+-- how many values are still to come: one at first, each token is one of them, and its fields come
+-- on top
 abbrev pub pending : List (Option Measure) → ℕ
 pending tokens = (1 + sum_by (of_object fields) tokens) - length tokens
 
@@ -54,7 +55,13 @@ pub record Sums : Type 0 where
   pub w64 : ℕ
 
 abbrev pub sums_of : List (Option Measure) → Sums
-sums_of tokens = record { objects = objects tokens; pending = pending tokens; w32 = all_words32 tokens; w64 = all_words64 tokens }
+sums_of tokens =
+    record {
+      objects = objects tokens;
+      pending = pending tokens;
+      w32 = all_words32 tokens;
+      w64 = all_words64 tokens;
+    }
 
 -- with one token more, which is one of the values to come
 abbrev pub one_more : Sums → Option Measure → Sums

@@ -2,8 +2,8 @@
 
 ghost use Rattle.om_format.specs.Laws.{HasOneJudgement, NoSpellingBeginsAnother, SpellsOneToken};
 
-/// Bytes are a front of a value, or begin with one value, or have one refusal at their front: always one of the three,
-/// and in one way.
+/// Bytes are a front of a value, or begin with one value, or have one refusal at their front:
+/// always one of the three, and in one way.
 pub fn one_judgement()
     ensures { HasOneJudgement }
 {}

@@ -60,11 +60,6 @@ type_kept old new i grown below =
     get_or_from_slice_get new i (type_at old i) tuple
     (there_kept old new i (type_at old i) grown (slice_get-get_or old i tuple below))
 
-within_kept : (old new : List Ty) (i : NumberedItem) → Grows old new → IsWithin old i → IsWithin new i
-within_kept old new i grown below =
-    slice_get_within new i.number (type_at old i.number)
-    (there_kept old new i.number (type_at old i.number) grown (slice_get-get_or old i.number tuple below))
-
 pub items_kept :
     (old new : List Ty) (items : List NumberedItem) → Grows old new → AreWithin old items
     → items_at new items ≡ items_at old items

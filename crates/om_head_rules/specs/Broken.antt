@@ -47,4 +47,5 @@ TypeHashes decls occurrences k one_name other_name =
 -- in some bracket of some declaration
 abbrev pub FileHashes : List DeclPlaces → ℕ → List ℕ → List ℕ → Type 0
 FileHashes all k one_name other_name =
-    (d : DeclPlaces) × Contains all d × TypeHashes (decls_of all) d.occurrences k one_name other_name
+    (d : DeclPlaces) × Contains all d
+    × TypeHashes (decls_of all) d.occurrences k one_name other_name

@@ -28,7 +28,8 @@ fn number_items(
     requires ordered { AreOrdered nodes.now }
     requires numbers { HasNumbers types.old (types_of nodes.now) numbers.now }
     ensures grown { Grows types.old types.new }
-    ensures ok { IfOk result (λ all. AreNumbered types.new all (items_told (types_of nodes.now) items.now)) }
+    ensures ok { IfOk result
+        (λ all. AreNumbered types.new all (items_told (types_of nodes.now) items.now)) }
 {
     let mut all = List::new(alloc);
     for item in items {
@@ -46,7 +47,9 @@ fn put_type(
 ) -> Result<(), Memory>
     requires { IsOrdered found.now }
     ensures grown { Grows types.old types.new }
-    ensures ok { OnOk result ((all : Seq (Seq PlacedItem)) → AreAllNumbered types.old brackets.old all → AreAllNumbered types.new brackets.new (all ++ type_told found.now)) }
+    ensures ok { OnOk result
+        ((all : Seq (Seq PlacedItem)) → AreAllNumbered types.old brackets.old all
+        → AreAllNumbered types.new brackets.new (all ++ type_told found.now)) }
 {
     let numbers = types.add_nodes(alloc, found.nodes)?;
     for items in found.brackets.as_slice() {
@@ -70,7 +73,9 @@ fn put_types(
 ) -> Result<(), Memory>
     requires { All IsOrdered found.now }
     ensures grown { Grows types.old types.new }
-    ensures ok { OnOk result ((all : Seq (Seq PlacedItem)) → AreAllNumbered types.old brackets.old all → AreAllNumbered types.new brackets.new (all ++ all_told found.now)) }
+    ensures ok { OnOk result
+        ((all : Seq (Seq PlacedItem)) → AreAllNumbered types.old brackets.old all
+        → AreAllNumbered types.new brackets.new (all ++ all_told found.now)) }
 {
     for inside in found {
         put_type(alloc, types, brackets, inside)?;
@@ -78,8 +83,8 @@ fn put_types(
     Ok(())
 }
 
-/// The brackets of types, one after another, each item with the number of the bracket that has it alone. Each node of
-/// these types is added once.
+/// The brackets of types, one after another, each item with the number of the bracket that has it
+/// alone. Each node of these types is added once.
 pub fn number_brackets(
     alloc: Global,
     types: &mut Types,

@@ -47,7 +47,8 @@ fn copied(alloc: Global, name: &[u8]) -> Result<List<u8>, Memory>
 
 /// Two tags with one hash, as a rule that is broken.
 fn hash_break(alloc: Global, found: Collision<'_>) -> Result<HeadBreak, Memory>
-    ensures { IfOk result (λ b. b ≡ HeadBreak.HashClash found.entry.place found.entry.one.now found.entry.other.now) }
+    ensures { IfOk result
+        (λ b. b ≡ HeadBreak.HashClash found.entry.place found.entry.one.now found.entry.other.now) }
 {
     let one = copied(alloc, found.one)?;
     let other = copied(alloc, found.other)?;

@@ -34,10 +34,12 @@ fn first_of_brackets(
     table: &Table<'_>,
     brackets: &[List<NumberedItem>],
 ) -> Result<Option<HeadBreak>, Memory>
-    requires places { ArePlaces (names_of_decls decls.now) (length decls.now) (number_of table.now) }
+    requires places { ArePlaces (names_of_decls decls.now) (length decls.now)
+        (number_of table.now) }
     requires within { AreAllWithin types.old brackets.now }
     requires sound { AreSound decls.now }
-    ensures { let all = brackets_at types.old brackets.now in IfOk result (IsFirstOfHeads (BracketsBreak decls.now all) (BracketsHash decls.now all)) }
+    ensures { let all = brackets_at types.old brackets.now in
+        IfOk result (IsFirstOfHeads (BracketsBreak decls.now all) (BracketsHash decls.now all)) }
 {
     if let Some(place) = least_not_variant(alloc, types, decls, table, brackets)? {
         return Ok(Some(HeadBreak::NotVariant(place)));
@@ -66,7 +68,8 @@ fn first_of_file(
     brackets: &[List<TypeBrackets<'_>>],
 ) -> Result<Option<HeadBreak>, Memory>
     ghost all: { Seq DeclPlaces }
-    requires places { ArePlaces (names_of_decls decls.now) (length decls.now) (number_of table.now) }
+    requires places { ArePlaces (names_of_decls decls.now) (length decls.now)
+        (number_of table.now) }
     requires decls { decls.now ≡ decls_of all }
     requires names { names.now ≡ declared_names all }
     requires brackets { AreFileBrackets brackets.now all }
@@ -90,10 +93,12 @@ fn first_of_type(
     brackets: &[TypeBrackets<'_>],
 ) -> Result<Option<HeadBreak>, Memory>
     ghost occurrences: { Seq Occurrence }
-    requires places { ArePlaces (names_of_decls decls.now) (length decls.now) (number_of table.now) }
+    requires places { ArePlaces (names_of_decls decls.now) (length decls.now)
+        (number_of table.now) }
     requires brackets { AreBrackets brackets.now occurrences }
     requires sound { AreSound decls.now }
-    ensures { IfOk result (IsFirstOfHeads (BreaksInType decls.now occurrences) (TypeHashes decls.now occurrences)) }
+    ensures { IfOk result
+        (IsFirstOfHeads (BreaksInType decls.now occurrences) (TypeHashes decls.now occurrences)) }
 {
     let numbered = number_brackets(alloc, types, brackets)?;
     first_of_brackets(alloc, types, decls, table, numbered.as_slice())
@@ -127,7 +132,8 @@ pub fn first_head_break_in_type(
     ghost occurrences: { Seq Occurrence }
     requires brackets { AreBrackets brackets.now occurrences }
     requires sound { AreSound decls.now }
-    ensures { IfOk result (IsFirstOfHeads (BreaksInType decls.now occurrences) (TypeHashes decls.now occurrences)) }
+    ensures { IfOk result
+        (IsFirstOfHeads (BreaksInType decls.now occurrences) (TypeHashes decls.now occurrences)) }
 {
     let table = table_of(alloc, decls)?;
     let mut types = Types::new(alloc);

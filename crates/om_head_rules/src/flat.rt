@@ -23,7 +23,8 @@ use std::alloc::Global;
 
 /// Whether an abbreviation of this group is at the head of a type.
 fn is_own(types: &Types, decls: &[Decl], table: &Table<'_>, group: usize, number: usize) -> bool
-    requires places { ArePlaces (names_of_decls decls.now) (length decls.now) (number_of table.now) }
+    requires places { ArePlaces (names_of_decls decls.now) (length decls.now)
+        (number_of table.now) }
     requires number { number < length types.now }
     ensures { IsTrue result ↔ IsOwn decls.now group (type_at types.now number) }
 {
@@ -49,10 +50,12 @@ fn is_through(
     group: usize,
     number: usize,
 ) -> Result<bool, Memory>
-    requires places { ArePlaces (names_of_decls decls.now) (length decls.now) (number_of table.now) }
+    requires places { ArePlaces (names_of_decls decls.now) (length decls.now)
+        (number_of table.now) }
     requires number { number < length types.old }
     requires sound { AreSound decls.now }
-    ensures ok { IfOk result (λ is. IsTrue is ↔ IsThrough decls.now group (type_at types.old number)) }
+    ensures ok { IfOk result
+        (λ is. IsTrue is ↔ IsThrough decls.now group (type_at types.old number)) }
     ensures grown { Grows types.old types.new }
 {
     let mut known = none_known(alloc);
@@ -74,9 +77,12 @@ fn are_floats(
     table: &Table<'_>,
     fields: &[Field],
 ) -> Result<bool, Memory>
-    requires places { ArePlaces (names_of_decls decls.now) (length decls.now) (number_of table.now) }
+    requires places { ArePlaces (names_of_decls decls.now) (length decls.now)
+        (number_of table.now) }
     requires sound { AreSound decls.now }
-    ensures ok { IfOk result (λ are. IsTrue are ↔ ((f : Member) → Contains fields.now f → is_float decls.now f.ty ≡ true)) }
+    ensures ok { IfOk result
+        (λ are. IsTrue are
+        ↔ ((f : Member) → Contains fields.now f → is_float decls.now f.ty ≡ true)) }
 {
     for field in fields {
         let number = types.add(alloc, &field.ty)?;
@@ -96,9 +102,12 @@ fn some_through(
     group: usize,
     fields: &[Field],
 ) -> Result<bool, Memory>
-    requires places { ArePlaces (names_of_decls decls.now) (length decls.now) (number_of table.now) }
+    requires places { ArePlaces (names_of_decls decls.now) (length decls.now)
+        (number_of table.now) }
     requires sound { AreSound decls.now }
-    ensures { IfOk result (λ some. IsTrue some ↔ ((f : Member) × Contains fields.now f × IsThrough decls.now group f.ty)) }
+    ensures { IfOk result
+        (λ some. IsTrue some
+        ↔ ((f : Member) × Contains fields.now f × IsThrough decls.now group f.ty)) }
 {
     for field in fields {
         let number = types.add(alloc, &field.ty)?;
@@ -117,9 +126,11 @@ fn is_flat(
     table: &Table<'_>,
     decl: &Decl,
 ) -> Result<bool, Memory>
-    requires places { ArePlaces (names_of_decls decls.now) (length decls.now) (number_of table.now) }
+    requires places { ArePlaces (names_of_decls decls.now) (length decls.now)
+        (number_of table.now) }
     requires sound { AreSound decls.now }
-    ensures { IfOk result (λ is. IsTrue is ↔ IsFlatThroughGroup decls.now decl.now.group decl.now.body) }
+    ensures { IfOk result
+        (λ is. IsTrue is ↔ IsFlatThroughGroup decls.now decl.now.group decl.now.body) }
 {
     let Body::Record(fields) = &decl.body else {
         return Ok(false);
@@ -139,7 +150,8 @@ pub fn least_flat(
     table: &Table<'_>,
     names: &[Placed],
 ) -> Result<Option<usize>, Memory>
-    requires places { ArePlaces (names_of_decls decls.now) (length decls.now) (number_of table.now) }
+    requires places { ArePlaces (names_of_decls decls.now) (length decls.now)
+        (number_of table.now) }
     requires sound { AreSound decls.now }
     requires named { length decls.now ≡ length names.now }
     ensures { IfOk result (IsLeast (SomeFlat decls.now names.now)) }

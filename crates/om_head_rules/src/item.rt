@@ -35,7 +35,8 @@ fn tag_number(types: &mut Types, name: &[u8]) -> Result<usize, Memory>
 fn tag_of_number(types: &mut Types, name: &[u8], argument: usize) -> Result<usize, Memory>
     requires { argument < length types.old }
     ensures grown { Grows types.old types.new }
-    ensures ok { IfOk result (λ n. slice_get types.new n ≡ Some (tag_of bracket name.now (type_at types.old argument))) }
+    ensures ok { IfOk result
+        (λ n. slice_get types.new n ≡ Some (tag_of bracket name.now (type_at types.old argument))) }
 {
     let bracket = types.add_bracket()?;
     types.add_tag_of(bracket, name, argument)
@@ -45,7 +46,8 @@ fn tag_of_number(types: &mut Types, name: &[u8], argument: usize) -> Result<usiz
 fn including_number(types: &mut Types, included: usize) -> Result<usize, Memory>
     requires { included < length types.old }
     ensures grown { Grows types.old types.new }
-    ensures ok { IfOk result (λ n. slice_get types.new n ≡ Some (including bracket (type_at types.old included))) }
+    ensures ok { IfOk result
+        (λ n. slice_get types.new n ≡ Some (including bracket (type_at types.old included))) }
 {
     let bracket = types.add_bracket()?;
     types.add_including(bracket, included)
@@ -62,7 +64,8 @@ fn node_number(
     requires numbers { HasNumbers types.old (types_of nodes.now) numbers.now }
     requires below { n < length nodes.now }
     ensures grown { Grows types.old types.new }
-    ensures ok { IfOk result (λ i. slice_get types.new i ≡ Some (item_of (type_at (types_of nodes.now) n))) }
+    ensures ok { IfOk result
+        (λ i. slice_get types.new i ≡ Some (item_of (type_at (types_of nodes.now) n))) }
 {
     match &nodes[n] {
         Node::Tag(_, x) => tag_number(types, x.as_slice()),
@@ -82,7 +85,8 @@ fn item_number(
     requires ordered { AreOrdered nodes.now }
     requires numbers { HasNumbers types.old (types_of nodes.now) numbers.now }
     ensures grown { Grows types.old types.new }
-    ensures ok { IfOk result (λ i. slice_get types.new i ≡ Some (item_of (type_at (types_of nodes.now) n))) }
+    ensures ok { IfOk result
+        (λ i. slice_get types.new i ≡ Some (item_of (type_at (types_of nodes.now) n))) }
 {
     if n < nodes.len() {
         node_number(types, nodes, numbers, n)
@@ -101,7 +105,8 @@ pub fn number_item(
     requires ordered { AreOrdered nodes.now }
     requires numbers { HasNumbers types.old (types_of nodes.now) numbers.now }
     ensures grown { Grows types.old types.new }
-    ensures ok { IfOk result (λ i. IsNumbered types.new i (item_told (types_of nodes.now) item.now)) }
+    ensures ok { IfOk result
+        (λ i. IsNumbered types.new i (item_told (types_of nodes.now) item.now)) }
 {
     Ok(NumberedItem {
         place: item.place,

@@ -1,5 +1,5 @@
-//! The rules of scope that ask for the heads of types: what brackets include, the tags that come together in them, and
-//! records of floats.
+//! The rules of scope that ask for the heads of types: what brackets include, the tags that come
+//! together in them, and records of floats.
 #![tactic(auto)]
 
 mod brackets;

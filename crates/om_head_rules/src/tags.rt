@@ -30,10 +30,13 @@ fn tags_of(
     table: &Table<'_>,
     number: usize,
 ) -> Result<List<TagOf<usize>>, Memory>
-    requires places { ArePlaces (names_of_decls decls.now) (length decls.now) (number_of table.now) }
+    requires places { ArePlaces (names_of_decls decls.now) (length decls.now)
+        (number_of table.now) }
     requires number { number < length types.old }
     requires sound { AreSound decls.now }
-    ensures ok { IfOk result (λ tags. map (tag_with_part (slice_get types.new)) tags ≡ map (tag_with_part Some) (tags_of_item decls.now (type_at types.old number))) }
+    ensures ok { IfOk result
+        (λ tags. map (tag_with_part (slice_get types.new)) tags
+        ≡ map (tag_with_part Some) (tags_of_item decls.now (type_at types.old number))) }
     ensures grown { Grows types.old types.new }
 {
     match head_of(alloc, types, decls, table, number)? {
@@ -50,10 +53,13 @@ fn tagged_items(
     table: &Table<'_>,
     items: &[NumberedItem],
 ) -> Result<List<Item>, Memory>
-    requires places { ArePlaces (names_of_decls decls.now) (length decls.now) (number_of table.now) }
+    requires places { ArePlaces (names_of_decls decls.now) (length decls.now)
+        (number_of table.now) }
     requires within { AreWithin types.old items.now }
     requires sound { AreSound decls.now }
-    ensures ok { IfOk result (λ all. map (typed_item types.new) all ≡ map (written_item decls.now) (items_at types.old items.now)) }
+    ensures ok { IfOk result
+        (λ all. map (typed_item types.new) all
+        ≡ map (written_item decls.now) (items_at types.old items.now)) }
     ensures grown { Grows types.old types.new }
 {
     let mut all = List::new(alloc);
@@ -75,10 +81,13 @@ fn all_tagged(
     table: &Table<'_>,
     brackets: &[List<NumberedItem>],
 ) -> Result<List<List<Item>>, Memory>
-    requires places { ArePlaces (names_of_decls decls.now) (length decls.now) (number_of table.now) }
+    requires places { ArePlaces (names_of_decls decls.now) (length decls.now)
+        (number_of table.now) }
     requires within { AreAllWithin types.old brackets.now }
     requires sound { AreSound decls.now }
-    ensures ok { IfOk result (λ all. map (map (typed_item types.new)) all ≡ map (map (written_item decls.now)) (brackets_at types.old brackets.now)) }
+    ensures ok { IfOk result
+        (λ all. map (map (typed_item types.new)) all
+        ≡ map (map (written_item decls.now)) (brackets_at types.old brackets.now)) }
     ensures grown { Grows types.old types.new }
 {
     let mut all = List::new(alloc);
@@ -96,10 +105,12 @@ pub fn tagged_brackets(
     table: &Table<'_>,
     brackets: &[List<NumberedItem>],
 ) -> Result<List<List<Item>>, Memory>
-    requires places { ArePlaces (names_of_decls decls.now) (length decls.now) (number_of table.now) }
+    requires places { ArePlaces (names_of_decls decls.now) (length decls.now)
+        (number_of table.now) }
     requires within { AreAllWithin types.old brackets.now }
     requires sound { AreSound decls.now }
-    ensures ok { IfOk result (λ tagged. AreTagged types.new decls.now tagged (brackets_at types.old brackets.now)) }
+    ensures ok { IfOk result
+        (λ tagged. AreTagged types.new decls.now tagged (brackets_at types.old brackets.now)) }
     ensures grown { Grows types.old types.new }
 {
     let tagged = all_tagged(alloc, types, decls, table, brackets)?;

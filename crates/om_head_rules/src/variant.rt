@@ -27,10 +27,12 @@ fn includes_other(
     table: &Table<'_>,
     number: usize,
 ) -> Result<bool, Memory>
-    requires places { ArePlaces (names_of_decls decls.now) (length decls.now) (number_of table.now) }
+    requires places { ArePlaces (names_of_decls decls.now) (length decls.now)
+        (number_of table.now) }
     requires number { number < length types.old }
     requires sound { AreSound decls.now }
-    ensures ok { IfOk result (λ is. IsTrue is ↔ IncludesOther decls.now (type_at types.old number)) }
+    ensures ok { IfOk result
+        (λ is. IsTrue is ↔ IncludesOther decls.now (type_at types.old number)) }
     ensures grown { Grows types.old types.new }
 {
     match types.node(number) {
@@ -50,7 +52,8 @@ fn least_other(
     table: &Table<'_>,
     items: &[NumberedItem],
 ) -> Result<Option<usize>, Memory>
-    requires places { ArePlaces (names_of_decls decls.now) (length decls.now) (number_of table.now) }
+    requires places { ArePlaces (names_of_decls decls.now) (length decls.now)
+        (number_of table.now) }
     requires within { AreWithin types.old items.now }
     requires sound { AreSound decls.now }
     ensures ok { IfOk result (IsLeast (ItemsInclude decls.now types.old items.now)) }
@@ -64,7 +67,8 @@ fn least_other(
     Ok(best)
 }
 
-/// The least place of an item of some bracket that includes another type than a polymorphic variant.
+/// The least place of an item of some bracket that includes another type than a polymorphic
+/// variant.
 pub fn least_not_variant(
     alloc: Global,
     types: &mut Types,
@@ -72,10 +76,12 @@ pub fn least_not_variant(
     table: &Table<'_>,
     brackets: &[List<NumberedItem>],
 ) -> Result<Option<usize>, Memory>
-    requires places { ArePlaces (names_of_decls decls.now) (length decls.now) (number_of table.now) }
+    requires places { ArePlaces (names_of_decls decls.now) (length decls.now)
+        (number_of table.now) }
     requires within { AreAllWithin types.old brackets.now }
     requires sound { AreSound decls.now }
-    ensures ok { IfOk result (IsLeast (SomeBreaks brackets.now (ItemsInclude decls.now types.old))) }
+    ensures ok { IfOk result
+        (IsLeast (SomeBreaks brackets.now (ItemsInclude decls.now types.old))) }
     ensures grown { Grows types.old types.new }
 {
     let mut best = None;

@@ -9,7 +9,8 @@ use Rattle.om_format.specs.Header.{magic, small_magic, big_magic, compressed_mag
 -- what the header states, or how many bytes are missing to its end
 abbrev pub rest_step : List ℕ → HeaderStep
 rest_step bytes =
-    if nat_lt (length bytes) (header_length bytes) then steps.More (header_length bytes - length bytes)
+    if nat_lt (length bytes) (header_length bytes)
+    then steps.More (header_length bytes - length bytes)
     else steps.Head (head_of bytes)
 
 -- the magic is judged as soon as it is there
@@ -30,9 +31,13 @@ abbrev pub wanted : List ℕ → ℕ
 wanted bytes = if nat_lt (length bytes) 4 then 4 else header_length bytes
 
 abbrev pub IsStep : List ℕ → HeaderStep → Type 0
-IsStep bytes (steps.More n) = (4 ≤ length bytes → HasMagic bytes) × (0 < n) × (length bytes + n ≡ wanted bytes)
-IsStep bytes (steps.Head head) = HasMagic bytes × (header_length bytes ≤ length bytes) × (head ≡ head_of bytes)
+IsStep bytes (steps.More n) =
+    (4 ≤ length bytes → HasMagic bytes) × (0 < n) × (length bytes + n ≡ wanted bytes)
+IsStep bytes (steps.Head head) =
+    HasMagic bytes × (header_length bytes ≤ length bytes) × (head ≡ head_of bytes)
 
 abbrev pub IsFault : List ℕ → HeadFault → Type 0
-IsFault bytes (faults.BadMagic m) = (4 ≤ length bytes) × (m ≡ magic bytes) × (m ≢ small_magic) × (m ≢ big_magic) × (m ≢ compressed_magic)
+IsFault bytes (faults.BadMagic m) =
+    (4 ≤ length bytes) × (m ≡ magic bytes) × (m ≢ small_magic) × (m ≢ big_magic)
+    × (m ≢ compressed_magic)
 IsFault bytes faults.Compressed = (4 ≤ length bytes) × (magic bytes ≡ compressed_magic)

@@ -8,7 +8,8 @@ use crate::magic::{BIG_MAGIC, COMPRESSED_MAGIC, SMALL_MAGIC};
 use om_model::bytes::big_endian;
 use om_model::header::Head;
 
-/// What the first bytes of a value say of its header: that more of them are missing, or what it states.
+/// What the first bytes of a value say of its header: that more of them are missing, or what it
+/// states.
 #[derive(Clone, Copy)]
 pub enum HeaderStep {
     /// How many bytes are missing to the magic's end, or after it to the header's.

@@ -1,4 +1,5 @@
--- What a heap's calls read and write: an object's parts, its size in words (`extern.c`), and a graph with one place changed.
+-- What a heap's calls read and write: an object's parts, its size in words (`extern.c`), and a
+-- graph with one place changed.
 use Rattle.std.specs.Prelude.{ℕ, ◌+◌, ◌-◌, ◌*◌, ◌/◌, ◌^◌, ◌<◌, ◌≡◌, List, [], ◌∷◌, ◌++◌, length, take, All, sum_by, ℤ, pos, negsuc, Option, Some, None, Result, Ok, Err, slice_index, slice_index_or, slice_set}
 use Rattle.om_model.specs.declared.out_of_memory.Memory.{Memory}
 use Rattle.om_model.specs.declared.value.Val.{Val}
@@ -84,10 +85,13 @@ kind_of (objects.Native z) = kinds.Custom (customs.Native z)
 
 -- the same, read from the kind: the object is made of its parts, and the kind has their number
 abbrev pub IsOfKind : Kind → Obj → Type 0
-IsOfKind (kinds.Block tag size) object = (object ≡ objects.Block tag (fields_of object)) × (size ≡ length (fields_of object))
-IsOfKind (kinds.Bytes len) object = (object ≡ objects.Bytes (bytes_of object)) × (len ≡ length (bytes_of object))
+IsOfKind (kinds.Block tag size) object =
+    (object ≡ objects.Block tag (fields_of object)) × (size ≡ length (fields_of object))
+IsOfKind (kinds.Bytes len) object =
+    (object ≡ objects.Bytes (bytes_of object)) × (len ≡ length (bytes_of object))
 IsOfKind kinds.Double object = object ≡ objects.Double (slice_index (doubles_of object) 0)
-IsOfKind (kinds.Doubles len) object = (object ≡ objects.Doubles (doubles_of object)) × (len ≡ length (doubles_of object))
+IsOfKind (kinds.Doubles len) object =
+    (object ≡ objects.Doubles (doubles_of object)) × (len ≡ length (doubles_of object))
 IsOfKind (kinds.Custom c) object = object ≡ custom_object c
 
 -- how large an object is
@@ -135,7 +139,8 @@ abbrev pub integer_word : ℤ → ℕ
 integer_word (pos n) = 2 * n + 1
 integer_word (negsuc n) = 2 ^ 64 - 1 - 2 * n
 
--- a value's word, where headers have these places: an integer's ends in 1, an atom's in 010, a reference's in 000
+-- a value's word, where headers have these places: an integer's ends in 1, an atom's in 010, a
+-- reference's in 000
 abbrev pub word_with : (ℕ → ℕ) → Val → ℕ
 word_with places (vals.Int z) = integer_word z
 word_with places (vals.Atom tag) = 8 * tag + 2
@@ -144,9 +149,11 @@ word_with places (vals.Ref k) = 8 * places k
 abbrev pub word_of : List Obj → Val → ℕ
 word_of graph v = word_with (place graph) v
 
--- the object is appended, and the answer is the word that refers to it; without room nothing has changed
+-- the object is appended, and the answer is the word that refers to it; without room nothing has
+-- changed
 abbrev pub AppendsInRoom : List Obj → List Obj → Obj → Option ℕ → Type 0
-AppendsInRoom old new object (Some word) = (word ≡ word_of new (vals.Ref (length old))) × (new ≡ old ++ object ∷ [])
+AppendsInRoom old new object (Some word) =
+    (word ≡ word_of new (vals.Ref (length old))) × (new ≡ old ++ object ∷ [])
 AppendsInRoom old new object None = new ≡ old
 
 -- the word of some value of the graph, and of a reference
@@ -158,7 +165,8 @@ IsReferenceWord graph word = (k : ℕ) × (k < length graph) × (word ≡ word_o
 
 -- what holds of the object that a reference's word names
 abbrev pub ForNamed : List Obj → ℕ → (Obj → Type 0) → Type 0
-ForNamed graph word P = (k : ℕ) → k < length graph → word ≡ word_of graph (vals.Ref k) → P (object_at graph k)
+ForNamed graph word P =
+    (k : ℕ) → k < length graph → word ≡ word_of graph (vals.Ref k) → P (object_at graph k)
 
 -- the key of object k for tables; each object has two words at least, so no two have one
 abbrev pub key_of : List Obj → ℕ → ℕ

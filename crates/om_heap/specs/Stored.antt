@@ -21,7 +21,8 @@ places_of graph = map (place graph) (range_with_len 0 (length graph))
 
 -- back: an integer, the value of a word, the bytes of words, a custom
 abbrev pub integer_from : ℕ → ℤ
-integer_from word = if nat_lt word (2 ^ 63) then pos (word / 2) else negsuc ((2 ^ 64 - 1 - word) / 2)
+integer_from word =
+    if nat_lt word (2 ^ 63) then pos (word / 2) else negsuc ((2 ^ 64 - 1 - word) / 2)
 
 abbrev pub signed_from : ℕ → ℤ
 signed_from word = if nat_lt word (2 ^ 63) then pos word else negsuc (2 ^ 64 - 1 - word)
@@ -65,7 +66,8 @@ kind_from tag body =
 -- the object whose header is at place p
 abbrev pub object_in : List ℕ → List ℕ → ℕ → Obj
 object_in words places p =
-    object_from places (slice_index words p % 1024) (take (slice_index words p / 1024) (drop (p + 1) words))
+    object_from places (slice_index words p % 1024)
+    (take (slice_index words p / 1024) (drop (p + 1) words))
 
 unfoldable pub decode : List ℕ → List ℕ → List Obj
 decode words places = map (object_in words places) places

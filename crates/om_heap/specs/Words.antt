@@ -60,7 +60,8 @@ abbrev pub header : ℕ → ℕ → ℕ
 header tag size = size * 1024 + tag
 
 abbrev pub code_with : (ℕ → ℕ) → Obj → List ℕ
-code_with places object = header (tag_of object) (length (body_with places object)) ∷ body_with places object
+code_with places object =
+    header (tag_of object) (length (body_with places object)) ∷ body_with places object
 
 -- the header of an object
 abbrev pub header_of : Obj → ℕ

@@ -26,8 +26,8 @@ use std::marker::Model;
 
 /// A graph, which contracts see as the list of its objects.
 ///
-/// A call that appends answers the object's number, or `Memory` with all as before. It does so too where the objects
-/// would have 2^60 words or more together, counted as on 64 bits.
+/// A call that appends answers the object's number, or `Memory` with all as before. It does so too
+/// where the objects would have 2^60 words or more together, counted as on 64 bits.
 #[derive(Drop)]
 pub struct Heap {
     region: Region,
@@ -78,7 +78,8 @@ impl Heap {
         requires tag { tag ≤ 243 }
         requires nonempty { 0 < size }
         requires small { words64 (measures.Block size) < 2 ^ 54 }
-        ensures { Appends self.old self.new (objects.Block tag (replicate size (vals.Int (pos 0)))) result }
+        ensures { Appends self.old self.new
+            (objects.Block tag (replicate size (vals.Int (pos 0)))) result }
     {
         let header = header_word(u64::from(tag), size);
         let number = begin(&mut self.region, &mut self.places, 1 + size)?;
@@ -87,13 +88,15 @@ impl Heap {
         Ok(number)
     }
 
-    /// Appends a block whose fields are 0, if no memory is needed for it: the word that refers to it.
+    /// Appends a block whose fields are 0, if no memory is needed for it: the word that refers to
+    /// it.
     #[inline(always)]
     pub fn add_block_in_room(&mut self, tag: u8, size: u64) -> Option<u64>
         requires tag { tag ≤ 243 }
         requires nonempty { 0 < size }
         requires small { words64 (measures.Block size) < 2 ^ 54 }
-        ensures { AppendsInRoom self.old self.new (objects.Block tag (replicate size (vals.Int (pos 0)))) result }
+        ensures { AppendsInRoom self.old self.new
+            (objects.Block tag (replicate size (vals.Int (pos 0)))) result }
     {
         let place = self.region.len() as u64;
         if !begin_in_room(&self.region, &mut self.places, 1 + size) {
@@ -141,7 +144,9 @@ impl Heap {
         requires nonempty { 0 < length words.now }
         requires small { words64 (measures.Block (length words.now)) < 2 ^ 54 }
         requires valid { All (IsFieldWord self.old) words.now }
-        ensures { (values : List Val) → All (IsValue (length self.old)) values → words.now ≡ map (word_of self.old) values → Appends self.old self.new (objects.Block tag values) result }
+        ensures { (values : List Val) → All (IsValue (length self.old)) values
+            → words.now ≡ map (word_of self.old) values
+            → Appends self.old self.new (objects.Block tag values) result }
     {
         let size = words.len() as u64;
         let number = begin(&mut self.region, &mut self.places, 1 + size)?;
@@ -287,7 +292,8 @@ impl Heap {
     /// A number for tables: two references have one key exactly where they name one object.
     pub fn key(&self, word: u64) -> usize
         requires { IsReferenceWord self.now word }
-        ensures { (k : ℕ) → k < length self.now → word ≡ word_of self.now (vals.Ref k) → result ≡ key_of self.now k }
+        ensures { (k : ℕ) → k < length self.now → word ≡ word_of self.now (vals.Ref k)
+            → result ≡ key_of self.now k }
     {
         (word / 16) as usize
     }
@@ -311,7 +317,8 @@ impl Heap {
         }
     }
 
-    /// The header of the object that a reference's word names: 1024 times how many words come after it, and the tag.
+    /// The header of the object that a reference's word names: 1024 times how many words come after
+    /// it, and the tag.
     pub fn header_at(&self, word: u64) -> u64
         requires { IsReferenceWord self.now word }
         ensures { ForNamed self.now word (λ object. result ≡ header_of object) }
@@ -330,8 +337,10 @@ impl Heap {
 
     /// The words of the fields of the block that a reference's word names, lent.
     pub fn fields_at(&self, word: u64) -> &[u64]
-        requires { (k : ℕ) × (k < length self.now) × (word ≡ word_of self.now (vals.Ref k)) × IsBlock (object_at self.now k) }
-        ensures words { ForNamed self.now word (λ object. result.now ≡ map (word_of self.now) (fields_of object)) }
+        requires { (k : ℕ) × (k < length self.now) × (word ≡ word_of self.now (vals.Ref k))
+            × IsBlock (object_at self.now k) }
+        ensures words { ForNamed self.now word
+            (λ object. result.now ≡ map (word_of self.now) (fields_of object)) }
         ensures valid { All (IsFieldWord self.now) result.now }
     {
         body_in(&self.region, (word / 8) as usize)
@@ -346,7 +355,8 @@ impl Heap {
         body_in(&self.region, (word / 8) as usize)
     }
 
-    /// Puts v into field i of a block. A reference may name any object, also one that is still being filled.
+    /// Puts v into field i of a block. A reference may name any object, also one that is still
+    /// being filled.
     pub fn set(&mut self, o: u64, i: u64, v: Val)
         requires place { i < length (fields_of (object_at self.old o)) }
         requires valid { IsValue (length self.old) v }
@@ -359,7 +369,8 @@ impl Heap {
     pub fn set_word(&mut self, o: u64, i: u64, word: u64)
         requires place { i < length (fields_of (object_at self.old o)) }
         requires valid { IsFieldWord self.old word }
-        ensures { (v : Val) → IsValue (length self.old) v → word ≡ word_of self.old v → self.new ≡ set_field self.old o i v }
+        ensures { (v : Val) → IsValue (length self.old) v → word ≡ word_of self.old v
+            → self.new ≡ set_field self.old o i v }
     {
         let at = self.place(o) + 1 + i as usize;
         self.region.set(at, word);
@@ -368,10 +379,12 @@ impl Heap {
     /// Puts the value of this word into field i of the block that a reference's word names.
     #[inline(always)]
     pub fn set_word_at(&mut self, block: u64, i: u64, word: u64)
-        requires place { (k : ℕ) × (k < length self.old) × (block ≡ word_of self.old (vals.Ref k)) × (i < length (fields_of (object_at self.old k))) }
+        requires place { (k : ℕ) × (k < length self.old) × (block ≡ word_of self.old (vals.Ref k))
+            × (i < length (fields_of (object_at self.old k))) }
         requires valid { IsFieldWord self.old word }
-        ensures { (k : ℕ) (v : Val) → k < length self.old → block ≡ word_of self.old (vals.Ref k) → i < length (fields_of (object_at self.old k))
-            → IsValue (length self.old) v → word ≡ word_of self.old v → self.new ≡ set_field self.old k i v }
+        ensures { (k : ℕ) (v : Val) → k < length self.old → block ≡ word_of self.old (vals.Ref k)
+            → i < length (fields_of (object_at self.old k)) → IsValue (length self.old) v
+            → word ≡ word_of self.old v → self.new ≡ set_field self.old k i v }
     {
         self.region.set((block / 8) as usize + 1 + i as usize, word);
     }

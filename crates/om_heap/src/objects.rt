@@ -15,7 +15,8 @@ use om_words::region::Region;
 pub fn begin(region: &mut Region, places: &mut Places, words: u64) -> Result<u64, Memory>
     requires { All (λ p. p < length region.old.words) places.old }
     ensures places { MatchResult result
-        (λ number. (number ≡ length places.old) × (places.new ≡ places.old ++ length region.old.words ∷ []))
+        (λ number. (number ≡ length places.old)
+        × (places.new ≡ places.old ++ length region.old.words ∷ []))
         (λ _. places.new ≡ places.old) }
     ensures words { region.new.words ≡ region.old.words }
     ensures room { OnOk result (words ≤ region.new.spare) }
@@ -32,7 +33,8 @@ pub fn begin(region: &mut Region, places: &mut Places, words: u64) -> Result<u64
 #[inline(always)]
 pub fn begin_in_room(region: &Region, places: &mut Places, words: u64) -> bool
     requires { All (λ p. p < length region.now.words) places.old }
-    ensures places { MatchBool result (places.new ≡ places.old ++ length region.now.words ∷ []) (places.new ≡ places.old) }
+    ensures places { MatchBool result (places.new ≡ places.old ++ length region.now.words ∷ [])
+        (places.new ≡ places.old) }
     ensures room { OnTrue result (words ≤ region.now.spare) }
     ensures small { OnTrue result (length region.now.words + words < 2 ^ 60) }
 {
@@ -99,7 +101,8 @@ pub fn append_copy(region: &mut Region, from: usize, n: usize)
 pub fn body_in(region: &Region, at: usize) -> &[u64]
     requires small { length region.now.words < 2 ^ 60 }
     requires inside { at + 1 + slice_index region.now.words at / 1024 ≤ length region.now.words }
-    ensures { result.now ≡ take (slice_index region.now.words at / 1024) (drop (at + 1) region.now.words) }
+    ensures { result.now
+        ≡ take (slice_index region.now.words at / 1024) (drop (at + 1) region.now.words) }
 {
     let size = region.get(at) / 1024;
     region.part(at + 1, size as usize)

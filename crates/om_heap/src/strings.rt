@@ -1,4 +1,5 @@
-//! Strings as words: eight bytes each, the least significant first, and the last tells how many zeros end it.
+//! Strings as words: eight bytes each, the least significant first, and the last tells how many
+//! zeros end it.
 
 ghost use Rattle.std.specs.Prelude.{◌≡◌, ◌+◌, ◌-◌, ◌*◌, ◌/◌, ◌%◌, ◌^◌, ◌<◌, ◌≤◌, [], ◌∷◌, ◌++◌, length, take, drop, replicate, slice_set};
 ghost use Rattle.om_heap.specs.Stored.{string_length};
@@ -39,13 +40,15 @@ fn whole_word(content: &[u8], j: usize) -> u64
     u64::from_le_bytes(bytes)
 }
 
-/// The last word, of the bytes that are left. Each number of them has code of its own, since a loop would be compiled to a
-/// call that copies memory.
+/// The last word, of the bytes that are left. Each number of them has code of its own, since a loop
+/// would be compiled to a call that copies memory.
 #[tactic(auto, unfolding(crate::specs::Words::word_of_bytes))]
 #[inline(always)]
 fn last_word(rest: &[u8]) -> u64
     requires { length rest.now < 8 }
-    ensures { result ≡ word_of_bytes (rest.now ++ (replicate (7 - length rest.now) 0 ++ (7 - length rest.now) ∷ [])) }
+    ensures { result
+        ≡ word_of_bytes
+        (rest.now ++ (replicate (7 - length rest.now) 0 ++ (7 - length rest.now) ∷ [])) }
 {
     match rest.len() {
         0 => u64::from_le_bytes([0, 0, 0, 0, 0, 0, 0, 7]),

@@ -76,7 +76,9 @@ pub fn signed_of_word(word: u64) -> i64
 pub fn kind_of_words(tag: u64, words: &[u64]) -> Kind
     requires some { 0 < length words.now }
     requires few { length words.now < 2 ^ 54 }
-    requires custom { tag ≡ 255 → (length words.now ≡ 2) × (slice_index words.now 0 ≡ 1 → IsSigned 31 (signed_from (slice_index words.now 1))) }
+    requires custom { tag ≡ 255
+        → (length words.now ≡ 2)
+        × (slice_index words.now 0 ≡ 1 → IsSigned 31 (signed_from (slice_index words.now 1))) }
     requires tag { tag < 256 }
     ensures { result ≡ kind_from tag words.now }
 {
@@ -92,7 +94,8 @@ pub fn kind_of_words(tag: u64, words: &[u64]) -> Kind
 /// The custom of these two words.
 fn custom_of_words(words: &[u64]) -> Custom
     requires two { length words.now ≡ 2 }
-    requires fits { slice_index words.now 0 ≡ 1 → IsSigned 31 (signed_from (slice_index words.now 1)) }
+    requires fits { slice_index words.now 0 ≡ 1
+        → IsSigned 31 (signed_from (slice_index words.now 1)) }
     ensures { result ≡ custom_from (slice_index words.now 0) (slice_index words.now 1) }
 {
     let z = signed_of_word(words[1]);

@@ -4,7 +4,8 @@ use Rattle.om_model.specs.declared.out_of_memory.Memory.{Memory}
 
 -- no number is twice on one side
 abbrev pub AreOneToOne : List (ℕ × ℕ) → Type 0
-AreOneToOne pairs = (k l m n : ℕ) → Contains pairs (k, l) → Contains pairs (m, n) → (k ≡ m) ↔ (l ≡ n)
+AreOneToOne pairs =
+    (k l m n : ℕ) → Contains pairs (k, l) → Contains pairs (m, n) → (k ≡ m) ↔ (l ≡ n)
 
 -- each pair has numbers below these
 abbrev pub AreInRange : List (ℕ × ℕ) → ℕ → ℕ → Type 0
@@ -21,13 +22,16 @@ StandInFront old new = (more : List (ℕ × ℕ)) × (new ≡ old ++ more)
 pub record AreMet (old new : List (ℕ × ℕ)) (alike : List (ℕ × ℕ) → Type 0) : Type 0 where
   pub kept : StandInFront old new
   pub alike_now : alike new
-  pub needed : (pairs : List (ℕ × ℕ)) → AreOneToOne pairs → AreAmong old pairs → alike pairs → AreAmong new pairs
+  pub needed : (pairs : List (ℕ × ℕ)) → AreOneToOne pairs → AreAmong old pairs → alike pairs
+      → AreAmong new pairs
 
 -- no more pairs make them alike
 abbrev pub CannotMeet : List (ℕ × ℕ) → (List (ℕ × ℕ) → Type 0) → Type 0
-CannotMeet old alike = (pairs : List (ℕ × ℕ)) → AreOneToOne pairs → AreAmong old pairs → alike pairs → ⊥
+CannotMeet old alike =
+    (pairs : List (ℕ × ℕ)) → AreOneToOne pairs → AreAmong old pairs → alike pairs → ⊥
 
-abbrev pub Meets : List (ℕ × ℕ) → List (ℕ × ℕ) → (List (ℕ × ℕ) → Type 0) → Result Bool Memory → Type 0
+abbrev pub Meets : List (ℕ × ℕ) → List (ℕ × ℕ) → (List (ℕ × ℕ) → Type 0) → Result Bool Memory
+    → Type 0
 Meets old new alike (Ok true) = AreMet old new alike
 Meets old new alike (Ok false) = CannotMeet old alike
 Meets old new alike (Err memory) = ⊤

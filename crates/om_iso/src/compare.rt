@@ -14,8 +14,9 @@ use om_model::Memory;
 use om_model::value::Val;
 use std::alloc::Global;
 
-/// Whether two values are the same: some pairs of objects, no object twice on one side, take the one root to the other,
-/// and each object to one alike. Doubles are compared by their bits. Each object is compared once.
+/// Whether two values are the same: some pairs of objects, no object twice on one side, take the
+/// one root to the other, and each object to one alike. Doubles are compared by their bits. Each
+/// object is compared once.
 pub fn same(alloc: Global, left: &Heap, v: Val, right: &Heap, w: Val) -> Result<bool, Memory>
     requires left { IsValue (length left.now) v }
     requires right { IsValue (length right.now) w }

@@ -11,8 +11,8 @@ use om_model::value::Val;
 use std::alloc::Global;
 use std::marker::Model;
 
-/// Pairs of numbers of the objects of two graphs, no number twice on one side. Contracts see the pairs in their order,
-/// and how many objects each graph has.
+/// Pairs of numbers of the objects of two graphs, no number twice on one side. Contracts see the
+/// pairs in their order, and how many objects each graph has.
 #[derive(Drop)]
 pub struct Pairing {
     pairs: Vec<(u64, u64)>,
@@ -75,7 +75,8 @@ impl Pairing {
     pub fn meet_objects(&mut self, left: u64, right: u64) -> Result<bool, Memory>
         requires left { left < self.old.lefts }
         requires right { right < self.old.rights }
-        ensures meets { Meets self.old.pairs self.new.pairs (λ pairs. Contains pairs (left, right)) result }
+        ensures meets { Meets self.old.pairs self.new.pairs
+            (λ pairs. Contains pairs (left, right)) result }
         ensures lefts { self.new.lefts ≡ self.old.lefts }
         ensures rights { self.new.rights ≡ self.old.rights }
     {
@@ -110,7 +111,8 @@ impl Pairing {
     pub fn meet_values(&mut self, left: Val, right: Val) -> Result<bool, Memory>
         requires left { IsValue self.old.lefts left }
         requires right { IsValue self.old.rights right }
-        ensures meets { Meets self.old.pairs self.new.pairs (λ pairs. AreAlike pairs left right) result }
+        ensures meets { Meets self.old.pairs self.new.pairs (λ pairs. AreAlike pairs left right)
+            result }
         ensures lefts { self.new.lefts ≡ self.old.lefts }
         ensures rights { self.new.rights ≡ self.old.rights }
     {

@@ -38,7 +38,8 @@ abbrev pub IsShapeAt : List Ty → ShapeOf Ty → ShapeOf ℕ → Type 0
 IsShapeAt types all found = with_parts (slice_get types) found ≡ with_parts Some all
 
 -- The blocks by numbers are these blocks.
-pub record HasBlocks (types : List Ty) (all : List (Constr Ty)) (found : List (Constr ℕ)) : Type 0 where
+pub record HasBlocks (types : List Ty) (all : List (Constr Ty)) (found : List (Constr ℕ))
+    : Type 0 where
   pub within : All (λ (block : Constr ℕ). All (λ i. i < length types) block.fields) found
   pub are : map (constr_with (type_at types)) found ≡ all
 
@@ -65,7 +66,8 @@ named tag = record { name = tag.name; hash = tag_hash tag.name }
 -- ---- both
 
 -- What a type looks like: its head and its shape, by numbers.
-pub record IsLayoutOf (decls : List Decl) (types : List Ty) (t : Ty) (layout : Layout) : Type 0 where
+pub record IsLayoutOf (decls : List Decl) (types : List Ty) (t : Ty) (layout : Layout)
+    : Type 0 where
   pub head : head_with_parts (slice_get types) layout.head ≡ head_with_parts Some (head decls t)
   pub shape : with_parts (slice_get types) layout.shape ≡ with_parts Some (shape decls t)
 

@@ -38,7 +38,8 @@ EachItemBringsNone decls tags t =
 
 -- so it is of the types with these numbers
 abbrev pub AreEachThere : List Decl → List Ty → List (TagOf Ty) → List ℕ → Type 0
-AreEachThere decls types tags numbers = All (λ n. EachBringsNone decls tags (type_at types n)) numbers
+AreEachThere decls types tags numbers =
+    All (λ n. EachBringsNone decls tags (type_at types n)) numbers
 
 -- all tags of each type with this abbreviation at its head are there
 abbrev pub IsSettled : List Decl → List (TagOf Ty) → ℕ → Type 0
@@ -58,14 +59,17 @@ AreSettled decls tags settled = All (IsSettled decls tags) settled
 abbrev pub AreLeft : List Decl → List Ty → List (TagOf Ty) → List Step → List (TagOf Ty) → Type 0
 AreLeft decls types tags [] all = tags ≡ all
 AreLeft decls types tags (steps.Item i ∷ rest) all =
-    (i < length types) × AreLeft decls types (with_item (head decls) tags (type_at types i)) rest all
+    (i < length types)
+    × AreLeft decls types (with_item (head decls) tags (type_at types i)) rest all
 AreLeft decls types tags (steps.Included n ∷ rest) all =
-    (n < length types) × AreLeft decls types (joined tags (tags_in (head decls (type_at types n)))) rest all
+    (n < length types)
+    × AreLeft decls types (joined tags (tags_in (head decls (type_at types n)))) rest all
 AreLeft decls types tags (steps.Settle d ∷ rest) all =
     (d < length decls) × AreLeft decls types tags rest all
 
 -- The tags found and those that are left are all, and the tags of what is settled were found.
-pub record AreGathered (decls : List Decl) (types : List Ty) (found : List (TagOf ℕ)) (settled : List ℕ) (waiting : List Step)
+pub record AreGathered (decls : List Decl) (types : List Ty) (found : List (TagOf ℕ))
+    (settled : List ℕ) (waiting : List Step)
     (all : List (TagOf Ty)) : Type 0 where
   pub found_within : All (IsTagWithin types) found
   pub brought : AreSettled decls (tags_at types found) settled

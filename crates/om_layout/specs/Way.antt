@@ -45,8 +45,10 @@ abbrev pub EachPasses : List Decl → Option ℕ → Ty → Ty → Type 0
 EachPasses decls group t v =
     (value : List ℕ → Ty) → Passes decls group (instance value t) (instance value v)
 
--- The type with this number is t after replacements at the head, those after the first of no abbreviation of the group.
-pub record IsNearer (decls : List Decl) (group : Option ℕ) (types : List Ty) (t : Ty) (number : ℕ) : Type 0 where
+-- The type with this number is t after replacements at the head, those after the first of no
+-- abbreviation of the group.
+pub record IsNearer (decls : List Decl) (group : Option ℕ) (types : List Ty) (t : Ty) (number : ℕ)
+    : Type 0 where
   pub first : Ty
   pub is : unfolded decls t ≡ Some first
   pub leads : Leads decls group first (type_at types number)
@@ -70,7 +72,8 @@ ComesToArgument decls group decl i =
     → slice_get (parts t) i ≡ Some a → Passes decls group t a
 
 -- what is known is so
-pub record AreKnown (decls : List Decl) (group : Option ℕ) {S : Type 0} (known : IndexMap ℕ (Option ℕ) S) : Type 0 where
+pub record AreKnown (decls : List Decl) (group : Option ℕ) {S : Type 0}
+    (known : IndexMap ℕ (Option ℕ) S) : Type 0 where
   pub unique : IsUnique nat_eq known
   pub below : All (λ j. j < length decls) (keys known)
   pub arguments :

@@ -33,8 +33,8 @@ use std::alloc::Global;
 /// Tags by their names, in the order in which they came, with the numbers of their arguments.
 pub(crate) type Tags = IndexMap<Vec<u8>, Option<usize>>;
 
-/// What waits: an item of a bracket, by the type that ends with it; an included type; or an abbreviation whose tags were
-/// gathered, by the number of its declaration.
+/// What waits: an item of a bracket, by the type that ends with it; an included type; or an
+/// abbreviation whose tags were gathered, by the number of its declaration.
 #[derive(Clone, Copy)]
 pub(crate) enum Step {
     Item(usize),
@@ -42,9 +42,9 @@ pub(crate) enum Step {
     Settle(usize),
 }
 
-/// The head of a type that is a bracket with or without items. It takes a step for each item, and for each item of what
-/// is included, once for each abbreviation that is included, whatever its arguments. After `Memory` there may be more
-/// types, at the end.
+/// The head of a type that is a bracket with or without items. It takes a step for each item, and
+/// for each item of what is included, once for each abbreviation that is included, whatever its
+/// arguments. After `Memory` there may be more types, at the end.
 pub fn bracket_head(
     alloc: Global,
     types: &mut Types,
@@ -52,7 +52,8 @@ pub fn bracket_head(
     table: &Table<'_>,
     number: usize,
 ) -> Result<HeadOf<usize>, Memory>
-    requires places { ArePlaces (names_of_decls decls.now) (length decls.now) (number_of table.now) }
+    requires places { ArePlaces (names_of_decls decls.now) (length decls.now)
+        (number_of table.now) }
     requires number { number < length types.old }
     requires sound { AreSound decls.now }
     requires bracketed { IsBracketed (type_at types.old number) }
@@ -76,11 +77,14 @@ fn gather_tags(
     number: usize,
     tags: &mut Tags,
 ) -> Result<(), Memory>
-    requires places { ArePlaces (names_of_decls decls.now) (length decls.now) (number_of table.now) }
+    requires places { ArePlaces (names_of_decls decls.now) (length decls.now)
+        (number_of table.now) }
     requires number { number < length types.old }
     requires sound { AreSound decls.now }
     requires none { tags.old.entries ≡ [] }
-    ensures gathered { OnOk result (AreAll types.new (tags_of_entries tags.new.entries) (with_items (head decls.now) [] (items (type_at types.old number)))) }
+    ensures gathered { OnOk result
+        (AreAll types.new (tags_of_entries tags.new.entries)
+        (with_items (head decls.now) [] (items (type_at types.old number)))) }
     ensures grown { Grows types.old types.new }
 {
     let mut waiting = Vec::new(alloc);
@@ -97,10 +101,17 @@ fn gather_all(
     tags: &mut Tags,
     waiting: &mut Vec<Step>,
 ) -> Result<(), Memory>
-    requires places { ArePlaces (names_of_decls decls.now) (length decls.now) (number_of table.now) }
+    requires places { ArePlaces (names_of_decls decls.now) (length decls.now)
+        (number_of table.now) }
     requires sound { AreSound decls.now }
-    requires gathered { (all : List (Tag Ty)) × AreGathered decls.now types.old (tags_of_entries tags.old.entries) [] (reverse waiting.old.items) all }
-    ensures gathered { OnOk result ((all : List (Tag Ty)) → AreGathered decls.now types.old (tags_of_entries tags.old.entries) [] (reverse waiting.old.items) all → AreAll types.new (tags_of_entries tags.new.entries) all) }
+    requires gathered { (all : List (Tag Ty))
+        × AreGathered decls.now types.old (tags_of_entries tags.old.entries) []
+        (reverse waiting.old.items) all }
+    ensures gathered { OnOk result
+        ((all : List (Tag Ty))
+        → AreGathered decls.now types.old (tags_of_entries tags.old.entries) []
+        (reverse waiting.old.items) all
+        → AreAll types.new (tags_of_entries tags.new.entries) all) }
     ensures grown { Grows types.old types.new }
 {
     let mut settled: Settled = IndexSet::new(alloc);
@@ -133,12 +144,23 @@ fn gather(
     settled: &mut Settled,
     waiting: &mut Vec<Step>,
 ) -> Result<(), Memory>
-    requires places { ArePlaces (names_of_decls decls.now) (length decls.now) (number_of table.now) }
+    requires places { ArePlaces (names_of_decls decls.now) (length decls.now)
+        (number_of table.now) }
     requires step { IsStepWithin decls.now types.old step }
     requires sound { AreSound decls.now }
     requires known { AreKnown decls.now None known.old }
-    ensures gathered { OnOk result ((all : List (Tag Ty)) → AreGathered decls.now types.old (tags_of_entries tags.old.entries) settled.old.keys (step ∷ reverse waiting.old.items) all → AreGathered decls.now types.new (tags_of_entries tags.new.entries) settled.new.keys (reverse waiting.new.items) all) }
-    ensures less { OnOk result ((all : List (Tag Ty)) → AreGathered decls.now types.old (tags_of_entries tags.old.entries) settled.old.keys (step ∷ reverse waiting.old.items) all → steps_work decls.now types.new (reverse waiting.new.items) < steps_work decls.now types.old (step ∷ reverse waiting.old.items)) }
+    ensures gathered { OnOk result
+        ((all : List (Tag Ty))
+        → AreGathered decls.now types.old (tags_of_entries tags.old.entries) settled.old.keys
+        (step ∷ reverse waiting.old.items) all
+        → AreGathered decls.now types.new (tags_of_entries tags.new.entries) settled.new.keys
+        (reverse waiting.new.items) all) }
+    ensures less { OnOk result
+        ((all : List (Tag Ty))
+        → AreGathered decls.now types.old (tags_of_entries tags.old.entries) settled.old.keys
+        (step ∷ reverse waiting.old.items) all
+        → steps_work decls.now types.new (reverse waiting.new.items)
+        < steps_work decls.now types.old (step ∷ reverse waiting.old.items)) }
     ensures known { OnOk result (AreKnown decls.now None known.new) }
     ensures grown { Grows types.old types.new }
 {
@@ -160,8 +182,16 @@ fn gather_item(
     waiting: &mut Vec<Step>,
 ) -> Result<(), Memory>
     requires { item < length types.now }
-    ensures gathered { OnOk result ((decls : List Declaration) (settled : List ℕ) (all : List (Tag Ty)) → AreGathered decls types.now (tags_of_entries tags.old.entries) settled (steps.Item item ∷ reverse waiting.old.items) all → AreGathered decls types.now (tags_of_entries tags.new.entries) settled (reverse waiting.new.items) all) }
-    ensures less { OnOk result ((decls : List Declaration) → steps_work decls types.now (reverse waiting.new.items) < steps_work decls types.now (steps.Item item ∷ reverse waiting.old.items)) }
+    ensures gathered { OnOk result
+        ((decls : List Declaration) (settled : List ℕ) (all : List (Tag Ty))
+        → AreGathered decls types.now (tags_of_entries tags.old.entries) settled
+        (steps.Item item ∷ reverse waiting.old.items) all
+        → AreGathered decls types.now (tags_of_entries tags.new.entries) settled
+        (reverse waiting.new.items) all) }
+    ensures less { OnOk result
+        ((decls : List Declaration)
+        → steps_work decls types.now (reverse waiting.new.items)
+        < steps_work decls types.now (steps.Item item ∷ reverse waiting.old.items)) }
 {
     match types.node(item) {
         TypeNode::Tag(_, name) => add_tag(alloc, tags, name, None),
@@ -174,8 +204,8 @@ fn gather_item(
     }
 }
 
-/// Has the items of an included type wait, or what it is after replacements at its head, unless its abbreviation is
-/// settled.
+/// Has the items of an included type wait, or what it is after replacements at its head, unless its
+/// abbreviation is settled.
 fn include(
     alloc: Global,
     types: &mut Types,
@@ -186,12 +216,24 @@ fn include(
     included: usize,
     waiting: &mut Vec<Step>,
 ) -> Result<(), Memory>
-    requires places { ArePlaces (names_of_decls decls.now) (length decls.now) (number_of table.now) }
+    requires places { ArePlaces (names_of_decls decls.now) (length decls.now)
+        (number_of table.now) }
     requires included { included < length types.old }
     requires sound { AreSound decls.now }
     requires known { AreKnown decls.now None known.old }
-    ensures gathered { OnOk result ((found : List (Tag ℕ)) (all : List (Tag Ty)) → AreGathered decls.now types.old found settled.now.keys (steps.Included included ∷ reverse waiting.old.items) all → AreGathered decls.now types.new found settled.now.keys (reverse waiting.new.items) all) }
-    ensures less { OnOk result ((found : List (Tag ℕ)) (all : List (Tag Ty)) → AreGathered decls.now types.old found settled.now.keys (steps.Included included ∷ reverse waiting.old.items) all → steps_work decls.now types.new (reverse waiting.new.items) < steps_work decls.now types.old (steps.Included included ∷ reverse waiting.old.items)) }
+    ensures gathered { OnOk result
+        ((found : List (Tag ℕ)) (all : List (Tag Ty))
+        → AreGathered decls.now types.old found settled.now.keys
+        (steps.Included included ∷ reverse waiting.old.items) all
+        → AreGathered decls.now types.new found settled.now.keys (reverse waiting.new.items)
+        all) }
+    ensures less { OnOk result
+        ((found : List (Tag ℕ)) (all : List (Tag Ty))
+        → AreGathered decls.now types.old found settled.now.keys
+        (steps.Included included ∷ reverse waiting.old.items) all
+        → steps_work decls.now types.new (reverse waiting.new.items)
+        < steps_work decls.now types.old
+        (steps.Included included ∷ reverse waiting.old.items)) }
     ensures known { OnOk result (AreKnown decls.now None known.new) }
     ensures grown { Grows types.old types.new }
 {
@@ -207,8 +249,16 @@ fn include(
 
 /// Has a type wait after a replacement, and below it the abbreviation that was replaced.
 fn push_next(decl: Option<usize>, next: usize, waiting: &mut Vec<Step>) -> Result<(), Memory>
-    ensures left { OnOk result ((decls : List Declaration) (types : List Ty) (tags all : List (Tag Ty)) → IfSome decl (λ d. d < length decls) → AreLeft decls types tags (steps.Included next ∷ reverse waiting.old.items) all → AreLeft decls types tags (reverse waiting.new.items) all) }
-    ensures work { OnOk result ((decls : List Declaration) (types : List Ty) → steps_work decls types (reverse waiting.new.items) ≤ steps_work decls types (reverse waiting.old.items) + suc (suc (work decls (type_at types next)))) }
+    ensures left { OnOk result
+        ((decls : List Declaration) (types : List Ty) (tags all : List (Tag Ty))
+        → IfSome decl (λ d. d < length decls)
+        → AreLeft decls types tags (steps.Included next ∷ reverse waiting.old.items) all
+        → AreLeft decls types tags (reverse waiting.new.items) all) }
+    ensures work { OnOk result
+        ((decls : List Declaration) (types : List Ty)
+        → steps_work decls types (reverse waiting.new.items)
+        ≤ steps_work decls types (reverse waiting.old.items)
+        + suc (suc (work decls (type_at types next)))) }
 {
     match decl {
         Some(decl) => {
@@ -226,8 +276,18 @@ fn push_next(decl: Option<usize>, next: usize, waiting: &mut Vec<Step>) -> Resul
 /// Has the items of an included bracket wait.
 fn put_items(types: &Types, bracket: usize, waiting: &mut Vec<Step>) -> Result<(), Memory>
     requires { bracket < length types.now }
-    ensures left { OnOk result ((decls : List Declaration) (tags all : List (Tag Ty)) → AreSound decls → unfolded decls (type_at types.now bracket) ≡ None → AreLeft decls types.now tags (steps.Included bracket ∷ reverse waiting.old.items) all → AreLeft decls types.now tags (reverse waiting.new.items) all) }
-    ensures work { OnOk result ((decls : List Declaration) → AreSound decls → unfolded decls (type_at types.now bracket) ≡ None → steps_work decls types.now (reverse waiting.new.items) ≤ steps_work decls types.now (reverse waiting.old.items) + work decls (type_at types.now bracket)) }
+    ensures left { OnOk result
+        ((decls : List Declaration) (tags all : List (Tag Ty)) → AreSound decls
+        → unfolded decls (type_at types.now bracket) ≡ None
+        → AreLeft decls types.now tags (steps.Included bracket ∷ reverse waiting.old.items)
+        all
+        → AreLeft decls types.now tags (reverse waiting.new.items) all) }
+    ensures work { OnOk result
+        ((decls : List Declaration) → AreSound decls
+        → unfolded decls (type_at types.now bracket) ≡ None
+        → steps_work decls types.now (reverse waiting.new.items)
+        ≤ steps_work decls types.now (reverse waiting.old.items)
+        + work decls (type_at types.now bracket)) }
 {
     if !has_bracket(types, bracket) {
         return Ok(());
@@ -242,7 +302,9 @@ fn add_tag(
     name: &[u8],
     argument: Option<usize>,
 ) -> Result<(), Memory>
-    ensures { OnOk result (tags_of_entries tags.new.entries ≡ with_tag (tags_of_entries tags.old.entries) name.now argument) }
+    ensures { OnOk result
+        (tags_of_entries tags.new.entries
+        ≡ with_tag (tags_of_entries tags.old.entries) name.now argument) }
 {
     if tags.contains_key(name) {
         return Ok(());
@@ -285,8 +347,17 @@ pub(crate) fn has_bracket(types: &Types, number: usize) -> bool
 /// Has the items of a bracket wait, the first one on top.
 fn push_items(types: &Types, number: usize, waiting: &mut Vec<Step>) -> Result<(), Memory>
     requires { number < length types.now }
-    ensures left { OnOk result ((decls : List Declaration) (tags all : List (Tag Ty)) → AreLeft decls types.now (with_items (head decls) tags (items (type_at types.now number))) (reverse waiting.old.items) all → AreLeft decls types.now tags (reverse waiting.new.items) all) }
-    ensures work { OnOk result ((decls : List Declaration) → steps_work decls types.now (reverse waiting.new.items) ≡ steps_work decls types.now (reverse waiting.old.items) + written_work (work decls) (type_at types.now number)) }
+    ensures left { OnOk result
+        ((decls : List Declaration) (tags all : List (Tag Ty))
+        → AreLeft decls types.now
+        (with_items (head decls) tags (items (type_at types.now number)))
+        (reverse waiting.old.items) all
+        → AreLeft decls types.now tags (reverse waiting.new.items) all) }
+    ensures work { OnOk result
+        ((decls : List Declaration)
+        → steps_work decls types.now (reverse waiting.new.items)
+        ≡ steps_work decls types.now (reverse waiting.old.items)
+        + written_work (work decls) (type_at types.now number)) }
 {
     let mut at = number;
     while let Some(whole) = before_item(types, at) {

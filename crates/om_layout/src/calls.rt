@@ -31,7 +31,8 @@ pub fn shape(alloc: Global, decls: &[Decl], t: &Ty) -> Result<ShapeOf<Ty>, Memor
 
 /// The same, by the table of the declarations.
 fn shape_by(alloc: Global, decls: &[Decl], table: &Table<'_>, t: &Ty) -> Result<ShapeOf<Ty>, Memory>
-    requires places { ArePlaces (names_of_decls decls.now) (length decls.now) (number_of table.now) }
+    requires places { ArePlaces (names_of_decls decls.now) (length decls.now)
+        (number_of table.now) }
     requires sound { AreSound decls.now }
     ensures { IfOk result (λ found. found ≡ shape decls.now t.now) }
 {
@@ -52,7 +53,8 @@ pub fn expand(alloc: Global, decls: &[Decl], t: &Ty) -> Result<Ty, Memory>
 
 /// The same, by the table of the declarations.
 fn expand_by(alloc: Global, decls: &[Decl], table: &Table<'_>, t: &Ty) -> Result<Ty, Memory>
-    requires places { ArePlaces (names_of_decls decls.now) (length decls.now) (number_of table.now) }
+    requires places { ArePlaces (names_of_decls decls.now) (length decls.now)
+        (number_of table.now) }
     requires sound { AreSound decls.now }
     ensures { IfOk result (IsExpanded decls.now t.now) }
 {

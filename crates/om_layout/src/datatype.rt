@@ -19,7 +19,8 @@ use om_types::shape::{Constr, ShapeOf};
 use om_types::ty::Ty;
 use std::alloc::Global;
 
-/// The shape of a declared type at these arguments. After `Memory` there may be more types, at the end.
+/// The shape of a declared type at these arguments. After `Memory` there may be more types, at the
+/// end.
 pub(crate) fn datatype_shape(
     alloc: Global,
     types: &mut Types,
@@ -28,10 +29,13 @@ pub(crate) fn datatype_shape(
     decl: &Decl,
     arguments: &[usize],
 ) -> Result<ShapeOf<usize>, Memory>
-    requires places { ArePlaces (names_of_decls decls.now) (length decls.now) (number_of table.now) }
+    requires places { ArePlaces (names_of_decls decls.now) (length decls.now)
+        (number_of table.now) }
     requires within { All (λ i. i < length types.old) arguments.now }
     requires sound { AreSound decls.now }
-    ensures ok { IfOk result (IsShapeAt types.new (body_shape decls.now (instance_at types.old decl.now arguments.now) decl.now.body)) }
+    ensures ok { IfOk result
+        (IsShapeAt types.new
+        (body_shape decls.now (instance_at types.old decl.now arguments.now) decl.now.body)) }
     ensures grown { Grows types.old types.new }
 {
     match &decl.body {
@@ -61,7 +65,8 @@ pub(crate) fn is_flat(
     table: &Table<'_>,
     fields: &[Field],
 ) -> Result<bool, Memory>
-    requires places { ArePlaces (names_of_decls decls.now) (length decls.now) (number_of table.now) }
+    requires places { ArePlaces (names_of_decls decls.now) (length decls.now)
+        (number_of table.now) }
     requires sound { AreSound decls.now }
     ensures ok { IfOk result (λ flat. flat ≡ is_flat decls.now fields.now) }
     ensures grown { Grows types.old types.new }
@@ -84,7 +89,9 @@ fn blocks(
     constructors: &[Constructor],
 ) -> Result<Vec<Constr<usize>>, Memory>
     requires { All (λ i. i < length types.old) arguments.now }
-    ensures ok { IfOk result (λ v. HasBlocks types.new (blocks_in (instance_at types.old decl.now arguments.now) constructors.now) v.items) }
+    ensures ok { IfOk result
+        (λ v. HasBlocks types.new
+        (blocks_in (instance_at types.old decl.now arguments.now) constructors.now) v.items) }
     ensures grown { Grows types.old types.new }
 {
     let mut found = Vec::new(alloc);
@@ -105,7 +112,8 @@ fn block_of(
     written: &Arguments,
 ) -> Result<Option<Constr<usize>>, Memory>
     requires { All (λ i. i < length types.old) arguments.now }
-    ensures ok { IfOk result (HasBlock types.new (block_of (instance_at types.old decl.now arguments.now) written.now)) }
+    ensures ok { IfOk result
+        (HasBlock types.new (block_of (instance_at types.old decl.now arguments.now) written.now)) }
     ensures grown { Grows types.old types.new }
 {
     match written {
@@ -137,7 +145,10 @@ fn instances_of_fields(
     fields: &[Field],
 ) -> Result<Vec<usize>, Memory>
     requires { All (λ i. i < length types.old) arguments.now }
-    ensures ok { IfOk result (λ v. HasNumbers types.new (map (instance_at types.old decl.now arguments.now) (types_of_fields fields.now)) v.items) }
+    ensures ok { IfOk result
+        (λ v. HasNumbers types.new
+        (map (instance_at types.old decl.now arguments.now) (types_of_fields fields.now))
+        v.items) }
     ensures grown { Grows types.old types.new }
 {
     let mut numbers = Vec::new(alloc);
@@ -157,7 +168,9 @@ fn instances(
     written: &[Ty],
 ) -> Result<Vec<usize>, Memory>
     requires { All (λ i. i < length types.old) arguments.now }
-    ensures ok { IfOk result (λ v. HasNumbers types.new (map (instance_at types.old decl.now arguments.now) written.now) v.items) }
+    ensures ok { IfOk result
+        (λ v. HasNumbers types.new
+        (map (instance_at types.old decl.now arguments.now) written.now) v.items) }
     ensures grown { Grows types.old types.new }
 {
     let mut numbers = Vec::new(alloc);

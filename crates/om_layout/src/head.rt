@@ -18,8 +18,8 @@ use om_types::decl::Decl;
 use om_types::head::HeadOf;
 use std::alloc::Global;
 
-/// The head of a type: abbreviations at it are replaced, and the tags of included types stand in their places. After
-/// `Memory` there may be more types, at the end.
+/// The head of a type: abbreviations at it are replaced, and the tags of included types stand in
+/// their places. After `Memory` there may be more types, at the end.
 pub fn head_of(
     alloc: Global,
     types: &mut Types,
@@ -27,7 +27,8 @@ pub fn head_of(
     table: &Table<'_>,
     number: usize,
 ) -> Result<HeadOf<usize>, Memory>
-    requires places { ArePlaces (names_of_decls decls.now) (length decls.now) (number_of table.now) }
+    requires places { ArePlaces (names_of_decls decls.now) (length decls.now)
+        (number_of table.now) }
     requires number { number < length types.old }
     requires sound { AreSound decls.now }
     ensures ok { IfOk result (IsHeadOf decls.now types.new (type_at types.old number)) }

@@ -28,10 +28,12 @@ pub fn is_polymorphic_variant(
     table: &Table<'_>,
     number: usize,
 ) -> Result<bool, Memory>
-    requires places { ArePlaces (names_of_decls decls.now) (length decls.now) (number_of table.now) }
+    requires places { ArePlaces (names_of_decls decls.now) (length decls.now)
+        (number_of table.now) }
     requires number { number < length types.old }
     requires sound { AreSound decls.now }
-    ensures ok { IfOk result (λ is. IsTrue is ↔ AreVariants (head decls.now (type_at types.old number))) }
+    ensures ok { IfOk result
+        (λ is. IsTrue is ↔ AreVariants (head decls.now (type_at types.old number))) }
     ensures grown { Grows types.old types.new }
 {
     let at = expanded(alloc, types, decls, table, number)?;
@@ -46,7 +48,8 @@ pub fn is_float(
     table: &Table<'_>,
     number: usize,
 ) -> Result<bool, Memory>
-    requires places { ArePlaces (names_of_decls decls.now) (length decls.now) (number_of table.now) }
+    requires places { ArePlaces (names_of_decls decls.now) (length decls.now)
+        (number_of table.now) }
     requires number { number < length types.old }
     requires sound { AreSound decls.now }
     ensures ok { IfOk result (λ is. is ≡ is_float decls.now (type_at types.old number)) }

@@ -19,8 +19,8 @@ use om_store::{TypeNode, Types};
 use om_types::decl::{Body, Decl};
 use std::alloc::Global;
 
-/// What is known of abbreviations, by the numbers of their declarations: the argument that each comes to, where it comes
-/// to one.
+/// What is known of abbreviations, by the numbers of their declarations: the argument that each
+/// comes to, where it comes to one.
 pub type Known = IndexMap<usize, Option<usize>>;
 
 /// Nothing is known.
@@ -37,7 +37,8 @@ pub(crate) fn abbreviation(
     table: &Table<'_>,
     number: usize,
 ) -> Option<usize>
-    requires places { ArePlaces (names_of_decls decls.now) (length decls.now) (number_of table.now) }
+    requires places { ArePlaces (names_of_decls decls.now) (length decls.now)
+        (number_of table.now) }
     requires number { number < length types.now }
     ensures { IfSome result (IsAbbreviation decls.now (type_at types.now number)) }
 {
@@ -62,7 +63,9 @@ fn known_argument(known: &Known, decl: usize) -> Option<usize>
 /// The part of this number from the left.
 fn part(alloc: Global, types: &Types, number: usize, i: usize) -> Result<Option<usize>, Memory>
     requires { number < length types.now }
-    ensures is { IfOk result (λ part. option_map (type_at types.now) part ≡ slice_get (parts (type_at types.now number)) i) }
+    ensures is { IfOk result
+        (λ part. option_map (type_at types.now) part
+        ≡ slice_get (parts (type_at types.now number)) i) }
     ensures below { IfOk result (λ part. IfSome part (λ n. n < number)) }
 {
     let parts = parts(alloc, types, number)?;
@@ -85,9 +88,14 @@ pub(crate) fn known_part(
     known: &Known,
     number: usize,
 ) -> Result<Option<usize>, Memory>
-    requires places { ArePlaces (names_of_decls decls.now) (length decls.now) (number_of table.now) }
+    requires places { ArePlaces (names_of_decls decls.now) (length decls.now)
+        (number_of table.now) }
     requires number { number < length types.now }
-    ensures passes { IfOk result (λ part. (group : Option ℕ) → AreKnown decls.now group known.now → IfSome part (λ n. EachPasses decls.now group (type_at types.now number) (type_at types.now n))) }
+    ensures passes { IfOk result
+        (λ part. (group : Option ℕ) → AreKnown decls.now group known.now
+        → IfSome part
+        (λ n. EachPasses decls.now group (type_at types.now number)
+        (type_at types.now n))) }
     ensures below { IfOk result (λ part. IfSome part (λ n. n < number)) }
 {
     let Some(decl) = abbreviation(types, decls, table, number) else {
@@ -108,9 +116,12 @@ pub(crate) fn known_end(
     known: &Known,
     number: usize,
 ) -> Result<usize, Memory>
-    requires places { ArePlaces (names_of_decls decls.now) (length decls.now) (number_of table.now) }
+    requires places { ArePlaces (names_of_decls decls.now) (length decls.now)
+        (number_of table.now) }
     requires number { number < length types.now }
-    ensures leads { IfOk result (λ end. (group : Option ℕ) → AreKnown decls.now group known.now → EachLeads decls.now group (type_at types.now number) (type_at types.now end)) }
+    ensures leads { IfOk result
+        (λ end. (group : Option ℕ) → AreKnown decls.now group known.now
+        → EachLeads decls.now group (type_at types.now number) (type_at types.now end)) }
     ensures below { IfOk result (λ end. end < length types.now) }
 {
     let mut at = number;
@@ -154,7 +165,8 @@ fn place(decl: &Decl, name: &[u8]) -> Option<usize>
         .position(|parameter| parameter.as_slice() == name)
 }
 
-/// Finds the argument that an abbreviation comes to, or answers another abbreviation that is to be looked at first.
+/// Finds the argument that an abbreviation comes to, or answers another abbreviation that is to be
+/// looked at first.
 fn look(
     alloc: Global,
     types: &mut Types,
@@ -164,7 +176,8 @@ fn look(
     known: &mut Known,
     decl: usize,
 ) -> Result<Option<usize>, Memory>
-    requires places { ArePlaces (names_of_decls decls.now) (length decls.now) (number_of table.now) }
+    requires places { ArePlaces (names_of_decls decls.now) (length decls.now)
+        (number_of table.now) }
     requires decl { decl < length decls.now }
     requires known { AreKnown decls.now group known.old }
     ensures known { OnOk result (AreKnown decls.now group known.new) }
@@ -188,7 +201,9 @@ fn look(
 
 /// The abbreviation, if it was not looked at.
 fn first_look(known: &mut Known, decl: usize) -> Result<Option<usize>, Memory>
-    ensures known { OnOk result ((decls : List Declaration) (group : Option ℕ) → decl < length decls → AreKnown decls group known.old → AreKnown decls group known.new) }
+    ensures known { OnOk result
+        ((decls : List Declaration) (group : Option ℕ) → decl < length decls
+        → AreKnown decls group known.old → AreKnown decls group known.new) }
     ensures is { IfOk result (λ first. IfSome first (λ n. n ≡ decl)) }
     ensures more { IfOk result (IsMore (index_map_len known.old) (index_map_len known.new)) }
 {
@@ -199,8 +214,8 @@ fn first_look(known: &mut Known, decl: usize) -> Result<Option<usize>, Memory>
     Ok(Some(decl))
 }
 
-/// Finds the argument that an abbreviation comes to, and before it those that the abbreviations at the head of its type
-/// come to. Each is looked at once, and again after each that it waits for.
+/// Finds the argument that an abbreviation comes to, and before it those that the abbreviations at
+/// the head of its type come to. Each is looked at once, and again after each that it waits for.
 pub(crate) fn look_at(
     alloc: Global,
     types: &mut Types,
@@ -210,7 +225,8 @@ pub(crate) fn look_at(
     known: &mut Known,
     decl: usize,
 ) -> Result<(), Memory>
-    requires places { ArePlaces (names_of_decls decls.now) (length decls.now) (number_of table.now) }
+    requires places { ArePlaces (names_of_decls decls.now) (length decls.now)
+        (number_of table.now) }
     requires decl { decl < length decls.now }
     requires known { AreKnown decls.now group known.old }
     ensures known { OnOk result (AreKnown decls.now group known.new) }

@@ -39,7 +39,8 @@ pub fn layout_of(
     table: &Table<'_>,
     number: usize,
 ) -> Result<Layout, Memory>
-    requires places { ArePlaces (names_of_decls decls.now) (length decls.now) (number_of table.now) }
+    requires places { ArePlaces (names_of_decls decls.now) (length decls.now)
+        (number_of table.now) }
     requires number { number < length types.old }
     requires sound { AreSound decls.now }
     ensures ok { IfOk result (IsLayoutOf decls.now types.new (type_at types.old number)) }
@@ -58,10 +59,12 @@ fn shape_at(
     table: &Table<'_>,
     at: &HeadOf<usize>,
 ) -> Result<ShapeOf<usize>, Memory>
-    requires places { ArePlaces (names_of_decls decls.now) (length decls.now) (number_of table.now) }
+    requires places { ArePlaces (names_of_decls decls.now) (length decls.now)
+        (number_of table.now) }
     requires within { All (λ i. i < length types.old) (parts_of at.now) }
     requires sound { AreSound decls.now }
-    ensures ok { IfOk result (IsShapeAt types.new (head_shape decls.now (head_of_types types.old at.now))) }
+    ensures ok { IfOk result
+        (IsShapeAt types.new (head_shape decls.now (head_of_types types.old at.now))) }
     ensures grown { Grows types.old types.new }
 {
     match at {

@@ -26,7 +26,8 @@ pub fn names_at(
     table: &Table<'_>,
     at: &HeadOf<usize>,
 ) -> Result<Names, Memory>
-    requires places { ArePlaces (names_of_decls decls.now) (length decls.now) (number_of table.now) }
+    requires places { ArePlaces (names_of_decls decls.now) (length decls.now)
+        (number_of table.now) }
     ensures { IfOk result (AreNamesAt decls.now at.now) }
 {
     names_by_head(alloc, decls, table, at)
@@ -39,8 +40,10 @@ fn names_by_head(
     table: &Table<'_>,
     at: &HeadOf<usize>,
 ) -> Result<Names, Memory>
-    requires places { ArePlaces (names_of_decls decls.now) (length decls.now) (number_of table.now) }
-    ensures { IfOk result (λ names. (types : List Ty) → names ≡ head_names decls.now (head_of_types types at.now)) }
+    requires places { ArePlaces (names_of_decls decls.now) (length decls.now)
+        (number_of table.now) }
+    ensures { IfOk result
+        (λ names. (types : List Ty) → names ≡ head_names decls.now (head_of_types types at.now)) }
 {
     match at {
         HeadOf::Predeclared(base, _) => names_of_predeclared(alloc, *base),
@@ -93,7 +96,13 @@ fn put_predeclared(alloc: Global, names: &mut Names, base: Predeclared) -> Resul
 
 /// Adds a constant, and a constructor with arguments.
 fn put_both(alloc: Global, names: &mut Names, constant: &[u8], constr: &[u8]) -> Result<(), Memory>
-    ensures { OnOk result (names.new ≡ record names.old { constants = names.old.constants ++ constant.now ∷ []; constructors = names.old.constructors ++ plain_constr constr.now ∷ [] }) }
+    ensures { OnOk result
+        (names.new
+        ≡ record names.old {
+          constants = names.old.constants ++ constant.now
+              ∷ [];
+          constructors = names.old.constructors ++ plain_constr constr.now ∷ [];
+        }) }
 {
     names.constants.push(text(alloc, constant)?)?;
     put_constr(alloc, names, constr)
@@ -101,7 +110,10 @@ fn put_both(alloc: Global, names: &mut Names, constant: &[u8], constr: &[u8]) ->
 
 /// Adds a constructor with arguments.
 fn put_constr(alloc: Global, names: &mut Names, constr: &[u8]) -> Result<(), Memory>
-    ensures { OnOk result (names.new ≡ record names.old { constructors = names.old.constructors ++ plain_constr constr.now ∷ [] }) }
+    ensures { OnOk result
+        (names.new
+        ≡ record names.old
+        { constructors = names.old.constructors ++ plain_constr constr.now ∷ [] }) }
 {
     names.constructors.push(plain_constr(alloc, constr)?)?;
     Ok(())
@@ -182,7 +194,8 @@ fn names_of_constrs(alloc: Global, constructors: &[Constructor]) -> Result<Vec<C
     Ok(names)
 }
 
-/// The name of a constructor with arguments, and those of its fields, where it has an inline record.
+/// The name of a constructor with arguments, and those of its fields, where it has an inline
+/// record.
 fn constr_names(alloc: Global, constructor: &Constructor) -> Result<Option<ConstrNames>, Memory>
     ensures { IfOk result (λ names. names ≡ constr_names constructor.now) }
 {

@@ -16,7 +16,9 @@ use std::alloc::Global;
 /// The head of a type as it is written, unless that is a bracket.
 pub fn plain(alloc: Global, types: &Types, number: usize) -> Result<Option<HeadOf<usize>>, Memory>
     requires { number < length types.now }
-    ensures { IfOk result (λ h. MatchOption h (IsBracketed (type_at types.now number)) (IsPlainHead types.now (type_at types.now number))) }
+    ensures { IfOk result
+        (λ h. MatchOption h (IsBracketed (type_at types.now number))
+        (IsPlainHead types.now (type_at types.now number))) }
 {
     let found = parts(alloc, types, number)?;
     of_root(alloc, types.node(root(types, number)), found)

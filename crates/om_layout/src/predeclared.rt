@@ -30,10 +30,13 @@ pub(crate) fn predeclared_shape(
     base: Predeclared,
     parts: &[usize],
 ) -> Result<ShapeOf<usize>, Memory>
-    requires places { ArePlaces (names_of_decls decls.now) (length decls.now) (number_of table.now) }
+    requires places { ArePlaces (names_of_decls decls.now) (length decls.now)
+        (number_of table.now) }
     requires within { All (λ i. i < length types.old) parts.now }
     requires sound { AreSound decls.now }
-    ensures ok { IfOk result (IsShapeAt types.new (predeclared_shape decls.now base (map (type_at types.old) parts.now))) }
+    ensures ok { IfOk result
+        (IsShapeAt types.new
+        (predeclared_shape decls.now base (map (type_at types.old) parts.now))) }
     ensures grown { Grows types.old types.new }
 {
     match parts {
@@ -45,7 +48,8 @@ pub(crate) fn predeclared_shape(
 
 /// The shape of a predeclared type without arguments.
 fn alone(base: Predeclared) -> ShapeOf<usize>
-    ensures { (decls : List Decl) (types : List Ty) → IsShapeAt types (predeclared_shape decls base []) result }
+    ensures { (decls : List Decl) (types : List Ty)
+        → IsShapeAt types (predeclared_shape decls base []) result }
 {
     match base {
         Predeclared::Int => ShapeOf::AnyInt,
@@ -74,10 +78,12 @@ fn of_one(
     base: Predeclared,
     part: usize,
 ) -> Result<ShapeOf<usize>, Memory>
-    requires places { ArePlaces (names_of_decls decls.now) (length decls.now) (number_of table.now) }
+    requires places { ArePlaces (names_of_decls decls.now) (length decls.now)
+        (number_of table.now) }
     requires part { part < length types.old }
     requires sound { AreSound decls.now }
-    ensures ok { IfOk result (IsShapeAt types.new (predeclared_shape decls.now base (type_at types.old part ∷ []))) }
+    ensures ok { IfOk result
+        (IsShapeAt types.new (predeclared_shape decls.now base (type_at types.old part ∷ []))) }
     ensures grown { Grows types.old types.new }
 {
     match base {
@@ -95,7 +101,11 @@ fn of_one(
 /// The shape of lists of these.
 fn list_shape(alloc: Global, types: &mut Types, part: usize) -> Result<ShapeOf<usize>, Memory>
     requires { part < length types.old }
-    ensures ok { IfOk result (IsShapeAt types.new (shapes.Sum 1 (block false (type_at types.old part ∷ list_of (type_at types.old part) ∷ []) ∷ []))) }
+    ensures ok { IfOk result
+        (IsShapeAt types.new
+        (shapes.Sum 1
+        (block false (type_at types.old part ∷ list_of (type_at types.old part) ∷ [])
+        ∷ []))) }
     ensures grown { Grows types.old types.new }
 {
     let list = types.add_named(b"list")?;
@@ -110,7 +120,8 @@ fn one_block(
     mutable: bool,
     fields: Vec<usize>,
 ) -> Result<ShapeOf<usize>, Memory>
-    ensures { IfOk result (λ s. s ≡ shapes.Sum constants (record { mutable = mutable; fields = fields.items } ∷ [])) }
+    ensures { IfOk result
+        (λ s. s ≡ shapes.Sum constants (record { mutable = mutable; fields = fields.items } ∷ [])) }
 {
     let fields = List::of(fields);
     let blocks = vec![in alloc; Constr { mutable, fields }]?;

@@ -19,8 +19,8 @@ use om_store::Types;
 use om_types::decl::{Body, Decl};
 use std::alloc::Global;
 
-/// The type after one replacement at its head, where an abbreviation is there. It takes a step for each node of the
-/// abbreviation's type and each part.
+/// The type after one replacement at its head, where an abbreviation is there. It takes a step for
+/// each node of the abbreviation's type and each part.
 pub fn unfolded(
     alloc: Global,
     types: &mut Types,
@@ -28,9 +28,13 @@ pub fn unfolded(
     table: &Table<'_>,
     number: usize,
 ) -> Result<Option<usize>, Memory>
-    requires places { ArePlaces (names_of_decls decls.now) (length decls.now) (number_of table.now) }
+    requires places { ArePlaces (names_of_decls decls.now) (length decls.now)
+        (number_of table.now) }
     requires number { number < length types.old }
-    ensures ok { IfOk result (λ next. MatchOption next (IsLeft decls.now types.old types.new (type_at types.old number)) (IsReplaced decls.now types.old types.new (type_at types.old number))) }
+    ensures ok { IfOk result
+        (λ next. MatchOption next
+        (IsLeft decls.now types.old types.new (type_at types.old number))
+        (IsReplaced decls.now types.old types.new (type_at types.old number))) }
     ensures err { OnErr result (types.new ≡ types.old) }
 {
     let decl = match name(types, number) {
@@ -61,15 +65,20 @@ fn once(
     table: &Table<'_>,
     number: usize,
 ) -> Result<Option<usize>, Memory>
-    requires places { ArePlaces (names_of_decls decls.now) (length decls.now) (number_of table.now) }
+    requires places { ArePlaces (names_of_decls decls.now) (length decls.now)
+        (number_of table.now) }
     requires number { number < length types.old }
-    ensures ok { IfOk result (λ next. MatchOption next (unfolded decls.now (type_at types.old number) ≡ None) (λ n. (group : Option ℕ) → IsNearer decls.now group types.new (type_at types.old number) n)) }
+    ensures ok { IfOk result
+        (λ next. MatchOption next (unfolded decls.now (type_at types.old number) ≡ None)
+        (λ n. (group : Option ℕ)
+        → IsNearer decls.now group types.new (type_at types.old number) n)) }
     ensures grown { Grows types.old types.new }
 {
     unfolded(alloc, types, decls, table, number)
 }
 
-/// The type after the replacements that this abbreviation at its head is known to begin, or after one.
+/// The type after the replacements that this abbreviation at its head is known to begin, or after
+/// one.
 fn passed(
     alloc: Global,
     types: &mut Types,
@@ -78,9 +87,13 @@ fn passed(
     known: &Known,
     number: usize,
 ) -> Result<Option<usize>, Memory>
-    requires places { ArePlaces (names_of_decls decls.now) (length decls.now) (number_of table.now) }
+    requires places { ArePlaces (names_of_decls decls.now) (length decls.now)
+        (number_of table.now) }
     requires number { number < length types.old }
-    ensures ok { IfOk result (λ next. (group : Option ℕ) → AreKnown decls.now group known.now → MatchOption next (unfolded decls.now (type_at types.old number) ≡ None) (IsNearer decls.now group types.new (type_at types.old number))) }
+    ensures ok { IfOk result
+        (λ next. (group : Option ℕ) → AreKnown decls.now group known.now
+        → MatchOption next (unfolded decls.now (type_at types.old number) ≡ None)
+        (IsNearer decls.now group types.new (type_at types.old number))) }
     ensures grown { Grows types.old types.new }
 {
     match known_part(alloc, types, decls, table, known, number)? {
@@ -89,8 +102,8 @@ fn passed(
     }
 }
 
-/// The type after one or more replacements at its head, where an abbreviation is there. Those after the first are at no
-/// abbreviation of the group.
+/// The type after one or more replacements at its head, where an abbreviation is there. Those after
+/// the first are at no abbreviation of the group.
 pub fn nearer(
     alloc: Global,
     types: &mut Types,
@@ -100,10 +113,13 @@ pub fn nearer(
     known: &mut Known,
     number: usize,
 ) -> Result<Option<usize>, Memory>
-    requires places { ArePlaces (names_of_decls decls.now) (length decls.now) (number_of table.now) }
+    requires places { ArePlaces (names_of_decls decls.now) (length decls.now)
+        (number_of table.now) }
     requires number { number < length types.old }
     requires known { AreKnown decls.now group known.old }
-    ensures ok { IfOk result (λ next. MatchOption next (unfolded decls.now (type_at types.old number) ≡ None) (IsNearer decls.now group types.new (type_at types.old number))) }
+    ensures ok { IfOk result
+        (λ next. MatchOption next (unfolded decls.now (type_at types.old number) ≡ None)
+        (IsNearer decls.now group types.new (type_at types.old number))) }
     ensures known { OnOk result (AreKnown decls.now group known.new) }
     ensures grown { Grows types.old types.new }
 {
@@ -114,9 +130,9 @@ pub fn nearer(
     passed(alloc, types, decls, table, known, number)
 }
 
-/// The type after all replacements at its head. An abbreviation that comes to one of its arguments is passed at one step,
-/// so that each other one is replaced once at most before the head is that of an argument. After `Memory` there may be
-/// more types, at the end.
+/// The type after all replacements at its head. An abbreviation that comes to one of its arguments
+/// is passed at one step, so that each other one is replaced once at most before the head is that
+/// of an argument. After `Memory` there may be more types, at the end.
 pub fn expanded(
     alloc: Global,
     types: &mut Types,
@@ -124,11 +140,13 @@ pub fn expanded(
     table: &Table<'_>,
     number: usize,
 ) -> Result<usize, Memory>
-    requires places { ArePlaces (names_of_decls decls.now) (length decls.now) (number_of table.now) }
+    requires places { ArePlaces (names_of_decls decls.now) (length decls.now)
+        (number_of table.now) }
     requires number { number < length types.old }
     requires sound { AreSound decls.now }
     ensures ok { IfOk result (HasHeadOf decls.now types.new (type_at types.old number)) }
-    ensures expanded { IfOk result (λ i. IsExpanded decls.now (type_at types.old number) (type_at types.new i)) }
+    ensures expanded { IfOk result
+        (λ i. IsExpanded decls.now (type_at types.old number) (type_at types.new i)) }
     ensures grown { Grows types.old types.new }
 {
     let mut known = none_known(alloc);

@@ -28,7 +28,8 @@ pub(crate) type Settled = IndexSet<usize>;
 
 /// Whether an abbreviation is settled.
 pub(crate) fn is_settled(settled: &Settled, decl: Option<usize>) -> bool
-    ensures { IsTrue result → (decls : List Declaration) (tags : List (Tag Ty)) → AreSettled decls tags settled.now.keys → IsSettledAt decls tags decl }
+    ensures { IsTrue result → (decls : List Declaration) (tags : List (Tag Ty))
+        → AreSettled decls tags settled.now.keys → IsSettledAt decls tags decl }
 {
     match decl {
         Some(decl) => settled.contains(&decl),
@@ -36,7 +37,8 @@ pub(crate) fn is_settled(settled: &Settled, decl: Option<usize>) -> bool
     }
 }
 
-/// Settles an abbreviation, if all its tags are there at any arguments. It takes a step for each node of its type.
+/// Settles an abbreviation, if all its tags are there at any arguments. It takes a step for each
+/// node of its type.
 pub(crate) fn settle(
     alloc: Global,
     types: &mut Types,
@@ -47,11 +49,15 @@ pub(crate) fn settle(
     settled: &mut Settled,
     decl: usize,
 ) -> Result<(), Memory>
-    requires places { ArePlaces (names_of_decls decls.now) (length decls.now) (number_of table.now) }
+    requires places { ArePlaces (names_of_decls decls.now) (length decls.now)
+        (number_of table.now) }
     requires decl { decl < length decls.now }
     requires sound { AreSound decls.now }
     requires known { AreKnown decls.now None known.now }
-    ensures settled { let there = tags_at types.new (tags_of_entries tags.now.entries) in OnOk result (AreSettled decls.now there settled.old.keys → AreSettled decls.now there settled.new.keys) }
+    ensures settled { let there = tags_at types.new (tags_of_entries tags.now.entries) in
+        OnOk result
+        (AreSettled decls.now there settled.old.keys
+        → AreSettled decls.now there settled.new.keys) }
     ensures grown { Grows types.old types.new }
 {
     let Body::Abbreviation(body) = &decls[decl].body else {
@@ -75,11 +81,15 @@ fn are_there(
     settled: &Settled,
     number: usize,
 ) -> Result<bool, Memory>
-    requires places { ArePlaces (names_of_decls decls.now) (length decls.now) (number_of table.now) }
+    requires places { ArePlaces (names_of_decls decls.now) (length decls.now)
+        (number_of table.now) }
     requires number { number < length types.now }
     requires sound { AreSound decls.now }
     requires known { AreKnown decls.now None known.now }
-    ensures { let there = tags_at types.now (tags_of_entries tags.now.entries) in IfOk result (λ are. IsTrue are → AreSettled decls.now there settled.now.keys → EachBringsNone decls.now there (type_at types.now number)) }
+    ensures { let there = tags_at types.now (tags_of_entries tags.now.entries) in
+        IfOk result
+        (λ are. IsTrue are → AreSettled decls.now there settled.now.keys
+        → EachBringsNone decls.now there (type_at types.now number)) }
 {
     let mut waiting = vec![in alloc; number]?;
     'next: while let Some(next) = waiting.pop() {
@@ -112,13 +122,23 @@ fn is_there(
     number: usize,
     waiting: &mut Vec<usize>,
 ) -> Result<bool, Memory>
-    requires places { ArePlaces (names_of_decls decls.now) (length decls.now) (number_of table.now) }
+    requires places { ArePlaces (names_of_decls decls.now) (length decls.now)
+        (number_of table.now) }
     requires number { number < length types.now }
     requires sound { AreSound decls.now }
     requires known { AreKnown decls.now None known.now }
     requires within { All (λ n. n < length types.now) waiting.old.items }
-    ensures there { let there = tags_at types.now (tags_of_entries tags.now.entries) in IfOk result (λ is. IsTrue is → AreSettled decls.now there settled.now.keys → AreEachThere decls.now types.now there waiting.new.items → AreEachThere decls.now types.now there waiting.old.items × EachBringsNone decls.now there (type_at types.now number)) }
-    ensures less { IfOk result (λ is. IsTrue is → numbers_work decls.now types.now waiting.new.items ≤ numbers_work decls.now types.now waiting.old.items + work decls.now (type_at types.now number)) }
+    ensures there { let there = tags_at types.now (tags_of_entries tags.now.entries) in
+        IfOk result
+        (λ is. IsTrue is → AreSettled decls.now there settled.now.keys
+        → AreEachThere decls.now types.now there waiting.new.items
+        → AreEachThere decls.now types.now there waiting.old.items
+        × EachBringsNone decls.now there (type_at types.now number)) }
+    ensures less { IfOk result
+        (λ is. IsTrue is
+        → numbers_work decls.now types.now waiting.new.items
+        ≤ numbers_work decls.now types.now waiting.old.items
+        + work decls.now (type_at types.now number)) }
     ensures within { OnOk result (All (λ n. n < length types.now) waiting.new.items) }
 {
     let end = known_end(alloc, types, decls, table, known, number)?;
@@ -137,8 +157,17 @@ fn items_are_there(
 ) -> Result<bool, Memory>
     requires number { number < length types.now }
     requires within { All (λ n. n < length types.now) waiting.old.items }
-    ensures there { let there = tags_at types.now (tags_of_entries tags.now.entries) in IfOk result (λ are. IsTrue are → (decls : List Declaration) → AreSound decls → AreEachThere decls types.now there waiting.new.items → AreEachThere decls types.now there waiting.old.items × EachBringsNone decls there (type_at types.now number)) }
-    ensures less { IfOk result (λ are. IsTrue are → (decls : List Declaration) → AreSound decls → numbers_work decls types.now waiting.new.items ≤ numbers_work decls types.now waiting.old.items + work decls (type_at types.now number)) }
+    ensures there { let there = tags_at types.now (tags_of_entries tags.now.entries) in
+        IfOk result
+        (λ are. IsTrue are → (decls : List Declaration) → AreSound decls
+        → AreEachThere decls types.now there waiting.new.items
+        → AreEachThere decls types.now there waiting.old.items
+        × EachBringsNone decls there (type_at types.now number)) }
+    ensures less { IfOk result
+        (λ are. IsTrue are → (decls : List Declaration) → AreSound decls
+        → numbers_work decls types.now waiting.new.items
+        ≤ numbers_work decls types.now waiting.old.items
+        + work decls (type_at types.now number)) }
     ensures within { OnOk result (All (λ n. n < length types.now) waiting.new.items) }
 {
     let mut at = number;
@@ -160,8 +189,17 @@ fn item_is_there(
 ) -> Result<bool, Memory>
     requires item { item < length types.now }
     requires within { All (λ n. n < length types.now) waiting.old.items }
-    ensures there { let there = tags_at types.now (tags_of_entries tags.now.entries) in IfOk result (λ is. IsTrue is → (decls : List Declaration) → AreEachThere decls types.now there waiting.new.items → AreEachThere decls types.now there waiting.old.items × EachItemBringsNone decls there (type_at types.now item)) }
-    ensures less { IfOk result (λ is. IsTrue is → (decls : List Declaration) → numbers_work decls types.now waiting.new.items ≤ numbers_work decls types.now waiting.old.items + item_work (work decls) (type_at types.now item)) }
+    ensures there { let there = tags_at types.now (tags_of_entries tags.now.entries) in
+        IfOk result
+        (λ is. IsTrue is → (decls : List Declaration)
+        → AreEachThere decls types.now there waiting.new.items
+        → AreEachThere decls types.now there waiting.old.items
+        × EachItemBringsNone decls there (type_at types.now item)) }
+    ensures less { IfOk result
+        (λ is. IsTrue is → (decls : List Declaration)
+        → numbers_work decls types.now waiting.new.items
+        ≤ numbers_work decls types.now waiting.old.items
+        + item_work (work decls) (type_at types.now item)) }
     ensures within { OnOk result (All (λ n. n < length types.now) waiting.new.items) }
 {
     match types.node(item) {

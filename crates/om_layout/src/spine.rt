@@ -40,7 +40,8 @@ pub fn name(types: &Types, number: usize) -> Option<&[u8]>
 /// The numbers of the arguments or components.
 pub fn parts(alloc: Global, types: &Types, number: usize) -> Result<Vec<usize>, Memory>
     requires { number < length types.now }
-    ensures are { IfOk result (λ v. map (type_at types.now) v.items ≡ parts (type_at types.now number)) }
+    ensures are { IfOk result
+        (λ v. map (type_at types.now) v.items ≡ parts (type_at types.now number)) }
     ensures below { IfOk result (λ v. All (λ i. i < length types.now) v.items) }
     ensures less { IfOk result (λ v. All (λ i. i < number) v.items) }
 {

@@ -1,4 +1,5 @@
--- The lines of a graph as it is, whatever its types: one for the root, and one for each object by its number.
+-- The lines of a graph as it is, whatever its types: one for the root, and one for each object by
+-- its number.
 use Rattle.std.specs.Prelude.{ℕ, List, ◌++◌, codes, decimal}
 use Rattle.std.specs.List.{flat_map}
 use Rattle.std.specs.Fmt.{signed_decimal}
@@ -26,7 +27,8 @@ abbrev pub spaced_float : ℕ → List ℕ
 spaced_float bits = codes " " ++ float_text bits
 
 abbrev pub object_text : Obj → List ℕ
-object_text (objects.Block tag values) = codes " block " ++ decimal tag ++ codes ":" ++ flat_map spaced_value values
+object_text (objects.Block tag values) =
+    codes " block " ++ decimal tag ++ codes ":" ++ flat_map spaced_value values
 object_text (objects.Bytes bytes) = codes " string " ++ string_text bytes
 object_text (objects.Double bits) = codes " float " ++ float_text bits
 object_text (objects.Doubles all) = codes " floats" ++ flat_map spaced_float all
@@ -48,8 +50,10 @@ custom_text (customs.I64 z) = codes " int64 " ++ signed_decimal z
 custom_text (customs.Native z) = codes " nativeint " ++ signed_decimal z
 
 abbrev pub text_of_kind : Kind → Obj → List ℕ
-text_of_kind (kinds.Block tag size) object = codes " block " ++ decimal tag ++ codes ":" ++ flat_map spaced_value (fields_of object)
+text_of_kind (kinds.Block tag size) object =
+    codes " block " ++ decimal tag ++ codes ":" ++ flat_map spaced_value (fields_of object)
 text_of_kind (kinds.Bytes len) object = codes " string " ++ string_text (bytes_of object)
 text_of_kind kinds.Double object = codes " float" ++ flat_map spaced_float (doubles_of object)
-text_of_kind (kinds.Doubles len) object = codes " floats" ++ flat_map spaced_float (doubles_of object)
+text_of_kind (kinds.Doubles len) object =
+    codes " floats" ++ flat_map spaced_float (doubles_of object)
 text_of_kind (kinds.Custom c) object = custom_text c

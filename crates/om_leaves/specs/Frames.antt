@@ -1,5 +1,5 @@
--- What stands around the parts of a value and between them, by the names and the shape of its type; and the texts of values
--- without parts.
+-- What stands around the parts of a value and between them, by the names and the shape of its type;
+-- and the texts of values without parts.
 use Rattle.std.specs.Prelude.{ℕ, ℤ, pos, negsuc, zero, suc, Bool, List, [], ◌∷◌, ◌++◌, map, slice_get, find, codes}
 use Rattle.std.specs.Prelude.{Option, Some, None, option_map, unwrap_or}
 use Rattle.std.specs.Fmt.{signed_decimal}
@@ -26,7 +26,8 @@ pub record Frame : Type 0 where
   pub closing : List ℕ
 
 abbrev pub listed : List ℕ → Frame
-listed name = record { opening = name ++ codes "("; labels = []; between = codes ", "; closing = codes ")" }
+listed name =
+    record { opening = name ++ codes "("; labels = []; between = codes ", "; closing = codes ")" }
 
 abbrev pub fields_frame : List ℕ → List (List ℕ) → Frame
 fields_frame name fields = record {
@@ -42,7 +43,8 @@ named_frame name [] = listed name
 named_frame name (field ∷ fields) = fields_frame name (field ∷ fields)
 
 abbrev pub array_frame : Frame
-array_frame = record { opening = codes "[|"; labels = []; between = codes "; "; closing = codes "|]" }
+array_frame =
+    record { opening = codes "[|"; labels = []; between = codes "; "; closing = codes "|]" }
 
 abbrev pub constr_frame : Option ConstrNames → Frame
 constr_frame None = listed []
@@ -55,7 +57,9 @@ is_hash z tag = is_number tag.hash z
 
 -- the tag of this hash, with its backquote
 abbrev pub tag_text : Names → ℤ → List ℕ
-tag_text names z = codes "`" ++ unwrap_or (option_map (λ (tag : TagName). tag.name) (find (is_hash z) names.tags)) []
+tag_text names z =
+    codes "`"
+    ++ unwrap_or (option_map (λ (tag : TagName). tag.name) (find (is_hash z) names.tags)) []
 
 abbrev pub natural : ℤ → ℕ
 natural (pos n) = n
@@ -71,14 +75,16 @@ module _ {T : Type 0} where
 
   abbrev pub int_text : ShapeOf T → Names → ℤ → List ℕ
   int_text (shapes.Below many) names z = below_text many (natural z)
-  int_text (shapes.Sum constants blocks) names z = unwrap_or (slice_get names.constants (natural z)) []
+  int_text (shapes.Sum constants blocks) names z =
+      unwrap_or (slice_get names.constants (natural z)) []
   int_text (shapes.Poly tags) names z = tag_text names z
   int_text shape names z = signed_decimal z
 
   -- ---- what stands around a block's parts
 
   abbrev pub frame_of : ShapeOf T → Names → ℕ → List Val → Frame
-  frame_of (shapes.Sum constants blocks) names tag values = constr_frame (slice_get names.constructors tag)
+  frame_of (shapes.Sum constants blocks) names tag values =
+      constr_frame (slice_get names.constructors tag)
   frame_of (shapes.Product mutable ts) names tag values = named_frame [] names.fields
   frame_of (shapes.Poly tags) names tag values = listed (tag_text names (tag_of_values values))
   frame_of shape names tag values = array_frame
@@ -110,7 +116,8 @@ module _ {T : Type 0} where
   object_text shape names (objects.Block tag values) = []
   object_text shape names (objects.Bytes bytes) = string_text bytes
   object_text shape names (objects.Double bits) = float_text bits
-  object_text shape names (objects.Doubles all) = row_text (doubles_frame shape names) (map float_text all)
+  object_text shape names (objects.Doubles all) =
+      row_text (doubles_frame shape names) (map float_text all)
   object_text shape names (objects.I32 z) = int32_text z
   object_text shape names (objects.I64 z) = int64_text z
   object_text shape names (objects.Native z) = native_text z

@@ -1,5 +1,5 @@
--- The texts of values that have no parts, as literals of OCaml's reference manual have them. A double is a
--- `$` and the digits of its bits, which is this project's own.
+-- The texts of values that have no parts, as literals of OCaml's reference manual have them. A
+-- double is a `$` and the digits of its bits, which is this project's own.
 use Rattle.std.specs.Prelude.{ℕ, ℤ, ◌+◌, ◌/◌, ◌%◌, ◌&&◌, ◌||◌, ◌==◌, nat_le, if◌then◌else◌, Option, Some, None, List, [], ◌∷◌, ◌++◌, codes}
 use Rattle.std.specs.List.{flat_map}
 use Rattle.std.specs.Fmt.{signed_decimal}
@@ -11,12 +11,16 @@ use Rattle.hex.specs.Hex.{encode_lower}
 -- n, t, b and r stand for line feed, tab, backspace and carriage return
 abbrev pub letter_of : ℕ → Option ℕ
 letter_of b =
-    if b == 10 then Some 110 else (if b == 9 then Some 116 else (if b == 8 then Some 98 else (if b == 13 then Some 114 else None)))
+    if b == 10 then Some 110
+    else
+    (if b == 9 then Some 116
+    else (if b == 8 then Some 98 else (if b == 13 then Some 114 else None)))
 
 abbrev pub three_digits : ℕ → List ℕ
 three_digits b = (48 + b / 100) ∷ (48 + b / 10 % 10) ∷ (48 + b % 10) ∷ []
 
--- a byte that has no letter: as it is where it can be printed, and else a backslash and three digits
+-- a byte that has no letter: as it is where it can be printed, and else a backslash and three
+-- digits
 abbrev pub plain_or_digits : ℕ → List ℕ
 plain_or_digits b = if nat_le 32 b && nat_le b 126 then b ∷ [] else 92 ∷ three_digits b
 
@@ -52,4 +56,5 @@ float_text bits = codes "$" ++ encode_lower (to_be_bytes w64 bits)
 -- an integer of `unit`, `bool` or `char`, which have 1, 2 and 256 values
 abbrev pub below_text : ℕ → ℕ → List ℕ
 below_text many n =
-    if many == 1 then codes "()" else (if many == 2 then (if n == 0 then codes "false" else codes "true") else char_text n)
+    if many == 1 then codes "()"
+    else (if many == 2 then (if n == 0 then codes "false" else codes "true") else char_text n)

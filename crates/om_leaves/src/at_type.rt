@@ -37,7 +37,8 @@ pub fn put_int_at(
     }
 }
 
-/// Puts an integer below so many. No type has more than 256 of them: one past that has no text, and is refused.
+/// Puts an integer below so many. No type has more than 256 of them: one past that has no text, and
+/// is refused.
 fn put_int_below(text: &mut Vec<u8>, many: u64, z: i64) -> Result<(), Memory>
     requires { IsTrue (is_below many z) }
     ensures { OnOk result (text.new.items ≡ text.old.items ++ below_text many (natural z)) }
@@ -52,7 +53,8 @@ fn put_int_below(text: &mut Vec<u8>, many: u64, z: i64) -> Result<(), Memory>
 #[inline(always)]
 fn put_constant(text: &mut Vec<u8>, many: u64, z: i64, constants: &[List<u8>]) -> Result<(), Memory>
     requires { IsTrue (is_below many z) }
-    ensures { OnOk result (text.new.items ≡ text.old.items ++ unwrap_or (slice_get constants.now (natural z)) []) }
+    ensures { OnOk result
+        (text.new.items ≡ text.old.items ++ unwrap_or (slice_get constants.now (natural z)) []) }
 {
     if z as usize >= constants.len() {
         return Ok(());
@@ -78,7 +80,9 @@ pub fn put_object_at(
     names: &Names,
 ) -> Result<(), Memory>
     requires { IsReferenceWord heap.now word }
-    ensures { ForNamed heap.now word (λ object. OnOk result (text.new.items ≡ text.old.items ++ object_text shape.now names.now object)) }
+    ensures { ForNamed heap.now word
+        (λ object. OnOk result
+        (text.new.items ≡ text.old.items ++ object_text shape.now names.now object)) }
 {
     match heap.kind_at(word) {
         Kind::Block(_, _) => Ok(()),
@@ -95,7 +99,9 @@ pub fn put_object_at(
 
 /// Puts doubles in a frame.
 fn put_doubles_at(text: &mut Vec<u8>, doubles: &[u64], frame: &Frame<'_>) -> Result<(), Memory>
-    ensures { OnOk result (text.new.items ≡ text.old.items ++ row_text (frame_in frame.now) (map float_text doubles.now)) }
+    ensures { OnOk result
+        (text.new.items
+        ≡ text.old.items ++ row_text (frame_in frame.now) (map float_text doubles.now)) }
 {
     frame.put_opening(text)?;
     put_double_parts(text, doubles, frame)?;
@@ -104,7 +110,9 @@ fn put_doubles_at(text: &mut Vec<u8>, doubles: &[u64], frame: &Frame<'_>) -> Res
 
 /// Puts the doubles, and what stands before each.
 fn put_double_parts(text: &mut Vec<u8>, doubles: &[u64], frame: &Frame<'_>) -> Result<(), Memory>
-    ensures { OnOk result (text.new.items ≡ text.old.items ++ row_from (frame_in frame.now) 0 (map float_text doubles.now)) }
+    ensures { OnOk result
+        (text.new.items
+        ≡ text.old.items ++ row_from (frame_in frame.now) 0 (map float_text doubles.now)) }
 {
     for i in 0..doubles.len() {
         frame.put_before(text, i as u64)?;
@@ -120,7 +128,9 @@ fn put_custom_at(
     shape: &ShapeOf<usize>,
     names: &Names,
 ) -> Result<(), Memory>
-    ensures { OnOk result (text.new.items ≡ text.old.items ++ object_text shape.now names.now (custom_object custom)) }
+    ensures { OnOk result
+        (text.new.items
+        ≡ text.old.items ++ object_text shape.now names.now (custom_object custom)) }
 {
     match custom {
         Custom::I32(n) => put_int32(text, n),

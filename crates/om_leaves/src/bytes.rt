@@ -25,7 +25,8 @@ pub fn put_reserved(text: &mut Vec<u8>, bytes: &[u8])
     }
 }
 
-/// Puts a name for which there is room. One of four to eight bytes is put as its first four and its last four.
+/// Puts a name for which there is room. One of four to eight bytes is put as its first four and its
+/// last four.
 #[inline(always)]
 pub fn put_name_reserved(text: &mut Vec<u8>, name: &[u8])
     requires { vec_len text.old + length name.now ≤ vec_capacity text.old }

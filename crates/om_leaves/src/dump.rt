@@ -27,7 +27,8 @@ pub fn put_root_line(text: &mut Vec<u8>, root: Val) -> Result<(), Memory>
 #[tactic(auto, using(crate::proofs::DumpLemmas::text_by_kind))]
 pub fn put_object_line(text: &mut Vec<u8>, heap: &Heap, o: u64) -> Result<(), Memory>
     requires { o < length heap.now }
-    ensures { OnOk result (text.new.items ≡ text.old.items ++ object_line o (object_at heap.now o)) }
+    ensures { OnOk result
+        (text.new.items ≡ text.old.items ++ object_line o (object_at heap.now o)) }
 {
     put(text, b"#")?;
     put_number(text, o)?;
@@ -39,7 +40,8 @@ pub fn put_object_line(text: &mut Vec<u8>, heap: &Heap, o: u64) -> Result<(), Me
 fn put_object(text: &mut Vec<u8>, heap: &Heap, o: u64, kind: Kind) -> Result<(), Memory>
     requires object { o < length heap.now }
     requires kind { IsOfKind kind (object_at heap.now o) }
-    ensures { OnOk result (text.new.items ≡ text.old.items ++ text_of_kind kind (object_at heap.now o)) }
+    ensures { OnOk result
+        (text.new.items ≡ text.old.items ++ text_of_kind kind (object_at heap.now o)) }
 {
     match kind {
         Kind::Block(tag, size) => {
@@ -86,7 +88,9 @@ fn put_custom(text: &mut Vec<u8>, custom: Custom) -> Result<(), Memory>
 fn put_fields(text: &mut Vec<u8>, heap: &Heap, o: u64, size: u64) -> Result<(), Memory>
     requires object { o < length heap.now }
     requires size { size ≡ length (fields_of (object_at heap.now o)) }
-    ensures { OnOk result (text.new.items ≡ text.old.items ++ flat_map spaced_value (fields_of (object_at heap.now o))) }
+    ensures { OnOk result
+        (text.new.items
+        ≡ text.old.items ++ flat_map spaced_value (fields_of (object_at heap.now o))) }
 {
     for i in 0..size {
         put_spaced_value(text, heap.field(o, i))?;
@@ -97,7 +101,9 @@ fn put_fields(text: &mut Vec<u8>, heap: &Heap, o: u64, size: u64) -> Result<(), 
 fn put_doubles(text: &mut Vec<u8>, heap: &Heap, o: u64, len: u64) -> Result<(), Memory>
     requires object { o < length heap.now }
     requires len { len ≡ length (doubles_of (object_at heap.now o)) }
-    ensures { OnOk result (text.new.items ≡ text.old.items ++ flat_map spaced_float (doubles_of (object_at heap.now o))) }
+    ensures { OnOk result
+        (text.new.items
+        ≡ text.old.items ++ flat_map spaced_float (doubles_of (object_at heap.now o))) }
 {
     for i in 0..len {
         put_spaced_float(text, heap.double(o, i))?;

@@ -54,7 +54,8 @@ fn is_plain(quote: u8, byte: u8) -> bool
     32 <= byte && byte <= 126 && byte != b'\\' && byte != quote
 }
 
-/// Puts bytes as they stand between quotes of this kind: those that stand for themselves, run by run.
+/// Puts bytes as they stand between quotes of this kind: those that stand for themselves, run by
+/// run.
 #[inline(never)]
 pub fn put_escaped(text: &mut Vec<u8>, quote: u8, bytes: &[u8]) -> Result<(), Memory>
     ensures { OnOk result (text.new.items ≡ text.old.items ++ flat_map (escaped quote) bytes.now) }
@@ -92,7 +93,8 @@ fn other(byte: u8) -> u8
     OTHERS[usize::from(byte)]
 }
 
-/// Whether each of the first k bytes of a word stands for itself in a string. All bytes are looked at, so that no branch is on k.
+/// Whether each of the first k bytes of a word stands for itself in a string. All bytes are looked
+/// at, so that no branch is on k.
 #[inline(always)]
 fn are_plain(bytes: &[u8; 8], k: usize) -> bool
     requires { k ≤ 8 }
@@ -110,7 +112,8 @@ fn are_plain(bytes: &[u8; 8], k: usize) -> bool
 #[inline(always)]
 pub fn put_word(text: &mut Vec<u8>, bytes: &[u8; 8], k: usize) -> Result<(), Memory>
     requires { k ≤ 8 }
-    ensures { OnOk result (text.new.items ≡ text.old.items ++ flat_map (escaped 34) (take k bytes.now)) }
+    ensures { OnOk result
+        (text.new.items ≡ text.old.items ++ flat_map (escaped 34) (take k bytes.now)) }
 {
     if !are_plain(bytes, k) {
         return put_escaped(text, b'"', &bytes[..k]);

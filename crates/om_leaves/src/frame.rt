@@ -53,7 +53,8 @@ impl<'a> Frame<'a> {
     #[inline(always)]
     #[tactic(auto, using(crate::proofs::FrameLemmas::before_is))]
     pub fn put_before(&self, text: &mut Vec<u8>, i: u64) -> Result<(), Memory>
-        ensures { OnOk result (text.new.items ≡ text.old.items ++ before_part (frame_in self.now) i) }
+        ensures { OnOk result
+            (text.new.items ≡ text.old.items ++ before_part (frame_in self.now) i) }
     {
         match *self {
             Frame::Constructor(names) => put_before_field(text, names.fields.as_slice(), i),
@@ -107,7 +108,8 @@ fn put_ended(text: &mut Vec<u8>, name: &[u8], end: u8) -> Result<(), Memory>
 /// Puts what stands between two parts, before part i.
 #[inline(always)]
 fn put_between(text: &mut Vec<u8>, between: &[u8], i: u64) -> Result<(), Memory>
-    ensures { OnOk result (text.new.items ≡ text.old.items ++ (if i == 0 then [] else between.now)) }
+    ensures { OnOk result
+        (text.new.items ≡ text.old.items ++ (if i == 0 then [] else between.now)) }
 {
     if i == 0 {
         return Ok(());
@@ -119,7 +121,9 @@ fn put_between(text: &mut Vec<u8>, between: &[u8], i: u64) -> Result<(), Memory>
 #[inline(always)]
 #[tactic(auto, using(crate::proofs::FrameLemmas::before_is))]
 fn put_before_field(text: &mut Vec<u8>, fields: &[List<u8>], i: u64) -> Result<(), Memory>
-    ensures { (name : List ℕ) → OnOk result (text.new.items ≡ text.old.items ++ before_part (named_frame name fields.now) i) }
+    ensures { (name : List ℕ)
+        → OnOk result
+        (text.new.items ≡ text.old.items ++ before_part (named_frame name fields.now) i) }
 {
     if i >= fields.len() as u64 {
         return if fields.is_empty() {
@@ -134,7 +138,10 @@ fn put_before_field(text: &mut Vec<u8>, fields: &[List<u8>], i: u64) -> Result<(
 /// Puts the name of field i, after what stands between two fields.
 #[inline(always)]
 fn put_field_name(text: &mut Vec<u8>, name: &[u8], i: u64) -> Result<(), Memory>
-    ensures { OnOk result (text.new.items ≡ text.old.items ++ ((if i == 0 then [] else codes "; ") ++ (name.now ++ codes " = "))) }
+    ensures { OnOk result
+        (text.new.items
+        ≡ text.old.items
+        ++ ((if i == 0 then [] else codes "; ") ++ (name.now ++ codes " = "))) }
 {
     text.reserve(name.len() + 5)?;
     // A name of one byte takes no loop, and the length of the text is changed once.
@@ -165,7 +172,8 @@ pub fn block_frame<'a>(
 ) -> Frame<'a>
     requires object { o < length heap.now }
     requires block { object_at heap.now o ≡ objects.Block tag (fields_of (object_at heap.now o)) }
-    ensures { frame_in result ≡ frame_of shape.now names.now tag (fields_of (object_at heap.now o)) }
+    ensures { frame_in result
+        ≡ frame_of shape.now names.now tag (fields_of (object_at heap.now o)) }
 {
     match shape {
         ShapeOf::Sum(_, _) => constructor_frame(names.constructors.as_slice(), tag),
@@ -188,7 +196,8 @@ fn constructor_frame(constructors: &[ConstrNames], tag: u8) -> Frame<'_>
 
 /// The name of the tag of this hash, if there is one.
 pub fn name_of_tag(tags: &[TagName], hash: i64) -> &[u8]
-    ensures { result.now ≡ unwrap_or (option_map (λ (tag : TagName). tag.name) (find (is_hash hash) tags.now)) [] }
+    ensures { result.now
+        ≡ unwrap_or (option_map (λ (tag : TagName). tag.name) (find (is_hash hash) tags.now)) [] }
 {
     match tags.iter().find(|tag| tag.hash == hash) {
         Some(tag) => tag.name.as_slice(),

@@ -1,4 +1,5 @@
-//! Values as text: those that have no parts, what stands around and between parts, and the lines of a graph as it is.
+//! Values as text: those that have no parts, what stands around and between parts, and the lines of
+//! a graph as it is.
 #![tactic(auto)]
 
 mod at_type;

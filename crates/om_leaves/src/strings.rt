@@ -12,7 +12,9 @@ use om_model::Memory;
 #[inline(always)]
 pub fn put_string_of(text: &mut Vec<u8>, words: &[u64], len: usize) -> Result<(), Memory>
     requires { len / 8 < length words.now }
-    ensures { OnOk result (text.new.items ≡ text.old.items ++ string_text (take len (flat_map (to_le_bytes w64) words.now))) }
+    ensures { OnOk result
+        (text.new.items
+        ≡ text.old.items ++ string_text (take len (flat_map (to_le_bytes w64) words.now))) }
 {
     text.push(b'"')?;
     put_words(text, words, len)?;
@@ -23,7 +25,10 @@ pub fn put_string_of(text: &mut Vec<u8>, words: &[u64], len: usize) -> Result<()
 #[inline(always)]
 fn put_words(text: &mut Vec<u8>, words: &[u64], len: usize) -> Result<(), Memory>
     requires { len / 8 < length words.now }
-    ensures { OnOk result (text.new.items ≡ text.old.items ++ flat_map (escaped 34) (take len (flat_map (to_le_bytes w64) words.now))) }
+    ensures { OnOk result
+        (text.new.items
+        ≡ text.old.items
+        ++ flat_map (escaped 34) (take len (flat_map (to_le_bytes w64) words.now))) }
 {
     let whole = len / 8;
     for j in 0..whole {

@@ -1,5 +1,6 @@
--- The lexemes of a text, or its first fault. Separators and comments are those of the lexical conventions of OCaml's
--- reference manual, but that nothing inside a comment is looked at; the faults are this project's own.
+-- The lexemes of a text, or its first fault. Separators and comments are those of the lexical
+-- conventions of OCaml's reference manual, but that nothing inside a comment is looked at; the
+-- faults are this project's own.
 use Rattle.std.specs.Prelude.{◌≡◌, ◌≢◌, ◌⊎◌, ℕ, zero, suc, ◌+◌, ◌<◌, ◌≤◌, Bool, false, ◌&&◌, ◌||◌, ◌==◌, List, [], ◌∷◌, ◌++◌, length, IsTrue, Result, Ok, Err}
 use Rattle.std.specs.List.{flat_map, AllByRecursion}
 use Rattle.om_lex.specs.declared.lexeme.Lexeme.{Lexeme}
@@ -34,7 +35,8 @@ abbrev pub IsCut : List Cut → List ℕ → Type 0
 IsCut [] after = Unit {0}
 IsCut (Opens ∷ cuts) after = IsCut cuts after
 IsCut (Closes ∷ cuts) after = IsCut cuts after
-IsCut (Other b ∷ cuts) after = (begins_bracket (b ∷ (flat_map cut_bytes cuts ++ after)) ≡ false) × IsCut cuts after
+IsCut (Other b ∷ cuts) after =
+    (begins_bracket (b ∷ (flat_map cut_bytes cuts ++ after)) ≡ false) × IsCut cuts after
 
 -- the brackets nest, and close what was open before them
 abbrev pub Nests : ℕ → List Cut → Type 0
@@ -50,11 +52,13 @@ IsInside cuts after = Nests 0 cuts × IsCut cuts (42 ∷ 41 ∷ after)
 
 -- ---- parts
 
--- The form is the lexeme at the front: `(*` begins no lexeme, and of all forms that begin the text it comes first.
+-- The form is the lexeme at the front: `(*` begins no lexeme, and of all forms that begin the text
+-- it comes first.
 pub record IsTaken (form : Form) (after : List ℕ) : Type 0 where
   pub written : IsForm form
   pub no_comment : (more : List ℕ) → form_bytes form ++ after ≢ 40 ∷ 42 ∷ more
-  pub first : (other : Form) (more : List ℕ) → IsForm other → form_bytes other ++ more ≡ form_bytes form ++ after → Precedes form other
+  pub first : (other : Form) (more : List ℕ) → IsForm other
+      → form_bytes other ++ more ≡ form_bytes form ++ after → Precedes form other
 
 -- a separator, a comment, or a lexeme
 pub data Part : Type 0 where
@@ -82,7 +86,8 @@ AreParts (part ∷ parts) rest = IsPart part (flat_map part_bytes parts ++ rest)
 abbrev pub lexemes_of : ℕ → List Part → List Lexeme
 lexemes_of place [] = []
 lexemes_of place (Word form ∷ parts) =
-    record { kind = form_kind form; span = record { first = place; len = length (form_bytes form) } }
+    record
+    { kind = form_kind form; span = record { first = place; len = length (form_bytes form) } }
     ∷ lexemes_of (place + length (form_bytes form)) parts
 lexemes_of place (part ∷ parts) = lexemes_of (place + length (part_bytes part)) parts
 
@@ -90,11 +95,14 @@ lexemes_of place (part ∷ parts) = lexemes_of (place + length (part_bytes part)
 
 -- a string begins, and goes on with well written characters up to the rest
 abbrev pub OpensString : List ℕ → List ℕ → Type 0
-OpensString text rest = (chars : List CharForm) × AllByRecursion (IsCharForm 34) chars × (text ≡ 34 ∷ (flat_map char_bytes chars ++ rest))
+OpensString text rest =
+    (chars : List CharForm) × AllByRecursion (IsCharForm 34) chars
+    × (text ≡ 34 ∷ (flat_map char_bytes chars ++ rest))
 
 -- no well written character of a string begins the text
 abbrev pub StartsNoChar : List ℕ → Type 0
-StartsNoChar text = (char : CharForm) (more : List ℕ) → IsCharForm 34 char → char_bytes char ++ more ≢ text
+StartsNoChar text =
+    (char : CharForm) (more : List ℕ) → IsCharForm 34 char → char_bytes char ++ more ≢ text
 
 -- neither a separator nor a string nor a form begins the text
 pub record StartsNothing (text : List ℕ) : Type 0 where
@@ -105,9 +113,12 @@ pub record StartsNothing (text : List ℕ) : Type 0 where
   pub no_string : byte ≢ 34
   pub no_form : (form : Form) (after : List ℕ) → IsForm form → form_bytes form ++ after ≢ text
 
--- in a string that begins at a place, a backslash begins no escape; the fault is the place of the byte after it
+-- in a string that begins at a place, a backslash begins no escape; the fault is the place of the
+-- byte after it
 abbrev pub IsBadEscape : ℕ → List ℕ → ℕ → Type 0
-IsBadEscape place text fault = (after : List ℕ) × OpensString text (92 ∷ after) × StartsNoChar (92 ∷ after) × (fault + length after ≡ place + length text)
+IsBadEscape place text fault =
+    (after : List ℕ) × OpensString text (92 ∷ after) × StartsNoChar (92 ∷ after)
+    × (fault + length after ≡ place + length text)
 
 -- a string begins and meets the end or a line feed
 abbrev pub IsOpenString : List ℕ → Type 0
@@ -115,15 +126,21 @@ IsOpenString text = OpensString text [] ⊎ ((after : List ℕ) × OpensString t
 
 -- a comment begins, and no front of the text is one
 abbrev pub IsOpenComment : List ℕ → Type 0
-IsOpenComment text = ((more : List ℕ) × (text ≡ 40 ∷ 42 ∷ more)) × ((inside : List Cut) (after : List ℕ) → IsInside inside after → part_bytes (Comment inside) ++ after ≢ text)
+IsOpenComment text =
+    ((more : List ℕ) × (text ≡ 40 ∷ 42 ∷ more))
+    × ((inside : List Cut) (after : List ℕ) → IsInside inside after
+    → part_bytes (Comment inside) ++ after ≢ text)
 
 -- the lexeme at the front is an integer that 64 bits do not have
 abbrev pub IsOverlong : List ℕ → Type 0
-IsOverlong text = (form : Form) × (after : List ℕ) × (text ≡ form_bytes form ++ after) × IsTaken form after × IsTooBig form
+IsOverlong text =
+    (form : Form) × (after : List ℕ) × (text ≡ form_bytes form ++ after) × IsTaken form after
+    × IsTooBig form
 
 -- the fault that stands at the front of a text, which begins at a place
 abbrev pub Breaks : ℕ → List ℕ → LexFault → Type 0
-Breaks place text (faults.BadByte fault) = ((fault ≡ place) × StartsNothing text) ⊎ IsBadEscape place text fault
+Breaks place text (faults.BadByte fault) =
+    ((fault ≡ place) × StartsNothing text) ⊎ IsBadEscape place text fault
 Breaks place text (faults.OpenString fault) = (fault ≡ place) × IsOpenString text
 Breaks place text (faults.OpenComment fault) = (fault ≡ place) × IsOpenComment text
 Breaks place text (faults.TooBig fault) = (fault ≡ place) × IsOverlong text
@@ -133,11 +150,16 @@ Breaks place text faults.Memory = ⊥
 
 -- the text is parts one after the other, and nothing else, with these lexemes
 abbrev pub Lexes : List ℕ → List Lexeme → Type 0
-Lexes text lexemes = (parts : List Part) × AreParts parts [] × (text ≡ flat_map part_bytes parts) × (lexemes ≡ lexemes_of 0 parts)
+Lexes text lexemes =
+    (parts : List Part) × AreParts parts [] × (text ≡ flat_map part_bytes parts)
+    × (lexemes ≡ lexemes_of 0 parts)
 
 -- the text is parts one after the other, and then this fault
 abbrev pub Faults : List ℕ → LexFault → Type 0
-Faults text fault = (parts : List Part) × (rest : List ℕ) × AreParts parts rest × (text ≡ flat_map part_bytes parts ++ rest) × Breaks (length (flat_map part_bytes parts)) rest fault
+Faults text fault =
+    (parts : List Part) × (rest : List ℕ) × AreParts parts rest
+    × (text ≡ flat_map part_bytes parts ++ rest)
+    × Breaks (length (flat_map part_bytes parts)) rest fault
 
 -- ---- answers
 
@@ -159,9 +181,13 @@ Outcome text (Err fault) = Faults text fault
 
 -- a text has an outcome, and no other
 abbrev pub HasOneOutcome : List ℕ → Type 0
-HasOneOutcome text = (outcome : Result (List Lexeme) LexFault) × Outcome text outcome × ((other : Result (List Lexeme) LexFault) → Outcome text other → other ≡ outcome)
+HasOneOutcome text =
+    (outcome : Result (List Lexeme) LexFault) × Outcome text outcome
+    × ((other : Result (List Lexeme) LexFault) → Outcome text other → other ≡ outcome)
 
 -- the spans are not empty and come one after the other, from a place on, and up to another
 abbrev pub SpansWithin : ℕ → List Lexeme → ℕ → Type 0
 SpansWithin from [] end = from ≤ end
-SpansWithin from (lexeme ∷ lexemes) end = (from ≤ lexeme.span.first) × (0 < lexeme.span.len) × SpansWithin (lexeme.span.first + lexeme.span.len) lexemes end
+SpansWithin from (lexeme ∷ lexemes) end =
+    (from ≤ lexeme.span.first) × (0 < lexeme.span.len)
+    × SpansWithin (lexeme.span.first + lexeme.span.len) lexemes end

@@ -1,5 +1,6 @@
--- How a lexeme is written. Words, characters, strings, integers and symbols follow the lexical conventions of
--- OCaml's reference manual; escapes are those of the same page; `$` and sixteen digits is this project's own.
+-- How a lexeme is written. Words, characters, strings, integers and symbols follow the lexical
+-- conventions of OCaml's reference manual; escapes are those of the same page; `$` and sixteen
+-- digits is this project's own.
 use Rattle.std.specs.Prelude.{◌≡◌, ◌≢◌, ◌⊎◌, ℕ, ℤ, pos, ◌+◌, ◌-◌, ◌*◌, ◌^◌, ◌≤◌, ◌<◌, ◌-ℤ◌, Bool, true, false, ◌||◌, ◌==◌, if◌then◌else◌, nat_lt, List, [], ◌∷◌, ◌++◌, length, map, Option, Some, None, IsSome, unwrap_or, IsTrue, codes}
 use Rattle.std.specs.List.{list_all, flat_map, AllByRecursion}
 use Rattle.std.specs.Char.{is_ascii_lowercase, is_ascii_uppercase, is_ascii_alphanumeric, is_ascii_digit, is_ascii_hexdigit}
@@ -54,7 +55,8 @@ greatest false = 2 ^ 63 - 1
 
 -- ---- one character, inside quotes
 
--- a byte as it is, a backslash and a letter, a backslash and three digits, or a backslash, `x` and two digits
+-- a byte as it is, a backslash and a letter, a backslash and three digits, or a backslash, `x` and
+-- two digits
 pub data CharForm : Type 0 where
   Plain : (b : ℕ) → CharForm
   Named : (b : ℕ) → CharForm
@@ -86,7 +88,8 @@ char_value (Hexadecimal h l) = number_in 16 (h ∷ l ∷ [])
 abbrev pub IsCharForm : ℕ → CharForm → Type 0
 IsCharForm quote (Plain b) = (b ≢ quote) × (b ≢ 92) × (b ≢ 10)
 IsCharForm quote (Named b) = IsSome (named_char b)
-IsCharForm quote (Decimal d e f) = IsTrue (list_all is_ascii_digit (d ∷ e ∷ f ∷ [])) × (number_in 10 (d ∷ e ∷ f ∷ []) ≤ 255)
+IsCharForm quote (Decimal d e f) =
+    IsTrue (list_all is_ascii_digit (d ∷ e ∷ f ∷ [])) × (number_in 10 (d ∷ e ∷ f ∷ []) ≤ 255)
 IsCharForm quote (Hexadecimal h l) = IsTrue (list_all is_ascii_hexdigit (h ∷ l ∷ []))
 
 -- ---- lexemes
@@ -161,7 +164,9 @@ form_kind (Upper name) = kinds.Upper name
 form_kind (Tag name) = kinds.Tag name
 form_kind (Variable name) = kinds.Variable name
 form_kind (Character c) = kinds.Character (char_value c)
-form_kind (Number minus digits suffix) = kinds.Integer (record { minus = minus; value = signed minus (number_in 10 digits); suffix = suffix })
+form_kind (Number minus digits suffix) =
+    kinds.Integer
+    (record { minus = minus; value = signed minus (number_in 10 digits); suffix = suffix })
 form_kind (Quoted chars) = kinds.Text (map char_value chars)
 form_kind (Double digits) = kinds.Double (number_in 16 digits)
 form_kind (Mark s) = kinds.Symbol s
@@ -192,6 +197,9 @@ abbrev pub is_character : Form → Bool
 is_character (Character c) = true
 is_character form = false
 
--- Which of two forms that begin one text is taken: a character before all others, and else the longer one.
+-- Which of two forms that begin one text is taken: a character before all others, and else the
+-- longer one.
 abbrev pub Precedes : Form → Form → Type 0
-Precedes form other = IsTrue (is_character form) ⊎ ((is_character other ≡ false) × (length (form_bytes other) ≤ length (form_bytes form)))
+Precedes form other =
+    IsTrue (is_character form)
+    ⊎ ((is_character other ≡ false) × (length (form_bytes other) ≤ length (form_bytes form)))

@@ -1,4 +1,5 @@
--- The form at the front of a text, and the part, found from left to right: what the functions of the crate compute.
+-- The form at the front of a text, and the part, found from left to right: what the functions of
+-- the crate compute.
 use Rattle.std.specs.Prelude.{ℕ, zero, suc, pred, ◌+◌, Bool, true, false, ◌&&◌, ◌||◌, ◌==◌, nat_lt, nat_le, if◌then◌else◌, List, [], ◌∷◌, length, take, drop, Option, Some, None, is_some, Result, Ok, Err}
 use Rattle.std.specs.List.{list_all, flat_map, prefix_len, take_while}
 use Rattle.std.specs.Char.{is_ascii_digit, is_ascii_hexdigit}
@@ -44,29 +45,38 @@ tag_form (b ∷ bs) = if starts_name b then Some (Tag (take_while is_name_byte (
 
 unfoldable pub variable_form : List ℕ → Option Form
 variable_form [] = None
-variable_form (b ∷ bs) = if starts_lower b then Some (Variable (take_while is_name_byte (b ∷ bs))) else None
+variable_form (b ∷ bs) =
+    if starts_lower b then Some (Variable (take_while is_name_byte (b ∷ bs))) else None
 
 -- ---- characters
 
 unfoldable pub hexadecimal_at : List ℕ → Option CharForm
 hexadecimal_at [] = None
 hexadecimal_at (h ∷ []) = None
-hexadecimal_at (h ∷ l ∷ rest) = if is_ascii_hexdigit h && is_ascii_hexdigit l then Some (Hexadecimal h l) else None
+hexadecimal_at (h ∷ l ∷ rest) =
+    if is_ascii_hexdigit h && is_ascii_hexdigit l then Some (Hexadecimal h l) else None
 
 unfoldable pub decimal_at : List ℕ → Option CharForm
 decimal_at [] = None
 decimal_at (d ∷ []) = None
 decimal_at (d ∷ e ∷ []) = None
-decimal_at (d ∷ e ∷ f ∷ rest) = if (is_ascii_digit d && is_ascii_digit e && is_ascii_digit f) && nat_le (number_in 10 (d ∷ e ∷ f ∷ [])) 255 then Some (Decimal d e f) else None
+decimal_at (d ∷ e ∷ f ∷ rest) =
+    if (is_ascii_digit d && is_ascii_digit e && is_ascii_digit f)
+    && nat_le (number_in 10 (d ∷ e ∷ f ∷ [])) 255
+    then Some (Decimal d e f)
+    else None
 
 -- after a backslash
 unfoldable pub escape_at : List ℕ → Option CharForm
 escape_at [] = None
-escape_at (b ∷ bs) = if is_some (named_char b) then Some (Named b) else (if b == 120 then hexadecimal_at bs else decimal_at (b ∷ bs))
+escape_at (b ∷ bs) =
+    if is_some (named_char b) then Some (Named b)
+    else (if b == 120 then hexadecimal_at bs else decimal_at (b ∷ bs))
 
 unfoldable pub char_at : ℕ → List ℕ → Option CharForm
 char_at quote [] = None
-char_at quote (b ∷ bs) = if b == 92 then escape_at bs else (if b == quote || b == 10 then None else Some (Plain b))
+char_at quote (b ∷ bs) =
+    if b == 92 then escape_at bs else (if b == quote || b == 10 then None else Some (Plain b))
 
 -- the value of a character, and how many bytes it takes
 abbrev pub char_found : Option CharForm → Option (ℕ × ℕ)
@@ -79,7 +89,8 @@ begins_with byte (b ∷ bs) = b == byte
 
 abbrev pub closed_char : List ℕ → Option CharForm → Option Form
 closed_char text None = None
-closed_char text (Some c) = if begins_with 39 (drop (length (char_bytes c)) text) then Some (Character c) else None
+closed_char text (Some c) =
+    if begins_with 39 (drop (length (char_bytes c)) text) then Some (Character c) else None
 
 unfoldable pub character_form : List ℕ → Option Form
 character_form text = closed_char text (char_at 39 text)
@@ -94,9 +105,11 @@ quote_form text = or_form (character_form text) (variable_form text)
 
 -- ---- strings
 
-abbrev pub one_more : (List ℕ → List CharForm × List ℕ) → List ℕ → Option CharForm → List CharForm × List ℕ
+abbrev pub one_more : (List ℕ → List CharForm × List ℕ) → List ℕ → Option CharForm
+    → List CharForm × List ℕ
 one_more others text None = ([], text)
-one_more others text (Some c) = let more = others (drop (length (char_bytes c)) text) in (c ∷ more.0, more.1)
+one_more others text (Some c) =
+    let more = others (drop (length (char_bytes c)) text) in (c ∷ more.0, more.1)
 
 -- at most so many characters of a string, and the bytes after them
 unfoldable pub chars_of : ℕ → List ℕ → List CharForm × List ℕ
@@ -114,7 +127,11 @@ string_form text = closed_string (chars_of (length text) text)
 
 unfoldable pub suffix_at : List ℕ → Suffix
 suffix_at [] = suffixes.Absent
-suffix_at (b ∷ bs) = if b == 108 then suffixes.Int32 else (if b == 76 then suffixes.Int64 else (if b == 110 then suffixes.Native else suffixes.Absent))
+suffix_at (b ∷ bs) =
+    if b == 108 then suffixes.Int32
+    else
+    (if b == 76 then suffixes.Int64
+    else (if b == 110 then suffixes.Native else suffixes.Absent))
 
 unfoldable pub number_form : Bool → List ℕ → Option Form
 number_form minus text =
@@ -122,7 +139,9 @@ number_form minus text =
     if count == 0 then None else Some (Number minus (take count text) (suffix_at (drop count text)))
 
 unfoldable pub double_form : List ℕ → Option Form
-double_form text = if nat_lt (length text) 16 then None else (if list_all is_ascii_hexdigit (take 16 text) then Some (Double (take 16 text)) else None)
+double_form text =
+    if nat_lt (length text) 16 then None
+    else (if list_all is_ascii_hexdigit (take 16 text) then Some (Double (take 16 text)) else None)
 
 unfoldable pub pair_symbol : ℕ → ℕ → Option Symbol
 pair_symbol a b =
@@ -191,7 +210,9 @@ abbrev pub ended_string : List CharForm → List ℕ → Result Found LexFault
 ended_string chars [] = Err (faults.OpenString 0)
 ended_string chars (b ∷ bs) =
     if b == 34 then Ok (found (Quoted chars))
-    else (if b == 92 then Err (faults.BadByte (length (flat_map char_bytes chars) + 2)) else Err (faults.OpenString 0))
+    else
+    (if b == 92 then Err (faults.BadByte (length (flat_map char_bytes chars) + 2))
+    else Err (faults.OpenString 0))
 
 unfoldable pub string_at : List ℕ → Result Found LexFault
 string_at text = let read = chars_of (length text) text in ended_string read.0 read.1
@@ -205,9 +226,11 @@ plus n None = None
 plus n (Some m) = Some (n + m)
 
 abbrev pub bracket_of : ℕ → ℕ → Bracket
-bracket_of a b = if a == 40 && b == 42 then Opening else (if a == 42 && b == 41 then Closing else Neither)
+bracket_of a b =
+    if a == 40 && b == 42 then Opening else (if a == 42 && b == 41 then Closing else Neither)
 
--- one more bracket or byte, at a depth: what is answered one comment deeper, one further out, and one byte on
+-- one more bracket or byte, at a depth: what is answered one comment deeper, one further out, and
+-- one byte on
 abbrev pub closing_by : Bracket → ℕ → Option ℕ → Option ℕ → Option ℕ → Option ℕ
 closing_by Opening depth deeper outer on = plus 2 deeper
 closing_by Closing zero deeper outer on = Some 2
@@ -218,7 +241,9 @@ closing_by Neither depth deeper outer on = plus 1 on
 unfoldable pub closing : ℕ → List ℕ → Option ℕ
 closing depth [] = None
 closing depth (a ∷ []) = None
-closing depth (a ∷ b ∷ bs) = closing_by (bracket_of a b) depth (closing (suc depth) bs) (closing (pred depth) bs) (closing depth (b ∷ bs))
+closing depth (a ∷ b ∷ bs) =
+    closing_by (bracket_of a b) depth (closing (suc depth) bs) (closing (pred depth) bs)
+    (closing depth (b ∷ bs))
 
 abbrev pub gap_of : Option ℕ → Result Step LexFault
 gap_of None = Err (faults.OpenComment 0)
@@ -232,7 +257,9 @@ unfoldable pub step_at : List ℕ → Result Step LexFault
 step_at [] = Err (faults.BadByte 0)
 step_at (b ∷ bs) =
     if is_separator b then Ok (Gap 1)
-    else (if b == 40 && begins_with 42 bs then gap_of (closing 0 (drop 1 bs)) else word_of (lexeme_at (b ∷ bs)))
+    else
+    (if b == 40 && begins_with 42 bs then gap_of (closing 0 (drop 1 bs))
+    else word_of (lexeme_at (b ∷ bs)))
 
 -- ---- places
 

@@ -26,7 +26,8 @@ fn named_char(b: u8) -> Option<u8>
     }
 }
 
-/// Two hexadecimal digits after a backslash and an `x`. This and the next ones also tell the bytes of the whole escape.
+/// Two hexadecimal digits after a backslash and an `x`. This and the next ones also tell the bytes
+/// of the whole escape.
 #[tactic(auto, unfolding(crate::specs::Scan::hexadecimal_at))]
 fn hexadecimal_at(text: &[u8]) -> Option<(u8, usize)>
     ensures { result ≡ char_found (hexadecimal_at text.now) }
@@ -80,7 +81,8 @@ fn escape_at(text: &[u8]) -> Option<(u8, usize)>
     }
 }
 
-/// The character at the front, inside these quotes: what it stands for, and how many bytes it takes.
+/// The character at the front, inside these quotes: what it stands for, and how many bytes it
+/// takes.
 #[tactic(auto, unfolding(crate::specs::Scan::char_at))]
 fn char_at(quote: u8, text: &[u8]) -> Option<(u8, usize)>
     ensures { result ≡ char_found (char_at quote text.now) }

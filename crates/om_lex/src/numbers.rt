@@ -41,7 +41,8 @@ fn number_in(base: u64, digits: &[u8]) -> u64
 
 /// The number with its sign, where 64 bits have it.
 fn signed(minus: bool, number: u64) -> Option<i64>
-    ensures { result ≡ (if nat_le number (greatest minus) then Some (signed minus number) else None) }
+    ensures { result
+        ≡ (if nat_le number (greatest minus) then Some (signed minus number) else None) }
 {
     if !minus {
         if number > i64::MAX as u64 {

@@ -107,7 +107,8 @@ fn scan(alloc: Global, text: &[u8]) -> Result<Vec<Lexeme>, LexFault>
 
 /// The lexemes of a text in their order, or its first fault.
 pub fn tokens(alloc: Global, text: &[u8]) -> Result<Vec<Lexeme>, LexFault>
-    // What is answered are the text's lexemes, and a fault that is answered comes after whole parts.
+    // What is answered are the text's lexemes, and a fault that is answered comes after whole
+    // parts.
     ensures lexemes { IfOk result (λ v. Lexes text.now v.items) }
     ensures fault { IfErr result (UnlessMemory (Faults text.now)) }
 
@@ -115,8 +116,10 @@ pub fn tokens(alloc: Global, text: &[u8]) -> Result<Vec<Lexeme>, LexFault>
     ensures spans { IfOk result (λ v. SpansWithin 0 v.items (length text.now)) }
 
     // A text that has lexemes, or a fault, gets no others, unless memory runs out.
-    ensures only_lexemes { (lexemes : List Lexeme) → Lexes text.now lexemes → Answers (λ v. v.items) result (Ok lexemes) }
-    ensures only_fault { (fault : LexFault) → Faults text.now fault → Answers (λ v. v.items) result (Err fault) }
+    ensures only_lexemes { (lexemes : List Lexeme) → Lexes text.now lexemes
+        → Answers (λ v. v.items) result (Ok lexemes) }
+    ensures only_fault { (fault : LexFault) → Faults text.now fault
+        → Answers (λ v. v.items) result (Err fault) }
 {
     scan(alloc, text)
 }

@@ -2,8 +2,8 @@
 
 ghost use Rattle.om_lexed.specs.Laws.{CharactersAreLexemes, DoublesAreLexemes, IntegersAreLexemes, StringsAreLexemes};
 
-/// The text of a string, of a character and of a double is one lexeme, whatever follows it; that of an integer is one before
-/// all that begins with no byte of a name.
+/// The text of a string, of a character and of a double is one lexeme, whatever follows it; that of
+/// an integer is one before all that begins with no byte of a name.
 pub fn texts_are_lexemes()
     ensures strings { StringsAreLexemes }
     ensures characters { CharactersAreLexemes }

@@ -16,7 +16,7 @@ use Rattle.om_literal.specs.declared.fault.LiteralFault.{LiteralFault}
 use Rattle.om_literal.specs.declared.fault.LiteralFault.TheVariants as faults
 use Rattle.om_literal.specs.Starts.{Start, misfit, out_of_range, small, whole, block, start_at}
 use Rattle.om_literal.specs.Reading.{Reading, Refusal, misfit_at, int_range_at, label_at, reading, is_next, again_read, small_read, block_read, begun, literal_read, inside}
-use Rattle.om_literal.specs.Answers.{byte_of, in_bytes, fault_of, shape_in, names_in, IsValue, IsMisread, IsAnswer, HasOneAnswer}
+use Rattle.om_literal.specs.LiteralAnswers.{byte_of, in_bytes, fault_of, shape_in, names_in, IsValue, IsMisread, IsAnswer, HasOneAnswer}
 
 -- ---- a literal is one value
 

@@ -16,7 +16,7 @@ use Rattle.om_literal.specs.declared.part.Begun.{Begun}
 use Rattle.om_literal.specs.NodesOf.{form_of}
 use Rattle.om_literal.specs.Pending.{finished}
 use Rattle.om_literal.specs.Reading.{Reading, Refusal, literal_read}
-use Rattle.om_literal.specs.Answers.{shape_in, names_in}
+use Rattle.om_literal.specs.LiteralAnswers.{shape_in, names_in}
 use Rattle.om_literal.specs.Openings.{types_in}
 use Rattle.om_literal.specs.Standing.{IsAt, Stands, own_node}
 use Rattle.om_literal.specs.Underway.{PartList, Popped, opens_with, AreOpen, IsAdvanced, if_open, IsText, HasPart, IsGiven, IsBegun, IsUnderway, CanGoOn, MayRefuse, IsRefusedAs}

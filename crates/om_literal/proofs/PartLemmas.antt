@@ -15,7 +15,7 @@ use Rattle.om_literal.specs.declared.text.Text.{Text}
 use Rattle.om_literal.specs.Reading.{Reading, Refusal, is_next, with_label, literal_read}
 use Rattle.om_literal.specs.Starts as starts
 use Rattle.om_literal.specs.Starts.{start_at}
-use Rattle.om_literal.specs.Answers.{shape_in, names_in}
+use Rattle.om_literal.specs.LiteralAnswers.{shape_in, names_in}
 use Rattle.om_literal.specs.Openings.{types_in}
 use Rattle.om_literal.specs.Pending.{Open, open_at, row_read, finished, put}
 use Rattle.om_literal.specs.NodesOf.{part_nodes, nodes_of_parts, nodes_to_come}

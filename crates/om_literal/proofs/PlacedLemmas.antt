@@ -12,7 +12,7 @@ use Rattle.om_literal.specs.declared.fault.LiteralFault.TheVariants as faults
 use Rattle.om_literal.specs.declared.text.Text.{Text}
 use Rattle.om_literal.specs.Starts.{Start, start_at}
 use Rattle.om_literal.specs.Reading.{Reading, Refusal, label_at, is_next, again_read, begun, literal_read, inside}
-use Rattle.om_literal.specs.Answers.{byte_of, shape_in, names_in}
+use Rattle.om_literal.specs.LiteralAnswers.{byte_of, shape_in, names_in}
 use Rattle.om_literal.specs.Standing.{own_node}
 use Rattle.om_literal.specs.Underway.{IsGiven, MayRefuse}
 

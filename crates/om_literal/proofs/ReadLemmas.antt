@@ -11,7 +11,7 @@ use Rattle.om_literal.specs.declared.fault.LiteralFault.{LiteralFault}
 use Rattle.om_literal.specs.declared.fault.LiteralFault.TheVariants as faults
 use Rattle.om_literal.specs.declared.text.Text.{Text}
 use Rattle.om_literal.specs.Reading.{Refusal, misfit_at, int_range_at, label_at, literal_read}
-use Rattle.om_literal.specs.Answers.{fault_of, in_bytes, shape_in, names_in, IsMisread, IsAnswer, IsAnswered, Gives}
+use Rattle.om_literal.specs.LiteralAnswers.{fault_of, in_bytes, shape_in, names_in, IsMisread, IsAnswer, IsAnswered, Gives}
 use Rattle.om_literal.specs.Underway.{IsRefusedAs, ReadsTree, Reads}
 use Rattle.om_literal.proofs.AnswerLemmas.{one_answer}
 

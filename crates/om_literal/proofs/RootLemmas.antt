@@ -21,7 +21,7 @@ use Rattle.om_literal.specs.declared.stack.Opened.{Opened}
 use Rattle.om_literal.specs.declared.text.Text.{Text}
 use Rattle.om_literal.specs.declared.part.Begun.{Begun}
 use Rattle.om_literal.specs.Reading.{Reading, Refusal, reading, with_label, block_read, literal_read}
-use Rattle.om_literal.specs.Answers.{shape_in, names_in}
+use Rattle.om_literal.specs.LiteralAnswers.{shape_in, names_in}
 use Rattle.om_literal.specs.Openings.{types_in}
 use Rattle.om_literal.specs.Pending.{row_read, finished, put}
 use Rattle.om_literal.specs.NodesOf.{nodes_of_parts}

@@ -10,7 +10,7 @@ use Rattle.om_types.specs.declared.shape.ShapeOf.{ShapeOf}
 use Rattle.om_types.specs.Names.{no_names}
 use Rattle.om_types.specs.Table.{node_or_none}
 use Rattle.om_type_table.specs.declared.table.TypeTable.{TypeTable}
-use Rattle.om_literal.specs.Answers.{shape_in, names_in}
+use Rattle.om_literal.specs.LiteralAnswers.{shape_in, names_in}
 use Rattle.om_literal_grammar.specs.declared.node.Form.TheVariants as forms
 use Rattle.om_literal_grammar.specs.Literal.{Head, upper_head, tag_head, cons_head, empty_head, ref_head, Literal, Plain, constant, applied, fields, tuple, empty_array, array, Parts, Rows}
 use Rattle.om_literal_grammar.specs.Nodes.{count, rows_count}

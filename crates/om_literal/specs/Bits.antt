@@ -27,4 +27,5 @@ abbrev pub bits_of_nodes : Kinds → Option (List ℕ) → List Node → Option 
 bits_of_nodes all before nodes = fold (λ bits n. and_bits bits (bits_of_node all n)) before nodes
 
 abbrev pub bits_of_listed : Option (List ℕ) → List (ℕ × Literal) → Option (List ℕ)
-bits_of_listed before parts = fold (λ bits (part : ℕ × Literal). and_bits bits (bits_of part.1)) before parts
+bits_of_listed before parts =
+    fold (λ bits (part : ℕ × Literal). and_bits bits (bits_of part.1)) before parts

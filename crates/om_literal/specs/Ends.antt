@@ -5,14 +5,20 @@ use Rattle.om_literal_grammar.specs.Literal.{Literal}
 use Rattle.om_literal_grammar.specs.Nodes.{literal_nodes}
 use Rattle.om_literal.specs.Standing.{IsAt}
 
--- where the nodes of a literal begin at node j, the entry of j is the number behind the last of them; of the nodes from i on
+-- where the nodes of a literal begin at node j, the entry of j is the number behind the last of
+-- them; of the nodes from i on
 abbrev pub AreEndsFrom : ℕ → List Node → List ℕ → Type 0
-AreEndsFrom i nodes ends = (j k : ℕ) (v : Literal) → i ≤ j → IsAt nodes j (literal_nodes k v) → slice_index ends j ≡ j + length (literal_nodes k v)
+AreEndsFrom i nodes ends =
+    (j k : ℕ) (v : Literal) → i ≤ j → IsAt nodes j (literal_nodes k v)
+    → slice_index ends j ≡ j + length (literal_nodes k v)
 
 abbrev pub AreEnds : List Node → List ℕ → Type 0
-AreEnds nodes ends = (j k : ℕ) (v : Literal) → IsAt nodes j (literal_nodes k v) → slice_index ends j ≡ j + length (literal_nodes k v)
+AreEnds nodes ends =
+    (j k : ℕ) (v : Literal) → IsAt nodes j (literal_nodes k v)
+    → slice_index ends j ≡ j + length (literal_nodes k v)
 
 -- the node so many siblings on
 abbrev pub sibling : List ℕ → ℕ → ℕ → ℕ
 sibling ends place zero = place
-sibling ends place (suc n) = if nat_lt place (length ends) then sibling ends (slice_index ends place) n else place
+sibling ends place (suc n) =
+    if nat_lt place (length ends) then sibling ends (slice_index ends place) n else place

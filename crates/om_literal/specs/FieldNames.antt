@@ -22,4 +22,7 @@ name_of_node all (Some n) = name_before all n.first
 abbrev pub names_from : List Node → List ℕ → Kinds → ℕ → ℕ → List Name
 names_from nodes ends all place zero = []
 names_from nodes ends all place (suc n) =
-    if nat_lt place (length nodes) then name_of_node all (slice_get nodes place) ∷ names_from nodes ends all (sibling ends place 1) n else []
+    if nat_lt place (length nodes)
+    then name_of_node all (slice_get nodes place)
+    ∷ names_from nodes ends all (sibling ends place 1) n
+    else []

@@ -1,7 +1,7 @@
 pub mod Starts
 pub mod Reading
-pub mod Answers
-pub mod Rows
+pub mod LiteralAnswers
+pub mod WorkedLiterals
 pub mod Pending
 pub mod NodesOf
 pub mod Leaves

@@ -1,5 +1,5 @@
--- Blocks that are open, innermost first, with their parts to come, and what comes of them: the parts are read one after the
--- other, and each value is put into its block's next field.
+-- Blocks that are open, innermost first, with their parts to come, and what comes of them: the
+-- parts are read one after the other, and each value is put into its block's next field.
 use Rattle.std.specs.Prelude.{ℕ, suc, ◌+◌, Result, Ok, Err, List, [], ◌∷◌, ◌++◌, length}
 use Rattle.om_model.specs.declared.value.Val.{Val}
 use Rattle.om_model.specs.declared.value.Obj.{Obj}
@@ -16,11 +16,13 @@ use Rattle.om_literal.specs.Reading.{Reading, Refusal, reading, added, literal_r
 
 abbrev pub listed_parts : Symbol → ℕ → Parts → List (ℕ × Literal)
 listed_parts separator k no_parts = []
-listed_parts separator k (more_parts ps v) = listed_parts separator k ps ++ (k + length (parts_kinds separator ps), v) ∷ []
+listed_parts separator k (more_parts ps v) =
+    listed_parts separator k ps ++ (k + length (parts_kinds separator ps), v) ∷ []
 
 abbrev pub listed_rows : ℕ → Rows → List (ℕ × Literal)
 listed_rows k no_rows = []
-listed_rows k (more_rows rs x v) = listed_rows k rs ++ (k + length (rows_kinds rs ++ row_start x), v) ∷ []
+listed_rows k (more_rows rs x v) =
+    listed_rows k rs ++ (k + length (rows_kinds rs ++ row_start x), v) ∷ []
 
 abbrev pub parts_of : ℕ → Plain → List (ℕ × Literal)
 parts_of k (applied h ps v) =
@@ -28,11 +30,16 @@ parts_of k (applied h ps v) =
     ++ (k + length (head_kinds h ++ mark symbols.OpenParen ++ parts_kinds symbols.Comma ps), v) ∷ []
 parts_of k (fields o rs x v) =
     listed_rows (k + length (owner_kinds o ++ mark symbols.OpenBrace)) rs
-    ++ (k + length (owner_kinds o ++ mark symbols.OpenBrace ++ rows_kinds rs ++ row_start x), v) ∷ []
+    ++ (k + length (owner_kinds o ++ mark symbols.OpenBrace ++ rows_kinds rs ++ row_start x), v)
+    ∷ []
 parts_of k (tuple ps u v) =
-    (listed_parts symbols.Comma (k + 1) ps ++ (k + 1 + length (parts_kinds symbols.Comma ps), u) ∷ [])
-    ++ (k + 1 + length (parts_kinds symbols.Comma ps ++ literal_kinds u ++ mark symbols.Comma), v) ∷ []
-parts_of k (array ps v) = listed_parts symbols.Semicolon (k + 1) ps ++ (k + 1 + length (parts_kinds symbols.Semicolon ps), v) ∷ []
+    (listed_parts symbols.Comma (k + 1) ps ++ (k + 1 + length (parts_kinds symbols.Comma ps), u)
+    ∷ [])
+    ++ (k + 1 + length (parts_kinds symbols.Comma ps ++ literal_kinds u ++ mark symbols.Comma), v)
+    ∷ []
+parts_of k (array ps v) =
+    listed_parts symbols.Semicolon (k + 1) ps
+    ++ (k + 1 + length (parts_kinds symbols.Semicolon ps), v) ∷ []
 parts_of k p = []
 
 -- ---- values put into fields
@@ -41,7 +48,8 @@ abbrev pub fill : List Obj → ℕ → ℕ → List Val → List Obj
 fill graph o i [] = graph
 fill graph o i (v ∷ vs) = fill (set_field graph o i v) o (suc i) vs
 
--- an open block, the field that is next, the number of the part that is next, the types of parts, and the parts to come
+-- an open block, the field that is next, the number of the part that is next, the types of parts,
+-- and the parts to come
 pub record Open (T : Type 0) : Type 0 where
   pub block : ℕ
   pub field : ℕ
@@ -49,15 +57,18 @@ pub record Open (T : Type 0) : Type 0 where
   pub types : ℕ → T
   pub parts : List (ℕ × Literal)
 
-abbrev pub then_row : {T : Type 0} → ℕ → Result Reading (Refusal T) → (ℕ → List ℕ → Result Reading (Refusal T)) → Result Reading (Refusal T)
+abbrev pub then_row : {T : Type 0} → ℕ → Result Reading (Refusal T)
+    → (ℕ → List ℕ → Result Reading (Refusal T)) → Result Reading (Refusal T)
 then_row c (Err refusal) next = Err refusal
 then_row c (Ok one) next = added one (next (c + length one.objects) one.labels)
 
 abbrev pub open_at : {T : Type 0} → ℕ → ℕ → ℕ → (ℕ → T) → List (ℕ × Literal) → Open T
-open_at block field part types parts = record { block = block; field = field; part = part; types = types; parts = parts }
+open_at block field part types parts =
+    record { block = block; field = field; part = part; types = types; parts = parts }
 
 -- the values of a row into fields, and then the rest
-abbrev pub put : {T : Type 0} → (List Obj → List ℕ → Result (List Obj) (Refusal T)) → List Obj → ℕ → ℕ → Result Reading (Refusal T) → Result (List Obj) (Refusal T)
+abbrev pub put : {T : Type 0} → (List Obj → List ℕ → Result (List Obj) (Refusal T)) → List Obj → ℕ
+    → ℕ → Result Reading (Refusal T) → Result (List Obj) (Refusal T)
 put rest graph block field (Err refusal) = Err refusal
 put rest graph block field (Ok r) = rest (fill graph block field r.values ++ r.objects) r.labels
 
@@ -66,9 +77,12 @@ module _ {T : Type 0} (shape : T → ShapeOf T) (names : T → Names) where
   abbrev pub row_read : List (ℕ × Literal) → ℕ → List ℕ → ℕ → (ℕ → T) → Result Reading (Refusal T)
   row_read [] c labels i types = Ok (reading [] [] labels)
   row_read (p ∷ parts) c labels i types =
-      then_row c (literal_read shape names p.0 p.1 c labels (types i)) (λ next more. row_read parts next more (suc i) types)
+      then_row c (literal_read shape names p.0 p.1 c labels (types i))
+      (λ next more. row_read parts next more (suc i) types)
 
   -- the graph that comes of open blocks, or the first refusal
   abbrev pub finished : List (Open T) → List Obj → List ℕ → Result (List Obj) (Refusal T)
   finished [] graph labels = Ok graph
-  finished (o ∷ opens) graph labels = put (finished opens) graph o.block o.field (row_read o.parts (length graph) labels o.part o.types)
+  finished (o ∷ opens) graph labels =
+      put (finished opens) graph o.block o.field
+      (row_read o.parts (length graph) labels o.part o.types)

@@ -1,5 +1,6 @@
--- What a literal is at a type, over any shapes and names: its value and the objects that it makes, in the order of their first
--- lexemes, or its first fault in that order. Places are numbers of lexemes.
+-- What a literal is at a type, over any shapes and names: its value and the objects that it makes,
+-- in the order of their first lexemes, or its first fault in that order. Places are numbers of
+-- lexemes.
 use Rattle.std.specs.Prelude.{ℕ, suc, ◌+◌, ◌==◌, ◌≡◌, Bool, true, if◌then◌else◌, Option, Some, None, Result, Ok, Err, List, [], ◌∷◌, ◌++◌, length, slice_get}
 use Rattle.om_model.specs.declared.value.Val.{Val}
 use Rattle.om_model.specs.declared.value.Val.TheVariants as vals
@@ -13,14 +14,15 @@ use Rattle.om_grammar.specs.Grammar.{mark}
 use Rattle.om_literal_grammar.specs.Literal.{Literal, labelled, again, Plain, applied, fields, tuple, array, Parts, no_parts, more_parts, Rows, no_rows, more_rows, label_kinds, head_kinds, owner_kinds, row_start, literal_kinds, parts_kinds, rows_kinds}
 use Rattle.om_literal.specs.Starts.{Start, misfit, out_of_range, small, whole, block, start_at}
 
--- Values one after the other, the objects that they make, and the object of each label so far, by the label's number.
+-- Values one after the other, the objects that they make, and the object of each label so far, by
+-- the label's number.
 pub record Reading : Type 0 where
   pub values : List Val
   pub objects : List Obj
   pub labels : List ℕ
 
--- why there is no value: where the first part stands that does not fit its type, an integer that is out of range, or a `#`
--- whose label is none
+-- why there is no value: where the first part stands that does not fit its type, an integer that is
+-- out of range, or a `#` whose label is none
 pub data Refusal (T : Type 0) : Type 0 where
   misfit_at : ℕ → T → Refusal T
   int_range_at : ℕ → Refusal T
@@ -55,61 +57,85 @@ module _ {T : Type 0} where
 
   abbrev pub added : Reading → Result Reading (Refusal T) → Result Reading (Refusal T)
   added one (Err refusal) = Err refusal
-  added one (Ok other) = Ok (reading (one.values ++ other.values) (one.objects ++ other.objects) other.labels)
+  added one (Ok other) =
+      Ok (reading (one.values ++ other.values) (one.objects ++ other.objects) other.labels)
 
   -- one more part after those that were read, from object c on
-  abbrev pub and_next : ℕ → (ℕ → T) → Result Reading (Refusal T) → (ℕ → List ℕ → T → Result Reading (Refusal T)) → Result Reading (Refusal T)
+  abbrev pub and_next : ℕ → (ℕ → T) → Result Reading (Refusal T)
+      → (ℕ → List ℕ → T → Result Reading (Refusal T)) → Result Reading (Refusal T)
   and_next c types (Err refusal) next = Err refusal
-  and_next c types (Ok one) next = added one (next (c + length one.objects) one.labels (types (length one.values)))
+  and_next c types (Ok one) next =
+      added one (next (c + length one.objects) one.labels (types (length one.values)))
 
   -- a block is before the objects of its parts
   abbrev pub block_read : ℕ → ℕ → List Val → Result Reading (Refusal T) → Result Reading (Refusal T)
   block_read c tag front (Err refusal) = Err refusal
-  block_read c tag front (Ok parts) = Ok (reading (vals.Ref c ∷ []) (objects.Block tag (front ++ parts.values) ∷ parts.objects) parts.labels)
+  block_read c tag front (Ok parts) =
+      Ok
+      (reading (vals.Ref c ∷ []) (objects.Block tag (front ++ parts.values) ∷ parts.objects)
+      parts.labels)
 
-  -- A part whose first lexeme is k, with its label p, by what it is at its type; its first object is c.
-  abbrev pub begun : ℕ → ℕ → ℕ → List ℕ → Option ℕ → T → (List ℕ → (ℕ → T) → Result Reading (Refusal T)) → Start T → Result Reading (Refusal T)
+  -- A part whose first lexeme is k, with its label p, by what it is at its type; its first object
+  -- is c.
+  abbrev pub begun : ℕ → ℕ → ℕ → List ℕ → Option ℕ → T
+      → (List ℕ → (ℕ → T) → Result Reading (Refusal T)) → Start T → Result Reading (Refusal T)
   begun k p c labels l t inside misfit = Err (misfit_at p t)
   begun k p c labels l t inside out_of_range = Err (int_range_at p)
   begun k p c labels l t inside (small v) = small_read k labels v l
-  begun k p c labels l t inside (whole object) = Ok (reading (vals.Ref c ∷ []) (object ∷ []) (with_label labels l c))
-  begun k p c labels l t inside (block tag front types) = block_read c tag front (inside (with_label labels l c) types)
+  begun k p c labels l t inside (whole object) =
+      Ok (reading (vals.Ref c ∷ []) (object ∷ []) (with_label labels l c))
+  begun k p c labels l t inside (block tag front types) =
+      block_read c tag front (inside (with_label labels l c) types)
 
 module _ {T : Type 0} (shape : T → ShapeOf T) (names : T → Names) where
   abbrev mutual
-    -- a literal whose first lexeme is k, where c objects and these labels are before it, at the type t
+    -- a literal whose first lexeme is k, where c objects and these labels are before it, at the
+    -- type t
     pub literal_read : ℕ → Literal → ℕ → List ℕ → T → Result Reading (Refusal T)
     literal_read k (again n) c labels t = again_read k labels (slice_get labels n)
     literal_read k (labelled l p) c labels t =
         if is_next labels l
-        then begun k (k + length (label_kinds l)) c labels l t (inside (k + length (label_kinds l)) p (suc c)) (start_at t (shape t) (names t) p)
+        then begun k (k + length (label_kinds l)) c labels l t
+        (inside (k + length (label_kinds l)) p (suc c)) (start_at t (shape t) (names t) p)
         else Err (label_at k)
 
     -- the parts of a plain one
     pub inside : ℕ → Plain → ℕ → List ℕ → (ℕ → T) → Result Reading (Refusal T)
     inside k (applied h ps v) c labels types =
-        and_next c types (parts_read symbols.Comma (k + length (head_kinds h ++ mark symbols.OpenParen)) ps c labels types)
-        (literal_read (k + length (head_kinds h ++ mark symbols.OpenParen ++ parts_kinds symbols.Comma ps)) v)
+        and_next c types
+        (parts_read symbols.Comma (k + length (head_kinds h ++ mark symbols.OpenParen)) ps c
+        labels types)
+        (literal_read
+        (k + length (head_kinds h ++ mark symbols.OpenParen ++ parts_kinds symbols.Comma ps)) v)
     inside k (fields o rs x v) c labels types =
-        and_next c types (rows_read (k + length (owner_kinds o ++ mark symbols.OpenBrace)) rs c labels types)
-        (literal_read (k + length (owner_kinds o ++ mark symbols.OpenBrace ++ rows_kinds rs ++ row_start x)) v)
+        and_next c types
+        (rows_read (k + length (owner_kinds o ++ mark symbols.OpenBrace)) rs c labels types)
+        (literal_read
+        (k + length (owner_kinds o ++ mark symbols.OpenBrace ++ rows_kinds rs ++ row_start x))
+        v)
     inside k (tuple ps u v) c labels types =
         and_next c types
-        (and_next c types (parts_read symbols.Comma (k + 1) ps c labels types) (literal_read (k + 1 + length (parts_kinds symbols.Comma ps)) u))
-        (literal_read (k + 1 + length (parts_kinds symbols.Comma ps ++ literal_kinds u ++ mark symbols.Comma)) v)
+        (and_next c types (parts_read symbols.Comma (k + 1) ps c labels types)
+        (literal_read (k + 1 + length (parts_kinds symbols.Comma ps)) u))
+        (literal_read
+        (k + 1 + length (parts_kinds symbols.Comma ps ++ literal_kinds u ++ mark symbols.Comma))
+        v)
     inside k (array ps v) c labels types =
-        and_next c types (parts_read symbols.Semicolon (k + 1) ps c labels types) (literal_read (k + 1 + length (parts_kinds symbols.Semicolon ps)) v)
+        and_next c types (parts_read symbols.Semicolon (k + 1) ps c labels types)
+        (literal_read (k + 1 + length (parts_kinds symbols.Semicolon ps)) v)
     inside k p c labels types = Ok (reading [] [] labels)
 
     pub parts_read : Symbol → ℕ → Parts → ℕ → List ℕ → (ℕ → T) → Result Reading (Refusal T)
     parts_read separator k no_parts c labels types = Ok (reading [] [] labels)
     parts_read separator k (more_parts ps v) c labels types =
-        and_next c types (parts_read separator k ps c labels types) (literal_read (k + length (parts_kinds separator ps)) v)
+        and_next c types (parts_read separator k ps c labels types)
+        (literal_read (k + length (parts_kinds separator ps)) v)
 
     pub rows_read : ℕ → Rows → ℕ → List ℕ → (ℕ → T) → Result Reading (Refusal T)
     rows_read k no_rows c labels types = Ok (reading [] [] labels)
     rows_read k (more_rows rs x v) c labels types =
-        and_next c types (rows_read k rs c labels types) (literal_read (k + length (rows_kinds rs ++ row_start x)) v)
+        and_next c types (rows_read k rs c labels types)
+        (literal_read (k + length (rows_kinds rs ++ row_start x)) v)
 
   -- the literal is this value at the type, over c objects and these new ones
   pub record IsRead (v : Literal) (t : T) (c : ℕ) (value : Val) (objects : List Obj) : Type 0 where

@@ -36,7 +36,8 @@ inner_parts k (again n) = []
 
 -- the lexemes of each part begin at its number
 abbrev pub AreSpelled : Kinds → List (ℕ × Literal) → Type 0
-AreSpelled all parts = AllByRecursion (λ (part : ℕ × Literal). IsAt all part.0 (literal_kinds part.1)) parts
+AreSpelled all parts =
+    AllByRecursion (λ (part : ℕ × Literal). IsAt all part.0 (literal_kinds part.1)) parts
 
 -- ---- the first lexeme of a plain one
 

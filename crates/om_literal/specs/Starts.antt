@@ -1,5 +1,5 @@
--- What a literal is at the shape and the names of a type, before its parts are read: by its form, its name, and how many parts
--- or which fields it has.
+-- What a literal is at the shape and the names of a type, before its parts are read: by its form,
+-- its name, and how many parts or which fields it has.
 use Rattle.std.specs.Prelude.{ℕ, ℤ, pos, negsuc, suc, ◌==◌, ◌^◌, ◌&&◌, nat_lt, Bool, true, false, if◌then◌else◌, List, [], ◌∷◌, ◌++◌, length, slice_get, find, codes}
 use Rattle.std.specs.Prelude.{Option, Some, None, option_and_then, unwrap_or}
 use Rattle.std.specs.List.{position}
@@ -67,11 +67,14 @@ is_constr name wanted names = bytes_eq names.name name && same_names names.field
 
 -- the place of a constant constructor
 abbrev pub constant_of_name : Names → Head → Option ℕ
-constant_of_name names head = option_and_then (λ name. position (bytes_eq name) names.constants) (constructor_name head)
+constant_of_name names head =
+    option_and_then (λ name. position (bytes_eq name) names.constants) (constructor_name head)
 
 -- the tag of a constructor with the fields of an inline record, or with none
 abbrev pub tag_of_name : Names → List Name → Head → Option ℕ
-tag_of_name names wanted head = option_and_then (λ name. position (is_constr name wanted) names.constructors) (constructor_name head)
+tag_of_name names wanted head =
+    option_and_then (λ name. position (is_constr name wanted) names.constructors)
+    (constructor_name head)
 
 -- ---- doubles
 
@@ -144,7 +147,8 @@ module _ {T : Type 0} where
 
   abbrev pub flat_start : ℕ → Names → Plain → Start T
   flat_start many names (fields None rs x v) =
-      if_fits (same_names names.fields (names_of_rows rs ++ x ∷ []) && many == suc (rows_count rs)) (doubles_start (and_bits (bits_of_rows rs) (bits_of v)))
+      if_fits (same_names names.fields (names_of_rows rs ++ x ∷ []) && many == suc (rows_count rs))
+      (doubles_start (and_bits (bits_of_rows rs) (bits_of v)))
   flat_start many names p = misfit
 
   abbrev pub empty_start : Plain → Start T
@@ -165,9 +169,13 @@ module _ {T : Type 0} where
   array_start u p = empty_start p
 
   abbrev pub product_start : T → List T → Names → Plain → Start T
-  product_start t ts names (tuple ps u v) = if_fits (same_names names.fields [] && length ts == suc (suc (count ps))) (block 0 [] (type_in ts t))
+  product_start t ts names (tuple ps u v) =
+      if_fits (same_names names.fields [] && length ts == suc (suc (count ps)))
+      (block 0 [] (type_in ts t))
   product_start t ts names (fields None rs x v) =
-      if_fits (same_names names.fields (names_of_rows rs ++ x ∷ []) && length ts == suc (rows_count rs)) (block 0 [] (type_in ts t))
+      if_fits
+      (same_names names.fields (names_of_rows rs ++ x ∷ []) && length ts == suc (rows_count rs))
+      (block 0 [] (type_in ts t))
   product_start t ts names p = misfit
 
   -- ---- constructors
@@ -180,17 +188,22 @@ module _ {T : Type 0} where
   -- the constructor of a tag, where it has so many fields; no block has a tag above 243
   abbrev pub constr_start : T → ℕ → ℕ → Option (Constr T) → Start T
   constr_start t size tag None = misfit
-  constr_start t size tag (Some constr) = if_fits (nat_lt tag 244 && length constr.fields == size) (block tag [] (type_in constr.fields t))
+  constr_start t size tag (Some constr) =
+      if_fits (nat_lt tag 244 && length constr.fields == size)
+      (block tag [] (type_in constr.fields t))
 
   abbrev pub carrying_start : T → List (Constr T) → ℕ → Option ℕ → Start T
   carrying_start t blocks size None = misfit
   carrying_start t blocks size (Some tag) = constr_start t size tag (slice_get blocks tag)
 
   abbrev pub sum_start : T → ℕ → List (Constr T) → Names → Plain → Start T
-  sum_start t constants blocks names (constant head) = constant_start constants (constant_of_name names head)
-  sum_start t constants blocks names (applied head ps v) = carrying_start t blocks (suc (count ps)) (tag_of_name names [] head)
+  sum_start t constants blocks names (constant head) =
+      constant_start constants (constant_of_name names head)
+  sum_start t constants blocks names (applied head ps v) =
+      carrying_start t blocks (suc (count ps)) (tag_of_name names [] head)
   sum_start t constants blocks names (fields (Some head) rs x v) =
-      carrying_start t blocks (suc (rows_count rs)) (tag_of_name names (names_of_rows rs ++ x ∷ []) head)
+      carrying_start t blocks (suc (rows_count rs))
+      (tag_of_name names (names_of_rows rs ++ x ∷ []) head)
   sum_start t constants blocks names p = misfit
 
   -- ---- tags of polymorphic variants
@@ -198,7 +211,8 @@ module _ {T : Type 0} where
   abbrev pub tag_named : List (PolyTag T) → Names → Head → Option (PolyTag T)
   tag_named tags names head =
       option_and_then (λ (tag : TagName). tag_with tags tag.hash)
-      (option_and_then (λ name. find (λ (tag : TagName). bytes_eq tag.name name) names.tags) (name_of_tag head))
+      (option_and_then (λ name. find (λ (tag : TagName). bytes_eq tag.name name) names.tags)
+      (name_of_tag head))
 
   -- by its hash and the type of its argument; no value has an integer of more than 63 bits
   abbrev pub bare_tag : ℤ → Option T → Start T

@@ -21,7 +21,7 @@ use Rattle.om_literal.specs.declared.part.Made.TheVariants as made
 use Rattle.om_literal.specs.Starts as starts
 use Rattle.om_literal.specs.Starts.{Start, misfit, out_of_range, small, whole, start_at}
 use Rattle.om_literal.specs.Reading.{Reading, Refusal, reading, is_next, with_label, literal_read}
-use Rattle.om_literal.specs.Answers.{in_bytes, fault_of, shape_in, names_in, IsAnswer}
+use Rattle.om_literal.specs.LiteralAnswers.{in_bytes, fault_of, shape_in, names_in, IsAnswer}
 use Rattle.om_literal.specs.Pending.{Open, open_at, finished}
 use Rattle.om_literal.specs.NodesOf.{nodes_to_come}
 use Rattle.om_literal.specs.Openings.{types_in}
@@ -54,7 +54,8 @@ pub record IsText (text : Text) : Type 0 where
 -- ---- parts that have begun
 
 -- no value, for this reason with its place in bytes, unless memory runs out
-pub record IsRefusedAs {A : Type 0} (lexemes : List Lexeme) (end : ℕ) (r : Result A (Refusal ℕ)) (fault : LiteralFault) : Type 0 where
+pub record IsRefusedAs {A : Type 0} (lexemes : List Lexeme) (end : ℕ) (r : Result A (Refusal ℕ))
+    (fault : LiteralFault) : Type 0 where
   pub refusal : Refusal ℕ
   pub is : r ≡ Err refusal
   pub place : fault ≡ fault_of (in_bytes lexemes end refusal)
@@ -64,22 +65,28 @@ MayRefuse lexemes end r faults.Memory = ⊤
 MayRefuse lexemes end r fault = IsRefusedAs lexemes end r fault
 
 -- the whole reading: one value, objects behind those that were there, and labels
-pub record IsWhole (r : Result Reading (Refusal ℕ)) (graph new : List Obj) (more : List ℕ) (value : Val) : Type 0 where
+pub record IsWhole (r : Result Reading (Refusal ℕ)) (graph new : List Obj) (more : List ℕ)
+    (value : Val) : Type 0 where
   pub objects : List Obj
   pub read : r ≡ Ok (reading (value ∷ []) objects more)
   pub behind : new ≡ graph ++ objects
 
 -- a block, whose parts are to come
-pub record IsInner (table : TypeTable) (k : ℕ) (v : Literal) (t : ℕ) (graph new : List Obj) (labels more : List ℕ) (value : Val) (opened : Opened) : Type 0 where
+pub record IsInner (table : TypeTable) (k : ℕ) (v : Literal) (t : ℕ) (graph new : List Obj)
+    (labels more : List ℕ) (value : Val) (opened : Opened) : Type 0 where
   pub label : Option ℕ
   pub plain : Plain
   pub tag : ℕ
   pub front : List Val
   pub literal : v ≡ labelled label plain
   pub numbered : is_next labels label ≡ true
-  pub start : start_at t (shape_in table t) (names_in table t) plain ≡ starts.block tag front (types_in opened.at opened.types)
+  pub start : start_at t (shape_in table t) (names_in table t) plain
+      ≡ starts.block tag front (types_in opened.at opened.types)
   pub value_is : value ≡ vals.Ref (length graph)
-  pub behind : new ≡ graph ++ objects.Block tag (front ++ replicate (length (inner_parts k v)) (vals.Int (pos 0))) ∷ []
+  pub behind : new
+      ≡ graph
+      ++ objects.Block tag (front ++ replicate (length (inner_parts k v)) (vals.Int (pos 0)))
+      ∷ []
   pub labels_are : more ≡ with_label labels label (length graph)
   pub block_is : opened.block ≡ length graph
   pub field_is : opened.field ≡ length front
@@ -92,24 +99,34 @@ pub record IsInner (table : TypeTable) (k : ℕ) (v : Literal) (t : ℕ) (graph 
 abbrev pub HasPart : Text → ℕ → Type 0
 HasPart text j = (k : ℕ) × (v : Literal) × Stands text.nodes.now text.lexemes.now j k v
 
-abbrev pub IsBegun : TypeTable → ℕ → Literal → ℕ → List Obj → List Obj → List ℕ → List ℕ → Val → Option Opened → Type 0
+abbrev pub IsBegun : TypeTable → ℕ → Literal → ℕ → List Obj → List Obj → List ℕ → List ℕ → Val
+    → Option Opened → Type 0
 IsBegun table k v t graph new labels more value None =
-    IsWhole (literal_read (shape_in table) (names_in table) k v (length graph) labels t) graph new more value
-IsBegun table k v t graph new labels more value (Some opened) = IsInner table k v t graph new labels more value opened
+    IsWhole (literal_read (shape_in table) (names_in table) k v (length graph) labels t) graph new
+    more value
+IsBegun table k v t graph new labels more value (Some opened) =
+    IsInner table k v t graph new labels more value opened
 
-pub record IsGiven (table : TypeTable) (k : ℕ) (v : Literal) (t : ℕ) (graph new : List Obj) (labels more : List ℕ) (begun : Begun) : Type 0 where
+pub record IsGiven (table : TypeTable) (k : ℕ) (v : Literal) (t : ℕ) (graph new : List Obj)
+    (labels more : List ℕ) (begun : Begun) : Type 0 where
   pub begun_is : IsBegun table k v t graph new labels more begun.value begun.inner
   pub valid : IsValue (length new) begun.value
   pub labels_in : All (λ o. o < length new) more
 
-abbrev pub Begins : Text → ℕ → Literal → ℕ → List Obj → List Obj → List ℕ → List ℕ → Result Begun LiteralFault → Type 0
-Begins text k v t graph new labels more (Ok begun) = IsGiven text.table.now k v t graph new labels more begun
+abbrev pub Begins : Text → ℕ → Literal → ℕ → List Obj → List Obj → List ℕ → List ℕ
+    → Result Begun LiteralFault → Type 0
+Begins text k v t graph new labels more (Ok begun) =
+    IsGiven text.table.now k v t graph new labels more begun
 Begins text k v t graph new labels more (Err fault) =
-    MayRefuse text.lexemes.now text.end (literal_read (shape_in text.table.now) (names_in text.table.now) k v (length graph) labels t) fault
+    MayRefuse text.lexemes.now text.end
+    (literal_read (shape_in text.table.now) (names_in text.table.now) k v (length graph) labels
+    t)
+    fault
 
 -- ---- what is made of a start, for a literal of so many parts
 
-pub record IsMadeBlock (parts : ℕ) (start : Start ℕ) (graph new : List Obj) (opened : Opened) : Type 0 where
+pub record IsMadeBlock (parts : ℕ) (start : Start ℕ) (graph new : List Obj) (opened : Opened)
+    : Type 0 where
   pub tag : ℕ
   pub front : List Val
   pub start_is : start ≡ starts.block tag front (types_in opened.at opened.types)
@@ -125,7 +142,8 @@ abbrev pub IsMade : ℕ → Start ℕ → List Obj → List Obj → Made → Typ
 IsMade parts start graph new made.Misfit = start ≡ misfit
 IsMade parts start graph new made.OutOfRange = start ≡ out_of_range
 IsMade parts start graph new (made.Small v) = (start ≡ small v) × (new ≡ graph) × IsValue 0 v
-IsMade parts start graph new (made.Whole o) = (object : Obj) × (start ≡ whole object) × (o ≡ length graph) × (new ≡ graph ++ object ∷ [])
+IsMade parts start graph new (made.Whole o) =
+    (object : Obj) × (start ≡ whole object) × (o ≡ length graph) × (new ≡ graph ++ object ∷ [])
 IsMade parts start graph new (made.Block opened) = IsMadeBlock parts start graph new opened
 
 abbrev pub Grows : List Obj → List Obj → Type 0
@@ -138,11 +156,13 @@ PartList = List (ℕ × Literal)
 
 -- with the parts of each that are to come
 abbrev pub opens_with : List Opened → List PartList → List (Open ℕ)
-opens_with (o ∷ os) (parts ∷ all) = open_at o.block o.field o.part (types_in o.at o.types) parts ∷ opens_with os all
+opens_with (o ∷ os) (parts ∷ all) =
+    open_at o.block o.field o.part (types_in o.at o.types) parts ∷ opens_with os all
 opens_with os all = []
 
 -- it is one of the new objects, and the parts to come fill it up
-pub record IsOpen (old graph : List Obj) (all : Kinds) (o : Opened) (parts : PartList) : Type 0 where
+pub record IsOpen (old graph : List Obj) (all : Kinds) (o : Opened) (parts : PartList)
+    : Type 0 where
   pub behind : length old ≤ o.block
   pub inside : o.block < length graph
   pub room : o.field + length parts ≡ length (fields_of (object_at graph o.block))
@@ -154,41 +174,58 @@ pub record IsOpen (old graph : List Obj) (all : Kinds) (o : Opened) (parts : Par
 
 abbrev pub AreOpen : List Obj → List Obj → Kinds → List Opened → List PartList → Type 0
 AreOpen old graph all [] [] = Unit {0}
-AreOpen old graph all (o ∷ os) (parts ∷ rest) = IsOpen old graph all o parts × AreOpen old graph all os rest
+AreOpen old graph all (o ∷ os) (parts ∷ rest) =
+    IsOpen old graph all o parts × AreOpen old graph all os rest
 AreOpen old graph all os rest = ⊥
 
 -- what comes of the open blocks, with the nodes from j on, is the outcome
-pub record IsUnderway (text : Text) (old : List Obj) (outcome : Result (List Obj) (Refusal ℕ)) (stack : List Opened) (j : ℕ) (graph : List Obj) (labels : List ℕ) : Type 0 where
+pub record IsUnderway (text : Text) (old : List Obj) (outcome : Result (List Obj) (Refusal ℕ))
+    (stack : List Opened) (j : ℕ) (graph : List Obj) (labels : List ℕ) : Type 0 where
   pub parts : List PartList
   pub open_blocks : AreOpen old graph (kinds_of text.lexemes.now) stack parts
   pub come : nodes_to_come (opens_with stack parts) ≡ drop j text.nodes.now
-  pub same : finished (shape_in text.table.now) (names_in text.table.now) (opens_with stack parts) graph labels ≡ outcome
+  pub same : finished (shape_in text.table.now) (names_in text.table.now) (opens_with stack parts)
+      graph labels
+      ≡ outcome
   pub labels_in : All (λ o. o < length graph) labels
   pub kept : take (length old) graph ≡ old
 
 abbrev pub CanGoOn : Text → List Opened → ℕ → List Obj → List ℕ → Type 0
-CanGoOn text stack j graph labels = (old : List Obj) × (outcome : Result (List Obj) (Refusal ℕ)) × IsUnderway text old outcome stack j graph labels
+CanGoOn text stack j graph labels =
+    (old : List Obj) × (outcome : Result (List Obj) (Refusal ℕ))
+    × IsUnderway text old outcome stack j graph labels
 
 -- the outcome is the graph that is left, or the refusal is given
-abbrev pub Finishes : Text → List Obj → Result (List Obj) (Refusal ℕ) → List Obj → Result ⊤ LiteralFault → Type 0
+abbrev pub Finishes : Text → List Obj → Result (List Obj) (Refusal ℕ) → List Obj
+    → Result ⊤ LiteralFault → Type 0
 Finishes text old outcome new (Ok done) = outcome ≡ Ok new
-Finishes text old outcome new (Err fault) = (take (length old) new ≡ old) × MayRefuse text.lexemes.now text.end outcome fault
+Finishes text old outcome new (Err fault) =
+    (take (length old) new ≡ old) × MayRefuse text.lexemes.now text.end outcome fault
 
 -- ---- whole literals
 
 -- the value of the tree of these nodes at a type, or its refusal, with the old objects unchanged
 abbrev pub ReadsTree : Text → ℕ → List Obj → List Obj → Result Val LiteralFault → Type 0
 ReadsTree text at old new (Ok value) =
-    ((v : Literal) → literal_kinds v ≡ kinds_of text.lexemes.now → text.nodes.now ≡ literal_nodes 0 v
-    → (labels : List ℕ) × IsWhole (literal_read (shape_in text.table.now) (names_in text.table.now) 0 v (length old) [] at) old new labels value)
+    ((v : Literal) → literal_kinds v ≡ kinds_of text.lexemes.now
+    → text.nodes.now ≡ literal_nodes 0 v
+    → (labels : List ℕ)
+    × IsWhole
+    (literal_read (shape_in text.table.now) (names_in text.table.now) 0 v (length old) [] at)
+    old new labels value)
     × IsValue (length new) value
 ReadsTree text at old new (Err fault) =
-    ((v : Literal) → literal_kinds v ≡ kinds_of text.lexemes.now → text.nodes.now ≡ literal_nodes 0 v
-    → MayRefuse text.lexemes.now text.end (literal_read (shape_in text.table.now) (names_in text.table.now) 0 v (length old) [] at) fault)
+    ((v : Literal) → literal_kinds v ≡ kinds_of text.lexemes.now
+    → text.nodes.now ≡ literal_nodes 0 v
+    → MayRefuse text.lexemes.now text.end
+    (literal_read (shape_in text.table.now) (names_in text.table.now) 0 v (length old) [] at) fault)
     × (take (length old) new ≡ old)
 
 -- the answer to lexemes, with the old objects unchanged
-abbrev pub Reads : TypeTable → ℕ → List Lexeme → ℕ → List Obj → List Obj → Result Val LiteralFault → Type 0
-Reads table at lexemes end old new (Ok value) = IsAnswer table at lexemes end old (Ok (new, value)) × IsValue (length new) value
+abbrev pub Reads : TypeTable → ℕ → List Lexeme → ℕ → List Obj → List Obj → Result Val LiteralFault
+    → Type 0
+Reads table at lexemes end old new (Ok value) =
+    IsAnswer table at lexemes end old (Ok (new, value)) × IsValue (length new) value
 Reads table at lexemes end old new (Err faults.Memory) = take (length old) new ≡ old
-Reads table at lexemes end old new (Err fault) = (take (length old) new ≡ old) × IsAnswer table at lexemes end old (Err fault)
+Reads table at lexemes end old new (Err fault) =
+    (take (length old) new ≡ old) × IsAnswer table at lexemes end old (Err fault)

@@ -38,7 +38,9 @@ fn node_bits(node: &Node, lexemes: &[Lexeme]) -> Option<u64>
 
 /// The bits of nodes that all are doubles without a label.
 fn all_bits(alloc: Global, nodes: &[Node], lexemes: &[Lexeme]) -> Result<Option<Vec<u64>>, Memory>
-    ensures { IfOk result (λ all. option_map (λ bits. bits.items) all ≡ bits_of_nodes (kinds_of lexemes.now) (Some []) nodes.now) }
+    ensures { IfOk result
+        (λ all. option_map (λ bits. bits.items) all
+        ≡ bits_of_nodes (kinds_of lexemes.now) (Some []) nodes.now) }
 {
     let mut all = Vec::new(alloc);
     for node in nodes {
@@ -50,7 +52,8 @@ fn all_bits(alloc: Global, nodes: &[Node], lexemes: &[Lexeme]) -> Result<Option<
     Ok(Some(all))
 }
 
-/// The bits of the parts of a literal that begins at node `at`, where all are doubles without a label.
+/// The bits of the parts of a literal that begins at node `at`, where all are doubles without a
+/// label.
 pub(crate) fn doubles_of_parts(
     alloc: Global,
     nodes: &[Node],
@@ -60,10 +63,14 @@ pub(crate) fn doubles_of_parts(
     requires { at < length nodes.now }
 
     // Of an array, and of a record without a constructor's name.
-    ensures array { (k : ℕ) (l : Option ℕ) (ps : Parts) (v : Literal) → Stands nodes.now lexemes.now at k (labelled l (array ps v))
-        → IfOk result (λ all. option_map (λ bits. bits.items) all ≡ and_bits (bits_of_parts ps) (bits_of v)) }
-    ensures flat { (k : ℕ) (l : Option ℕ) (rs : Rows) (x : Name) (v : Literal) → Stands nodes.now lexemes.now at k (labelled l (fields None rs x v))
-        → IfOk result (λ all. option_map (λ bits. bits.items) all ≡ and_bits (bits_of_rows rs) (bits_of v)) }
+    ensures array { (k : ℕ) (l : Option ℕ) (ps : Parts) (v : Literal)
+        → Stands nodes.now lexemes.now at k (labelled l (array ps v))
+        → IfOk result
+        (λ all. option_map (λ bits. bits.items) all ≡ and_bits (bits_of_parts ps) (bits_of v)) }
+    ensures flat { (k : ℕ) (l : Option ℕ) (rs : Rows) (x : Name) (v : Literal)
+        → Stands nodes.now lexemes.now at k (labelled l (fields None rs x v))
+        → IfOk result
+        (λ all. option_map (λ bits. bits.items) all ≡ and_bits (bits_of_rows rs) (bits_of v)) }
 {
     let behind = &nodes[at + 1..];
     let many = nodes[at].parts.min(behind.len());

@@ -38,7 +38,9 @@ fn names_from<'a>(
     many: usize,
     lexemes: &'a [Lexeme],
 ) -> Result<Vec<&'a [u8]>, Memory>
-    ensures { IfOk result (λ names. map (λ name. name.now) names.items ≡ specs.names_from nodes.now ends.now (kinds_of lexemes.now) from many) }
+    ensures { IfOk result
+        (λ names. map (λ name. name.now) names.items
+        ≡ specs.names_from nodes.now ends.now (kinds_of lexemes.now) from many) }
 {
     let mut names = Vec::new(alloc);
     let mut place = from;
@@ -65,7 +67,8 @@ pub(crate) fn field_names<'a>(
     requires at { at < length nodes.now }
     requires len { length ends.now ≡ length nodes.now }
     requires ends { AreEnds nodes.now ends.now }
-    ensures { (k : ℕ) (l : Option ℕ) (o : Option Head) (rs : Rows) (x : Name) (v : Literal) → Stands nodes.now lexemes.now at k (labelled l (fields o rs x v))
+    ensures { (k : ℕ) (l : Option ℕ) (o : Option Head) (rs : Rows) (x : Name) (v : Literal)
+        → Stands nodes.now lexemes.now at k (labelled l (fields o rs x v))
         → IfOk result (λ names. map (λ name. name.now) names.items ≡ names_of_rows rs ++ x ∷ []) }
 {
     names_from(alloc, nodes, ends, at + 1, nodes[at].parts, lexemes)

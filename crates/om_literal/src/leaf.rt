@@ -56,7 +56,8 @@ fn int32_leaf(value: i64) -> Leaf<'static>
 
 /// An integer at a shape.
 fn integer_leaf(shape: &ShapeOf<usize>, i: Integer) -> Leaf<'static>
-    ensures leaf { (t : ℕ) (names : Names) → leaf_in result ≡ start_at t shape.now names (integer i) }
+    ensures leaf { (t : ℕ) (names : Names)
+        → leaf_in result ≡ start_at t shape.now names (integer i) }
     ensures sound { IsSound result }
 {
     match (shape, i.suffix) {
@@ -81,7 +82,8 @@ fn below_leaf(shape: &ShapeOf<usize>, many: u64, n: u8) -> Leaf<'static>
 
 /// A character at a shape.
 fn character_leaf(shape: &ShapeOf<usize>, c: u8) -> Leaf<'static>
-    ensures leaf { (t : ℕ) (names : Names) → leaf_in result ≡ start_at t shape.now names (character c) }
+    ensures leaf { (t : ℕ) (names : Names)
+        → leaf_in result ≡ start_at t shape.now names (character c) }
     ensures sound { IsSound result }
 {
     below_leaf(shape, 256, c)
@@ -105,7 +107,8 @@ fn unit_leaf(shape: &ShapeOf<usize>) -> Leaf<'static>
 
 /// A string at a shape.
 fn text_leaf<'a>(shape: &ShapeOf<usize>, bytes: &'a List<u8>) -> Leaf<'a>
-    ensures leaf { (t : ℕ) (names : Names) → leaf_in result ≡ start_at t shape.now names (string bytes.now) }
+    ensures leaf { (t : ℕ) (names : Names)
+        → leaf_in result ≡ start_at t shape.now names (string bytes.now) }
     ensures sound { IsSound result }
 {
     match shape {
@@ -116,7 +119,8 @@ fn text_leaf<'a>(shape: &ShapeOf<usize>, bytes: &'a List<u8>) -> Leaf<'a>
 
 /// A double at a shape.
 fn double_leaf(shape: &ShapeOf<usize>, bits: u64) -> Leaf<'static>
-    ensures leaf { (t : ℕ) (names : Names) → leaf_in result ≡ start_at t shape.now names (double bits) }
+    ensures leaf { (t : ℕ) (names : Names)
+        → leaf_in result ≡ start_at t shape.now names (double bits) }
     ensures sound { IsSound result }
 {
     match shape {
@@ -127,7 +131,8 @@ fn double_leaf(shape: &ShapeOf<usize>, bits: u64) -> Leaf<'static>
 
 /// `[||]` at a shape.
 fn empty_leaf(shape: &ShapeOf<usize>) -> Leaf<'static>
-    ensures leaf { (t : ℕ) (names : Names) → leaf_in result ≡ start_at t shape.now names empty_array }
+    ensures leaf { (t : ℕ) (names : Names)
+        → leaf_in result ≡ start_at t shape.now names empty_array }
     ensures sound { IsSound result }
 {
     match shape {
@@ -140,8 +145,10 @@ fn empty_leaf(shape: &ShapeOf<usize>) -> Leaf<'static>
 
 /// A word at a shape: `true`, `false` or `ref`.
 fn word_leaf(shape: &ShapeOf<usize>, names: &Names, kind: &LexemeKind, word: &[u8]) -> Leaf<'static>
-    ensures truth { (t : ℕ) (b : Bool) → word.now ≡ truth_name b → leaf_in result ≡ start_at t shape.now names.now (truth b) }
-    ensures constant { (t : ℕ) (h : Head) → kind.now ≡ kinds.Lower word.now → kind.now ≡ lead_of h → leaf_in result ≡ start_at t shape.now names.now (constant h) }
+    ensures truth { (t : ℕ) (b : Bool) → word.now ≡ truth_name b
+        → leaf_in result ≡ start_at t shape.now names.now (truth b) }
+    ensures constant { (t : ℕ) (h : Head) → kind.now ≡ kinds.Lower word.now → kind.now ≡ lead_of h
+        → leaf_in result ≡ start_at t shape.now names.now (constant h) }
     ensures sound { IsSound result }
 {
     if word == b"ref".as_slice() {
@@ -153,7 +160,8 @@ fn word_leaf(shape: &ShapeOf<usize>, names: &Names, kind: &LexemeKind, word: &[u
 
 /// A literal without parts at a shape, by its first lexeme.
 pub fn leaf_of<'a>(shape: &ShapeOf<usize>, names: &Names, kind: &'a LexemeKind) -> Leaf<'a>
-    ensures leaf { (t k : ℕ) (p : Plain) → kind.now ≡ lead_of_plain p → length (parts_of k p) ≡ 0 → leaf_in result ≡ start_at t shape.now names.now p }
+    ensures leaf { (t k : ℕ) (p : Plain) → kind.now ≡ lead_of_plain p → length (parts_of k p) ≡ 0
+        → leaf_in result ≡ start_at t shape.now names.now p }
     ensures sound { IsSound result }
 {
     match kind {

@@ -18,7 +18,8 @@ use om_types::shape::{PolyTag, ShapeOf};
 
 /// The name of a constructor, by its first lexeme.
 pub(crate) fn name_of_constructor(kind: &LexemeKind) -> Option<&[u8]>
-    ensures { (h : Head) → kind.now ≡ lead_of h → option_map (λ name. name.now) result ≡ constructor_name h }
+    ensures { (h : Head) → kind.now ≡ lead_of h
+        → option_map (λ name. name.now) result ≡ constructor_name h }
 {
     match kind {
         LexemeKind::Upper(name) | LexemeKind::Lower(name) => Some(name.as_slice()),
@@ -30,7 +31,8 @@ pub(crate) fn name_of_constructor(kind: &LexemeKind) -> Option<&[u8]>
 
 /// The name of a tag, by its first lexeme.
 pub(crate) fn tag_name(kind: &LexemeKind) -> Option<&[u8]>
-    ensures { (h : Head) → kind.now ≡ lead_of h → option_map (λ name. name.now) result ≡ name_of_tag h }
+    ensures { (h : Head) → kind.now ≡ lead_of h
+        → option_map (λ name. name.now) result ≡ name_of_tag h }
 {
     match kind {
         LexemeKind::Tag(name) => Some(name.as_slice()),
@@ -85,7 +87,8 @@ fn is_hash(own: i64, hash: i64) -> bool
 
 /// The tag of this name, with its hash.
 fn tag_of_name<'a>(tags: &'a [TagName], name: &[u8]) -> Option<&'a TagName>
-    ensures { option_map (λ tag. tag.now) result ≡ find (λ (tag : TagName). bytes_eq tag.name name.now) tags.now }
+    ensures { option_map (λ tag. tag.now) result
+        ≡ find (λ (tag : TagName). bytes_eq tag.name name.now) tags.now }
 {
     tags.iter().find(|tag| tag.name.as_slice() == name)
 }
@@ -96,7 +99,8 @@ pub(crate) fn tag_of<'a>(
     names: &Names,
     kind: &LexemeKind,
 ) -> Option<&'a PolyTag<usize>>
-    ensures { (h : Head) → kind.now ≡ lead_of h → option_map (λ tag. tag.now) result ≡ tag_named tags.now names.now h }
+    ensures { (h : Head) → kind.now ≡ lead_of h
+        → option_map (λ tag. tag.now) result ≡ tag_named tags.now names.now h }
 {
     let name = tag_name(kind)?;
     let tag = tag_of_name(names.tags.as_slice(), name)?;
@@ -128,7 +132,8 @@ pub(crate) fn is_integer(z: i64) -> bool
 /// A name without parts at a shape, by its first lexeme.
 pub fn constant_leaf(shape: &ShapeOf<usize>, names: &Names, kind: &LexemeKind) -> Leaf<'static>
     ensures sound { IsSound result }
-    ensures leaf { (t : ℕ) (h : Head) → kind.now ≡ lead_of h → leaf_in result ≡ start_at t shape.now names.now (constant h) }
+    ensures leaf { (t : ℕ) (h : Head) → kind.now ≡ lead_of h
+        → leaf_in result ≡ start_at t shape.now names.now (constant h) }
 {
     match shape {
         ShapeOf::Sum(constants, _) => constant_of(*constants, place_of_constant(names, kind)),

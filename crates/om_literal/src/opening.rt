@@ -1,4 +1,5 @@
-//! What a literal with parts is at a shape, before its parts are read: a block, or none of the shape.
+//! What a literal with parts is at a shape, before its parts are read: a block, or none of the
+//! shape.
 
 ghost use Rattle.std.specs.Prelude.{ℕ, ◌≡◌, ◌≢◌, suc, List, [], ◌∷◌, ◌++◌, map, Option, Some, None, option_map, position};
 ghost use Rattle.om_types.specs.declared.names.Names.{Names};
@@ -26,7 +27,8 @@ pub enum Types<'a> {
     Each(usize),
 }
 
-/// A block by its tag, with the hash in front of its parts where it is a tag's, or none of the shape.
+/// A block by its tag, with the hash in front of its parts where it is a tag's, or none of the
+/// shape.
 #[derive(Clone, Copy)]
 pub enum Opening<'a> {
     Misfit,
@@ -84,7 +86,8 @@ fn carrying<'a>(blocks: &'a [Constr<usize>], parts: usize, tag: Option<usize>) -
 /// A tag with an argument.
 fn carrying_of<'a>(tag: Option<&'a PolyTag<usize>>) -> Opening<'a>
     ensures sound { IsSound result }
-    ensures opening { (t : ℕ) → opening_in t result ≡ if_tag carrying_tag (option_map (λ tag. tag.now) tag.entry) }
+    ensures opening { (t : ℕ)
+        → opening_in t result ≡ if_tag carrying_tag (option_map (λ tag. tag.now) tag.entry) }
 {
     match tag {
         Some(tag) => match tag.arg {
@@ -100,7 +103,8 @@ fn carrying_of<'a>(tag: Option<&'a PolyTag<usize>>) -> Opening<'a>
 /// Parts in parentheses without a name.
 pub fn tuple_opening<'a>(shape: &'a ShapeOf<usize>, names: &Names, parts: usize) -> Opening<'a>
     ensures sound { IsSound result }
-    ensures opening { (t : ℕ) (ps : Parts) (u v : Literal) → parts ≡ suc (suc (count ps)) → opening_in t result ≡ start_at t shape.now names.now (tuple ps u v) }
+    ensures opening { (t : ℕ) (ps : Parts) (u v : Literal) → parts ≡ suc (suc (count ps))
+        → opening_in t result ≡ start_at t shape.now names.now (tuple ps u v) }
 {
     match shape {
         ShapeOf::Product(_, types) if is_unnamed(names.fields.as_slice()) && types.len() == parts =>
@@ -113,7 +117,8 @@ pub fn tuple_opening<'a>(shape: &'a ShapeOf<usize>, names: &Names, parts: usize)
 pub fn array_opening(shape: &ShapeOf<usize>) -> Opening<'static>
     requires { shape.now ≢ shapes.FloatArray }
     ensures sound { IsSound result }
-    ensures opening { (t : ℕ) (names : Names) (ps : Parts) (v : Literal) → opening_in t result ≡ start_at t shape.now names (array ps v) }
+    ensures opening { (t : ℕ) (names : Names) (ps : Parts) (v : Literal)
+        → opening_in t result ≡ start_at t shape.now names (array ps v) }
 {
     match shape {
         ShapeOf::ArrayOf(part) => Opening::Block(0, None, Types::Each(*part)),
@@ -129,7 +134,9 @@ pub fn applied_opening<'a>(
     parts: usize,
 ) -> Opening<'a>
     ensures sound { IsSound result }
-    ensures opening { (t : ℕ) (h : Head) (ps : Parts) (v : Literal) → kind.now ≡ lead_of h → parts ≡ suc (count ps) → opening_in t result ≡ start_at t shape.now names.now (applied h ps v) }
+    ensures opening { (t : ℕ) (h : Head) (ps : Parts) (v : Literal) → kind.now ≡ lead_of h
+        → parts ≡ suc (count ps)
+        → opening_in t result ≡ start_at t shape.now names.now (applied h ps v) }
 {
     match shape {
         ShapeOf::Sum(_, blocks) => carrying(blocks.as_slice(), parts, plain_tag(names, kind)),
@@ -155,7 +162,8 @@ fn inline_place(all: &[ConstrNames], name: &[u8], wanted: &[&[u8]]) -> Option<us
 
 /// The tag of a constructor with an inline record of these fields.
 fn inline_tag(names: &Names, kind: &LexemeKind, wanted: &[&[u8]]) -> Option<usize>
-    ensures { (h : Head) → kind.now ≡ lead_of h → result ≡ tag_of_name names.now (map (λ name. name.now) wanted.now) h }
+    ensures { (h : Head) → kind.now ≡ lead_of h
+        → result ≡ tag_of_name names.now (map (λ name. name.now) wanted.now) h }
 {
     match name_of_constructor(kind) {
         Some(name) => inline_place(names.constructors.as_slice(), name, wanted),
@@ -172,8 +180,10 @@ pub fn inline_opening<'a>(
     parts: usize,
 ) -> Opening<'a>
     ensures sound { IsSound result }
-    ensures opening { (t : ℕ) (h : Head) (rs : Rows) (x : Name) (v : Literal) → kind.now ≡ lead_of h → parts ≡ suc (rows_count rs)
-        → map (λ name. name.now) wanted.now ≡ names_of_rows rs ++ x ∷ [] → opening_in t result ≡ start_at t shape.now names.now (fields (Some h) rs x v) }
+    ensures opening { (t : ℕ) (h : Head) (rs : Rows) (x : Name) (v : Literal)
+        → kind.now ≡ lead_of h → parts ≡ suc (rows_count rs)
+        → map (λ name. name.now) wanted.now ≡ names_of_rows rs ++ x ∷ []
+        → opening_in t result ≡ start_at t shape.now names.now (fields (Some h) rs x v) }
 {
     match shape {
         ShapeOf::Sum(_, blocks) => carrying(
@@ -195,7 +205,8 @@ pub fn record_opening<'a>(
     requires { IsNotFlat shape.now }
     ensures sound { IsSound result }
     ensures opening { (t : ℕ) (rs : Rows) (x : Name) (v : Literal) → parts ≡ suc (rows_count rs)
-        → map (λ name. name.now) wanted.now ≡ names_of_rows rs ++ x ∷ [] → opening_in t result ≡ start_at t shape.now names.now (fields None rs x v) }
+        → map (λ name. name.now) wanted.now ≡ names_of_rows rs ++ x ∷ []
+        → opening_in t result ≡ start_at t shape.now names.now (fields None rs x v) }
 {
     match shape {
         ShapeOf::Product(_, types)

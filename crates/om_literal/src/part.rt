@@ -7,7 +7,7 @@ ghost use Rattle.om_model.specs.declared.value.Obj.TheVariants as objects;
 ghost use Rattle.om_model.specs.declared.value.Val.TheVariants as vals;
 ghost use Rattle.om_heap.specs.Heap.{Appends};
 ghost use Rattle.om_literal_grammar.specs.Literal.{Literal, labelled, again, Plain};
-ghost use Rattle.om_literal.specs.Answers.{shape_in, names_in};
+ghost use Rattle.om_literal.specs.LiteralAnswers.{shape_in, names_in};
 ghost use Rattle.om_literal.specs.Leaves as leaves;
 ghost use Rattle.om_literal.specs.Leaves.{leaf_in};
 ghost use Rattle.om_literal.specs.Openings as openings;
@@ -38,7 +38,8 @@ pub struct Begun<'a> {
     pub inner: Option<Opened<'a>>,
 }
 
-/// What is made of a literal at its type: nothing, an integer or an atom, an object, or a block whose parts are to come.
+/// What is made of a literal at its type: nothing, an integer or an atom, an object, or a block
+/// whose parts are to come.
 #[derive(Clone, Copy)]
 pub enum Made<'a> {
     Misfit,
@@ -70,7 +71,8 @@ fn object_of(labels: &[u64], label: Option<u64>) -> Option<u64>
 
 /// The use of a label.
 fn again<'a>(text: &Text, labels: &[u64], node: &Node) -> Result<Begun<'a>, LiteralFault>
-    ensures { (k n t : ℕ) (graph : List Obj) → node.now ≡ own_node k (again n) → All (λ o. o < length graph) labels.now
+    ensures { (k n t : ℕ) (graph : List Obj) → node.now ≡ own_node k (again n)
+        → All (λ o. o < length graph) labels.now
         → Begins text.now k (again n) t graph graph labels.now labels.now result }
 {
     match object_of(labels, node.label) {
@@ -125,7 +127,8 @@ fn add_doubles(heap: &mut Heap, all: Vec<u64>) -> Result<u64, Memory>
 fn add_parts(heap: &mut Heap, tag: u8, hash: Option<i64>, parts: usize) -> Result<u64, Memory>
     requires tag { tag ≤ 243 }
     requires hash { IfSome hash IsInteger }
-    ensures block { Appends heap.old heap.new (objects.Block tag (front_of hash ++ replicate parts (vals.Int (pos 0)))) result }
+    ensures block { Appends heap.old heap.new
+        (objects.Block tag (front_of hash ++ replicate parts (vals.Int (pos 0)))) result }
     ensures many { OnOk result ((0 < parts) × (parts < 2 ^ 53)) }
 {
     if !can_have(parts) {
@@ -216,8 +219,12 @@ fn placed<'a>(
     made: Made<'a>,
 ) -> Result<Begun<'a>, LiteralFault>
     requires { node.now.first < 2 ^ 63 }
-    ensures { (k : ℕ) (l : Option ℕ) (p : Plain) (graph new : List Obj) → node.now ≡ own_node k (labelled l p) → is_next labels.old.items l ≡ true
-        → All (λ o. o < length graph) labels.old.items → IsMade node.now.parts (start_at t (shape_in text.now.table.now t) (names_in text.now.table.now t) p) graph new made.entry
+    ensures { (k : ℕ) (l : Option ℕ) (p : Plain) (graph new : List Obj)
+        → node.now ≡ own_node k (labelled l p) → is_next labels.old.items l ≡ true
+        → All (λ o. o < length graph) labels.old.items
+        → IsMade node.now.parts
+        (start_at t (shape_in text.now.table.now t) (names_in text.now.table.now t) p) graph
+        new made.entry
         → Begins text.now k (labelled l p) t graph new labels.old.items labels.new.items result }
 {
     match made {
@@ -261,7 +268,8 @@ pub fn begin<'a>(
 ) -> Result<Begun<'a>, LiteralFault>
     requires text { IsText text.now }
     requires part { HasPart text.now j }
-    ensures begins { (k : ℕ) (v : Literal) → Stands text.now.nodes.now text.now.lexemes.now j k v → All (λ o. o < length heap.old) labels.old.items
+    ensures begins { (k : ℕ) (v : Literal) → Stands text.now.nodes.now text.now.lexemes.now j k v
+        → All (λ o. o < length heap.old) labels.old.items
         → Begins text.now k v t heap.old heap.new labels.old.items labels.new.items result }
     ensures grows { Grows heap.old heap.new }
 {

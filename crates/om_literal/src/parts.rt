@@ -24,11 +24,15 @@ fn read_part<'a>(
 ) -> Result<usize, LiteralFault>
     requires text { IsText text.now }
     requires underway { CanGoOn text.now (block ∷ stack.old) j heap.old labels.old.items }
-    ensures underway { (old : List Obj) (outcome : Result (List Obj) (Refusal ℕ)) → IsUnderway text.now old outcome (block.entry ∷ stack.old) j heap.old labels.old.items
-        → IfOk result (λ next. IsUnderway text.now old outcome stack.new next heap.new labels.new.items) }
-    ensures refused { (old : List Obj) (outcome : Result (List Obj) (Refusal ℕ)) → IsUnderway text.now old outcome (block.entry ∷ stack.old) j heap.old labels.old.items
+    ensures underway { (old : List Obj) (outcome : Result (List Obj) (Refusal ℕ))
+        → IsUnderway text.now old outcome (block.entry ∷ stack.old) j heap.old labels.old.items
+        → IfOk result
+        (λ next. IsUnderway text.now old outcome stack.new next heap.new labels.new.items) }
+    ensures refused { (old : List Obj) (outcome : Result (List Obj) (Refusal ℕ))
+        → IsUnderway text.now old outcome (block.entry ∷ stack.old) j heap.old labels.old.items
         → IfErr result (MayRefuse text.now.lexemes.now text.now.end outcome) }
-    ensures kept { (old : List Obj) (outcome : Result (List Obj) (Refusal ℕ)) → IsUnderway text.now old outcome (block.entry ∷ stack.old) j heap.old labels.old.items
+    ensures kept { (old : List Obj) (outcome : Result (List Obj) (Refusal ℕ))
+        → IsUnderway text.now old outcome (block.entry ∷ stack.old) j heap.old labels.old.items
         → take (length old) heap.new ≡ old }
     ensures onward { IfOk result (λ next. j < next) }
     ensures inside { j < length text.now.nodes.now }
@@ -55,7 +59,8 @@ pub fn read_parts<'a>(
 ) -> Result<(), LiteralFault>
     requires text { IsText text.now }
     requires underway { CanGoOn text.now (block ∷ []) 1 heap.old labels.old.items }
-    ensures finished { (old : List Obj) (outcome : Result (List Obj) (Refusal ℕ)) → IsUnderway text.now old outcome (block.entry ∷ []) 1 heap.old labels.old.items
+    ensures finished { (old : List Obj) (outcome : Result (List Obj) (Refusal ℕ))
+        → IsUnderway text.now old outcome (block.entry ∷ []) 1 heap.old labels.old.items
         → Finishes text.now old outcome heap.new result }
 {
     let mut stack = Stack::new(alloc);

@@ -6,7 +6,7 @@ ghost use Rattle.om_model.specs.declared.value.Obj.{Obj};
 ghost use Rattle.om_model.specs.Graph.{IsValue};
 ghost use Rattle.om_literal_grammar.specs.Nodes.{IsTreeOf};
 ghost use Rattle.om_literal.specs.declared.fault.LiteralFault.{LiteralFault};
-ghost use Rattle.om_literal.specs.Answers.{IsAnswer, IsAnswered, Gives};
+ghost use Rattle.om_literal.specs.LiteralAnswers.{IsAnswer, IsAnswered, Gives};
 ghost use Rattle.om_literal.specs.Underway.{IsText, ReadsTree, Reads};
 
 use crate::fault::LiteralFault;
@@ -69,7 +69,8 @@ fn read_lexemes(
     read_tree(alloc, &text, heap, at)
 }
 
-/// Reads the lexemes of a text that ends at this byte as a value of a type, whose objects are appended to the heap.
+/// Reads the lexemes of a text that ends at this byte as a value of a type, whose objects are
+/// appended to the heap.
 pub fn read_literal(
     alloc: Global,
     heap: &mut Heap,
@@ -80,11 +81,13 @@ pub fn read_literal(
 ) -> Result<Val, LiteralFault>
     requires { length table.now.names ≡ length table.now.nodes }
 
-    // The value, behind the old objects, or the fault, and then the heap is as it was. So it is out of memory too.
+    // The value, behind the old objects, or the fault, and then the heap is as it was. So it is out
+    // of memory too.
     ensures answer { IsAnswered table.now at lexemes.now end heap.old heap.new result }
 
     // The one answer is given, unless memory runs out.
-    ensures only { (answer : Result (List Obj × Val) LiteralFault) → IsAnswer table.now at lexemes.now end heap.old answer → Gives answer heap.new result }
+    ensures only { (answer : Result (List Obj × Val) LiteralFault)
+        → IsAnswer table.now at lexemes.now end heap.old answer → Gives answer heap.new result }
 
     // A value that is given is one of the heap.
     ensures valid { IfOk result (IsValue (length heap.new)) }

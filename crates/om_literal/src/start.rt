@@ -5,7 +5,7 @@ ghost use Rattle.om_types.specs.declared.names.Names.{Names};
 ghost use Rattle.om_grammar.specs.Grammar.{Name};
 ghost use Rattle.om_literal_grammar.specs.Literal.{Head, Literal, labelled, Plain, Parts, Rows, array, fields, label_kinds};
 ghost use Rattle.om_literal_grammar.specs.Nodes.{rows_count};
-ghost use Rattle.om_literal.specs.Answers.{shape_in, names_in};
+ghost use Rattle.om_literal.specs.LiteralAnswers.{shape_in, names_in};
 ghost use Rattle.om_literal.specs.Standing.{Stands, own_node, lead_of_owner, lead_of_plain};
 ghost use Rattle.om_literal.specs.Starts.{start_at, if_fits, doubles_start, and_bits, bits_of, bits_of_parts, bits_of_rows, names_of_rows};
 ghost use Rattle.om_literal.specs.Starts as starts;
@@ -39,10 +39,14 @@ pub enum Start<'a> {
 /// The parts of the literal at node j as doubles in one object.
 fn doubles_at<'a>(alloc: Global, text: &Text<'a>, j: usize) -> Result<Start<'a>, Memory>
     requires { j < length text.now.nodes.now }
-    ensures array { (t k : ℕ) (l : Option ℕ) (ps : Parts) (v : Literal) → Stands text.now.nodes.now text.now.lexemes.now j k (labelled l (array ps v))
-        → IfOk result (λ start. start_in t start ≡ doubles_start (and_bits (bits_of_parts ps) (bits_of v))) }
-    ensures flat { (t k : ℕ) (l : Option ℕ) (rs : Rows) (x : Name) (v : Literal) → Stands text.now.nodes.now text.now.lexemes.now j k (labelled l (fields None rs x v))
-        → IfOk result (λ start. start_in t start ≡ doubles_start (and_bits (bits_of_rows rs) (bits_of v))) }
+    ensures array { (t k : ℕ) (l : Option ℕ) (ps : Parts) (v : Literal)
+        → Stands text.now.nodes.now text.now.lexemes.now j k (labelled l (array ps v))
+        → IfOk result
+        (λ start. start_in t start ≡ doubles_start (and_bits (bits_of_parts ps) (bits_of v))) }
+    ensures flat { (t k : ℕ) (l : Option ℕ) (rs : Rows) (x : Name) (v : Literal)
+        → Stands text.now.nodes.now text.now.lexemes.now j k (labelled l (fields None rs x v))
+        → IfOk result
+        (λ start. start_in t start ≡ doubles_start (and_bits (bits_of_rows rs) (bits_of v))) }
     ensures sound { IfOk result IsSound }
 {
     match doubles_of_parts(alloc, text.nodes, j, text.lexemes)? {
@@ -59,7 +63,8 @@ fn array_start<'a>(
     shape: &'a ShapeOf<usize>,
 ) -> Result<Start<'a>, Memory>
     requires { j < length text.now.nodes.now }
-    ensures start { (t k : ℕ) (names : Names) (l : Option ℕ) (ps : Parts) (v : Literal) → Stands text.now.nodes.now text.now.lexemes.now j k (labelled l (array ps v))
+    ensures start { (t k : ℕ) (names : Names) (l : Option ℕ) (ps : Parts) (v : Literal)
+        → Stands text.now.nodes.now text.now.lexemes.now j k (labelled l (array ps v))
         → IfOk result (λ start. start_in t start ≡ start_at t shape.now names (array ps v)) }
     ensures sound { IfOk result IsSound }
 {
@@ -71,7 +76,9 @@ fn array_start<'a>(
 
 /// Whether so many fields of these names are those of a record that lies flat.
 fn is_flat(names: &Names, wanted: &[&[u8]], many: u64, parts: usize) -> bool
-    ensures { result ≡ (starts.same_names names.now.fields (map (λ name. name.now) wanted.now) && many == parts) }
+    ensures { result
+        ≡ (starts.same_names names.now.fields (map (λ name. name.now) wanted.now)
+        && many == parts) }
 {
     same_names(names.fields.as_slice(), wanted) && many == parts as u64
 }
@@ -79,8 +86,11 @@ fn is_flat(names: &Names, wanted: &[&[u8]], many: u64, parts: usize) -> bool
 /// The fields of a record that lies flat, where it fits.
 fn flat_start<'a>(alloc: Global, text: &Text<'a>, j: usize, fits: bool) -> Result<Start<'a>, Memory>
     requires { j < length text.now.nodes.now }
-    ensures fits { (t k : ℕ) (l : Option ℕ) (rs : Rows) (x : Name) (v : Literal) → Stands text.now.nodes.now text.now.lexemes.now j k (labelled l (fields None rs x v))
-        → IfOk result (λ start. start_in t start ≡ if_fits fits (doubles_start (and_bits (bits_of_rows rs) (bits_of v)))) }
+    ensures fits { (t k : ℕ) (l : Option ℕ) (rs : Rows) (x : Name) (v : Literal)
+        → Stands text.now.nodes.now text.now.lexemes.now j k (labelled l (fields None rs x v))
+        → IfOk result
+        (λ start. start_in t start
+        ≡ if_fits fits (doubles_start (and_bits (bits_of_rows rs) (bits_of v)))) }
     ensures sound { IfOk result IsSound }
 {
     if fits {
@@ -101,9 +111,12 @@ fn record_start<'a>(
     parts: usize,
 ) -> Result<Start<'a>, Memory>
     requires { j < length text.now.nodes.now }
-    ensures start { (t k : ℕ) (l : Option ℕ) (rs : Rows) (x : Name) (v : Literal) → Stands text.now.nodes.now text.now.lexemes.now j k (labelled l (fields None rs x v))
-        → parts ≡ suc (rows_count rs) → map (λ name. name.now) wanted.now ≡ names_of_rows rs ++ x ∷ []
-        → IfOk result (λ start. start_in t start ≡ start_at t shape.now names.now (fields None rs x v)) }
+    ensures start { (t k : ℕ) (l : Option ℕ) (rs : Rows) (x : Name) (v : Literal)
+        → Stands text.now.nodes.now text.now.lexemes.now j k (labelled l (fields None rs x v))
+        → parts ≡ suc (rows_count rs)
+        → map (λ name. name.now) wanted.now ≡ names_of_rows rs ++ x ∷ []
+        → IfOk result
+        (λ start. start_in t start ≡ start_at t shape.now names.now (fields None rs x v)) }
     ensures sound { IfOk result IsSound }
 {
     match shape {
@@ -127,9 +140,12 @@ fn fields_start<'a>(
 ) -> Result<Start<'a>, Memory>
     requires text { IsText text.now }
     requires node { j < length text.now.nodes.now }
-    ensures start { (t k : ℕ) (l : Option ℕ) (o : Option Head) (rs : Rows) (x : Name) (v : Literal) → Stands text.now.nodes.now text.now.lexemes.now j k (labelled l (fields o rs x v))
+    ensures start { (t k : ℕ) (l : Option ℕ) (o : Option Head) (rs : Rows) (x : Name)
+        (v : Literal)
+        → Stands text.now.nodes.now text.now.lexemes.now j k (labelled l (fields o rs x v))
         → kind.now ≡ lead_of_owner o → parts ≡ suc (rows_count rs)
-        → IfOk result (λ start. start_in t start ≡ start_at t shape.now names.now (fields o rs x v)) }
+        → IfOk result
+        (λ start. start_in t start ≡ start_at t shape.now names.now (fields o rs x v)) }
     ensures sound { IfOk result IsSound }
 {
     let wanted = field_names(alloc, text.nodes, text.ends, j, text.lexemes)?;
@@ -154,7 +170,8 @@ fn opening_start<'a>(
     requires text { IsText text.now }
     requires node { j < length text.now.nodes.now }
     requires parts { 0 < node.parts }
-    ensures start { (t k : ℕ) (l : Option ℕ) (p : Plain) → Stands text.now.nodes.now text.now.lexemes.now j k (labelled l p)
+    ensures start { (t k : ℕ) (l : Option ℕ) (p : Plain)
+        → Stands text.now.nodes.now text.now.lexemes.now j k (labelled l p)
         → node ≡ own_node k (labelled l p) → kind.now ≡ lead_of_plain p
         → IfOk result (λ start. start_in t start ≡ start_at t shape.now names.now p) }
     ensures sound { IfOk result IsSound }
@@ -186,9 +203,12 @@ pub fn start_of<'a>(
     requires text { IsText text.now }
     requires node { j < length text.now.nodes.now }
     requires first { node.first + length (label_kinds node.label) < length text.now.lexemes.now }
-    ensures start { (k : ℕ) (l : Option ℕ) (p : Plain) → Stands text.now.nodes.now text.now.lexemes.now j k (labelled l p)
+    ensures start { (k : ℕ) (l : Option ℕ) (p : Plain)
+        → Stands text.now.nodes.now text.now.lexemes.now j k (labelled l p)
         → node ≡ own_node k (labelled l p)
-        → IfOk result (λ start. start_in t start ≡ start_at t (shape_in text.now.table.now t) (names_in text.now.table.now t) p) }
+        → IfOk result
+        (λ start. start_in t start
+        ≡ start_at t (shape_in text.now.table.now t) (names_in text.now.table.now t) p) }
     ensures sound { IfOk result IsSound }
 {
     let Some(shape) = shape_of(text.table, t) else {

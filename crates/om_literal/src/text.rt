@@ -1,7 +1,7 @@
 //! A literal by its nodes and its lexemes.
 
 ghost use Rattle.std.specs.Prelude.{◌≡◌, ◌+◌, ◌<◌, ◌^◌, length};
-ghost use Rattle.om_literal.specs.Answers.{byte_of as first_byte};
+ghost use Rattle.om_literal.specs.LiteralAnswers.{byte_of as first_byte};
 ghost use Rattle.om_literal_grammar.specs.Literal.{label_kinds};
 
 use om_lex::lexeme::Lexeme;

@@ -12,7 +12,7 @@ use Rattle.om_equal.proofs.TableLemmas.{slice_get-mapped, mapped_some}
 use Rattle.om_type_table.specs.declared.table.TypeTable.{TypeTable}
 use Rattle.om_type_table.specs.Made.{types_of, IsTypeTable}
 use Rattle.om_literal_grammar.specs.Literal.{Plain}
-use Rattle.om_literal.specs.Answers.{shape_in, names_in}
+use Rattle.om_literal.specs.LiteralAnswers.{shape_in, names_in}
 use Rattle.om_literal.specs.Starts.{Start, start_at}
 use Rattle.om_literal_alike.specs.Alike.{TablesReadAlike}
 use Rattle.om_literal_alike.proofs.StartLemmas.{Mapped, to_misfit, to_range, to_small, to_whole, to_block, start_mapped}

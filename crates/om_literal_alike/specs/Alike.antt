@@ -1,5 +1,5 @@
--- Literals that are read alike: as the same values and objects, or refused at types that stand for one
--- another.
+-- Literals that are read alike: as the same values and objects, or refused at types that stand for
+-- one another.
 use Rattle.std.specs.Prelude.{ℕ, ◌≡◌, Result, Ok, Err, List, slice_get, Some}
 use Rattle.om_types.specs.declared.decl.Decl.{Decl}
 use Rattle.om_types.specs.Names.{names_of}
@@ -8,7 +8,7 @@ use Rattle.om_types.specs.Ty.{Ty}
 use Rattle.om_type_table.specs.declared.table.TypeTable.{TypeTable}
 use Rattle.om_type_table.specs.Made.{types_of, IsTypeTable}
 use Rattle.om_literal_grammar.specs.Literal.{Literal}
-use Rattle.om_literal.specs.Answers.{shape_in, names_in}
+use Rattle.om_literal.specs.LiteralAnswers.{shape_in, names_in}
 use Rattle.om_literal.specs.Reading.{Reading, Refusal, misfit_at, int_range_at, label_at, literal_read}
 
 module _ {T U : Type 0} (Of : T → U → Type 0) where

@@ -29,7 +29,8 @@ abbrev pub next_number : ℕ → ℕ
 next_number n = if nat_lt n (2 ^ 64 - 1) then suc n else n
 
 abbrev pub with_part : Node → Node
-with_part n = record { form = n.form; label = n.label; first = n.first; parts = next_number n.parts }
+with_part n =
+    record { form = n.form; label = n.label; first = n.first; parts = next_number n.parts }
 
 abbrev pub with_form : Form → Node → Node
 with_form form n = record { form = form; label = n.label; first = n.first; parts = n.parts }
@@ -66,16 +67,21 @@ head_stage kind index node = stages.Head index node
 
 abbrev pub entered : List Node → List Open → LexemeKind → ℕ → Node → Form → Code
 entered ns os kind index node forms.Named = code ns os (head_stage kind index node)
-entered ns os kind index node forms.Unit = code ns (opened brackets.Parens index node ∷ os) stages.Due
-entered ns os kind index node forms.Array = code ns (opened brackets.Array index node ∷ os) stages.Due
+entered ns os kind index node forms.Unit =
+    code ns (opened brackets.Parens index node ∷ os) stages.Due
+entered ns os kind index node forms.Array =
+    code ns (opened brackets.Array index node ∷ os) stages.Due
 entered ns os kind index node forms.Fields = code ns os (stages.FieldDue index node)
 entered ns os kind index node form = code ns os stages.Whole
 
 abbrev pub begun_as : List Node → List Open → ℕ → Option ℕ → LexemeKind → Form → Code
-begun_as ns os first label kind form = entered (ns ++ bare_node form label first ∷ []) os kind (length ns) (bare_node form label first) form
+begun_as ns os first label kind form =
+    entered (ns ++ bare_node form label first ∷ []) os kind (length ns) (bare_node form label first)
+    form
 
 abbrev pub begin_plain_code : List Node → List Open → ℕ → Option ℕ → LexemeKind → Option Code
-begin_plain_code ns os first label kind = option_map (begun_as ns os first label kind) (form_of kind)
+begin_plain_code ns os first label kind =
+    option_map (begun_as ns os first label kind) (form_of kind)
 
 abbrev pub is_unit : Bracket → ℕ → Bool
 is_unit brackets.Parens parts = parts == 0
@@ -87,11 +93,13 @@ is_empty_array bracket parts = false
 
 abbrev pub close_unit_code : List Node → List Open → Option Code
 close_unit_code ns [] = None
-close_unit_code ns (o ∷ os) = if is_unit o.bracket o.node.parts then Some (code ns os stages.Whole) else None
+close_unit_code ns (o ∷ os) =
+    if is_unit o.bracket o.node.parts then Some (code ns os stages.Whole) else None
 
 abbrev pub close_empty_code : List Node → List Open → Option Code
 close_empty_code ns [] = None
-close_empty_code ns (o ∷ os) = if is_empty_array o.bracket o.node.parts then Some (code ns os stages.Whole) else None
+close_empty_code ns (o ∷ os) =
+    if is_empty_array o.bracket o.node.parts then Some (code ns os stages.Whole) else None
 
 abbrev pub begin_code : List Node → List Open → ℕ → LexemeKind → Option Code
 begin_code ns os place (kinds.Symbol symbols.Hash) = Some (code ns os (stages.Hash place))
@@ -109,7 +117,8 @@ shut_code ns os o = Some (code (slice_set ns o.index (with_part o.node)) os stag
 
 abbrev pub shut_tuple_code : List Node → List Open → Open → Option Code
 shut_tuple_code ns os o = if o.node.parts == 0 then None
-    else Some (code (slice_set ns o.index (with_form forms.Tuple (with_part o.node))) os stages.Whole)
+    else Some
+    (code (slice_set ns o.index (with_form forms.Tuple (with_part o.node))) os stages.Whole)
 
 abbrev pub close_arguments_code : List Node → List Open → Open → LexemeKind → Option Code
 close_arguments_code ns os o (kinds.Symbol symbols.Comma) = next_code ns os o
@@ -127,7 +136,8 @@ close_array_code ns os o (kinds.Symbol symbols.CloseArray) = shut_code ns os o
 close_array_code ns os o kind = None
 
 abbrev pub close_fields_code : List Node → List Open → Open → LexemeKind → Option Code
-close_fields_code ns os o (kinds.Symbol symbols.Semicolon) = Some (code ns os (stages.FieldDue o.index (with_part o.node)))
+close_fields_code ns os o (kinds.Symbol symbols.Semicolon) =
+    Some (code ns os (stages.FieldDue o.index (with_part o.node)))
 close_fields_code ns os o (kinds.Symbol symbols.CloseBrace) = shut_code ns os o
 close_fields_code ns os o kind = None
 
@@ -144,19 +154,25 @@ close_code ns (o ∷ os) kind = close_in o.bracket ns os o kind
 -- ---- the other stages
 
 abbrev pub take_number_code : List Node → List Open → ℕ → LexemeKind → Option Code
-take_number_code ns os first kind = option_map (λ n. code ns os (stages.Number first n)) (number_of kind)
+take_number_code ns os first kind =
+    option_map (λ n. code ns os (stages.Number first n)) (number_of kind)
 
 abbrev pub after_number_code : List Node → List Open → ℕ → ℕ → LexemeKind → Option Code
-after_number_code ns os first n (kinds.Symbol symbols.Equals) = Some (code ns os (stages.PlainDue first n))
-after_number_code ns os first n kind = close_code (ns ++ bare_node forms.Again (Some n) first ∷ []) os kind
+after_number_code ns os first n (kinds.Symbol symbols.Equals) =
+    Some (code ns os (stages.PlainDue first n))
+after_number_code ns os first n kind =
+    close_code (ns ++ bare_node forms.Again (Some n) first ∷ []) os kind
 
 abbrev pub after_bracket_code : List Node → List Open → ℕ → Node → LexemeKind → Option Code
-after_bracket_code ns os index node (kinds.Symbol symbols.CloseBracket) = Some (code ns os (stages.Head index node))
+after_bracket_code ns os index node (kinds.Symbol symbols.CloseBracket) =
+    Some (code ns os (stages.Head index node))
 after_bracket_code ns os index node kind = None
 
 abbrev pub after_head_code : List Node → List Open → ℕ → Node → LexemeKind → Option Code
-after_head_code ns os index node (kinds.Symbol symbols.OpenParen) = Some (code ns (opened brackets.Arguments index node ∷ os) stages.Due)
-after_head_code ns os index node (kinds.Symbol symbols.OpenBrace) = Some (code ns os (stages.FieldDue index (with_form forms.Fields node)))
+after_head_code ns os index node (kinds.Symbol symbols.OpenParen) =
+    Some (code ns (opened brackets.Arguments index node ∷ os) stages.Due)
+after_head_code ns os index node (kinds.Symbol symbols.OpenBrace) =
+    Some (code ns os (stages.FieldDue index (with_form forms.Fields node)))
 after_head_code ns os index node kind = close_code ns os kind
 
 abbrev pub take_name_code : List Node → List Open → ℕ → Node → LexemeKind → Option Code
@@ -164,7 +180,8 @@ take_name_code ns os index node (kinds.Lower x) = Some (code ns os (stages.NameR
 take_name_code ns os index node kind = None
 
 abbrev pub take_equals_code : List Node → List Open → ℕ → Node → LexemeKind → Option Code
-take_equals_code ns os index node (kinds.Symbol symbols.Equals) = Some (code ns (opened brackets.Fields index node ∷ os) stages.Due)
+take_equals_code ns os index node (kinds.Symbol symbols.Equals) =
+    Some (code ns (opened brackets.Fields index node ∷ os) stages.Due)
 take_equals_code ns os index node kind = None
 
 -- lexeme number place

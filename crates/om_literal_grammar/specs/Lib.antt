@@ -1,6 +1,6 @@
 pub mod Literal
 pub mod Machine
-pub mod Rows
+pub mod WorkedTrees
 pub mod Popped
 pub mod Code
 pub mod Nodes

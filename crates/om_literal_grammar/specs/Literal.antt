@@ -105,17 +105,28 @@ abbrev mutual
   plain_kinds (truth b) = lower (truth_name b)
   plain_kinds unit = mark symbols.OpenParen ++ mark symbols.CloseParen
   plain_kinds (constant h) = head_kinds h
-  plain_kinds (applied h ps v) = head_kinds h ++ mark symbols.OpenParen ++ parts_kinds symbols.Comma ps ++ literal_kinds v ++ mark symbols.CloseParen
-  plain_kinds (fields o rs x v) = owner_kinds o ++ mark symbols.OpenBrace ++ rows_kinds rs ++ row_start x ++ literal_kinds v ++ mark symbols.CloseBrace
-  plain_kinds (tuple ps u v) = mark symbols.OpenParen ++ (parts_kinds symbols.Comma ps ++ literal_kinds u ++ mark symbols.Comma) ++ literal_kinds v ++ mark symbols.CloseParen
+  plain_kinds (applied h ps v) =
+      head_kinds h ++ mark symbols.OpenParen ++ parts_kinds symbols.Comma ps ++ literal_kinds v
+      ++ mark symbols.CloseParen
+  plain_kinds (fields o rs x v) =
+      owner_kinds o ++ mark symbols.OpenBrace ++ rows_kinds rs ++ row_start x ++ literal_kinds v
+      ++ mark symbols.CloseBrace
+  plain_kinds (tuple ps u v) =
+      mark symbols.OpenParen
+      ++ (parts_kinds symbols.Comma ps ++ literal_kinds u ++ mark symbols.Comma) ++ literal_kinds v
+      ++ mark symbols.CloseParen
   plain_kinds empty_array = mark symbols.OpenArray ++ mark symbols.CloseArray
-  plain_kinds (array ps v) = mark symbols.OpenArray ++ parts_kinds symbols.Semicolon ps ++ literal_kinds v ++ mark symbols.CloseArray
+  plain_kinds (array ps v) =
+      mark symbols.OpenArray ++ parts_kinds symbols.Semicolon ps ++ literal_kinds v
+      ++ mark symbols.CloseArray
 
   -- each with the separator after it
   pub parts_kinds : Symbol → Parts → Kinds
   parts_kinds separator no_parts = []
-  parts_kinds separator (more_parts ps v) = parts_kinds separator ps ++ literal_kinds v ++ mark separator
+  parts_kinds separator (more_parts ps v) =
+      parts_kinds separator ps ++ literal_kinds v ++ mark separator
 
   pub rows_kinds : Rows → Kinds
   rows_kinds no_rows = []
-  rows_kinds (more_rows rs x v) = rows_kinds rs ++ row_start x ++ literal_kinds v ++ mark symbols.Semicolon
+  rows_kinds (more_rows rs x v) =
+      rows_kinds rs ++ row_start x ++ literal_kinds v ++ mark symbols.Semicolon

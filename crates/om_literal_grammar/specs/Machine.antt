@@ -1,4 +1,5 @@
--- The table that reads a literal's lexemes one by one: what is open, the innermost first, and what was read in it last.
+-- The table that reads a literal's lexemes one by one: what is open, the innermost first, and what
+-- was read in it last.
 use Rattle.std.specs.Prelude.{ℕ, ℤ, pos, Bool, true, false, if◌then◌else◌, Option, Some, None, option_map, List, [], ◌∷◌, ◌++◌, map}
 use Rattle.std.specs.Str.{bytes_eq}
 use Rattle.om_lex.specs.declared.lexeme.LexemeKind.{LexemeKind}
@@ -84,8 +85,10 @@ begin fs (kinds.Symbol symbols.CloseParen) = close_unit fs
 begin fs (kinds.Symbol symbols.CloseArray) = close_empty fs
 begin fs kind = begin_plain fs None kind
 
-abbrev pub close_arguments : List Frame → Option ℕ → Head → Parts → Literal → LexemeKind → Option State
-close_arguments fs l h ps v (kinds.Symbol symbols.Comma) = Some (at (in_arguments l h (more_parts ps v) ∷ fs) due)
+abbrev pub close_arguments : List Frame → Option ℕ → Head → Parts → Literal → LexemeKind
+    → Option State
+close_arguments fs l h ps v (kinds.Symbol symbols.Comma) =
+    Some (at (in_arguments l h (more_parts ps v) ∷ fs) due)
 close_arguments fs l h ps v (kinds.Symbol symbols.CloseParen) = read fs l (applied h ps v)
 close_arguments fs l h ps v kind = None
 
@@ -94,17 +97,21 @@ close_tuple fs l no_parts v = None
 close_tuple fs l (more_parts ps u) v = read fs l (tuple ps u v)
 
 abbrev pub close_parens : List Frame → Option ℕ → Parts → Literal → LexemeKind → Option State
-close_parens fs l ps v (kinds.Symbol symbols.Comma) = Some (at (in_parens l (more_parts ps v) ∷ fs) due)
+close_parens fs l ps v (kinds.Symbol symbols.Comma) =
+    Some (at (in_parens l (more_parts ps v) ∷ fs) due)
 close_parens fs l ps v (kinds.Symbol symbols.CloseParen) = close_tuple fs l ps v
 close_parens fs l ps v kind = None
 
 abbrev pub close_array : List Frame → Option ℕ → Parts → Literal → LexemeKind → Option State
-close_array fs l ps v (kinds.Symbol symbols.Semicolon) = Some (at (in_array l (more_parts ps v) ∷ fs) due)
+close_array fs l ps v (kinds.Symbol symbols.Semicolon) =
+    Some (at (in_array l (more_parts ps v) ∷ fs) due)
 close_array fs l ps v (kinds.Symbol symbols.CloseArray) = read fs l (array ps v)
 close_array fs l ps v kind = None
 
-abbrev pub close_fields : List Frame → Option ℕ → Option Head → Rows → Name → Literal → LexemeKind → Option State
-close_fields fs l o rs x v (kinds.Symbol symbols.Semicolon) = Some (at fs (field_due l o (more_rows rs x v)))
+abbrev pub close_fields : List Frame → Option ℕ → Option Head → Rows → Name → Literal → LexemeKind
+    → Option State
+close_fields fs l o rs x v (kinds.Symbol symbols.Semicolon) =
+    Some (at fs (field_due l o (more_rows rs x v)))
 close_fields fs l o rs x v (kinds.Symbol symbols.CloseBrace) = read fs l (fields o rs x v)
 close_fields fs l o rs x v kind = None
 
@@ -135,7 +142,8 @@ abbrev pub take_name : List Frame → Option ℕ → Option Head → Rows → Le
 take_name fs l o rs (kinds.Lower x) = Some (at fs (name_read l o rs x))
 take_name fs l o rs kind = None
 
-abbrev pub take_equals : List Frame → Option ℕ → Option Head → Rows → Name → LexemeKind → Option State
+abbrev pub take_equals : List Frame → Option ℕ → Option Head → Rows → Name → LexemeKind
+    → Option State
 take_equals fs l o rs x (kinds.Symbol symbols.Equals) = Some (at (in_fields l o rs x ∷ fs) due)
 take_equals fs l o rs x kind = None
 
@@ -159,10 +167,14 @@ accepted s = None
 -- ---- the lexemes that a state has read
 
 abbrev pub frame_kinds : Frame → Kinds
-frame_kinds (in_arguments l h ps) = label_kinds l ++ (head_kinds h ++ mark symbols.OpenParen ++ parts_kinds symbols.Comma ps)
-frame_kinds (in_parens l ps) = label_kinds l ++ (mark symbols.OpenParen ++ parts_kinds symbols.Comma ps)
-frame_kinds (in_array l ps) = label_kinds l ++ (mark symbols.OpenArray ++ parts_kinds symbols.Semicolon ps)
-frame_kinds (in_fields l o rs x) = label_kinds l ++ (owner_kinds o ++ mark symbols.OpenBrace ++ rows_kinds rs ++ row_start x)
+frame_kinds (in_arguments l h ps) =
+    label_kinds l ++ (head_kinds h ++ mark symbols.OpenParen ++ parts_kinds symbols.Comma ps)
+frame_kinds (in_parens l ps) =
+    label_kinds l ++ (mark symbols.OpenParen ++ parts_kinds symbols.Comma ps)
+frame_kinds (in_array l ps) =
+    label_kinds l ++ (mark symbols.OpenArray ++ parts_kinds symbols.Semicolon ps)
+frame_kinds (in_fields l o rs x) =
+    label_kinds l ++ (owner_kinds o ++ mark symbols.OpenBrace ++ rows_kinds rs ++ row_start x)
 
 abbrev pub frames_front : List Frame → Kinds
 frames_front [] = []
@@ -175,8 +187,11 @@ phase_kinds (number_read k) = reference k
 phase_kinds (plain_due k) = label_kinds (Some k)
 phase_kinds (bracket_read l) = label_kinds l ++ mark symbols.OpenBracket
 phase_kinds (head_read l h) = label_kinds l ++ head_kinds h
-phase_kinds (field_due l o rs) = label_kinds l ++ (owner_kinds o ++ mark symbols.OpenBrace ++ rows_kinds rs)
-phase_kinds (name_read l o rs x) = label_kinds l ++ (owner_kinds o ++ mark symbols.OpenBrace ++ rows_kinds rs ++ kinds.Lower x ∷ [])
+phase_kinds (field_due l o rs) =
+    label_kinds l ++ (owner_kinds o ++ mark symbols.OpenBrace ++ rows_kinds rs)
+phase_kinds (name_read l o rs x) =
+    label_kinds l
+    ++ (owner_kinds o ++ mark symbols.OpenBrace ++ rows_kinds rs ++ kinds.Lower x ∷ [])
 phase_kinds (whole v) = literal_kinds v
 
 abbrev pub front : State → Kinds

@@ -43,36 +43,64 @@ abbrev mutual
   plain_nodes k l (constant h) = node forms.Named l k 0 ∷ []
   plain_nodes k l (applied h ps v) =
       node forms.Named l k (suc (count ps))
-      ∷ (parts_nodes symbols.Comma (k + length (label_kinds l ++ (head_kinds h ++ mark symbols.OpenParen))) ps
-      ++ literal_nodes (k + length (label_kinds l ++ (head_kinds h ++ mark symbols.OpenParen ++ parts_kinds symbols.Comma ps))) v)
+      ∷
+      (parts_nodes symbols.Comma
+      (k + length (label_kinds l ++ (head_kinds h ++ mark symbols.OpenParen))) ps
+      ++ literal_nodes
+      (k
+      + length
+      (label_kinds l
+      ++ (head_kinds h ++ mark symbols.OpenParen ++ parts_kinds symbols.Comma ps)))
+      v)
   plain_nodes k l (fields o rs x v) =
       node forms.Fields l k (suc (rows_count rs))
       ∷ (rows_nodes (k + length (label_kinds l ++ (owner_kinds o ++ mark symbols.OpenBrace))) rs
-      ++ literal_nodes (k + length (label_kinds l ++ (owner_kinds o ++ mark symbols.OpenBrace ++ rows_kinds rs ++ row_start x))) v)
+      ++ literal_nodes
+      (k
+      + length
+      (label_kinds l
+      ++ (owner_kinds o ++ mark symbols.OpenBrace ++ rows_kinds rs ++ row_start x)))
+      v)
   plain_nodes k l (tuple ps u v) =
       node forms.Tuple l k (suc (suc (count ps)))
       ∷ (parts_nodes symbols.Comma (k + length (label_kinds l ++ mark symbols.OpenParen)) ps
-      ++ literal_nodes (k + length (label_kinds l ++ mark symbols.OpenParen) + length (parts_kinds symbols.Comma ps)) u
-      ++ literal_nodes (k + length (label_kinds l ++ (mark symbols.OpenParen ++ (parts_kinds symbols.Comma ps ++ literal_kinds u ++ mark symbols.Comma)))) v)
+      ++ literal_nodes
+      (k + length (label_kinds l ++ mark symbols.OpenParen) + length (parts_kinds symbols.Comma ps))
+      u
+      ++ literal_nodes
+      (k
+      + length
+      (label_kinds l
+      ++
+      (mark symbols.OpenParen
+      ++
+      (parts_kinds symbols.Comma ps ++ literal_kinds u
+      ++ mark symbols.Comma))))
+      v)
   plain_nodes k l empty_array = node forms.Array l k 0 ∷ []
   plain_nodes k l (array ps v) =
       node forms.Array l k (suc (count ps))
       ∷ (parts_nodes symbols.Semicolon (k + length (label_kinds l ++ mark symbols.OpenArray)) ps
-      ++ literal_nodes (k + length (label_kinds l ++ (mark symbols.OpenArray ++ parts_kinds symbols.Semicolon ps))) v)
+      ++ literal_nodes
+      (k + length (label_kinds l ++ (mark symbols.OpenArray ++ parts_kinds symbols.Semicolon ps)))
+      v)
 
   pub parts_nodes : Symbol → ℕ → Parts → List Node
   parts_nodes separator k no_parts = []
-  parts_nodes separator k (more_parts ps v) = parts_nodes separator k ps ++ literal_nodes (k + length (parts_kinds separator ps)) v
+  parts_nodes separator k (more_parts ps v) =
+      parts_nodes separator k ps ++ literal_nodes (k + length (parts_kinds separator ps)) v
 
   pub rows_nodes : ℕ → Rows → List Node
   rows_nodes k no_rows = []
-  rows_nodes k (more_rows rs x v) = rows_nodes k rs ++ literal_nodes (k + length (rows_kinds rs ++ row_start x)) v
+  rows_nodes k (more_rows rs x v) =
+      rows_nodes k rs ++ literal_nodes (k + length (rows_kinds rs ++ row_start x)) v
 
 -- ---- what is answered about lexemes
 
 -- the lexemes are a literal, and these its nodes
 abbrev pub IsTreeOf : List Lexeme → List Node → Type 0
-IsTreeOf lexemes nodes = (v : Literal) × (literal_kinds v ≡ kinds_of lexemes) × (nodes ≡ literal_nodes 0 v)
+IsTreeOf lexemes nodes =
+    (v : Literal) × (literal_kinds v ≡ kinds_of lexemes) × (nodes ≡ literal_nodes 0 v)
 
 abbrev pub IsTreeFault : List Lexeme → TreeFault → Type 0
 IsTreeFault lexemes (faults.Syntax k) = IsSyntax literal_kinds (kinds_of lexemes) k

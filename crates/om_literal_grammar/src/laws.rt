@@ -4,7 +4,7 @@ ghost use Rattle.std.specs.Prelude.{length};
 ghost use Rattle.om_grammar.specs.Laws.{HasOneTree, IsTextOrSyntax, HasNoSyntax};
 ghost use Rattle.om_literal_grammar.specs.Literal.{Literal, literal_kinds};
 ghost use Rattle.om_literal_grammar.specs.Nodes.{FirstsBelow, literal_nodes};
-ghost use Rattle.om_literal_grammar.specs.Rows.{Rows};
+ghost use Rattle.om_literal_grammar.specs.WorkedTrees.{Rows};
 
 /// Lexemes are those of one literal at most.
 pub fn one_literal()

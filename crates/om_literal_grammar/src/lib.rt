@@ -1,4 +1,5 @@
-//! The grammar of literals, that is of values as texts, and a table that reads it one lexeme at a time.
+//! The grammar of literals, that is of values as texts, and a table that reads it one lexeme at a
+//! time.
 #![tactic(auto)]
 
 mod laws;

@@ -25,7 +25,8 @@ pub enum Form {
     Again,
 }
 
-/// A node: its form, its label or the one that it uses, the number of its first lexeme, and how many parts it has.
+/// A node: its form, its label or the one that it uses, the number of its first lexeme, and how
+/// many parts it has.
 #[derive(Clone, Copy)]
 pub struct Node {
     pub form: Form,

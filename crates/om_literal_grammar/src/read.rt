@@ -38,9 +38,12 @@ pub fn read_literal_tree(alloc: Global, lexemes: &[Lexeme]) -> Result<Tree, Tree
     ensures tree { IfOk result (IsTreeOf lexemes.now) }
     ensures fault { IfErr result (IsTreeFault lexemes.now) }
 
-    // A literal's nodes are given, and so is the place at which none goes on, unless memory runs out.
-    ensures literal { (v : Literal) → literal_kinds v ≡ kinds_of lexemes.now → GivesTree (literal_nodes 0 v) result }
-    ensures syntax { (k : ℕ) → IsSyntax literal_kinds (kinds_of lexemes.now) k → GivesSyntax k result }
+    // A literal's nodes are given, and so is the place at which none goes on, unless memory runs
+    // out.
+    ensures literal { (v : Literal) → literal_kinds v ≡ kinds_of lexemes.now
+        → GivesTree (literal_nodes 0 v) result }
+    ensures syntax { (k : ℕ) → IsSyntax literal_kinds (kinds_of lexemes.now) k
+        → GivesSyntax k result }
 {
     read(alloc, lexemes)
 }

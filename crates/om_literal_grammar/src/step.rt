@@ -1,4 +1,5 @@
-//! What a lexeme does to a literal that is being read. The answer is what was read then, or none where no literal goes on.
+//! What a lexeme does to a literal that is being read. The answer is what was read then, or none
+//! where no literal goes on.
 
 ghost use Rattle.std.specs.Prelude.{◌≡◌, ◌++◌, ◌∷◌, [], List, length, Option, Some, None, slice_set, if◌then◌else◌, IfOk};
 ghost use Rattle.om_literal_grammar.specs.declared.node.Node.{Node};
@@ -139,7 +140,9 @@ fn enter(
     node: Node,
     form: Form,
 ) -> Result<Stage, Memory>
-    ensures { IfOk result (λ stage. (ns : List Node) → code ns opens.new stage ≡ entered ns opens.old kind.now index node form) }
+    ensures { IfOk result
+        (λ stage. (ns : List Node)
+        → code ns opens.new stage ≡ entered ns opens.old kind.now index node form) }
 {
     match form {
         Form::Named => Ok(head_stage(kind, index, node)),
@@ -172,7 +175,8 @@ fn begin_plain(
     label: Option<u64>,
     kind: &LexemeKind,
 ) -> Result<Option<Stage>, Memory>
-    ensures { Steps result nodes.new.items opens.new (begin_plain_code nodes.old.items opens.old first label kind.now) }
+    ensures { Steps result nodes.new.items opens.new
+        (begin_plain_code nodes.old.items opens.old first label kind.now) }
 {
     let Some(form) = form_of(kind) else {
         return Ok(None);
@@ -245,7 +249,8 @@ fn begin(
     place: usize,
     kind: &LexemeKind,
 ) -> Result<Option<Stage>, Memory>
-    ensures { Steps result nodes.new.items opens.new (begin_code nodes.old.items opens.old place kind.now) }
+    ensures { Steps result nodes.new.items opens.new
+        (begin_code nodes.old.items opens.old place kind.now) }
 {
     match kind {
         LexemeKind::Symbol(Symbol::Hash) => Ok(Some(Stage::Hash(place))),
@@ -281,7 +286,8 @@ fn shut_tuple(
     opens: &mut Opens,
     outer: Open,
 ) -> Result<Option<Stage>, Memory>
-    ensures { Steps result nodes.new.items opens.new (shut_tuple_code nodes.old.items opens.old outer) }
+    ensures { Steps result nodes.new.items opens.new
+        (shut_tuple_code nodes.old.items opens.old outer) }
 {
     if outer.node.parts == 0 {
         return Ok(None);
@@ -300,7 +306,8 @@ fn close_arguments(
     outer: Open,
     kind: &LexemeKind,
 ) -> Result<Option<Stage>, Memory>
-    ensures { Steps result nodes.new.items opens.new (close_arguments_code nodes.old.items opens.old outer kind.now) }
+    ensures { Steps result nodes.new.items opens.new
+        (close_arguments_code nodes.old.items opens.old outer kind.now) }
 {
     match kind {
         LexemeKind::Symbol(Symbol::Comma) => next(nodes, opens, outer),
@@ -315,7 +322,8 @@ fn close_parens(
     outer: Open,
     kind: &LexemeKind,
 ) -> Result<Option<Stage>, Memory>
-    ensures { Steps result nodes.new.items opens.new (close_parens_code nodes.old.items opens.old outer kind.now) }
+    ensures { Steps result nodes.new.items opens.new
+        (close_parens_code nodes.old.items opens.old outer kind.now) }
 {
     match kind {
         LexemeKind::Symbol(Symbol::Comma) => next(nodes, opens, outer),
@@ -330,7 +338,8 @@ fn close_array(
     outer: Open,
     kind: &LexemeKind,
 ) -> Result<Option<Stage>, Memory>
-    ensures { Steps result nodes.new.items opens.new (close_array_code nodes.old.items opens.old outer kind.now) }
+    ensures { Steps result nodes.new.items opens.new
+        (close_array_code nodes.old.items opens.old outer kind.now) }
 {
     match kind {
         LexemeKind::Symbol(Symbol::Semicolon) => next(nodes, opens, outer),
@@ -345,7 +354,8 @@ fn close_fields(
     outer: Open,
     kind: &LexemeKind,
 ) -> Result<Option<Stage>, Memory>
-    ensures { Steps result nodes.new.items opens.new (close_fields_code nodes.old.items opens.old outer kind.now) }
+    ensures { Steps result nodes.new.items opens.new
+        (close_fields_code nodes.old.items opens.old outer kind.now) }
 {
     match kind {
         LexemeKind::Symbol(Symbol::Semicolon) => Ok(Some(Stage::FieldDue(
@@ -363,7 +373,8 @@ fn close(
     opens: &mut Opens,
     kind: &LexemeKind,
 ) -> Result<Option<Stage>, Memory>
-    ensures { Steps result nodes.new.items opens.new (close_code nodes.old.items opens.old kind.now) }
+    ensures { Steps result nodes.new.items opens.new
+        (close_code nodes.old.items opens.old kind.now) }
 {
     match opens.pop() {
         None => Ok(None),
@@ -384,7 +395,8 @@ fn after_number(
     number: u64,
     kind: &LexemeKind,
 ) -> Result<Option<Stage>, Memory>
-    ensures { Steps result nodes.new.items opens.new (after_number_code nodes.old.items opens.old first number kind.now) }
+    ensures { Steps result nodes.new.items opens.new
+        (after_number_code nodes.old.items opens.old first number kind.now) }
 {
     match kind {
         LexemeKind::Symbol(Symbol::Equals) => Ok(Some(Stage::PlainDue(first, number))),
@@ -415,7 +427,8 @@ fn after_head(
     node: Node,
     kind: &LexemeKind,
 ) -> Result<Option<Stage>, Memory>
-    ensures { Steps result nodes.new.items opens.new (after_head_code nodes.old.items opens.old index node kind.now) }
+    ensures { Steps result nodes.new.items opens.new
+        (after_head_code nodes.old.items opens.old index node kind.now) }
 {
     match kind {
         LexemeKind::Symbol(Symbol::OpenParen) => {
@@ -442,7 +455,8 @@ fn take_equals(
     node: Node,
     kind: &LexemeKind,
 ) -> Result<Option<Stage>, Memory>
-    ensures { Steps result nodes.new.items opens.new (take_equals_code nodes.old.items opens.old index node kind.now) }
+    ensures { Steps result nodes.new.items opens.new
+        (take_equals_code nodes.old.items opens.old index node kind.now) }
 {
     match kind {
         LexemeKind::Symbol(Symbol::Equals) => {
@@ -464,7 +478,8 @@ fn take_number(
     first: usize,
     kind: &LexemeKind,
 ) -> Result<Option<Stage>, Memory>
-    ensures { Steps result nodes.new.items opens.new (take_number_code nodes.old.items opens.old first kind.now) }
+    ensures { Steps result nodes.new.items opens.new
+        (take_number_code nodes.old.items opens.old first kind.now) }
 {
     match number_of(kind) {
         None => Ok(None),
@@ -480,7 +495,8 @@ fn after_bracket(
     node: Node,
     kind: &LexemeKind,
 ) -> Result<Option<Stage>, Memory>
-    ensures { Steps result nodes.new.items opens.new (after_bracket_code nodes.old.items opens.old index node kind.now) }
+    ensures { Steps result nodes.new.items opens.new
+        (after_bracket_code nodes.old.items opens.old index node kind.now) }
 {
     match kind {
         LexemeKind::Symbol(Symbol::CloseBracket) => Ok(Some(Stage::Head(index, node))),
@@ -496,7 +512,8 @@ fn take_name(
     node: Node,
     kind: &LexemeKind,
 ) -> Result<Option<Stage>, Memory>
-    ensures { Steps result nodes.new.items opens.new (take_name_code nodes.old.items opens.old index node kind.now) }
+    ensures { Steps result nodes.new.items opens.new
+        (take_name_code nodes.old.items opens.old index node kind.now) }
 {
     match kind {
         LexemeKind::Lower(_) => Ok(Some(Stage::NameRead(index, node))),
@@ -512,7 +529,8 @@ pub fn step(
     place: usize,
     kind: &LexemeKind,
 ) -> Result<Option<Stage>, Memory>
-    ensures { Steps result nodes.new.items opens.new (step_code nodes.old.items opens.old stage place kind.now) }
+    ensures { Steps result nodes.new.items opens.new
+        (step_code nodes.old.items opens.old stage place kind.now) }
 {
     match stage {
         Stage::Due => begin(nodes, opens, place, kind),
@@ -529,7 +547,9 @@ pub fn step(
 
 /// Whether a literal ends here; its nodes are whole then.
 pub fn end(nodes: &mut Vec<Node>, opens: &mut Opens, stage: Stage) -> Result<bool, Memory>
-    ensures { IfOk result (λ ends. end_code nodes.old.items opens.old stage ≡ (if ends then Some nodes.new.items else None)) }
+    ensures { IfOk result
+        (λ ends. end_code nodes.old.items opens.old stage
+        ≡ (if ends then Some nodes.new.items else None)) }
 {
     match opens.pop() {
         Some(_) => Ok(false),

@@ -39,7 +39,8 @@ module _ {T : Type 0} (shape : T → ShapeOf T) (names : T → Names) (t : T) wh
       → IsRow shape names labels s nm t tag skip ts
       (frame.opening ++ (row_from frame 0 texts ++ frame.closing)) literals
 
-  -- a block's values at a type: those that the frame shows, if any, and those that are parts, with types
+  -- a block's values at a type: those that the frame shows, if any, and those that are parts, with
+  -- types
   pub record IsBlockAt (s : ShapeOf T) (nm : Names) (tag : ℕ) (values : List Val) : Type 0 where
     pub skip : List Val
     pub rest : List Val

@@ -1,5 +1,5 @@
--- What the names of a type must be like so that a text by them is read back: each is a lexeme, and stands
--- for one thing.
+-- What the names of a type must be like so that a text by them is read back: each is a lexeme, and
+-- stands for one thing.
 use Rattle.std.specs.Prelude.{ℕ, ℤ, ◌≡◌, ◌≤◌, ◌⊎◌, List, [], length, slice_get, find, Some, Contains}
 use Rattle.std.specs.List.{position, AllByRecursion}
 use Rattle.std.specs.Str.{bytes_eq}

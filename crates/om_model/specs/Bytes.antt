@@ -30,4 +30,6 @@ signed bytes = twos_complement (256 ^ length bytes) (number bytes)
 -- the bytes are those of the doubles, eight for each
 abbrev pub SpellsDoubles : Bool → List ℕ → List ℕ → Type 0
 SpellsDoubles little [] bytes = bytes ≡ []
-SpellsDoubles little (d ∷ ds) bytes = (8 ≤ length bytes) × (d ≡ number_in little (take 8 bytes)) × SpellsDoubles little ds (drop 8 bytes)
+SpellsDoubles little (d ∷ ds) bytes =
+    (8 ≤ length bytes) × (d ≡ number_in little (take 8 bytes))
+    × SpellsDoubles little ds (drop 8 bytes)

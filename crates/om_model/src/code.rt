@@ -1,7 +1,7 @@
 //! What the first byte of a token says, and the customs that are read (`intext.h`).
 
-/// The kind of a token, by its code. A number is what the code itself carries, or how many bytes the token's
-/// number, header word or length takes; a bool says little endian.
+/// The kind of a token, by its code. A number is what the code itself carries, or how many bytes
+/// the token's number, header word or length takes; a bool says little endian.
 #[derive(Clone, Copy)]
 pub enum CodeKind {
     /// A block or an atom: tag and size.
@@ -22,7 +22,8 @@ pub enum CodeKind {
     Double(bool),
     /// An array of doubles: its length.
     Doubles(u8, bool),
-    /// A custom of fixed length: its identifier. The bool says that the code is that of an old runtime.
+    /// A custom of fixed length: its identifier. The bool says that the code is that of an old
+    /// runtime.
     Custom(bool),
 }
 
@@ -50,8 +51,8 @@ pub enum Custom {
     Native(i64),
 }
 
-/// How large an object is: the fields of a block, the bytes of a string, the elements of a double array, and the
-/// sizes of a custom's data in bytes on 32 and on 64 bits.
+/// How large an object is: the fields of a block, the bytes of a string, the elements of a double
+/// array, and the sizes of a custom's data in bytes on 32 and on 64 bits.
 #[derive(Clone, Copy)]
 pub enum Measure {
     Block(u64),

@@ -1,5 +1,5 @@
-//! Plain data that several subjects share: lists, values and objects of a graph, codes, headers, refusals and
-//! paths; what a graph is; and numbers from bytes.
+//! Plain data that several subjects share: lists, values and objects of a graph, codes, headers,
+//! refusals and paths; what a graph is; and numbers from bytes.
 #![tactic(auto)]
 
 pub mod bytes;

@@ -20,7 +20,8 @@ pub enum WordSum {
     W64,
 }
 
-/// Why bytes are no value. The first number is the place, counted from the header's first byte, where there is one.
+/// Why bytes are no value. The first number is the place, counted from the header's first byte,
+/// where there is one.
 #[derive(Clone, Copy, Debug)]
 pub enum ReadRefusal {
     /// The first four bytes.

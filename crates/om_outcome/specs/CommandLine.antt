@@ -1,4 +1,5 @@
--- The command line: what `clap` is told of it, which words are accepted, and what plain words ask for.
+-- The command line: what `clap` is told of it, which words are accepted, and what plain words ask
+-- for.
 use Rattle.std.specs.Prelude.{ℕ, ◌^◌, ◌≤◌, ◌≡◌, ◌≢◌, ◌⊎◌, Bool, true, false, if◌then◌else◌, List, [], ◌∷◌, ◌++◌, All, Option, None, Some, codes}
 use Rattle.std.specs.Str.Parse.{IsNumeral, digits_value, without_leading_plus}
 use Rattle.clap.specs.Words.{App, Row, Rule, Shape, fault_of, first_of, new_app, new_rule, one_of, subcommand_of, with_rule, with_subcommand}
@@ -54,7 +55,8 @@ get_command = (with_rule (typed (codes "get")) (wanted (codes "PATH"))).top
 
 -- `edit [--limit N] [--compat32] FILE TYPE SCRIPT`
 abbrev pub edit_command : Shape
-edit_command = (with_rule (with_rule (typed (codes "edit")) (wanted (codes "SCRIPT"))) compat_flag).top
+edit_command =
+    (with_rule (with_rule (typed (codes "edit")) (wanted (codes "SCRIPT"))) compat_flag).top
 
 -- `dump [--limit N]`
 abbrev pub dump_command : Shape
@@ -78,7 +80,8 @@ program = record {
 
 abbrev pub command_set : App
 command_set =
-    with_subcommand (with_subcommand (with_subcommand (with_subcommand (with_subcommand (with_subcommand program
+    with_subcommand
+    (with_subcommand (with_subcommand (with_subcommand (with_subcommand (with_subcommand program
     check_command) show_command) get_command) edit_command) dump_command) same_command
 
 -- ---- accepted words
@@ -86,7 +89,8 @@ command_set =
 -- clap finds no fault in the words, and reads a command with these arguments
 abbrev pub Accepted : List (List ℕ) → List ℕ → List Row → Type 0
 Accepted words command arguments =
-    (fault_of command_set words ≡ []) × (subcommand_of command_set words ≡ Some (command, arguments))
+    (fault_of command_set words ≡ [])
+    × (subcommand_of command_set words ≡ Some (command, arguments))
 
 -- the argument of this name
 abbrev pub HasArgument : List Row → List ℕ → List ℕ → Type 0
@@ -95,12 +99,14 @@ HasArgument arguments name text = first_of name arguments ≡ Some text
 -- the number after `--limit`, or the usual one: decimal digits, where a plus may stand first
 abbrev pub HasLimit : List Row → ℕ → Type 0
 HasLimit arguments limit =
-    (text : List ℕ) × (one_of (codes "limit") arguments ≡ Some text) × IsNumeral 10 (without_leading_plus text)
+    (text : List ℕ) × (one_of (codes "limit") arguments ≡ Some text)
+    × IsNumeral 10 (without_leading_plus text)
     × (digits_value 10 (without_leading_plus text) ≡ limit) × (limit ≤ greatest_limit)
 
 -- whether the flag is used, which clap tells in a word
 abbrev pub HasCompat : List Row → Bool → Type 0
-HasCompat arguments compat = HasArgument arguments (codes "compat32") (if compat then codes "true" else codes "false")
+HasCompat arguments compat =
+    HasArgument arguments (codes "compat32") (if compat then codes "true" else codes "false")
 
 -- ---- what is asked for
 
@@ -116,22 +122,29 @@ pub data Request : Type 0 where
 -- the arguments of a command that reads values at a type
 abbrev pub HasTyped : List Row → List ℕ → List ℕ → ℕ → Type 0
 HasTyped arguments file type limit =
-    HasArgument arguments (codes "FILE") file × HasArgument arguments (codes "TYPE") type × HasLimit arguments limit
+    HasArgument arguments (codes "FILE") file × HasArgument arguments (codes "TYPE") type
+    × HasLimit arguments limit
 
 -- what a command with these arguments asks for
 abbrev pub AsksBy : List ℕ → List Row → Request → Type 0
-AsksBy command arguments (check file type limit) = (command ≡ codes "check") × HasTyped arguments file type limit
-AsksBy command arguments (show file type limit) = (command ≡ codes "show") × HasTyped arguments file type limit
+AsksBy command arguments (check file type limit) =
+    (command ≡ codes "check") × HasTyped arguments file type limit
+AsksBy command arguments (show file type limit) =
+    (command ≡ codes "show") × HasTyped arguments file type limit
 AsksBy command arguments (get file type path limit) =
-    (command ≡ codes "get") × HasTyped arguments file type limit × HasArgument arguments (codes "PATH") path
+    (command ≡ codes "get") × HasTyped arguments file type limit
+    × HasArgument arguments (codes "PATH") path
 AsksBy command arguments (edit file type script compat limit) =
-    (command ≡ codes "edit") × HasTyped arguments file type limit × HasArgument arguments (codes "SCRIPT") script × HasCompat arguments compat
+    (command ≡ codes "edit") × HasTyped arguments file type limit
+    × HasArgument arguments (codes "SCRIPT") script × HasCompat arguments compat
 AsksBy command arguments (dump limit) = (command ≡ codes "dump") × HasLimit arguments limit
 AsksBy command arguments (compare limit) = (command ≡ codes "same") × HasLimit arguments limit
 
 -- clap accepts the words, and this is what it reads of them
 unfoldable pub Asks : List (List ℕ) → Request → Type 0
-Asks words request = (command : List ℕ) × (arguments : List Row) × Accepted words command arguments × AsksBy command arguments request
+Asks words request =
+    (command : List ℕ) × (arguments : List Row) × Accepted words command arguments
+    × AsksBy command arguments request
 
 -- words that ask for nothing
 abbrev pub IsUsage : List (List ℕ) → Type 0
@@ -177,27 +190,32 @@ abbrev pub ArePlainLimit : List (List ℕ) → ℕ → Type 0
 ArePlainLimit [] limit = limit ≡ usual_limit
 ArePlainLimit (option ∷ []) limit = ⊥
 ArePlainLimit (option ∷ text ∷ []) limit =
-    (option ≡ codes "--limit") × IsNumeral 10 text × (digits_value 10 text ≡ limit) × (limit ≤ greatest_limit)
+    (option ≡ codes "--limit") × IsNumeral 10 text × (digits_value 10 text ≡ limit)
+    × (limit ≤ greatest_limit)
 ArePlainLimit (option ∷ text ∷ more ∷ rest) limit = ⊥
 
 -- the words for a limit, and those for the flag before or after them, where it is used
 abbrev pub ArePlainOptions : List (List ℕ) → ℕ → Bool → Type 0
 ArePlainOptions words limit false = ArePlainLimit words limit
 ArePlainOptions words limit true =
-    (option : List (List ℕ)) × ArePlainLimit option limit × ((words ≡ codes "--compat32" ∷ option) ⊎ (words ≡ option ++ codes "--compat32" ∷ []))
+    (option : List (List ℕ)) × ArePlainLimit option limit
+    × ((words ≡ codes "--compat32" ∷ option) ⊎ (words ≡ option ++ codes "--compat32" ∷ []))
 
 -- a command's name, perhaps a limit, and then its arguments
 abbrev pub AreWritten : List (List ℕ) → List ℕ → ℕ → List (List ℕ) → Type 0
 AreWritten words command limit arguments =
-    (option : List (List ℕ)) × ArePlainLimit option limit × All IsArgument arguments × (words ≡ command ∷ option ++ arguments)
+    (option : List (List ℕ)) × ArePlainLimit option limit × All IsArgument arguments
+    × (words ≡ command ∷ option ++ arguments)
 
 -- the words that are written plainly, with what they ask for
 abbrev pub ArePlain : List (List ℕ) → Request → Type 0
 ArePlain words (check file type limit) = AreWritten words (codes "check") limit (file ∷ type ∷ [])
 ArePlain words (show file type limit) = AreWritten words (codes "show") limit (file ∷ type ∷ [])
-ArePlain words (get file type path limit) = AreWritten words (codes "get") limit (file ∷ type ∷ path ∷ [])
+ArePlain words (get file type path limit) =
+    AreWritten words (codes "get") limit (file ∷ type ∷ path ∷ [])
 ArePlain words (edit file type script compat limit) =
-    (options : List (List ℕ)) × ArePlainOptions options limit compat × All IsArgument (file ∷ type ∷ script ∷ [])
+    (options : List (List ℕ)) × ArePlainOptions options limit compat
+    × All IsArgument (file ∷ type ∷ script ∷ [])
     × (words ≡ codes "edit" ∷ options ++ file ∷ type ∷ script ∷ [])
 ArePlain words (dump limit) = AreWritten words (codes "dump") limit []
 ArePlain words (compare limit) = AreWritten words (codes "same") limit []

@@ -1,6 +1,6 @@
--- What a run says: the stages in their order, then a text of each value, and a last reply. A command adds its plain words,
--- the files that it opens, what it says of a value, what stops it there, and its last reply; the stages, the stops, their
--- lines and their statuses stand here once.
+-- What a run says: the stages in their order, then a text of each value, and a last reply. A
+-- command adds its plain words, the files that it opens, what it says of a value, what stops it
+-- there, and its last reply; the stages, the stops, their lines and their statuses stand here once.
 use Rattle.std.specs.Prelude.{ℕ, suc, ◌<◌, ◌≡◌, ◌==◌, ◌≢◌, ◌↔◌, ◌⊎◌, Bool, true, false, IsTrue, ◌&&◌, not, nat_lt, if◌then◌else◌, List, [], ◌∷◌, ◌++◌, length, filter, find, Option, Some, None, Result, Ok, Err, MatchResult, codes, decimal}
 use Rattle.om_outcome.specs.declared.status.Status.{Status}
 use Rattle.om_outcome.specs.declared.status.Status.TheVariants as statuses
@@ -12,7 +12,8 @@ use Rattle.om_format.specs.Stream.{SpellAll, End, clean, refused, cut, IsTail}
 
 -- ---- what the outside gives
 
--- why no more bytes were taken: none was left, a call failed, there were 2^48 or more, or no more were asked for
+-- why no more bytes were taken: none was left, a call failed, there were 2^48 or more, or no more
+-- were asked for
 pub data InputEnd : Type 0 where
   at_end : InputEnd
   at_fault : InputEnd
@@ -32,15 +33,16 @@ nothing = record { bytes = []; until = unasked }
 abbrev pub whole : List ℕ → Taken
 whole bytes = record { bytes = bytes; until = at_end }
 
--- what came of fetching a file: its bytes, no such file, a fault, or nothing, where it was not fetched or memory ran out
+-- what came of fetching a file: its bytes, no such file, a fault, or nothing, where it was not
+-- fetched or memory ran out
 pub data Found : Type 0 where
   opened : Taken → Found
   missing : Found
   failed : Found
   unfetched : Found
 
--- What comes of fetching FILE and SCRIPT, by their names. They are fetched one after the other, so that one name may be found
--- in two ways.
+-- What comes of fetching FILE and SCRIPT, by their names. They are fetched one after the other, so
+-- that one name may be found in two ways.
 pub record Fetches : Type 0 where
   pub file : List ℕ → Found
   pub script : List ℕ → Found
@@ -94,7 +96,8 @@ stop_text (cannot_open name) = codes "cannot open " ++ name
 stop_text (declarations refusal) = codes "types: " ++ refusal
 stop_text (requested_type refusal) = codes "type: " ++ refusal
 stop_text (value number refusal) = value_text number refusal
-stop_text (script_line number refusal) = codes "script line " ++ decimal number ++ codes ": " ++ refusal
+stop_text (script_line number refusal) =
+    codes "script line " ++ decimal number ++ codes ": " ++ refusal
 stop_text (untyped_value number fault) = value_text number fault
 stop_text (large_value number refusal) = value_text number refusal
 stop_text read_fault = codes "read fault"
@@ -161,18 +164,31 @@ abbrev pub all_well : List Said → Bool
 all_well [] = true
 all_well (said ∷ rest) = said.well && all_well rest
 
--- The texts are on out. A stop has its line and its status; without one the run ends well, or with a no.
+-- The texts are on out. A stop has its line and its status; without one the run ends well, or with
+-- a no.
 abbrev pub ending_of : Replies → Ending
 ending_of all = ends all.last where
   ends : Reply → Ending
-  ends (says said) = record { out = texts_of (all_said all); err = []; status = if all_well (all_said all) then statuses.Well else statuses.No }
-  ends (stops stop) = record { out = texts_of (all_said all); err = err_line (stop_text stop); status = status_of stop }
+  ends (says said) =
+      record {
+        out = texts_of (all_said all);
+        err = [];
+        status = if all_well (all_said all)
+            then statuses.Well
+            else statuses.No;
+      }
+  ends (stops stop) =
+      record
+      { out = texts_of (all_said all); err = err_line (stop_text stop); status = status_of stop }
 
 -- ---- stages
 
 -- a stage gives something to the next one, or stops the run
-abbrev pub Then : {X Y : Type 0} → (Result X Stop → Type 0) → (X → Result Y Stop → Type 0) → Result Y Stop → Type 0
-Then {X} first next result = (given : Result X Stop) × first given × MatchResult given (λ x. next x result) (λ stop. result ≡ Err stop)
+abbrev pub Then : {X Y : Type 0} → (Result X Stop → Type 0) → (X → Result Y Stop → Type 0)
+    → Result Y Stop → Type 0
+Then {X} first next result =
+    (given : Result X Stop) × first given
+    × MatchResult given (λ x. next x result) (λ stop. result ≡ Err stop)
 
 -- what is read of a text, or its refusal, which the stop tells
 abbrev pub OrRefusal : {X R : Type 0} → (Result X R → Type 0) → (R → Stop) → Result X Stop → Type 0
@@ -205,25 +221,26 @@ ReadsFile name unfetched (Err stop) = ⊥
 
 -- ---- the types
 
--- what is said of a value at a type: whether it has the type, its text, or the text of the part at a path; where it has not
--- the type, that and why
+-- what is said of a value at a type: whether it has the type, its text, or the text of the part at
+-- a path; where it has not the type, that and why
 pub data Saying : Type 0 where
   the_verdict : Saying
   the_text : Saying
   the_part : (path : List ℕ) → Saying
 
--- why a value is not edited: it has not the type; a line of the script is refused, by its number; or what it was edited to
--- is too large for a reader on 32 bits
+-- why a value is not edited: it has not the type; a line of the script is refused, by its number;
+-- or what it was edited to is too large for a reader on 32 bits
 pub data Unedited : Type 0 where
   untyped : (fault : List ℕ) → Unedited
   refused_line : (number : ℕ) → (refusal : List ℕ) → Unedited
   too_large : (refusal : List ℕ) → Unedited
 
--- What the run takes from the declarations D, the types T and the lines of scripts E: what a FILE, a TYPE and a SCRIPT are
--- read as, or the texts of their refusals, of a SCRIPT with the number of its line; the path that a PATH is, if it is one; the
--- number of a line, and of the value that it edits; the line that is said of a value at a type, which tells whether nothing
--- is wrong with it; what lines of a script make of a value at a type, its bytes, where a reader on 32 bits can hold it if
--- that is asked for, or why there are none; and the lines of a value as it is.
+-- What the run takes from the declarations D, the types T and the lines of scripts E: what a FILE,
+-- a TYPE and a SCRIPT are read as, or the texts of their refusals, of a SCRIPT with the number of
+-- its line; the path that a PATH is, if it is one; the number of a line, and of the value that it
+-- edits; the line that is said of a value at a type, which tells whether nothing is wrong with it;
+-- what lines of a script make of a value at a type, its bytes, where a reader on 32 bits can hold
+-- it if that is asked for, or why there are none; and the lines of a value as it is.
 pub record Language (D T E : Type 0) : Type 1 where
   pub ReadsDeclarations : List ℕ → Result D (List ℕ) → Type 0
   pub ReadsType : D → List ℕ → Result T (List ℕ) → Type 0
@@ -236,7 +253,8 @@ pub record Language (D T E : Type 0) : Type 1 where
   pub lines_of : Tree → List ℕ
 
 -- FILE is opened and read, then its declarations, then TYPE
-abbrev pub ReadsTypeOf : {D T E : Type 0} → Language D T E → (List ℕ → Found) → List ℕ × List ℕ → Result T Stop → Type 0
+abbrev pub ReadsTypeOf : {D T E : Type 0} → Language D T E → (List ℕ → Found) → List ℕ × List ℕ
+    → Result T Stop → Type 0
 ReadsTypeOf language file typed =
     Then (ReadsFile typed.0 (file typed.0)) (λ text.
     Then (OrRefusal (language.ReadsDeclarations text) declarations) (λ decls.
@@ -248,9 +266,11 @@ ReadsPathOf language text (Ok path) = language.ReadsPath text (Some path)
 ReadsPathOf language text (Err stop) = language.ReadsPath text None × (stop ≡ bad_path)
 
 -- SCRIPT is opened and read, then its lines
-abbrev pub ReadsScriptOf : {D T E : Type 0} → Language D T E → (List ℕ → Found) → List ℕ → Result (List E) Stop → Type 0
+abbrev pub ReadsScriptOf : {D T E : Type 0} → Language D T E → (List ℕ → Found) → List ℕ
+    → Result (List E) Stop → Type 0
 ReadsScriptOf language script name =
-    Then (ReadsFile name (script name)) (λ text. OrRefusal (language.ReadsScript text) (λ refusal. script_line refusal.0 refusal.1))
+    Then (ReadsFile name (script name))
+    (λ text. OrRefusal (language.ReadsScript text) (λ refusal. script_line refusal.0 refusal.1))
 
 -- what is done with each value, where the words, the files and the type are read
 pub data Work (T E : Type 0) : Type 0 where
@@ -260,23 +280,31 @@ pub data Work (T E : Type 0) : Type 0 where
   compares : Work T E
 
 -- this is told of the values at the type
-abbrev pub TellsAt : {D T E : Type 0} → Language D T E → (List ℕ → Found) → List ℕ × List ℕ → Saying → Result (Work T E) Stop → Type 0
+abbrev pub TellsAt : {D T E : Type 0} → Language D T E → (List ℕ → Found) → List ℕ × List ℕ → Saying
+    → Result (Work T E) Stop → Type 0
 TellsAt language file typed saying result =
     Then (ReadsTypeOf language file typed) (λ type found. found ≡ Ok (tells saying type)) result
 
 -- the values at the type are edited by the lines of SCRIPT
-abbrev pub EditsBy : {D T E : Type 0} → Language D T E → Fetches → List ℕ × List ℕ → List ℕ → Bool → Result (Work T E) Stop → Type 0
+abbrev pub EditsBy : {D T E : Type 0} → Language D T E → Fetches → List ℕ × List ℕ → List ℕ → Bool
+    → Result (Work T E) Stop → Type 0
 EditsBy language files typed script_name compat result =
     Then (ReadsTypeOf language files.file typed) (λ type.
-    Then (ReadsScriptOf language files.script script_name) (λ script found. found ≡ Ok (edits type script compat))) result
+    Then (ReadsScriptOf language files.script script_name)
+    (λ script found. found ≡ Ok (edits type script compat))) result
 
 -- PATH comes before FILE, and SCRIPT after TYPE; `dump` and `same` have none of these
-abbrev pub FindsWork : {D T E : Type 0} → Language D T E → Fetches → Request → Result (Work T E) Stop → Type 0
-FindsWork language files (check name type_text limit) result = TellsAt language files.file (name, type_text) the_verdict result
-FindsWork language files (show name type_text limit) result = TellsAt language files.file (name, type_text) the_text result
+abbrev pub FindsWork : {D T E : Type 0} → Language D T E → Fetches → Request
+    → Result (Work T E) Stop → Type 0
+FindsWork language files (check name type_text limit) result =
+    TellsAt language files.file (name, type_text) the_verdict result
+FindsWork language files (show name type_text limit) result =
+    TellsAt language files.file (name, type_text) the_text result
 FindsWork language files (get name type_text path_text limit) result =
-    Then (ReadsPathOf language path_text) (λ path. TellsAt language files.file (name, type_text) (the_part path)) result
-FindsWork language files (edit name type_text script_name compat limit) result = EditsBy language files (name, type_text) script_name compat result
+    Then (ReadsPathOf language path_text)
+    (λ path. TellsAt language files.file (name, type_text) (the_part path)) result
+FindsWork language files (edit name type_text script_name compat limit) result =
+    EditsBy language files (name, type_text) script_name compat result
 FindsWork language files (dump limit) result = result ≡ Ok dumps
 FindsWork language files (compare limit) result = result ≡ Ok compares
 
@@ -290,7 +318,8 @@ pub record Task (T E : Type 0) : Type 0 where
 abbrev pub task : {T E : Type 0} → Work T E → ℕ → Task T E
 task work limit = record { work = work; limit = limit }
 
-abbrev pub Prepares : {D T E : Type 0} → Language D T E → List (List ℕ) → Fetches → Result (Task T E) Stop → Type 0
+abbrev pub Prepares : {D T E : Type 0} → Language D T E → List (List ℕ) → Fetches
+    → Result (Task T E) Stop → Type 0
 Prepares language words files =
     Then (ReadsWords words) (λ request.
     Then (FindsWork language files request) (λ work result.
@@ -306,17 +335,20 @@ lines_for language script k = filter (λ line. language.line_value line == k) sc
 abbrev pub line_past : {D T E : Type 0} → Language D T E → List E → ℕ → Option E
 line_past language script n = find (λ line. not (nat_lt (language.line_value line) n)) script
 
--- what is said of value k; after a stop nothing is: `same` takes two, and says nothing of them before the input's end
+-- what is said of value k; after a stop nothing is: `same` takes two, and says nothing of them
+-- before the input's end
 abbrev pub Says : {D T E : Type 0} → Language D T E → Work T E → ℕ → Tree → Said → Type 0
 Says language (tells saying type) k tree said =
     (text : List ℕ) × language.LineOf saying type tree text said.well × (said.text ≡ line text)
 Says language (edits type script compat) k tree said =
-    language.BytesOf type (lines_for language script k) compat tree (Ok said.text) × (said.well ≡ true)
+    language.BytesOf type (lines_for language script k) compat tree (Ok said.text)
+    × (said.well ≡ true)
 Says language dumps k tree said = (said.text ≡ language.lines_of tree) × (said.well ≡ true)
 Says language compares k tree said = (k < 2) × (said ≡ nothing_said)
 
 -- what is said of the values, the first of which has number k
-abbrev pub AllSay : {D T E : Type 0} → Language D T E → Work T E → ℕ → List Tree → List Said → Type 0
+abbrev pub AllSay : {D T E : Type 0} → Language D T E → Work T E → ℕ → List Tree → List Said
+    → Type 0
 AllSay language work k [] [] = Unit {0}
 AllSay language work k [] (said ∷ more) = ⊥
 AllSay language work k (tree ∷ trees) [] = ⊥
@@ -330,7 +362,8 @@ unedited_stop k (refused_line number refusal) = script_line number refusal
 unedited_stop k (too_large refusal) = large_value k refusal
 
 -- a value comes that is not edited
-pub record IsUnedited {D T E : Type 0} (language : Language D T E) (type : T) (script : List E) (compat : Bool) (limit k : ℕ) (bytes : List ℕ) (stop : Stop) : Type 0 where
+pub record IsUnedited {D T E : Type 0} (language : Language D T E) (type : T) (script : List E)
+    (compat : Bool) (limit k : ℕ) (bytes : List ℕ) (stop : Stop) : Type 0 where
   pub tree : Tree
   pub more : List ℕ
   pub spelled : SpellAll limit bytes (tree ∷ []) more
@@ -338,13 +371,16 @@ pub record IsUnedited {D T E : Type 0} (language : Language D T E) (type : T) (s
   pub refused : language.BytesOf type (lines_for language script k) compat tree (Err why)
   pub stops : stop ≡ unedited_stop k why
 
--- After these values the command stops at the bytes that come there, whatever comes after them: `edit` at a value that is not
--- edited, and `same` at any bytes after two values.
-abbrev pub StopsAt : {D T E : Type 0} → Language D T E → Work T E → ℕ → List Tree → List ℕ → Stop → Type 0
+-- After these values the command stops at the bytes that come there, whatever comes after them:
+-- `edit` at a value that is not edited, and `same` at any bytes after two values.
+abbrev pub StopsAt : {D T E : Type 0} → Language D T E → Work T E → ℕ → List Tree → List ℕ → Stop
+    → Type 0
 StopsAt language (tells saying type) limit trees rest stop = ⊥
-StopsAt language (edits type script compat) limit trees rest stop = IsUnedited language type script compat limit (length trees) rest stop
+StopsAt language (edits type script compat) limit trees rest stop =
+    IsUnedited language type script compat limit (length trees) rest stop
 StopsAt language dumps limit trees rest stop = ⊥
-StopsAt language compares limit trees rest stop = (length trees ≡ 2) × (rest ≢ []) × (stop ≡ not_two_values)
+StopsAt language compares limit trees rest stop =
+    (length trees ≡ 2) × (rest ≢ []) × (stop ≡ not_two_values)
 
 -- the values of the two trees are the same
 abbrev pub AreSame : Tree → Tree → Type 0
@@ -363,18 +399,25 @@ ends_script language (Some line) = stops (script_line (language.line_number line
 -- the command's last reply, once the input's end is found after all values
 abbrev pub Finishes : {D T E : Type 0} → Language D T E → Work T E → List Tree → Reply → Type 0
 Finishes language (tells saying type) trees last = last ≡ says nothing_said
-Finishes language (edits type script compat) trees last = last ≡ ends_script language (line_past language script (length trees))
+Finishes language (edits type script compat) trees last =
+    last ≡ ends_script language (line_past language script (length trees))
 Finishes language dumps trees last = last ≡ says nothing_said
-Finishes language compares (first ∷ second ∷ []) last = (alike : Bool) × (IsTrue alike ↔ AreSame first second) × (last ≡ says (comparison alike))
+Finishes language compares (first ∷ second ∷ []) last =
+    (alike : Bool) × (IsTrue alike ↔ AreSame first second) × (last ≡ says (comparison alike))
 Finishes language compares trees last = last ≡ stops not_two_values
 
--- The last reply after these values. Bytes that are refused stop the run where no call on the input failed, and no more
--- than allowed were taken: it asks for no more then. Otherwise it asks on, so what happened to the input comes next.
-abbrev pub Closes : {D T E : Type 0} → Language D T E → Work T E → List Tree → InputEnd → End → Reply → Type 0
+-- The last reply after these values. Bytes that are refused stop the run where no call on the input
+-- failed, and no more than allowed were taken: it asks for no more then. Otherwise it asks on, so
+-- what happened to the input comes next.
+abbrev pub Closes : {D T E : Type 0} → Language D T E → Work T E → List Tree → InputEnd → End
+    → Reply → Type 0
 Closes language work trees at_end clean last = Finishes language work trees last
-Closes language work trees at_end (cut n) last = last ≡ stops (value (length trees) (truncated_text n))
-Closes language work trees at_end (refused refusal) last = last ≡ stops (value (length trees) (refusal_text refusal))
-Closes language work trees unasked (refused refusal) last = last ≡ stops (value (length trees) (refusal_text refusal))
+Closes language work trees at_end (cut n) last =
+    last ≡ stops (value (length trees) (truncated_text n))
+Closes language work trees at_end (refused refusal) last =
+    last ≡ stops (value (length trees) (refusal_text refusal))
+Closes language work trees unasked (refused refusal) last =
+    last ≡ stops (value (length trees) (refusal_text refusal))
 Closes language work trees unasked clean last = ⊥
 Closes language work trees unasked (cut n) last = ⊥
 Closes language work trees at_fault (refused refusal) last = ⊥
@@ -384,18 +427,25 @@ Closes language work trees at_length (refused refusal) last = ⊥
 Closes language work trees at_length clean last = last ≡ stops too_long
 Closes language work trees at_length (cut n) last = last ≡ stops too_long
 
--- these are the first values of the bytes, each with what is said of it; and the rest comes after them
-pub record SayFirst {D T E : Type 0} (language : Language D T E) (task : Task T E) (bytes : List ℕ) (trees : List Tree) (said : List Said) (rest : List ℕ) : Type 0 where
+-- these are the first values of the bytes, each with what is said of it; and the rest comes after
+-- them
+pub record SayFirst {D T E : Type 0} (language : Language D T E) (task : Task T E) (bytes : List ℕ)
+    (trees : List Tree) (said : List Said) (rest : List ℕ) : Type 0 where
   pub spelled : SpellAll task.limit bytes trees rest
   pub all_say : AllSay language task.work 0 trees said
 
 -- the values before the last reply, and what leads to it
-pub record ValuesReply {D T E : Type 0} (language : Language D T E) (task : Task T E) (input : Taken) (all : Replies) : Type 0 where
+pub record ValuesReply {D T E : Type 0} (language : Language D T E) (task : Task T E)
+    (input : Taken) (all : Replies) : Type 0 where
   pub trees : List Tree
   pub rest : List ℕ
   pub first : SayFirst language task input.bytes trees all.said rest
-  pub last : ((stop : Stop) × StopsAt language task.work task.limit trees rest stop × (fault_of input.until ≡ None) × (all.last ≡ stops stop))
-      ⊎ ((end : End) × IsTail task.limit rest end × ((stop : Stop) → StopsAt language task.work task.limit trees rest stop → ⊥) × Closes language task.work trees input.until end all.last)
+  pub last :
+      ((stop : Stop) × StopsAt language task.work task.limit trees rest stop
+      × (fault_of input.until ≡ None) × (all.last ≡ stops stop))
+      ⊎ ((end : End) × IsTail task.limit rest end
+      × ((stop : Stop) → StopsAt language task.work task.limit trees rest stop → ⊥)
+      × Closes language task.work trees input.until end all.last)
 
 -- ---- the whole run
 
@@ -403,13 +453,16 @@ pub record ValuesReply {D T E : Type 0} (language : Language D T E) (task : Task
 abbrev pub RunReplies : {D T E : Type 0} → Language D T E → List (List ℕ) → Given → Replies → Type 0
 RunReplies {D} {T} {E} language words given all =
     (prepared : Result (Task T E) Stop) × Prepares language words given.files prepared
-    × MatchResult prepared (λ task. ValuesReply language task given.input all) (λ stop. all ≡ stopped stop)
+    × MatchResult prepared (λ task. ValuesReply language task given.input all)
+    (λ stop. all ≡ stopped stop)
 
 -- what is said of the first values of what is given
-abbrev pub SaysOfFirst : {D T E : Type 0} → Language D T E → List (List ℕ) → Given → List Said → Type 0
+abbrev pub SaysOfFirst : {D T E : Type 0} → Language D T E → List (List ℕ) → Given → List Said
+    → Type 0
 SaysOfFirst {D} {T} {E} language words given said =
     (task : Task T E) × Prepares language words given.files (Ok task)
-    × (trees : List Tree) × (rest : List ℕ) × SayFirst language task given.input.bytes trees said rest
+    × (trees : List Tree) × (rest : List ℕ)
+    × SayFirst language task given.input.bytes trees said rest
 
 -- ---- the outcome of words, files and an input that are told
 
@@ -419,9 +472,12 @@ found_of (Some bytes) = opened (whole bytes)
 
 -- one look-up is all that is fetched
 abbrev pub fetches_of : (List ℕ → Option (List ℕ)) → Fetches
-fetches_of files = record { file = λ name. found_of (files name); script = λ name. found_of (files name) }
+fetches_of files =
+    record { file = λ name. found_of (files name); script = λ name. found_of (files name) }
 
--- The files are a look-up from names to bytes. Where FILE or SCRIPT is not there, it cannot be opened.
-abbrev pub Outcome : {D T E : Type 0} → Language D T E → List (List ℕ) → (List ℕ → Option (List ℕ)) → List ℕ → Replies → Type 0
+-- The files are a look-up from names to bytes. Where FILE or SCRIPT is not there, it cannot be
+-- opened.
+abbrev pub Outcome : {D T E : Type 0} → Language D T E → List (List ℕ) → (List ℕ → Option (List ℕ))
+    → List ℕ → Replies → Type 0
 Outcome language words files bytes =
     RunReplies language words (record { files = fetches_of files; input = whole bytes })

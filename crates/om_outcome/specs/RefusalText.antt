@@ -39,20 +39,36 @@ sum_text W64 = codes "w64"
 unfoldable pub refusal_text : ReadRefusal → List ℕ
 refusal_text (BadMagic magic) = codes "BadMagic(" ++ hex_word magic ++ codes ")"
 refusal_text Compressed = codes "Compressed"
-refusal_text (TooLarge which stated limit) = codes "TooLarge(" ++ stated_text which ++ codes ", " ++ decimal stated ++ codes ", " ++ decimal limit ++ codes ")"
-refusal_text (BadCode place code) = codes "BadCode(" ++ hex_byte code ++ codes ") at " ++ decimal place
-refusal_text (PointerCode place code) = codes "PointerCode(" ++ hex_byte code ++ codes ") at " ++ decimal place
-refusal_text (OtherCustom place code) = codes "OtherCustom(" ++ hex_byte code ++ codes ") at " ++ decimal place
+refusal_text (TooLarge which stated limit) =
+    codes "TooLarge(" ++ stated_text which ++ codes ", " ++ decimal stated ++ codes ", "
+    ++ decimal limit ++ codes ")"
+refusal_text (BadCode place code) =
+    codes "BadCode(" ++ hex_byte code ++ codes ") at " ++ decimal place
+refusal_text (PointerCode place code) =
+    codes "PointerCode(" ++ hex_byte code ++ codes ") at " ++ decimal place
+refusal_text (OtherCustom place code) =
+    codes "OtherCustom(" ++ hex_byte code ++ codes ") at " ++ decimal place
 refusal_text (BadTag place tag) = codes "BadTag(" ++ decimal tag ++ codes ") at " ++ decimal place
-refusal_text (BadShared place offset have) = codes "BadShared(" ++ decimal offset ++ codes ", " ++ decimal have ++ codes ") at " ++ decimal place
+refusal_text (BadShared place offset have) =
+    codes "BadShared(" ++ decimal offset ++ codes ", " ++ decimal have ++ codes ") at "
+    ++ decimal place
 refusal_text (NoTable place) = codes "NoTable at " ++ decimal place
-refusal_text (BadNative place kind) = codes "BadNative(" ++ decimal kind ++ codes ") at " ++ decimal place
-refusal_text (IntRange place value) = codes "IntRange(" ++ signed_decimal value ++ codes ") at " ++ decimal place
+refusal_text (BadNative place kind) =
+    codes "BadNative(" ++ decimal kind ++ codes ") at " ++ decimal place
+refusal_text (IntRange place value) =
+    codes "IntRange(" ++ signed_decimal value ++ codes ") at " ++ decimal place
 refusal_text (ZeroArray place) = codes "ZeroArray at " ++ decimal place
-refusal_text (Overlong place need left) = codes "Overlong(" ++ decimal need ++ codes ", " ++ decimal left ++ codes ") at " ++ decimal place
-refusal_text (SizeMismatch place which stated found) = codes "SizeMismatch(" ++ sum_text which ++ codes ", " ++ decimal stated ++ codes ", " ++ decimal found ++ codes ") at " ++ decimal place
-refusal_text (CountMismatch place stated found) = codes "CountMismatch(" ++ decimal stated ++ codes ", " ++ decimal found ++ codes ") at " ++ decimal place
-refusal_text (LengthMismatch place left) = codes "LengthMismatch(" ++ decimal left ++ codes ") at " ++ decimal place
+refusal_text (Overlong place need left) =
+    codes "Overlong(" ++ decimal need ++ codes ", " ++ decimal left ++ codes ") at "
+    ++ decimal place
+refusal_text (SizeMismatch place which stated found) =
+    codes "SizeMismatch(" ++ sum_text which ++ codes ", " ++ decimal stated ++ codes ", "
+    ++ decimal found ++ codes ") at " ++ decimal place
+refusal_text (CountMismatch place stated found) =
+    codes "CountMismatch(" ++ decimal stated ++ codes ", " ++ decimal found ++ codes ") at "
+    ++ decimal place
+refusal_text (LengthMismatch place left) =
+    codes "LengthMismatch(" ++ decimal left ++ codes ") at " ++ decimal place
 refusal_text Memory = []
 
 -- the input ended after so many bytes of a value
@@ -63,8 +79,11 @@ truncated_text taken = codes "Truncated(" ++ decimal taken ++ codes ")"
 abbrev pub compat_text : TooLargeFor32 → List ℕ
 compat_text (token (integer z)) = codes "Compat(int, " ++ signed_decimal z ++ codes ")"
 compat_text (token (block tag size)) = codes "Compat(block, " ++ decimal size ++ codes ")"
-compat_text (token (leaf (objects.Bytes bytes))) = codes "Compat(string, " ++ decimal (length bytes) ++ codes ")"
-compat_text (token (leaf (objects.Native z))) = codes "Compat(nativeint, " ++ signed_decimal z ++ codes ")"
-compat_text (token (leaf (objects.Doubles all))) = codes "Compat(floats, " ++ decimal (length all) ++ codes ")"
+compat_text (token (leaf (objects.Bytes bytes))) =
+    codes "Compat(string, " ++ decimal (length bytes) ++ codes ")"
+compat_text (token (leaf (objects.Native z))) =
+    codes "Compat(nativeint, " ++ signed_decimal z ++ codes ")"
+compat_text (token (leaf (objects.Doubles all))) =
+    codes "Compat(floats, " ++ decimal (length all) ++ codes ")"
 compat_text (header n) = codes "Compat(header, " ++ decimal n ++ codes ")"
 compat_text large = []

@@ -33,4 +33,5 @@ pub record AreDeclarationsOf (lexemes : Kinds) (all : List Decl) : Type 0 where
 
 -- where lexeme k begins in a text of so many bytes; what comes after the last lexeme is its end
 abbrev pub byte_of : List Lexeme → ℕ → ℕ → ℕ
-byte_of lexemes end k = unwrap_or (option_map (λ (l : Lexeme). l.span.first) (slice_get lexemes k)) end
+byte_of lexemes end k =
+    unwrap_or (option_map (λ (l : Lexeme). l.span.first) (slice_get lexemes k)) end

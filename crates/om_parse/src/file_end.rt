@@ -95,7 +95,8 @@ fn closed_in_type(
     phase: Phase,
 ) -> Result<Option<List<Decl>>, Memory>
     requires { IsReadable nodes.items frames (files.InType around phase) }
-    ensures { IfOk result (λ all. all ≡ in_type_whole around (whole_code nodes.items frames phase)) }
+    ensures { IfOk result
+        (λ all. all ≡ in_type_whole around (whole_code nodes.items frames phase)) }
 {
     match whole(&mut nodes, &mut frames, phase) {
         Ok(true) => closed_type(around, Ty::of(nodes)),

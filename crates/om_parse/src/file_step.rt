@@ -50,7 +50,8 @@ fn after_body(
     body: Body,
     kind: &LexemeKind,
 ) -> Result<Option<FilePhase>, Memory>
-    ensures { IfOk result (λ phase. phase ≡ after_decl_code declared.group (decl_code declared body) kind.now) }
+    ensures { IfOk result
+        (λ phase. phase ≡ after_decl_code declared.group (decl_code declared body) kind.now) }
 {
     let Declared {
         group,

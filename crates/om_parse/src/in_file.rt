@@ -33,7 +33,8 @@ fn after_type_step(
     kind: &LexemeKind,
 ) -> Result<Option<FilePhase>, Memory>
     requires { IfEnded step nodes.old.items }
-    ensures { (fs : Seq AFrame) → FileSteps result nodes.new.items fs (after_step around kind.now fs step nodes.old.items) }
+    ensures { (fs : Seq AFrame)
+        → FileSteps result nodes.new.items fs (after_step around kind.now fs step nodes.old.items) }
 {
     match step {
         Step::Goes(phase) => Ok(Some(FilePhase::InType(around, phase))),
@@ -56,7 +57,8 @@ fn begin_type(
     around: Around,
     kind: &LexemeKind,
 ) -> Result<Option<FilePhase>, Memory>
-    ensures { FileSteps result nodes.new.items frames.new (in_type_code around kind.now (begin_code nodes.old.items frames.old kind.now)) }
+    ensures { FileSteps result nodes.new.items frames.new
+        (in_type_code around kind.now (begin_code nodes.old.items frames.old kind.now)) }
 {
     match begin(alloc, nodes, frames, kind) {
         Ok(step) => after_type_step(alloc, nodes, around, step, kind),
@@ -84,7 +86,9 @@ fn in_type(
     kind: &LexemeKind,
 ) -> Result<Option<FilePhase>, Memory>
     requires { IsReadable nodes.old.items frames.old (files.InType around phase) }
-    ensures { FileSteps result nodes.new.items frames.new (in_type_code around kind.now (step_code (is_argument around) nodes.old.items frames.old phase kind.now)) }
+    ensures { FileSteps result nodes.new.items frames.new
+        (in_type_code around kind.now
+        (step_code (is_argument around) nodes.old.items frames.old phase kind.now)) }
 {
     match step(alloc, is_argument(&around), nodes, frames, phase, kind) {
         Ok(step) => after_type_step(alloc, nodes, around, step, kind),
@@ -103,7 +107,8 @@ fn begin_body(
     declared: Declared,
     kind: &LexemeKind,
 ) -> Result<Option<FilePhase>, Memory>
-    ensures { FileSteps result nodes.new.items frames.new (begin_body_code nodes.old.items frames.old declared kind.now) }
+    ensures { FileSteps result nodes.new.items frames.new
+        (begin_body_code nodes.old.items frames.old declared kind.now) }
 {
     match kind {
         LexemeKind::Symbol(Symbol::OpenBrace) => Ok(Some(FilePhase::FieldDue(Fields {
@@ -134,7 +139,8 @@ fn begin_arguments(
     name: List<u8>,
     kind: &LexemeKind,
 ) -> Result<Option<FilePhase>, Memory>
-    ensures { FileSteps result nodes.new.items frames.new (begin_arguments_code nodes.old.items frames.old constructors name kind.now) }
+    ensures { FileSteps result nodes.new.items frames.new
+        (begin_arguments_code nodes.old.items frames.old constructors name kind.now) }
 {
     match kind {
         LexemeKind::Symbol(Symbol::OpenBrace) => Ok(Some(FilePhase::FieldDue(Fields {
@@ -160,7 +166,8 @@ pub fn file_step(
     kind: &LexemeKind,
 ) -> Result<Option<FilePhase>, Memory>
     requires { IsReadable nodes.old.items frames.old phase }
-    ensures { FileSteps result nodes.new.items frames.new (file_step_code nodes.old.items frames.old phase kind.now) }
+    ensures { FileSteps result nodes.new.items frames.new
+        (file_step_code nodes.old.items frames.old phase kind.now) }
 {
     match phase {
         FilePhase::FileDue(decls) => Ok(begin_file(decls, kind)),

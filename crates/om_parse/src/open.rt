@@ -2,7 +2,8 @@
 
 use om_model::list::List;
 
-/// A type, a tuple or a bracket so far, by the number of its node; no depth above 201 is told apart.
+/// A type, a tuple or a bracket so far, by the number of its node; no depth above 201 is told
+/// apart.
 #[derive(Clone, Copy)]
 pub struct Part {
     pub node: usize,

@@ -15,7 +15,8 @@ use om_types::ty::Node;
 /// What a lexeme is.
 pub fn kind_at(lexemes: &[Lexeme], place: usize) -> &LexemeKind
     requires { place < length lexemes.now }
-    ensures { take (suc place) (kinds_of lexemes.now) ≡ take place (kinds_of lexemes.now) ++ result.now ∷ [] }
+    ensures { take (suc place) (kinds_of lexemes.now)
+        ≡ take place (kinds_of lexemes.now) ++ result.now ∷ [] }
 {
     let lexeme = &lexemes[place];
     &lexeme.kind

@@ -42,7 +42,8 @@ pub fn add(nodes: &mut Vec<Node>, node: Node) -> Result<usize, Memory>
 
 /// A new node is what was read last.
 fn reads(nodes: &mut Vec<Node>, node: Node, depth: usize) -> Result<Step, Memory>
-    ensures { (fs : Seq AFrame) → Steps result nodes.new.items fs (reads nodes.old.items fs node depth) }
+    ensures { (fs : Seq AFrame)
+        → Steps result nodes.new.items fs (reads nodes.old.items fs node depth) }
 {
     let node = add(nodes, node)?;
     Ok(Step::Goes(Phase::Read(Part { node, depth })))
@@ -59,7 +60,8 @@ fn part(nodes: &mut Vec<Node>, node: Node, depth: usize) -> Result<Part, Memory>
 
 /// A bar may stand before the first item.
 fn begin_bar(frames: &mut Stack) -> Result<Step, Memory>
-    ensures { (ns : Seq ANode) → Steps result ns frames.new (begin_item_code ns frames.old (kinds.Symbol symbols.Bar)) }
+    ensures { (ns : Seq ANode)
+        → Steps result ns frames.new (begin_item_code ns frames.old (kinds.Symbol symbols.Bar)) }
 {
     match frames.pop() {
         Some(Frame::Opened(false, bracket)) => {
@@ -72,7 +74,8 @@ fn begin_bar(frames: &mut Stack) -> Result<Step, Memory>
 
 /// A tag may begin an item.
 fn begin_tag(alloc: Global, frames: &Stack, name: &List<u8>) -> Result<Step, Memory>
-    ensures { (ns : Seq ANode) → Steps result ns frames.now (begin_item_code ns frames.now (kinds.Tag name.now)) }
+    ensures { (ns : Seq ANode)
+        → Steps result ns frames.now (begin_item_code ns frames.now (kinds.Tag name.now)) }
 {
     match frames.top() {
         Some(Frame::Opened(_, _) | Frame::Items(_)) => Ok(Step::Goes(Phase::TagRead(copied(
@@ -89,7 +92,8 @@ fn begin_item(
     frames: &mut Stack,
     kind: &LexemeKind,
 ) -> Result<Step, Memory>
-    ensures { Steps result nodes.new.items frames.new (begin_item_code nodes.old.items frames.old kind.now) }
+    ensures { Steps result nodes.new.items frames.new
+        (begin_item_code nodes.old.items frames.old kind.now) }
 {
     match kind {
         LexemeKind::Symbol(Symbol::Bar) => begin_bar(frames),
@@ -105,7 +109,8 @@ pub fn begin(
     frames: &mut Stack,
     kind: &LexemeKind,
 ) -> Result<Step, Memory>
-    ensures { Steps result nodes.new.items frames.new (begin_code nodes.old.items frames.old kind.now) }
+    ensures { Steps result nodes.new.items frames.new
+        (begin_code nodes.old.items frames.old kind.now) }
 {
     match kind {
         LexemeKind::Variable(name) => reads(nodes, Node::Variable(copied(alloc, name)?), 1),
@@ -152,7 +157,8 @@ fn after_items(
     bracket: Part,
     kind: &LexemeKind,
 ) -> Result<Step, Memory>
-    ensures { Steps result nodes.new.items frames.new (after_items_code nodes.old.items frames.old bracket kind.now) }
+    ensures { Steps result nodes.new.items frames.new
+        (after_items_code nodes.old.items frames.old bracket kind.now) }
 {
     match kind {
         LexemeKind::Symbol(Symbol::Bar) => {
@@ -174,7 +180,8 @@ fn after_item(
     item: Item,
     kind: &LexemeKind,
 ) -> Result<Step, Memory>
-    ensures { Steps result nodes.new.items frames.new (after_item_code nodes.old.items frames.old item kind.now) }
+    ensures { Steps result nodes.new.items frames.new
+        (after_item_code nodes.old.items frames.old item kind.now) }
 {
     let depth = item_depth(&item);
     match frames.pop() {
@@ -199,7 +206,8 @@ fn after_group(
     ty: Part,
     kind: &LexemeKind,
 ) -> Result<Step, Memory>
-    ensures { Steps result nodes.new.items frames.new (after_group_code nodes.old.items frames.old ty kind.now) }
+    ensures { Steps result nodes.new.items frames.new
+        (after_group_code nodes.old.items frames.old ty kind.now) }
 {
     match kind {
         LexemeKind::Symbol(Symbol::CloseParen) => Ok(Step::Goes(Phase::Read(Part {
@@ -225,7 +233,8 @@ fn after_argument(
     ty: Part,
     kind: &LexemeKind,
 ) -> Result<Step, Memory>
-    ensures { Steps result nodes.new.items frames.new (after_argument_code nodes.old.items frames.old arguments depth ty kind.now) }
+    ensures { Steps result nodes.new.items frames.new
+        (after_argument_code nodes.old.items frames.old arguments depth ty kind.now) }
 {
     arguments.push(ty.node)?;
     let depth = deepest(depth, ty.depth);
@@ -247,7 +256,8 @@ fn close_type(
     ty: Part,
     kind: &LexemeKind,
 ) -> Result<Step, Memory>
-    ensures { Steps result nodes.new.items frames.new (close_type_code nodes.old.items frames.old ty kind.now) }
+    ensures { Steps result nodes.new.items frames.new
+        (close_type_code nodes.old.items frames.old ty kind.now) }
 {
     match frames.pop() {
         None => Ok(Step::Ended),
@@ -268,7 +278,8 @@ fn after_single(
     component: Part,
     kind: &LexemeKind,
 ) -> Result<Step, Memory>
-    ensures { Steps result nodes.new.items frames.new (after_single_code nodes.old.items frames.old component kind.now) }
+    ensures { Steps result nodes.new.items frames.new
+        (after_single_code nodes.old.items frames.old component kind.now) }
 {
     match kind {
         LexemeKind::Symbol(Symbol::Star) => {
@@ -290,7 +301,8 @@ fn after_tuple(
     component: Part,
     kind: &LexemeKind,
 ) -> Result<Step, Memory>
-    ensures { Steps result nodes.new.items frames.new (after_tuple_code nodes.old.items frames.old tuple component kind.now) }
+    ensures { Steps result nodes.new.items frames.new
+        (after_tuple_code nodes.old.items frames.old tuple component kind.now) }
 {
     let node = Node::Part(tuple.node, component.node);
     let depth = deepest(tuple.depth, component.depth);
@@ -317,7 +329,8 @@ fn close_part(
     component: Part,
     kind: &LexemeKind,
 ) -> Result<Step, Memory>
-    ensures { Steps result nodes.new.items frames.new (close_part_code alone nodes.old.items frames.old component kind.now) }
+    ensures { Steps result nodes.new.items frames.new
+        (close_part_code alone nodes.old.items frames.old component kind.now) }
 {
     match frames.pop() {
         Some(Frame::Component(tuple)) => after_tuple(alloc, nodes, frames, tuple, component, kind),
@@ -347,7 +360,8 @@ fn outermost(
     kind: &LexemeKind,
 ) -> Result<Step, Memory>
     requires { frames.old ≡ [] }
-    ensures { Steps result nodes.new.items frames.new (outermost_code alone nodes.old.items component kind.now) }
+    ensures { Steps result nodes.new.items frames.new
+        (outermost_code alone nodes.old.items component kind.now) }
 {
     if alone {
         Ok(Step::Ended)
@@ -365,7 +379,8 @@ fn after_part(
     component: Part,
     kind: &LexemeKind,
 ) -> Result<Step, Memory>
-    ensures { Steps result nodes.new.items frames.new (after_part_code alone nodes.old.items frames.old component kind.now) }
+    ensures { Steps result nodes.new.items frames.new
+        (after_part_code alone nodes.old.items frames.old component kind.now) }
 {
     match kind {
         LexemeKind::Lower(name) => {
@@ -401,7 +416,8 @@ fn take_name(
     depth: usize,
     kind: &LexemeKind,
 ) -> Result<Step, Memory>
-    ensures { Steps result nodes.new.items frames.new (take_name_code nodes.old.items frames.old arguments depth kind.now) }
+    ensures { Steps result nodes.new.items frames.new
+        (take_name_code nodes.old.items frames.old arguments depth kind.now) }
 {
     match kind {
         LexemeKind::Lower(name) => {
@@ -423,7 +439,8 @@ fn after_tag(
     name: List<u8>,
     kind: &LexemeKind,
 ) -> Result<Step, Memory>
-    ensures { Steps result nodes.new.items frames.new (after_tag_code nodes.old.items frames.old name kind.now) }
+    ensures { Steps result nodes.new.items frames.new
+        (after_tag_code nodes.old.items frames.old name kind.now) }
 {
     match kind {
         LexemeKind::Keyword(Keyword::Of) => {
@@ -443,7 +460,8 @@ pub fn step(
     phase: Phase,
     kind: &LexemeKind,
 ) -> Result<Step, Memory>
-    ensures { Steps result nodes.new.items frames.new (step_code alone nodes.old.items frames.old phase kind.now) }
+    ensures { Steps result nodes.new.items frames.new
+        (step_code alone nodes.old.items frames.old phase kind.now) }
 {
     match phase {
         Phase::Due => begin(alloc, nodes, frames, kind),

@@ -55,10 +55,6 @@ pub took_back : (table : Table) (state : State) (asked : Asked) (t offset : ℕ)
     → (1 ≤ offset) × (offset ≤ length state.types.items) × Took table state state (need_of asked) (shared offset)
 took_back table state asked t offset is back = (back.some, back.few, subst (λ a. Took table state state (need_of a) (shared offset)) (sym is) (took_shared table state t offset back))
 
--- the offset leads back to an object of an equal type
-pub back_at : (table : Table) (types : List ℕ) (t offset first : ℕ) → 1 ≤ offset → offset ≤ length types → slice_get types (length types - offset) ≡ Some first → (table_shapes table).equal first t → IsBack [] table types t offset
-back_at table types t offset first some few at equal = record { some = some; few = few; type = first; at = inl at; equal = equal }
-
 pub took_hash :
     (table : Table) (old new : State) (tags : List (PolyTag ℕ)) (z : ℤ) (tag : PolyTag ℕ) (t : ℕ) → tag_with tags z ≡ Some tag → tag.arg ≡ Some t
     → types_in new ≡ types_in old → needs_in new ≡ of_type t ∷ needs_in old → new.words ≡ old.words → Took table old new (hash_of tags) (integer z)
@@ -69,28 +65,4 @@ took_hash table old new tags z tag t has_hash has_argument types needs words = r
   needs = needs;
   w32 = let same = ap (λ (w : Words). w.w32) words in omega (arith, same);
   w64 = let same = ap (λ (w : Words). w.w64) words in omega (arith, same);
-}
-
-pub took_block :
-    (table : Table) (old new : State) (t tag size : ℕ) (next : List Need) → block_needs (shape_at table t) tag size ≡ Some next → types_in new ≡ types_in old ++ t ∷ [] → needs_in new ≡ next ++ needs_in old
-    → Spends old.words (measures.Block size) new.words → Took table old new (of_type t) (block tag size)
-took_block table old new t tag size next asks types needs spends = record {
-  next = next;
-  asks = asks;
-  types = types;
-  needs = needs;
-  w32 = spends.w32;
-  w64 = spends.w64;
-}
-
-pub took_leaf :
-    (table : Table) (old new : State) (t : ℕ) (object : Obj) (measure : Measure) → leaf_measure object ≡ Some measure → IsSome (object_fields (shape_at table t) object) → TookLeaf old new t measure
-    → Took table old new (of_type t) (leaf object)
-took_leaf table old new t object measure is fits took = record {
-  next = [];
-  asks = (fits, refl);
-  types = took.types;
-  needs = ap (λ (p : Places). places_needs p) took.places;
-  w32 = ap (λ m. new.words.w32 + of_object words32 m) is ∙ took.w32;
-  w64 = ap (λ m. new.words.w64 + of_object words64 m) is ∙ took.w64;
 }

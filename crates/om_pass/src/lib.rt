@@ -1,4 +1,5 @@
-//! A value is typed while its bytes are looked at once, without a heap: it is of the type, or nothing is said of it.
+//! A value is typed while its bytes are looked at once, without a heap: it is of the type, or
+//! nothing is said of it.
 #![tactic(auto)]
 
 mod fits;

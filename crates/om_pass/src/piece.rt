@@ -1,6 +1,6 @@
 //! How many bytes a token has, by its code and the bytes after it.
 
-ghost use Rattle.std.specs.Prelude.{◌≡◌, ◌≤◌, ◌+◌, ◌*◌, ◌<◌, ◌^◌, length, take, IfSome};
+ghost use Rattle.std.specs.Prelude.{◌≡◌, ◌≤◌, ◌+◌, ◌*◌, ◌<◌, length, take, IfSome};
 ghost use Rattle.std.specs.Prelude.{slice_index};
 ghost use Rattle.om_format.specs.Code.{IsKind, custom_of, native_bytes};
 ghost use Rattle.om_format.specs.Raw.{fixed_bytes, variable_bytes, custom_bytes};

@@ -1,11 +1,11 @@
 //! One token.
 
-ghost use Rattle.std.specs.Prelude.{◌≡◌, ◌≤◌, ◌<◌, ◌+◌, ◌/◌, ◌%◌, ◌^◌, ℕ, List, length, IfOk};
+ghost use Rattle.std.specs.Prelude.{◌≡◌, ◌≤◌, ◌<◌, ◌+◌, ◌/◌, ◌%◌, ℕ, List, length, IfOk};
 ghost use Rattle.std.specs.Bool.{OnTrue};
 ghost use Rattle.om_model.specs.declared.value.Obj.TheVariants as objects;
 ghost use Rattle.om_model.specs.Bytes.{signed as signed_number};
 ghost use Rattle.om_model.specs.Graph.{IsInteger};
-ghost use Rattle.om_format.specs.Code.{IsKind, kind_of, custom_of};
+ghost use Rattle.om_format.specs.Code.{IsKind, custom_of};
 ghost use Rattle.om_format.specs.Raw.{fixed_bytes, variable_bytes, custom_bytes};
 ghost use Rattle.om_model.specs.declared.code.CodeKind.{CodeKind};
 ghost use Rattle.om_model.specs.declared.code.CodeKind.TheVariants as kinds;

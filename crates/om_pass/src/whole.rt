@@ -1,6 +1,6 @@
 //! A whole value.
 
-ghost use Rattle.std.specs.Prelude.{◌≡◌, ◌≤◌, ◌<◌, ◌^◌, length, IfOk, IfSome};
+ghost use Rattle.std.specs.Prelude.{◌≤◌, ◌<◌, length, IfOk, IfSome};
 ghost use Rattle.std.specs.Bool.{OnTrue};
 ghost use Rattle.om_type_table.specs.Made.{table_of, IsLawful};
 ghost use Rattle.om_pass_law.specs.OnePass.{IsTypedFront};
@@ -26,7 +26,8 @@ fn head_of(bytes: &[u8], limit: u64) -> Option<Head>
     }
 }
 
-/// Room for the types of the objects: as many as the header states, and no more than there are bytes.
+/// Room for the types of the objects: as many as the header states, and no more than there are
+/// bytes.
 fn room_for(head: &Head, bytes: usize) -> usize {
     if head.objects < bytes as u64 {
         head.objects as usize

@@ -52,13 +52,6 @@ pub record AreNoted (table : Table) (graph : List Obj) (all : List ℕ) (noted :
   pub fixed : (o t : ℕ) → Contains noted (o, t) → (table_shapes table).mutable graph o t → ⊥
   pub first_fixed : (o t u : ℕ) → Contains noted (o, t) → slice_get all o ≡ Some u → (table_shapes table).mutable graph o u → ⊥
 
-pub none_noted : (table : Table) (graph : List Obj) (all : List ℕ) → AreNoted table graph all []
-none_noted table graph all = record {
-  good = λ o t among. absurd (Contains-none {X = ℕ × ℕ} (o, t) among);
-  fixed = λ o t among. absurd (Contains-none {X = ℕ × ℕ} (o, t) among);
-  first_fixed = λ o t u among. absurd (Contains-none {X = ℕ × ℕ} (o, t) among);
-}
-
 module _ (table : Table) (graph : List Obj) (all : List ℕ) (noted : List (ℕ × ℕ)) (long : length all ≡ length graph) (lawful : AreLawful (table_shapes table) Everything) (good : AreGood table all noted 0 graph) (are_noted : AreNoted table graph all noted) where
   first_good : (o t : ℕ) → slice_get all o ≡ Some t → (object : Obj) × (slice_get graph o ≡ Some object) × IsGood table all noted object t
   first_good o t at_o =

@@ -1,5 +1,5 @@
-//! A value is typed while its tokens come, each looked at once: what was passed with nothing open after it has the type.
-//! The function does nothing: what it ensures is the law.
+//! A value is typed while its tokens come, each looked at once: what was passed with nothing open
+//! after it has the type. The function does nothing: what it ensures is the law.
 #![tactic(auto)]
 
 mod laws;

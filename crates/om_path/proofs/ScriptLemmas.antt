@@ -157,8 +157,3 @@ module _ (text : List ℕ) (at number : ℕ) (lines : List ScriptLine) (before :
 
     pub shorter : (len ≡ length rest → ⊥) → len < length rest
     shorter h = let below : len ≤ length rest = subst (λ n. n ≤ length rest) (sym is_len) (prefix_len-le-length (λ b. not (is_feed b)) rest) in omega arith
-
--- nothing was read yet
-pub begins_all : (text : List ℕ) → Continues text 0 1 []
-begins_all text (Ok more) are = are
-begins_all text (Err fault) are = are

@@ -10,10 +10,12 @@ use Rattle.om_path.specs.PathGrammar.{path_kinds}
 use Rattle.om_path.specs.declared.fault.PathFault.{PathFault}
 use Rattle.om_path.specs.declared.fault.PathFault.TheVariants as faults
 
--- the path that the lexemes of a text of so many bytes spell, or the first place at which no path goes on
+-- the path that the lexemes of a text of so many bytes spell, or the first place at which no path
+-- goes on
 abbrev pub IsSpelled : List Lexeme → ℕ → Result (List ℕ) PathFault → Type 0
 IsSpelled lexemes end (Ok path) = path_kinds path ≡ kinds_of lexemes
-IsSpelled lexemes end (Err (faults.Syntax place)) = (k : ℕ) × IsSyntax path_kinds (kinds_of lexemes) k × (byte_of lexemes end k ≡ place)
+IsSpelled lexemes end (Err (faults.Syntax place)) =
+    (k : ℕ) × IsSyntax path_kinds (kinds_of lexemes) k × (byte_of lexemes end k ≡ place)
 IsSpelled lexemes end (Err faults.Lex) = ⊥
 IsSpelled lexemes end (Err faults.Memory) = ⊥
 
@@ -24,11 +26,15 @@ IsLexed end (Err fault) answer = Err faults.Lex ≡ answer
 
 -- the answer to a text
 abbrev pub IsAnswer : List ℕ → Result (List ℕ) PathFault → Type 0
-IsAnswer text answer = (outcome : Result (List Lexeme) LexFault) × Outcome text outcome × IsLexed (length text) outcome answer
+IsAnswer text answer =
+    (outcome : Result (List Lexeme) LexFault) × Outcome text outcome
+    × IsLexed (length text) outcome answer
 
 -- a text has an answer, and no other
 abbrev pub HasOneAnswer : List ℕ → Type 0
-HasOneAnswer text = (answer : Result (List ℕ) PathFault) × IsAnswer text answer × ((other : Result (List ℕ) PathFault) → IsAnswer text other → other ≡ answer)
+HasOneAnswer text =
+    (answer : Result (List ℕ) PathFault) × IsAnswer text answer
+    × ((other : Result (List ℕ) PathFault) → IsAnswer text other → other ≡ answer)
 
 -- ---- what a call gives
 

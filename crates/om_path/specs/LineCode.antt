@@ -20,7 +20,8 @@ use Rattle.om_path.specs.declared.front.Told.TheVariants as tolds
 abbrev pub IsTold : List Lexeme → Told → Type 0
 IsTold lexemes (tolds.All f) = run line_step line_start (kinds_of lexemes) ≡ Some (reading f)
 IsTold lexemes (tolds.Literal value path place) =
-    (place ≤ length lexemes) × (run line_step line_start (take place (kinds_of lexemes)) ≡ Some (literal value path []))
+    (place ≤ length lexemes)
+    × (run line_step line_start (take place (kinds_of lexemes)) ≡ Some (literal value path []))
 IsTold lexemes (tolds.Stuck place) = IsSyntax line_kinds (kinds_of lexemes) place
 
 abbrev pub edit_of : Role → List ℕ → Option Edit
@@ -37,5 +38,6 @@ whole_line number value role None = None
 whole_line number value role (Some path) = numbered number value (edit_of role path)
 
 abbrev pub ended_line : ℕ → Front → Option ScriptLine
-ended_line number (fronts.Steps value role path after_dot) = whole_line number value role (accepted (at path after_dot))
+ended_line number (fronts.Steps value role path after_dot) =
+    whole_line number value role (accepted (at path after_dot))
 ended_line number f = None

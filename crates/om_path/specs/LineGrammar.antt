@@ -1,4 +1,5 @@
--- How a line of a script is written: `K set PATH = LITERAL`, `K link PATH = PATH` or `K unshare PATH`.
+-- How a line of a script is written: `K set PATH = LITERAL`, `K link PATH = PATH` or `K unshare
+-- PATH`.
 use Rattle.std.specs.Prelude.{ℕ, List, ◌∷◌, ◌++◌, codes}
 use Rattle.om_lex.specs.declared.lexeme.LexemeKind.{LexemeKind}
 use Rattle.om_lex.specs.declared.lexeme.LexemeKind.TheVariants as kinds
@@ -20,6 +21,9 @@ abbrev pub assigned : List ℕ → Kinds → Kinds
 assigned path rest = path_kinds path ++ equals ∷ rest
 
 abbrev pub line_kinds : LineTree → Kinds
-line_kinds (set_line value path literal) = number value ∷ kinds.Lower (codes "set") ∷ assigned path literal
-line_kinds (link_line value path source) = number value ∷ kinds.Lower (codes "link") ∷ assigned path (path_kinds source)
-line_kinds (unshare_line value path) = number value ∷ kinds.Lower (codes "unshare") ∷ path_kinds path
+line_kinds (set_line value path literal) =
+    number value ∷ kinds.Lower (codes "set") ∷ assigned path literal
+line_kinds (link_line value path source) =
+    number value ∷ kinds.Lower (codes "link") ∷ assigned path (path_kinds source)
+line_kinds (unshare_line value path) =
+    number value ∷ kinds.Lower (codes "unshare") ∷ path_kinds path

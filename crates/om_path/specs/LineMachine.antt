@@ -51,7 +51,8 @@ is_equals kind = false
 abbrev pub after_equals : ℕ → Role → Option (List ℕ) → Next
 after_equals value role None = nexts.Nowhere
 after_equals value roles.Set (Some path) = nexts.Literal value path
-after_equals value roles.Link (Some path) = nexts.Onward (fronts.Steps value (roles.Source path) [] false)
+after_equals value roles.Link (Some path) =
+    nexts.Onward (fronts.Steps value (roles.Source path) [] false)
 after_equals value role (Some path) = nexts.Nowhere
 
 abbrev pub along : ℕ → Role → Option State → Next
@@ -59,12 +60,14 @@ along value role None = nexts.Nowhere
 along value role (Some (at path after_dot)) = nexts.Onward (fronts.Steps value role path after_dot)
 
 abbrev pub steps_next : ℕ → Role → State → LexemeKind → Next
-steps_next value role s kind = if is_equals kind then after_equals value role (accepted s) else along value role (step s kind)
+steps_next value role s kind =
+    if is_equals kind then after_equals value role (accepted s) else along value role (step s kind)
 
 abbrev pub next_of : Front → LexemeKind → Next
 next_of fronts.Start kind = valued (number_of kind)
 next_of (fronts.Value value) kind = begun value (role_of kind)
-next_of (fronts.Steps value role path after_dot) kind = steps_next value role (at path after_dot) kind
+next_of (fronts.Steps value role path after_dot) kind =
+    steps_next value role (at path after_dot) kind
 
 abbrev pub state_of : Next → Option LineState
 state_of (nexts.Onward f) = Some (reading f)
@@ -86,7 +89,8 @@ role_kinds roles.Unshare = kinds.Lower (codes "unshare") ∷ []
 abbrev pub front_kinds : Front → Kinds
 front_kinds fronts.Start = []
 front_kinds (fronts.Value value) = number value ∷ []
-front_kinds (fronts.Steps value role path after_dot) = number value ∷ (role_kinds role ++ front (at path after_dot))
+front_kinds (fronts.Steps value role path after_dot) =
+    number value ∷ (role_kinds role ++ front (at path after_dot))
 
 abbrev pub line_front : LineState → Kinds
 line_front (reading f) = front_kinds f
@@ -101,7 +105,8 @@ ended value roles.Unshare (Some path) = Some (unshare_line value path)
 ended value role (Some path) = None
 
 abbrev pub line_accepted : LineState → Option LineTree
-line_accepted (reading (fronts.Steps value role path after_dot)) = ended value role (accepted (at path after_dot))
+line_accepted (reading (fronts.Steps value role path after_dot)) =
+    ended value role (accepted (at path after_dot))
 line_accepted (reading f) = None
 line_accepted (literal value path read) = Some (set_line value path read)
 

@@ -35,7 +35,8 @@ HasLiteralOf lexemes end (edits.Unshare path) = ⊤
 
 -- the lexemes of a line of so many bytes are this edit of the value of this number
 abbrev pub IsEdit : List Lexeme → ℕ → ℕ → Edit → Type 0
-IsEdit lexemes end value edit = (line_kinds (tree_of value edit) ≡ kinds_of lexemes) × HasLiteralOf lexemes end edit
+IsEdit lexemes end value edit =
+    (line_kinds (tree_of value edit) ≡ kinds_of lexemes) × HasLiteralOf lexemes end edit
 
 -- what a line is: nothing, an edit, or a fault
 abbrev pub LineAnswer : Type 0
@@ -44,9 +45,11 @@ LineAnswer = Result (Option ScriptLine) ScriptFault
 -- what the lexemes of line `number` are, which has `end` bytes
 abbrev pub IsRead : ℕ → List Lexeme → ℕ → LineAnswer → Type 0
 IsRead number lexemes end (Ok None) = lexemes ≡ []
-IsRead number lexemes end (Ok (Some line)) = (line.number ≡ number) × IsEdit lexemes end line.value line.edit
+IsRead number lexemes end (Ok (Some line)) =
+    (line.number ≡ number) × IsEdit lexemes end line.value line.edit
 IsRead number lexemes end (Err (faults.Syntax line place)) =
-    (line ≡ number) × (0 < length lexemes) × (k : ℕ) × IsSyntax line_kinds (kinds_of lexemes) k × (byte_of lexemes end k ≡ place)
+    (line ≡ number) × (0 < length lexemes) × (k : ℕ) × IsSyntax line_kinds (kinds_of lexemes) k
+    × (byte_of lexemes end k ≡ place)
 IsRead number lexemes end (Err (faults.Lex line fault)) = ⊥
 IsRead number lexemes end (Err faults.Memory) = ⊥
 
@@ -57,7 +60,9 @@ IsLineLexed number end (Err fault) answer = Err (faults.Lex number fault) ≡ an
 
 -- the answer to the line of this number
 abbrev pub IsLineAnswer : ℕ → List ℕ → LineAnswer → Type 0
-IsLineAnswer number line answer = (outcome : Result (List Lexeme) LexFault) × Outcome line outcome × IsLineLexed number (length line) outcome answer
+IsLineAnswer number line answer =
+    (outcome : Result (List Lexeme) LexFault) × Outcome line outcome
+    × IsLineLexed number (length line) outcome answer
 
 -- ---- the lines of a text
 
@@ -68,7 +73,8 @@ lines_of text = slice_split (λ b. b == 10) text
 -- each line has its answer; the first one is of this number
 abbrev pub AreAnswers : ℕ → List (List ℕ) → List LineAnswer → Type 0
 AreAnswers number [] [] = ⊤
-AreAnswers number (line ∷ lines) (answer ∷ answers) = IsLineAnswer number line answer × AreAnswers (suc number) lines answers
+AreAnswers number (line ∷ lines) (answer ∷ answers) =
+    IsLineAnswer number line answer × AreAnswers (suc number) lines answers
 AreAnswers number [] (answer ∷ answers) = ⊥
 AreAnswers number (line ∷ lines) [] = ⊥
 
@@ -88,7 +94,9 @@ edits_of (Err fault ∷ answers) = Err fault
 
 -- the edits, or the fault, of a text whose first line is of this number
 abbrev pub AreEdits : ℕ → List ℕ → Edits → Type 0
-AreEdits number text all = (answers : List LineAnswer) × AreAnswers number (lines_of text) answers × (edits_of answers ≡ all)
+AreEdits number text all =
+    (answers : List LineAnswer) × AreAnswers number (lines_of text) answers
+    × (edits_of answers ≡ all)
 
 abbrev pub edits_in : Result Script ScriptFault → Edits
 edits_in (Ok script) = Ok script.lines

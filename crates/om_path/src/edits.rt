@@ -39,7 +39,8 @@ pub struct ScriptLine {
 #[derive(Drop)]
 pub struct Script {
     lines: List<ScriptLine>,
-    /// Of each line its value's number and its place, by these numbers, and at one value in the lines' order.
+    /// Of each line its value's number and its place, by these numbers, and at one value in the
+    /// lines' order.
     order: Vec<(u64, usize)>,
 }
 

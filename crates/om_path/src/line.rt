@@ -179,7 +179,13 @@ fn set_line(
     end: usize,
 ) -> Result<ScriptLine, Memory>
     requires { place ≤ length lexemes.items }
-    ensures { IfOk result (λ line. line ≡ record { number = number; value = value; edit = edits.Set path (drop place lexemes.items) end }) }
+    ensures { IfOk result
+        (λ line. line
+        ≡ record {
+          number = number;
+          value = value;
+          edit = edits.Set path (drop place lexemes.items) end;
+        }) }
 {
     let literal = List::of(lexemes.split_off(place)?);
     Ok(ScriptLine {
@@ -199,7 +205,8 @@ fn line_of(
     requires some { 0 < length lexemes.items }
     requires told { IsTold lexemes.items told }
     ensures line { IfOk result (λ line. IsRead number lexemes.items end (Ok (Some line))) }
-    ensures fault { IfErr result (UnlessMemory (λ fault. IsRead number lexemes.items end (Err fault))) }
+    ensures fault { IfErr result
+        (UnlessMemory (λ fault. IsRead number lexemes.items end (Err fault))) }
 {
     match told {
         Told::All(front) => match ended(front, number) {
@@ -224,7 +231,8 @@ fn read_lexemes(
     end: usize,
 ) -> Result<Option<ScriptLine>, ScriptFault>
     ensures line { IfOk result (λ line. IsRead number lexemes.items end (Ok line)) }
-    ensures fault { IfErr result (UnlessMemory (λ fault. IsRead number lexemes.items end (Err fault))) }
+    ensures fault { IfErr result
+        (UnlessMemory (λ fault. IsRead number lexemes.items end (Err fault))) }
 {
     if lexemes.is_empty() {
         return Ok(None);
@@ -243,7 +251,8 @@ pub fn read_line(
     number: usize,
 ) -> Result<Option<ScriptLine>, ScriptFault>
     ensures line { IfOk result (λ line. IsLineAnswer number text.now (Ok line)) }
-    ensures fault { IfErr result (UnlessMemory (λ fault. IsLineAnswer number text.now (Err fault))) }
+    ensures fault { IfErr result
+        (UnlessMemory (λ fault. IsLineAnswer number text.now (Err fault))) }
 {
     match tokens(alloc, text) {
         Ok(lexemes) => read_lexemes(alloc, lexemes, number, text.len()),

@@ -49,7 +49,8 @@ fn is_dot(kind: &LexemeKind) -> bool
 
 /// Goes on by a lexeme, where a path does.
 pub fn step(path: &mut Path, after_dot: bool, kind: &LexemeKind) -> Result<bool, Memory>
-    ensures { IfOk result (λ goes. step (at path.old after_dot) kind.now ≡ stepped goes path.new after_dot) }
+    ensures { IfOk result
+        (λ goes. step (at path.old after_dot) kind.now ≡ stepped goes path.new after_dot) }
 {
     if !after_dot {
         return Ok(is_dot(kind));
@@ -112,7 +113,8 @@ pub fn read_path(alloc: Global, text: &[u8]) -> Result<Path, PathFault>
     ensures fault { IfErr result (UnlessMemory (λ fault. IsAnswer text.now (Err fault))) }
 
     // The text's answer is given, unless memory runs out.
-    ensures only { (answer : Result (List ℕ) PathFault) → IsAnswer text.now answer → Tells result answer }
+    ensures only { (answer : Result (List ℕ) PathFault) → IsAnswer text.now answer
+        → Tells result answer }
 {
     read(alloc, text)
 }

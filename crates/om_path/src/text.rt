@@ -57,7 +57,8 @@ pub fn read_script(alloc: Global, text: &[u8]) -> Result<Script, ScriptFault>
     ensures fault { IfErr result (UnlessMemory (λ fault. IsScriptAnswer text.now (Err fault))) }
 
     // The text's answer is given, unless memory runs out.
-    ensures only { (answer : Result Script ScriptFault) → IsScriptAnswer text.now answer → TellsScript result answer }
+    ensures only { (answer : Result Script ScriptFault) → IsScriptAnswer text.now answer
+        → TellsScript result answer }
 {
     match read(alloc, text) {
         Ok(lines) => Ok(Script::of(alloc, lines)?),

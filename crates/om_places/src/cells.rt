@@ -5,17 +5,22 @@ ghost use Rattle.om_places.specs.Cells.{cell_at, rank, marked, cut};
 
 use om_model::Memory;
 
-/// Of 64 words side by side: a bit for each that is a place, and how many places are before the first of them.
+/// Of 64 words side by side: a bit for each that is a place, and how many places are before the
+/// first of them.
 #[derive(Clone, Copy)]
 pub struct Cell {
     pub bits: u64,
     pub before: u64,
 }
 
-/// Makes `count` cells: those from there on are dropped, and missing ones are filled up without bits.
+/// Makes `count` cells: those from there on are dropped, and missing ones are filled up without
+/// bits.
 pub fn cover(cells: &mut Vec<Cell>, count: usize, before: u64) -> Result<(), Memory>
     ensures { MatchResult result
-        (λ _. cells.new.items ≡ take count cells.old.items ++ replicate (count - length cells.old.items) (record { bits = 0; before = before }))
+        (λ _. cells.new.items
+        ≡ take count cells.old.items
+        ++ replicate (count - length cells.old.items)
+        (record { bits = 0; before = before }))
         (λ _. cells.new.items ≡ cells.old.items) }
 {
     if cells.len() == count {
@@ -32,7 +37,10 @@ pub fn cover(cells: &mut Vec<Cell>, count: usize, before: u64) -> Result<(), Mem
 #[inline(always)]
 pub fn cover_in_room(cells: &mut Vec<Cell>, count: usize, before: u64) -> bool
     ensures { MatchBool result
-        (cells.new.items ≡ take count cells.old.items ++ replicate (count - length cells.old.items) (record { bits = 0; before = before }))
+        (cells.new.items
+        ≡ take count cells.old.items
+        ++ replicate (count - length cells.old.items)
+        (record { bits = 0; before = before }))
         (cells.new.items ≡ cells.old.items) }
 {
     let len = cells.len();

@@ -8,7 +8,8 @@ use om_model::Memory;
 use std::alloc::Global;
 use std::marker::Model;
 
-/// Increasing places, which contracts see as their list. Places below 2^32 take half the room of the others.
+/// Increasing places, which contracts see as their list. Places below 2^32 take half the room of
+/// the others.
 #[derive(Drop)]
 pub struct Places {
     low: Vec<u32>,
@@ -72,7 +73,8 @@ impl Places {
     /// Appends a place.
     pub fn push(&mut self, p: u64) -> Result<(), Memory>
         requires { All (λ q. q < p) self.old }
-        ensures { MatchResult result (λ _. self.new ≡ self.old ++ p ∷ []) (λ _. self.new ≡ self.old) }
+        ensures { MatchResult result (λ _. self.new ≡ self.old ++ p ∷ [])
+            (λ _. self.new ≡ self.old) }
     {
         let count = self.len() as u64;
         cells::cover(&mut self.cells, (p / 64) as usize + 1, count)?;

@@ -1,4 +1,5 @@
-//! Which types are equal: all are, until their heads disagree; and this again, until nothing changes.
+//! Which types are equal: all are, until their heads disagree; and this again, until nothing
+//! changes.
 
 use crate::heads::{Head, Part};
 use crate::trees::Kind;
@@ -6,7 +7,8 @@ use crate::writing::place_of;
 use om_model::Memory;
 use std::alloc::Global;
 
-/// The types that were met, and for each the place of the first one that is equal to it, as far as is known.
+/// The types that were met, and for each the place of the first one that is equal to it, as far as
+/// is known.
 #[derive(Clone, Copy)]
 struct Known<'k> {
     met: &'k [usize],
@@ -72,7 +74,8 @@ fn agree(known: Known<'_>, one: &Head<'_>, other: &Head<'_>) -> bool {
     }
 }
 
-// The place of the first head that agrees with the one at this place, among those that are equal to it as far as is known.
+// The place of the first head that agrees with the one at this place, among those that are equal to
+// it as far as is known.
 fn first_agreeing(known: Known<'_>, heads: &[Head<'_>], place: usize) -> usize {
     for other in 0..place {
         if place < heads.len()
@@ -86,7 +89,8 @@ fn first_agreeing(known: Known<'_>, heads: &[Head<'_>], place: usize) -> usize {
     place
 }
 
-// For each type the place of the first one that is equal to it, once heads that disagree are parted.
+// For each type the place of the first one that is equal to it, once heads that disagree are
+// parted.
 fn parted(alloc: Global, known: Known<'_>, heads: &[Head<'_>]) -> Result<Vec<usize>, Memory> {
     let mut firsts = Vec::new(alloc);
     for place in 0..heads.len() {

@@ -1,5 +1,6 @@
-//! The table of the types that a type reaches, computed from the sentences that define it, step by step: slow, plain, and
-//! beside the program. Its functions promise that they are safe and end; their answers are compared with the program's.
+//! The table of the types that a type reaches, computed from the sentences that define it, step by
+//! step: slow, plain, and beside the program. Its functions promise that they are safe and end;
+//! their answers are compared with the program's.
 #![tactic(auto)]
 
 mod equal;

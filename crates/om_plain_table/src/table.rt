@@ -134,7 +134,8 @@ fn lines_of(alloc: Global, decls: &[Decl], all: &Reached<'_>) -> Result<Vec<List
     Ok(found)
 }
 
-/// The lines of the table of a type: a line for each type that is reached, in the order in which it is met.
+/// The lines of the table of a type: a line for each type that is reached, in the order in which it
+/// is met.
 pub fn lines<'a>(alloc: Global, decls: &'a [Decl], t: &'a Ty) -> Result<Vec<List<u8>>, Memory> {
     let mut all = Reached {
         nodes: Vec::new(alloc),

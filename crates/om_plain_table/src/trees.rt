@@ -6,8 +6,8 @@ use om_types::ty;
 use om_types::ty::Ty;
 use std::alloc::Global;
 
-/// What a node is: a variable, a name, a tuple or a bracket; or one of these with a part, a tag, a tag with an argument or an
-/// included type more.
+/// What a node is: a variable, a name, a tuple or a bracket; or one of these with a part, a tag, a
+/// tag with an argument or an included type more.
 #[derive(Clone, Copy, PartialEq, Eq)]
 pub enum Kind {
     Variable,
@@ -20,8 +20,8 @@ pub enum Kind {
     Including,
 }
 
-/// A node. Where it adds something to another one, `whole` is the number of that one; `added` is that of the type that it adds,
-/// where it adds one.
+/// A node. Where it adds something to another one, `whole` is the number of that one; `added` is
+/// that of the type that it adds, where it adds one.
 #[derive(Clone, Copy)]
 pub struct Node<'a> {
     pub kind: Kind,

@@ -9,7 +9,8 @@ use om_types::shape::{Constr, PolyTag, ShapeOf};
 use om_types::ty;
 use std::alloc::Global;
 
-/// What is told of a type: its text, its shape over numbers, the first number that is equal to it, and its names.
+/// What is told of a type: its text, its shape over numbers, the first number that is equal to it,
+/// and its names.
 #[derive(Drop)]
 pub struct Row<'a> {
     pub text: List<u8>,
@@ -301,7 +302,8 @@ fn put_line(out: &mut Vec<u8>, row: &Row<'_>, met: Option<&[usize]>) -> Result<(
     put_all_names(out, row.names)
 }
 
-/// The line of a type. Where types that were met are given, the numbers in its shape are told as places among them.
+/// The line of a type. Where types that were met are given, the numbers in its shape are told as
+/// places among them.
 pub fn line(alloc: Global, row: &Row<'_>, met: Option<&[usize]>) -> Result<List<u8>, Memory> {
     let mut out = Vec::new(alloc);
     put_line(&mut out, row, met)?;

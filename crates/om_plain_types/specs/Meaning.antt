@@ -23,7 +23,8 @@ arity_of_predeclared name = option_map predeclared_arity (predeclared name)
 
 -- the number of the declaration of this name
 abbrev pub declaration_of : List Declaration → List ℕ → Option ℕ
-declaration_of decls name = position (λ (decl : Declaration). bytes_eq decl.placed.name.now name) decls
+declaration_of decls name =
+    position (λ (decl : Declaration). bytes_eq decl.placed.name.now name) decls
 
 abbrev pub parameters_at : Option Declaration → Option ℕ
 parameters_at decl = option_map (λ (d : Declaration). length d.parameters.items) decl

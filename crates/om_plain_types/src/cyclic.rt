@@ -40,7 +40,8 @@ fn is_step(one: &Declaration<'_>, other: &Declaration<'_>) -> bool
     }
 }
 
-/// Whether the abbreviation of this number comes back to itself. What so many steps reach is what any number does.
+/// Whether the abbreviation of this number comes back to itself. What so many steps reach is what
+/// any number does.
 pub fn comes_back(
     alloc: Global,
     decls: &[Declaration<'_>],

@@ -100,7 +100,8 @@ pub struct Expanded<'a> {
     pub through: bool,
 }
 
-/// What the type is replaced by, and whether the abbreviation at its head is of the group; where there is none, nothing.
+/// What the type is replaced by, and whether the abbreviation at its head is of the group; where
+/// there is none, nothing.
 fn unfolded<'a>(
     alloc: Global,
     decls: &[Declaration<'a>],

@@ -43,7 +43,8 @@ fn has_tag(items: &[TypeTree<'_>], name: &[u8]) -> bool
     false
 }
 
-/// Adds the tags that items bring, those of an included type in its place. Of a tag that comes twice the first stays.
+/// Adds the tags that items bring, those of an included type in its place. Of a tag that comes
+/// twice the first stays.
 fn add_tags<'a>(
     alloc: Global,
     decls: &[Declaration<'a>],
@@ -136,7 +137,8 @@ fn is_written_twice(items: &[TypeTree<'_>], i: usize) -> bool
     false
 }
 
-/// Whether an item breaks the rule with an earlier one, or, where hashes are asked for, with itself.
+/// Whether an item breaks the rule with an earlier one, or, where hashes are asked for, with
+/// itself.
 fn breaks_with_earlier<'a>(
     alloc: Global,
     decls: &[Declaration<'a>],
@@ -196,7 +198,8 @@ pub fn first_item<'a>(
     Ok(None)
 }
 
-/// Whether a declaration is a record all of whose fields expand to `float`, one of them through an abbreviation of its group.
+/// Whether a declaration is a record all of whose fields expand to `float`, one of them through an
+/// abbreviation of its group.
 pub fn is_flat_through_group<'a>(
     alloc: Global,
     decls: &[Declaration<'a>],

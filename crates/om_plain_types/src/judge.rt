@@ -48,7 +48,8 @@ fn one_too_many(body: &Body<'_>) -> Option<usize>
     None
 }
 
-/// The first place at which a type breaks the rule. The type stands in a declaration, or is one over all declarations.
+/// The first place at which a type breaks the rule. The type stands in a declaration, or is one
+/// over all declarations.
 fn in_type<'a>(
     alloc: Global,
     decls: &[Declaration<'a>],

@@ -204,7 +204,8 @@ fn skipped(text: &[u8], start: usize) -> Result<usize, Fault>
 
 /// The lexemes of a text.
 pub fn lexemes_of<'a>(alloc: Global, text: &'a [u8]) -> Result<Vec<Lexeme<'a>>, Fault>
-    ensures places { IfOk result (λ all. All (λ (lexeme : Lexeme). lexeme.place < length text.now) all.items) }
+    ensures places { IfOk result
+        (λ all. All (λ (lexeme : Lexeme). lexeme.place < length text.now) all.items) }
     ensures none { IfOk result (λ all. length text.now ≡ 0 → vec_len all ≡ 0) }
 {
     let mut lexemes = Vec::new(alloc);

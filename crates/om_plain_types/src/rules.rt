@@ -36,7 +36,8 @@ pub fn is_among(all: &[Placed<'_>], name: &[u8]) -> bool
     false
 }
 
-/// Whether a name is neither predeclared nor declared in this group or an earlier one. A type over declarations has no group.
+/// Whether a name is neither predeclared nor declared in this group or an earlier one. A type over
+/// declarations has no group.
 fn is_unknown(decls: &[Declaration<'_>], own: Option<&Declaration<'_>>, name: &[u8]) -> bool
     ensures { IsTrue result → arity_of_predeclared name.now ≡ None }
 {
@@ -95,7 +96,8 @@ fn breaks(
     }
 }
 
-/// The first name or variable of a type, in the order of the text, that breaks the rule. A name stands after its arguments.
+/// The first name or variable of a type, in the order of the text, that breaks the rule. A name
+/// stands after its arguments.
 pub fn first_in(
     decls: &[Declaration<'_>],
     own: Option<&Declaration<'_>>,

@@ -17,8 +17,8 @@ fn is_item(node: Node) -> bool
     is_tag(node) || is_included(node)
 }
 
-/// Where the node of this number adds such a part to another one: the number of that one, and that of the type which it
-/// adds, if it adds one.
+/// Where the node of this number adds such a part to another one: the number of that one, and that
+/// of the type which it adds, if it adds one.
 fn added_at(part: &TypeTree<'_>, nodes: &[ty::Node], at: usize) -> Option<(usize, Option<usize>)>
     ensures { IfSome result (λ found. at < length nodes.now) }
 {

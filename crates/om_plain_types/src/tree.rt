@@ -65,7 +65,8 @@ pub enum Body<'a> {
     Variant(Vec<Constructor<'a>>),
 }
 
-/// A declaration. The group is how many declarations stand before those that are declared together with it.
+/// A declaration. The group is how many declarations stand before those that are declared together
+/// with it.
 #[derive(Drop)]
 pub struct Declaration<'a> {
     pub placed: Placed<'a>,

@@ -120,7 +120,8 @@ fn known_before(earlier: &[Declaration<'_>], name: &[u8], place: usize) -> Optio
     }
 }
 
-/// The least place of a type name, parameter, constructor or field of this declaration that stands earlier too.
+/// The least place of a type name, parameter, constructor or field of this declaration that stands
+/// earlier too.
 pub fn declared_twice(earlier: &[Declaration<'_>], decl: &Declaration<'_>) -> Option<usize>
     ensures { IsTrue (is_known earlier.now decl.now.placed.name.now) → IsSome result }
 {

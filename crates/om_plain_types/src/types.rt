@@ -1,9 +1,9 @@
-//! Types: what a bracket holds is read component by component, and a bracket within it by the same function.
+//! Types: what a bracket holds is read component by component, and a bracket within it by the same
+//! function.
 //!
-//! texpr = app { "*" app }
-//! app = simple { LIDENT }
-//! simple = VAR | LIDENT | "(" texpr ")" | "(" texpr "," texpr { "," texpr } ")" LIDENT | "[" [ "|" ] item { "|" item } "]"
-//! item = TAG [ "of" texpr ] | app
+//! texpr = app { "*" app } app = simple { LIDENT } simple = VAR | LIDENT | "(" texpr ")" | "("
+//! texpr "," texpr { "," texpr } ")" LIDENT | "[" [ "|" ] item { "|" item } "]" item = TAG [ "of"
+//! texpr ] | app
 
 ghost use Rattle.std.specs.Prelude.{◌≡◌, ◌<◌, ◌≤◌, None, true, false, suc, length, vec_len, IfOk, IfErr, IfSome, OnOk, IsTrue};
 ghost use Rattle.om_plain_types.specs.Lexemes.{kind_at, place_at, syntax_at};
@@ -164,8 +164,9 @@ fn gather_named<'a>(
     }
 }
 
-/// Refuses a front of a type of this depth, after components the deepest of which is of the first depth (0 where there are
-/// none), at the place of its last lexeme. With the components it is a front of a tuple.
+/// Refuses a front of a type of this depth, after components the deepest of which is of the first
+/// depth (0 where there are none), at the place of its last lexeme. With the components it is a
+/// front of a tuple.
 fn shallow(before: usize, depth: usize, place: usize) -> Result<(), Fault>
     requires components { before ≤ 200 }
     requires front { depth ≤ 201 }
@@ -184,8 +185,8 @@ fn shallow(before: usize, depth: usize, place: usize) -> Result<(), Fault>
     }
 }
 
-/// { LIDENT } after a component, which is one deeper than what it holds, and after components the deepest of which is of the
-/// last depth
+/// { LIDENT } after a component, which is one deeper than what it holds, and after components the
+/// deepest of which is of the last depth
 fn applied<'a>(
     alloc: Global,
     lexemes: &[Lexeme<'a>],
@@ -197,7 +198,8 @@ fn applied<'a>(
     requires held { (0 < held.next) × (held.next ≤ length lexemes.now) × (held.depth ≤ 200) }
     requires components { before ≤ 200 }
     requires one { 0 < vec_len trees.old }
-    ensures read { IfOk result (λ read. (held.next ≤ read.next) × IsReadWithin 200 lexemes.now 0 read) }
+    ensures read { IfOk result
+        (λ read. (held.next ≤ read.next) × IsReadWithin 200 lexemes.now 0 read) }
     ensures tuple { IfOk result (λ read. 0 < before → (before < 200) × (read.depth < 200)) }
     ensures one { OnOk result (0 < vec_len trees.new) }
 {
@@ -244,8 +246,10 @@ fn bracket_end<'a>(
     at: usize,
     trees: &mut Vec<TypeTree<'a>>,
 ) -> Result<Frame, Fault>
-    ensures next { IfOk result (λ done. (done.next ≡ suc at) × (at < length lexemes.now) × (done.awaits ≡ false)) }
-    ensures depth { IfOk result (λ done. (done.depth ≡ frame.depth) × (done.before ≡ frame.before)) }
+    ensures next { IfOk result
+        (λ done. (done.next ≡ suc at) × (at < length lexemes.now) × (done.awaits ≡ false)) }
+    ensures depth { IfOk result
+        (λ done. (done.depth ≡ frame.depth) × (done.before ≡ frame.before)) }
     ensures one { OnOk result (0 < vec_len trees.new) }
 {
     let next = passed(lexemes, end, at, Kind::CloseBracket)?;
@@ -257,7 +261,8 @@ fn bracket_end<'a>(
     })
 }
 
-/// A frame whose next part, after so many types, begins at this lexeme, and its next component at that one.
+/// A frame whose next part, after so many types, begins at this lexeme, and its next component at
+/// that one.
 fn part_at(frame: Frame, at: usize, first: usize, next: usize) -> Frame
     ensures place { (result.next ≡ next) × (result.awaits ≡ true) }
     ensures depth { (result.depth ≡ frame.depth) × (result.before ≡ 0) }
@@ -299,8 +304,10 @@ fn items<'a>(
     trees: &mut Vec<TypeTree<'a>>,
 ) -> Result<Frame, Fault>
     requires { frame.next ≤ length lexemes.now }
-    ensures next { IfOk result (λ found. (frame.next ≤ found.next) × (found.next ≤ length lexemes.now)) }
-    ensures depth { IfOk result (λ found. (found.depth ≡ frame.depth) × (found.before ≤ frame.before)) }
+    ensures next { IfOk result
+        (λ found. (frame.next ≤ found.next) × (found.next ≤ length lexemes.now)) }
+    ensures depth { IfOk result
+        (λ found. (found.depth ≡ frame.depth) × (found.before ≤ frame.before)) }
     ensures one { IfOk result (λ found. found.awaits ≡ false → 0 < vec_len trees.new) }
 {
     let mut at = frame.next;
@@ -317,7 +324,8 @@ fn items<'a>(
     }
 }
 
-/// What begins at this lexeme: a variable or a name, or a bracket, of which no more is read than tags alone.
+/// What begins at this lexeme: a variable or a name, or a bracket, of which no more is read than
+/// tags alone.
 fn begin<'a>(
     alloc: Global,
     lexemes: &[Lexeme<'a>],
@@ -361,8 +369,10 @@ fn argument_end<'a>(
 ) -> Result<Frame, Fault>
     requires within { frame.next ≤ length lexemes.now }
     requires one { 0 < vec_len trees.old }
-    ensures next { IfOk result (λ found. (frame.next ≤ found.next) × (found.next ≤ length lexemes.now)) }
-    ensures depth { IfOk result (λ found. (found.depth ≡ frame.depth) × (found.before ≤ frame.before)) }
+    ensures next { IfOk result
+        (λ found. (frame.next ≤ found.next) × (found.next ≤ length lexemes.now)) }
+    ensures depth { IfOk result
+        (λ found. (found.depth ≡ frame.depth) × (found.before ≤ frame.before)) }
     ensures one { OnOk result (0 < vec_len trees.new) }
 {
     if stands(lexemes, frame.next, Kind::Comma) {
@@ -391,8 +401,10 @@ fn item_end<'a>(
     trees: &mut Vec<TypeTree<'a>>,
 ) -> Result<Frame, Fault>
     requires { frame.next ≤ length lexemes.now }
-    ensures next { IfOk result (λ found. (frame.next ≤ found.next) × (found.next ≤ length lexemes.now)) }
-    ensures depth { IfOk result (λ found. (found.depth ≡ frame.depth) × (found.before ≤ frame.before)) }
+    ensures next { IfOk result
+        (λ found. (frame.next ≤ found.next) × (found.next ≤ length lexemes.now)) }
+    ensures depth { IfOk result
+        (λ found. (found.depth ≡ frame.depth) × (found.before ≤ frame.before)) }
     ensures one { IfOk result (λ found. found.awaits ≡ false → 0 < vec_len trees.new) }
 {
     if frame.tagged {
@@ -424,7 +436,8 @@ fn part_end<'a>(
     requires tuple { 0 < frame.before → (frame.before < 200) × (read.depth < 200) }
     requires shallow { frame.depth ≤ 200 }
     requires one { 0 < vec_len trees.old }
-    ensures next { IfOk result (λ found. (read.next ≤ found.next) × (found.next ≤ length lexemes.now)) }
+    ensures next { IfOk result
+        (λ found. (read.next ≤ found.next) × (found.next ≤ length lexemes.now)) }
     ensures shallow { IfOk result (λ found. (found.depth ≤ 200) × (found.before ≤ 200)) }
     ensures deep { IfOk result (λ found. 0 < found.depth) }
     ensures one { IfOk result (λ found. found.awaits ≡ false → 0 < vec_len trees.new) }
@@ -461,7 +474,8 @@ fn with_component<'a>(
     requires held { (0 < held.next) × (held.next ≤ length lexemes.now) × (held.depth ≤ 200) }
     requires shallow { (frame.depth ≤ 200) × (frame.before ≤ 200) }
     requires one { 0 < vec_len trees.old }
-    ensures next { IfOk result (λ found. (held.next ≤ found.next) × (found.next ≤ length lexemes.now)) }
+    ensures next { IfOk result
+        (λ found. (held.next ≤ found.next) × (found.next ≤ length lexemes.now)) }
     ensures shallow { IfOk result (λ found. (found.depth ≤ 200) × (found.before ≤ 200)) }
     ensures deep { IfOk result (λ found. found.awaits ≡ false → 0 < found.depth) }
     ensures one { IfOk result (λ found. found.awaits ≡ false → 0 < vec_len trees.new) }

@@ -7,9 +7,3 @@ row_more first next within =
     let more : next + 1 - first ≡ suc (next - first) = omega arith in
     let last : first + (next - first) ≡ next = omega arith in
     ap (row first) more ∙ ap (λ n. row first (next - first) ++ n ∷ []) last
-
--- the row is longer, where nothing else comes after it
-pub row_longer : (first next o : ℕ) (others : List ℕ) → first ≤ next → o ≡ next → others ≡ []
-    → row first (o + 1 - first) ++ others ≡ (row first (next - first) ++ others) ++ o ∷ []
-row_longer first next o others within same none =
-    rw (same, none) (append-nil (row first (next + 1 - first)) ∙ row_more first next within ∙ ap (λ os. os ++ next ∷ []) (sym (append-nil (row first (next - first)))))

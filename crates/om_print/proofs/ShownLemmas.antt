@@ -28,6 +28,3 @@ text_whole objects pieces before text labels is = is ∙ ap (λ os. before ++ fl
 pub take_front : (xs ys : List ℕ) → take (length xs) (xs ++ ys) ≡ xs
 take_front [] ys = refl
 take_front (x ∷ xs) ys = ap (λ zs. x ∷ zs) (take_front xs ys)
-
-pub grown_more : (old text new : List ℕ) → IsGrown old text → IsGrown text new → IsGrown old new
-grown_more old text new before now = (before.0 ++ now.0, now.1 ∙ ap (λ t. t ++ now.0) before.1 ∙ append_assoc old before.0 now.0)

@@ -11,7 +11,8 @@ use Rattle.om_print.specs.declared.walk.Walk.{Walk}
 
 -- the number of each object among these
 abbrev pub AreNumbers : List ℕ → List ℕ → Type 0
-AreNumbers objects numbers = (o : ℕ) → o < length numbers → slice_index numbers o ≡ number_in objects o
+AreNumbers objects numbers =
+    (o : ℕ) → o < length numbers → slice_index numbers o ≡ number_in objects o
 
 abbrev pub AreLabels : Labels → Type 0
 AreLabels labels = AreNumbers labels.objects.items labels.numbers.items
@@ -32,8 +33,11 @@ IsMarkable n (steps.Again o) = o < n
 IsMarkable n step = Unit {0}
 
 -- marks and meetings so far, and those in the pieces that are left, are those in all pieces
-pub record AreCounted (table : TypeTable) (graph : List Obj) (all : List Piece) (walk : Walk) (again : List Bool) : Type 0 where
+pub record AreCounted (table : TypeTable) (graph : List Obj) (all : List Piece) (walk : Walk)
+    (again : List Bool) : Type 0 where
   pub is_walk : IsWalk table graph walk
   pub many : length again ≡ length graph
-  pub met_again : (x : ℕ) → has (agains all) x ≡ (slice_index_or again x false || has (agains (pieces_left table graph walk)) x)
+  pub met_again : (x : ℕ)
+      → has (agains all) x
+      ≡ (slice_index_or again x false || has (agains (pieces_left table graph walk)) x)
   pub met_first : firsts all ≡ walk.order ++ firsts (pieces_left table graph walk)

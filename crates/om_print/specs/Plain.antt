@@ -19,7 +19,8 @@ module _ (table : TypeTable) (graph : List Obj) where
     pub walk : IsWalk table graph new
 
   -- the block of an object is opened, and what stands before its parts is put
-  pub record IsOpened (o t tag : ℕ) (blocks opened : List OpenBlock) (old text : List ℕ) : Type 0 where
+  pub record IsOpened (o t tag : ℕ) (blocks opened : List OpenBlock) (old text : List ℕ)
+      : Type 0 where
     pub block : OpenBlock
     pub begun : IsBegun table graph o t tag block
     pub stack : opened ≡ blocks ++ block ∷ []

@@ -45,7 +45,8 @@ module _ (table : TypeTable) (graph : List Obj) where
   -- the parts of a block that are left, where n values may be one inside the other
   abbrev pub parts_left : ℕ → OpenBlock → List ℕ → Met
   parts_left n block seen =
-      parts_from (shape_in table) (names_in table) graph (meet n) (frame_in block.frame) (vals.Ref block.object) block.next (needs_left block) seen
+      parts_from (shape_in table) (names_in table) graph (meet n) (frame_in block.frame)
+      (vals.Ref block.object) block.next (needs_left block) seen
 
   -- the blocks that are open, the outermost first, after what is inside all of them
   abbrev pub after_inner : ℕ → List OpenBlock → Met → Met
@@ -62,7 +63,8 @@ module _ (table : TypeTable) (graph : List Obj) where
   -- the pieces that are left, where these objects were met in this order
   unfoldable pub left_of : List OpenBlock → Option (Val × ℕ) → List ℕ → List Piece
   left_of blocks value order =
-      (after_inner (length graph + 1) blocks (value_met (length graph + 1 - length blocks) value (reverse order))).pieces
+      (after_inner (length graph + 1) blocks
+      (value_met (length graph + 1 - length blocks) value (reverse order))).pieces
 
   abbrev pub pieces_left : Walk → List Piece
   pieces_left walk = left_of walk.stack.items walk.value walk.order
@@ -73,7 +75,8 @@ module _ (table : TypeTable) (graph : List Obj) where
   step_pieces (steps.Integer z t) = Text (int_text (shape_in table t) (names_in table t) z) ∷ []
   step_pieces steps.Empty = Text (codes "[||]") ∷ []
   step_pieces (steps.Again o) = Again o ∷ []
-  step_pieces (steps.Leaf o t) = First o ∷ Text (object_text (shape_in table t) (names_in table t) (object_at graph o)) ∷ []
+  step_pieces (steps.Leaf o t) =
+      First o ∷ Text (object_text (shape_in table t) (names_in table t) (object_at graph o)) ∷ []
   step_pieces (steps.Opening o frame) = First o ∷ Text (frame_in frame).opening ∷ []
   step_pieces (steps.Before frame i) = Text (before_part (frame_in frame) i) ∷ []
   step_pieces (steps.Closing frame) = Text (frame_in frame).closing ∷ []
@@ -98,19 +101,22 @@ module _ (table : TypeTable) (graph : List Obj) where
     pub inside : block.object < length graph
     pub words : block.fields.now ≡ map (word_of graph) (fields_of (object_at graph block.object))
     pub valid : All (IsFieldWord graph) block.fields.now
-    pub parts : (k i t : ℕ) → slice_get (needs_in block.needs) k ≡ Some (i, t) → IsPart block.object i t
+    pub parts : (k i t : ℕ) → slice_get (needs_in block.needs) k ≡ Some (i, t)
+        → IsPart block.object i t
 
   -- the block is that of an object, before its first part
   pub record IsBegun (o t tag : ℕ) (block : OpenBlock) : Type 0 where
     pub object : block.object ≡ o
-    pub frame : frame_in block.frame ≡ frame_of (shape_in table t) (names_in table t) tag (fields_of (object_at graph o))
+    pub frame : frame_in block.frame
+        ≡ frame_of (shape_in table t) (names_in table t) tag (fields_of (object_at graph o))
     pub needs : needs_in block.needs ≡ or_none (needed_of graph (vals.Ref o) (shape_in table t))
     pub next : block.next ≡ 0
     pub is_open : IsOpen block
 
   pub record IsWalk (walk : Walk) : Type 0 where
     pub is_graph : IsGraph graph
-    pub value : IfSome walk.value (λ next. IsValue (length graph) next.0 × IsTypedAt (table_of table) graph next.0 next.1)
+    pub value : IfSome walk.value
+        (λ next. IsValue (length graph) next.0 × IsTypedAt (table_of table) graph next.0 next.1)
     pub blocks : All IsOpen walk.stack.items
     pub many : length walk.marks.items ≡ length graph
     pub marked : AreMarked walk.marks.items walk.order
@@ -119,7 +125,8 @@ module _ (table : TypeTable) (graph : List Obj) where
     pub depth : length walk.stack.items ≤ length walk.order
 
   -- a step takes its pieces from those that were left
-  pub record Goes (left : List Piece) (met_before : List ℕ) (step : Step) (new : Walk) : Type 0 where
+  pub record Goes (left : List Piece) (met_before : List ℕ) (step : Step) (new : Walk)
+      : Type 0 where
     pub pieces : left ≡ step_pieces step ++ pieces_left new
     pub order : new.order ≡ met_before ++ firsts (step_pieces step)
     pub valid : IsStep step

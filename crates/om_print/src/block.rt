@@ -6,7 +6,8 @@ ghost use Rattle.om_fits.specs.Needs.{needs_in};
 use om_fits::Needs;
 use om_leaves::Frame;
 
-/// A block, the words of its fields, what stands around its parts, the fields that they are, and the number of the next one.
+/// A block, the words of its fields, what stands around its parts, the fields that they are, and
+/// the number of the next one.
 #[derive(Clone, Copy)]
 pub struct OpenBlock<'a> {
     pub object: u64,

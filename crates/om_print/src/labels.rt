@@ -34,7 +34,8 @@ impl Labels {
     pub fn put_first(&self, text: &mut Vec<u8>, o: u64) -> Result<(), Memory>
         requires labels { AreLabels self.now }
         requires inside { o < vec_len self.now.numbers }
-        ensures { OnOk result (text.new.items ≡ text.old.items ++ piece_text self.now.objects.items (First o)) }
+        ensures { OnOk result
+            (text.new.items ≡ text.old.items ++ piece_text self.now.objects.items (First o)) }
     {
         if self.numbers[o as usize] >= self.objects.len() as u64 {
             return Ok(());
@@ -47,7 +48,8 @@ impl Labels {
     pub fn put_again(&self, text: &mut Vec<u8>, o: u64) -> Result<(), Memory>
         requires labels { AreLabels self.now }
         requires inside { o < vec_len self.now.numbers }
-        ensures { OnOk result (text.new.items ≡ text.old.items ++ piece_text self.now.objects.items (Again o)) }
+        ensures { OnOk result
+            (text.new.items ≡ text.old.items ++ piece_text self.now.objects.items (Again o)) }
     {
         put_label(text, self.numbers[o as usize])
     }
@@ -82,7 +84,8 @@ pub fn mark_again(again: &mut Vec<bool>, step: Step<'_>)
 /// Those of the objects that have a mark.
 pub fn objects_again(alloc: Global, order: &[u64], again: &[bool]) -> Result<Vec<u64>, Memory>
     requires { All (λ o. o < length again.now) order.now }
-    ensures { IfOk result (λ objects. objects.items ≡ filter (λ o. slice_index_or again.now o false) order.now) }
+    ensures { IfOk result
+        (λ objects. objects.items ≡ filter (λ o. slice_index_or again.now o false) order.now) }
 {
     let mut objects = Vec::new(alloc);
     for o in order {

@@ -1,4 +1,5 @@
-//! Puts texts: of a graph as it is, and of a value at a type, with labels for the objects that are met again.
+//! Puts texts: of a graph as it is, and of a value at a type, with labels for the objects that are
+//! met again.
 #![tactic(auto)]
 
 mod block;

@@ -6,8 +6,8 @@ use om_model::Memory;
 use std::alloc::Global;
 use std::marker::Model;
 
-/// Objects in an order: those of a row, and then others. A value that was read has its objects in a row, which takes no memory.
-/// Contracts see the list of the objects.
+/// Objects in an order: those of a row, and then others. A value that was read has its objects in a
+/// row, which takes no memory. Contracts see the list of the objects.
 #[derive(Drop)]
 pub struct Order {
     // the row goes from the first up to, and without, the next

@@ -20,7 +20,8 @@ use om_model::Memory;
 use om_model::value::Val;
 use om_type_table::TypeTable;
 
-/// Puts the text of the values that are left up to an object that is met again, and tells whether there was none.
+/// Puts the text of the values that are left up to an object that is met again, and tells whether
+/// there was none.
 pub fn put_until_again<'a>(
     text: &mut Vec<u8>,
     heap: &'a Heap,
@@ -30,8 +31,11 @@ pub fn put_until_again<'a>(
     requires walk { IsWalk table.now heap.now walk.old }
     requires lawful { IsLawful (table_of table.now) }
     requires named { length table.now.names ≡ length table.now.nodes }
-    ensures put { IfOk result (λ _. IsPutOn table.now heap.now (pieces_left table.now heap.now walk.old) walk.old.order text.old.items text.new.items walk.new) }
-    ensures all { IfOk result (λ whole. whole ≡ true → pieces_left table.now heap.now walk.new ≡ []) }
+    ensures put { IfOk result
+        (λ _. IsPutOn table.now heap.now (pieces_left table.now heap.now walk.old) walk.old.order
+        text.old.items text.new.items walk.new) }
+    ensures all { IfOk result
+        (λ whole. whole ≡ true → pieces_left table.now heap.now walk.new ≡ []) }
 {
     let mut fresh = put_next(text, heap, table, walk)?;
     while fresh && !walk.stack.is_empty() {
@@ -51,7 +55,9 @@ fn put_next<'a>(
     requires lawful { IsLawful (table_of table.now) }
     requires named { length table.now.names ≡ length table.now.nodes }
     ensures none { IfOk result (λ fresh. fresh ≡ true → walk.new.value ≡ None) }
-    ensures put { IfOk result (λ _. IsPutOn table.now heap.now (pieces_left table.now heap.now walk.old) walk.old.order text.old.items text.new.items walk.new) }
+    ensures put { IfOk result
+        (λ _. IsPutOn table.now heap.now (pieces_left table.now heap.now walk.old) walk.old.order
+        text.old.items text.new.items walk.new) }
 {
     let Some((v, at)) = walk.value else {
         return Ok(true);
@@ -61,7 +67,8 @@ fn put_next<'a>(
     Ok(fresh)
 }
 
-// Puts what stands before the next part of the innermost block and what this begins with, or what stands after the last.
+// Puts what stands before the next part of the innermost block and what this begins with, or what
+// stands after the last.
 #[inline(always)]
 fn put_part<'a>(
     text: &mut Vec<u8>,
@@ -75,8 +82,12 @@ fn put_part<'a>(
     requires lawful { IsLawful (table_of table.now) }
     requires named { length table.now.names ≡ length table.now.nodes }
     ensures none { IfOk result (λ fresh. fresh ≡ true → walk.new.value ≡ None) }
-    ensures fewer { IfOk result (λ _. length (pieces_left table.now heap.now walk.new) < length (pieces_left table.now heap.now walk.old)) }
-    ensures put { IfOk result (λ _. IsPutOn table.now heap.now (pieces_left table.now heap.now walk.old) walk.old.order text.old.items text.new.items walk.new) }
+    ensures fewer { IfOk result
+        (λ _. length (pieces_left table.now heap.now walk.new)
+        < length (pieces_left table.now heap.now walk.old)) }
+    ensures put { IfOk result
+        (λ _. IsPutOn table.now heap.now (pieces_left table.now heap.now walk.old) walk.old.order
+        text.old.items text.new.items walk.new) }
 {
     let last = walk.stack.len() - 1;
     let block = &walk.stack[last];
@@ -102,7 +113,8 @@ fn word_at(fields: &[u64], i: u64) -> u64
     fields[i as usize]
 }
 
-// Puts what a value of this word begins with, if it is no object that was met: such a one comes next.
+// Puts what a value of this word begins with, if it is no object that was met: such a one comes
+// next.
 #[inline(always)]
 fn put_value<'a>(
     text: &mut Vec<u8>,
@@ -121,7 +133,10 @@ fn put_value<'a>(
     requires lawful { IsLawful (table_of table.now) }
     requires named { length table.now.names ≡ length table.now.nodes }
     ensures none { IfOk result (λ fresh. fresh ≡ true → walk.new.value ≡ None) }
-    ensures put { IfOk result (λ _. IsPutOn table.now heap.now (left_of table.now heap.now walk.old.stack.items (Some (v, at)) walk.old.order) walk.old.order text.old.items text.new.items walk.new) }
+    ensures put { IfOk result
+        (λ _. IsPutOn table.now heap.now
+        (left_of table.now heap.now walk.old.stack.items (Some (v, at)) walk.old.order)
+        walk.old.order text.old.items text.new.items walk.new) }
 {
     match v {
         Val::Int(z) => {
@@ -163,7 +178,11 @@ fn put_object<'a>(
     requires lawful { IsLawful (table_of table.now) }
     requires named { length table.now.names ≡ length table.now.nodes }
     ensures none { OnOk result (walk.new.value ≡ None) }
-    ensures put { OnOk result (IsPutOn table.now heap.now (left_of table.now heap.now walk.old.stack.items (Some (vals.Ref o, at)) walk.old.order) walk.old.order text.old.items text.new.items walk.new) }
+    ensures put { OnOk result
+        (IsPutOn table.now heap.now
+        (left_of table.now heap.now walk.old.stack.items (Some (vals.Ref o, at))
+        walk.old.order)
+        walk.old.order text.old.items text.new.items walk.new) }
 {
     walk.marks[o as usize] = true;
     walk.order.push(o)?;
@@ -189,7 +208,11 @@ pub fn put_leaf(
     requires word { word ≡ word_of heap.now (vals.Ref o) }
     requires number { at < length table.now.nodes }
     requires named { length table.now.names ≡ length table.now.nodes }
-    ensures { OnOk result (text.new.items ≡ text.old.items ++ object_text (shape_in table.now at) (names_in table.now at) (object_at heap.now o)) }
+    ensures { OnOk result
+        (text.new.items
+        ≡ text.old.items
+        ++ object_text (shape_in table.now at) (names_in table.now at)
+        (object_at heap.now o)) }
 {
     put_object_at(text, heap, word, table.shape(at), table.names(at))
 }
@@ -213,7 +236,9 @@ fn put_block<'a>(
     requires typed { IsTypedAt (table_of table.now) heap.now (vals.Ref o) at }
     requires lawful { IsLawful (table_of table.now) }
     requires named { length table.now.names ≡ length table.now.nodes }
-    ensures { OnOk result (IsOpened table.now heap.now o at tag stack.old.items stack.new.items text.old.items text.new.items) }
+    ensures { OnOk result
+        (IsOpened table.now heap.now o at tag stack.old.items stack.new.items text.old.items
+        text.new.items) }
 {
     let block = open_block(heap, table, o, word, tag, at);
     block.frame.put_opening(text)?;

@@ -37,7 +37,10 @@ pub fn put_shown_at(
     requires named { length table.now.names ≡ length table.now.nodes }
     requires number { at < length table.now.nodes }
     requires typed { HasType (table_shapes (table_of table.now)) heap.now v at }
-    ensures { OnOk result (text.new.items ≡ text.old.items ++ shown_text (shape_in table.now) (names_in table.now) heap.now v at) }
+    ensures { OnOk result
+        (text.new.items
+        ≡ text.old.items
+        ++ shown_text (shape_in table.now) (names_in table.now) heap.now v at) }
 {
     let before = text.len();
     let Some(objects) = put_without_labels(text, alloc, heap, v, table, at)? else {
@@ -49,7 +52,8 @@ pub fn put_shown_at(
     Ok(())
 }
 
-// Puts the text if no object has a label. Where one is met again it stops, and tells the objects that have labels.
+// Puts the text if no object has a label. Where one is met again it stops, and tells the objects
+// that have labels.
 fn put_without_labels(
     text: &mut Vec<u8>,
     alloc: Global,
@@ -62,8 +66,11 @@ fn put_without_labels(
     requires typed { IsTypedAt (table_of table.now) heap.now v at }
     requires lawful { IsLawful (table_of table.now) }
     requires named { length table.now.names ≡ length table.now.nodes }
-    ensures text { IfOk result (λ found. IsPut found text.old.items text.new.items (pieces_of (shape_in table.now) (names_in table.now) heap.now v at)) }
-    ensures inside { IfOk result (λ found. IfSome found (λ objects. All (λ o. o < length heap.now) objects.items)) }
+    ensures text { IfOk result
+        (λ found. IsPut found text.old.items text.new.items
+        (pieces_of (shape_in table.now) (names_in table.now) heap.now v at)) }
+    ensures inside { IfOk result
+        (λ found. IfSome found (λ objects. All (λ o. o < length heap.now) objects.items)) }
 {
     let mut walk = Walk::new(alloc, heap, v, table, at)?;
     if put_until_again(text, heap, table, &mut walk)? {
@@ -94,7 +101,11 @@ fn put_with_labels(
     requires named { length table.now.names ≡ length table.now.nodes }
     requires labels { AreLabels labels.now }
     requires many { vec_len labels.now.numbers ≡ length heap.now }
-    ensures { OnOk result (text.new.items ≡ text.old.items ++ flat_map (piece_text labels.now.objects.items) (pieces_of (shape_in table.now) (names_in table.now) heap.now v at)) }
+    ensures { OnOk result
+        (text.new.items
+        ≡ text.old.items
+        ++ flat_map (piece_text labels.now.objects.items)
+        (pieces_of (shape_in table.now) (names_in table.now) heap.now v at)) }
 {
     let mut walk = Walk::new(alloc, heap, v, table, at)?;
     while let Some(step) = walk.next(heap, table)? {
@@ -115,7 +126,11 @@ fn put_step(
     requires labels { AreLabels labels.now }
     requires many { vec_len labels.now.numbers ≡ length heap.now }
     requires named { length table.now.names ≡ length table.now.nodes }
-    ensures { OnOk result (text.new.items ≡ text.old.items ++ flat_map (piece_text labels.now.objects.items) (step_pieces table.now heap.now step.entry)) }
+    ensures { OnOk result
+        (text.new.items
+        ≡ text.old.items
+        ++ flat_map (piece_text labels.now.objects.items)
+        (step_pieces table.now heap.now step.entry)) }
 {
     match step {
         Step::Again(o) => labels.put_again(text, o),
@@ -144,7 +159,10 @@ fn put_plain(
 ) -> Result<(), Memory>
     requires step { IsStep table.now heap.now step }
     requires named { length table.now.names ≡ length table.now.nodes }
-    ensures { OnOk result (text.new.items ≡ text.old.items ++ flat_map (piece_text []) (step_pieces table.now heap.now step.entry)) }
+    ensures { OnOk result
+        (text.new.items
+        ≡ text.old.items
+        ++ flat_map (piece_text []) (step_pieces table.now heap.now step.entry)) }
 {
     match step {
         Step::Integer(z, at) => put_int_at(text, z, table.shape(at), table.names(at)),

@@ -19,7 +19,8 @@ use om_model::value::Val;
 use om_type_table::TypeTable;
 use std::alloc::Global;
 
-/// Puts the text of a value at a type of the table to a sink. After a fault a proper prefix was put, out of memory nothing.
+/// Puts the text of a value at a type of the table to a sink. After a fault a proper prefix was
+/// put, out of memory nothing.
 pub fn show_at<K: Sink>(
     alloc: Global,
     heap: &Heap,
@@ -33,7 +34,8 @@ pub fn show_at<K: Sink>(
     requires named { length table.now.names ≡ length table.now.nodes }
     requires number { at < length table.now.nodes }
     requires typed { HasType (table_shapes (table_of table.now)) heap.now v at }
-    ensures puts { Writes (change (K.state out.old) (K.state out.new)) (shown_text (shape_in table.now) (names_in table.now) heap.now v at) result }
+    ensures puts { Writes (change (K.state out.old) (K.state out.new))
+        (shown_text (shape_in table.now) (names_in table.now) heap.now v at) result }
     ensures untouched { IsErrOf result WriteError.Memory → out.new ≡ out.old }
 {
     let mut text = Vec::new(alloc);
@@ -54,7 +56,8 @@ pub fn show<K: Sink>(
     requires lawful { IsLawful (table_of table.now) }
     requires named { length table.now.names ≡ length table.now.nodes }
     requires typed { HasType (table_shapes (table_of table.now)) heap.now root 0 }
-    ensures puts { Writes (change (K.state out.old) (K.state out.new)) (shown_text (shape_in table.now) (names_in table.now) heap.now root 0) result }
+    ensures puts { Writes (change (K.state out.old) (K.state out.new))
+        (shown_text (shape_in table.now) (names_in table.now) heap.now root 0) result }
     ensures untouched { IsErrOf result WriteError.Memory → out.new ≡ out.old }
 {
     show_at(alloc, heap, root, table, table.root(), out)
@@ -63,7 +66,8 @@ pub fn show<K: Sink>(
 /// Puts the lines of a graph as it is to a sink.
 pub fn dump<K: Sink>(alloc: Global, heap: &Heap, root: Val, out: &mut K) -> Result<(), WriteError>
     requires { IsValue (length heap.now) root }
-    ensures puts { Writes (change (K.state out.old) (K.state out.new)) (dump_text heap.now root) result }
+    ensures puts { Writes (change (K.state out.old) (K.state out.new)) (dump_text heap.now root)
+        result }
     ensures untouched { IsErrOf result WriteError.Memory → out.new ≡ out.old }
 {
     let mut text = Vec::new(alloc);

@@ -85,7 +85,9 @@ impl<'a> Walk<'a> {
         requires walk { IsWalk table.now heap.now self.old }
         requires lawful { IsLawful (table_of table.now) }
         requires named { length table.now.names ≡ length table.now.nodes }
-        ensures { IfOk result (Gives table.now heap.now (pieces_left table.now heap.now self.old) self.old.order self.new) }
+        ensures { IfOk result
+            (Gives table.now heap.now (pieces_left table.now heap.now self.old) self.old.order
+            self.new) }
     {
         let Some((v, at)) = self.value else {
             return Ok(self.go_on(heap, table));
@@ -110,7 +112,10 @@ impl<'a> Walk<'a> {
         requires lawful { IsLawful (table_of table.now) }
         requires named { length table.now.names ≡ length table.now.nodes }
         ensures none { IfOk result (λ _. self.new.value ≡ None) }
-        ensures goes { IfOk result (λ step. Goes table.now heap.now (left_of table.now heap.now self.old.stack.items (Some (v, at)) self.old.order) self.old.order step self.new) }
+        ensures goes { IfOk result
+            (λ step. Goes table.now heap.now
+            (left_of table.now heap.now self.old.stack.items (Some (v, at)) self.old.order)
+            self.old.order step self.new) }
     {
         match v {
             Val::Int(z) => Ok(Step::Integer(z, at)),
@@ -137,7 +142,11 @@ impl<'a> Walk<'a> {
         requires lawful { IsLawful (table_of table.now) }
         requires named { length table.now.names ≡ length table.now.nodes }
         ensures none { IfOk result (λ _. self.new.value ≡ None) }
-        ensures goes { IfOk result (λ step. Goes table.now heap.now (left_of table.now heap.now self.old.stack.items (Some (vals.Ref o, at)) self.old.order) self.old.order step self.new) }
+        ensures goes { IfOk result
+            (λ step. Goes table.now heap.now
+            (left_of table.now heap.now self.old.stack.items (Some (vals.Ref o, at))
+            self.old.order)
+            self.old.order step self.new) }
     {
         self.marks[o as usize] = true;
         self.order.push(o)?;
@@ -149,12 +158,15 @@ impl<'a> Walk<'a> {
         Ok(Step::Opening(o, block.frame))
     }
 
-    // The step where no value comes next: before the next part of the innermost block, or after its last one.
+    // The step where no value comes next: before the next part of the innermost block, or after its
+    // last one.
     #[inline(always)]
     pub fn go_on(&mut self, heap: &Heap, table: &TypeTable) -> Option<Step<'a>>
         requires walk { IsWalk table.now heap.now self.old }
         requires none { self.old.value ≡ None }
-        ensures { Gives table.now heap.now (left_of table.now heap.now self.old.stack.items None self.old.order) self.old.order self.new result }
+        ensures { Gives table.now heap.now
+            (left_of table.now heap.now self.old.stack.items None self.old.order) self.old.order
+            self.new result }
     {
         if self.stack.is_empty() {
             return None;
@@ -180,7 +192,8 @@ fn first_object(v: Val) -> u64 {
     }
 }
 
-// The value of a field, by the words of all of them. It is found soonest where it is the object of this number.
+// The value of a field, by the words of all of them. It is found soonest where it is the object of
+// this number.
 #[inline(always)]
 pub fn value_at(heap: &Heap, fields: &[u64], i: u64, near: u64) -> Val
     requires valid { All (IsFieldWord heap.now) fields.now }
@@ -213,8 +226,11 @@ pub fn open_block<'a>(
     requires lawful { IsLawful (table_of table.now) }
     requires named { length table.now.names ≡ length table.now.nodes }
     ensures object { result.object ≡ o }
-    ensures frame { frame_in result.frame ≡ frame_of (shape_in table.now at) (names_in table.now at) tag (fields_of (object_at heap.now o)) }
-    ensures needs { needs_in result.needs ≡ or_none (needed_of heap.now (vals.Ref o) (shape_in table.now at)) }
+    ensures frame { frame_in result.frame
+        ≡ frame_of (shape_in table.now at) (names_in table.now at) tag
+        (fields_of (object_at heap.now o)) }
+    ensures needs { needs_in result.needs
+        ≡ or_none (needed_of heap.now (vals.Ref o) (shape_in table.now at)) }
     ensures next { result.next ≡ 0 }
     ensures open { IsOpen table.now heap.now result }
 {

@@ -10,13 +10,6 @@ two (p ∷ []) x y n a b = absurd (cc n)
 two (p ∷ q ∷ []) x y n a b = cc
 two (p ∷ q ∷ r ∷ rest) x y n a b = absurd (omega arith)
 
--- one limit
-compare_part : (most most' : ℕ) → compare most ≡ compare most' → most ≡ most'
-compare_part most most' e = cc e
-
-pub same_compare : (words : List (List ℕ)) (most most' : ℕ) → Asks words (compare most) → Asks words (compare most') → most ≡ most'
-same_compare words most most' asks other = compare_part most most' (one_request words (compare most) (compare most') asks other)
-
 module _ {D T E : Type 0} (language : Language D T E) (words : List (List ℕ)) where
   -- one FILE and one TYPE
   pub one_typed : (name type other type' : List ℕ) → AsksFor language words name type → AsksFor language words other type' → (name ≡ other) × (type ≡ type')

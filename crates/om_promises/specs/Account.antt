@@ -18,8 +18,9 @@ module _ {A : Type 0} (c : Commands A) where
     pub first : SaysFirst c a bytes items said rest
     pub goes_on : GoesOn c a items rest
 
-  -- No piece more is taken once something stops the run: what was taken but for some last bytes, a piece at most, holds no
-  -- stop, and this is said of its items. All of it holds none where more was asked for.
+  -- No piece more is taken once something stops the run: what was taken but for some last bytes, a
+  -- piece at most, holds no stop, and this is said of its items. All of it holds none where more
+  -- was asked for.
   pub record IsPaced (a : A) (taken : Taken) (said : List Said) : Type 0 where
     pub earlier : List ℕ
     pub in_hand : List ℕ
@@ -61,7 +62,8 @@ module _ {A : Type 0} (c : Commands A) (words : List (List ℕ)) where
     pub untaken : ((a : A) → Prepares c words given.files (Ok a) → c.Reads a → ⊥)
         → given.input ≡ nothing
 
-  -- what is said of the items, where a run came so far; before that, and without an input, nothing was taken
+  -- what is said of the items, where a run came so far; before that, and without an input, nothing
+  -- was taken
   abbrev pub IsSaidFirst : Given → List Said → Type 0
   IsSaidFirst given said =
       ((given.input ≡ nothing) × (said ≡ []))

@@ -1,5 +1,5 @@
--- A command, in the general form: the files that it wants, what it does by them, and what it says of the items
--- of its input.
+-- A command, in the general form: the files that it wants, what it does by them, and what it says
+-- of the items of its input.
 use Rattle.std.specs.Prelude.{ℕ, ◌≡◌, ◌⊎◌, List, [], ◌∷◌, ◌++◌, Option, None, Result, MatchResult}
 use Rattle.om_format.specs.Tree.{Tree}
 use Rattle.om_outcome.specs.Outcome.{InputEnd, at_end, at_fault, at_length, unasked, Taken, whole, Found, found_of, Request, Stop, read_fault, too_long, fault_of, Said, Reply, stops, Replies, stopped, Then, ReadsWords}

@@ -1,5 +1,5 @@
--- A language that is lawful: a text is read in one way, and a value has one line at a type that was read, and is edited
--- in one way.
+-- A language that is lawful: a text is read in one way, and a value has one line at a type that was
+-- read, and is edited in one way.
 use Rattle.std.specs.Prelude.{ℕ, ◌≡◌, Bool, List, Some, None, Result, Ok, Err}
 use Rattle.om_format.specs.Tree.{Tree}
 use Rattle.om_outcome.specs.Outcome.{Language, Saying, Unedited}

@@ -1,4 +1,5 @@
--- What a call is told of the outside and by it, whatever the command is: calls that failed, and what they leave.
+-- What a call is told of the outside and by it, whatever the command is: calls that failed, and
+-- what they leave.
 use Rattle.std.specs.Prelude.{ℕ, ◌^◌, ◌<◌, ◌≤◌, ◌≡◌, ◌⊎◌, List, length, Some, None, IsSomeAnd}
 use Rattle.om_outcome.specs.declared.status.Status.{Status}
 use Rattle.om_outcome.specs.declared.status.Status.TheVariants.{ReadFault, WriteFault, OpenFault, Memory}
@@ -20,12 +21,14 @@ pub record KeepFiles (files : Change FilesState) : Type 0 where
 -- err has the line of the ending, whose status is answered; or the line could not be put whole
 abbrev pub PutsLine : Change ByteState → Status → Ending → Type 0
 PutsLine err status ending =
-    (Puts err ending.err × (status ≡ ending.status)) ⊎ (PutsPart err ending.err × (status ≡ WriteFault))
+    (Puts err ending.err × (status ≡ ending.status))
+    ⊎ (PutsPart err ending.err × (status ≡ WriteFault))
 
 -- a text was put whole, and then not all of the next one
 abbrev pub PutsPartAfter : Change ByteState → List ℕ → List ℕ → Type 0
 PutsPartAfter sink text next =
-    (between : ByteState) × Puts (change sink.before between) text × PutsPart (change between sink.after) next
+    (between : ByteState) × Puts (change sink.before between) text
+    × PutsPart (change between sink.after) next
 
 -- ---- calls that failed
 
@@ -60,12 +63,14 @@ IsOutside status = (status ≡ ReadFault) ⊎ ((status ≡ OpenFault) ⊎ IsUnsa
 -- 6: only where the count of the input or the files' read faults rose, or is the last value
 abbrev pub OnlyReadFault : Call → Type 0
 OnlyReadFault call = call.status ≡ ReadFault
-    → RoseOrLast call.input.before.faults call.input.after.faults ⊎ RoseOrLast call.files.before.read_faults call.files.after.read_faults
+    → RoseOrLast call.input.before.faults call.input.after.faults
+    ⊎ RoseOrLast call.files.before.read_faults call.files.after.read_faults
 
 -- 7: only where that of out or err did
 abbrev pub OnlyWriteFault : Call → Type 0
 OnlyWriteFault call = call.status ≡ WriteFault
-    → RoseOrLast call.out.before.faults call.out.after.faults ⊎ RoseOrLast call.err.before.faults call.err.after.faults
+    → RoseOrLast call.out.before.faults call.out.after.faults
+    ⊎ RoseOrLast call.err.before.faults call.err.after.faults
 
 -- a failed call is not taken for one that went well: where a count rose, the status is 6, 7, 8 or 9
 pub record TellsWriteFault (call : Call) : Type 0 where
@@ -73,11 +78,15 @@ pub record TellsWriteFault (call : Call) : Type 0 where
   pub err : call.err.before.faults < call.err.after.faults → call.status ≡ WriteFault
 
 abbrev pub TellsOpenFault : Call → Type 0
-TellsOpenFault call = call.files.before.open_faults < call.files.after.open_faults → (call.status ≡ OpenFault) ⊎ IsUnsaid call.status
+TellsOpenFault call =
+    call.files.before.open_faults < call.files.after.open_faults
+    → (call.status ≡ OpenFault) ⊎ IsUnsaid call.status
 
 pub record TellsReadFault (call : Call) : Type 0 where
-  pub input : call.input.before.faults < call.input.after.faults → (call.status ≡ ReadFault) ⊎ IsUnsaid call.status
-  pub file : call.files.before.read_faults < call.files.after.read_faults → (call.status ≡ ReadFault) ⊎ IsUnsaid call.status
+  pub input : call.input.before.faults < call.input.after.faults
+      → (call.status ≡ ReadFault) ⊎ IsUnsaid call.status
+  pub file : call.files.before.read_faults < call.files.after.read_faults
+      → (call.status ≡ ReadFault) ⊎ IsUnsaid call.status
 
 -- a fetch of the name failed, or the map is told and does not have the name
 abbrev pub CannotOpen : Change FilesState → List ℕ → Type 0

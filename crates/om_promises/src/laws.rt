@@ -20,8 +20,8 @@ pub trait Act {
     ghost commands: { Commands acts };
 }
 
-/// Lawful commands have one outcome. The input holds one stop at most, which stays when bytes follow,
-/// and comes last.
+/// Lawful commands have one outcome. The input holds one stop at most, which stays when bytes
+/// follow, and comes last.
 pub fn lawful_commands<A: Act>()
     requires { AreLawful A.commands }
     ensures outcome { HaveOneOutcome A.commands }

@@ -1,5 +1,5 @@
--- A graph built from tokens that come one at a time, in preorder: what a reader holds, and what a token adds to it
--- (`intern.c` fills blocks so, from a stack of its own).
+-- A graph built from tokens that come one at a time, in preorder: what a reader holds, and what a
+-- token adds to it (`intern.c` fills blocks so, from a stack of its own).
 use Rattle.std.specs.Prelude.{ℕ, ◌+◌, ◌-◌, ◌<◌, ◌≤◌, ◌≡◌, ◌==◌, if◌then◌else◌, List, [], ◌∷◌, ◌++◌, length, reverse, fold, sum_by, replicate, HoldsAt, All, Option, Some, None, pos}
 use Rattle.om_model.specs.declared.value.Val.{Val}
 use Rattle.om_model.specs.declared.value.Val.TheVariants as vals
@@ -34,7 +34,8 @@ start = building [] [] None
 abbrev pub still_open : OpenBlock → List OpenBlock → List OpenBlock
 still_open b outer = if b.next == b.size then outer else b ∷ outer
 
--- the open blocks, innermost first: one, unless it is full, and those further out, the last one nearest
+-- the open blocks, innermost first: one, unless it is full, and those further out, the last one
+-- nearest
 abbrev pub stack : OpenBlock → List OpenBlock → List OpenBlock
 stack inner outer = still_open inner (reverse outer)
 
@@ -45,7 +46,8 @@ advanced b n = record b { next = b.next + n }
 -- it is the root, or the next field of the innermost open block
 abbrev pub fill : Val → List Obj → List OpenBlock → Option Val → Building
 fill v all [] root = building all [] (Some v)
-fill v all (b ∷ outer) root = building (set_field all b.object b.next v) (still_open (advanced b 1) outer) root
+fill v all (b ∷ outer) root =
+    building (set_field all b.object b.next v) (still_open (advanced b 1) outer) root
 
 -- ---- a token comes
 
@@ -104,7 +106,8 @@ HasSize size (objects.I32 z) = ⊥
 HasSize size (objects.I64 z) = ⊥
 HasSize size (objects.Native z) = ⊥
 
--- an open block's object is a block of its size, its next field is one of those, and the word refers to it
+-- an open block's object is a block of its size, its next field is one of those, and the word
+-- refers to it
 pub record IsOpenIn (all : List Obj) (b : OpenBlock) : Type 0 where
   pub object : b.object < length all
   pub next : b.next < b.size
@@ -138,12 +141,14 @@ empty room = in_room start room
 
 -- a value comes
 abbrev pub fill_in : Val → Bounded → Bounded
-fill_in v state = in_room (fill v state.built.objects state.built.open_blocks state.built.root) state.room
+fill_in v state =
+    in_room (fill v state.built.objects state.built.open_blocks state.built.root) state.room
 
 -- a token comes
 abbrev pub absorb_in : Bounded → Token → Bounded
 absorb_in state token = in_room (absorb state.built token) state.room
 
--- with one object more, if there is one of this measure, the words are still no more than they may be
+-- with one object more, if there is one of this measure, the words are still no more than they may
+-- be
 abbrev pub Fits : Bounded → Option Measure → Type 0
 Fits state measure = heap_words state.built.objects + of_object words64 measure ≤ state.room

@@ -14,9 +14,11 @@ use Rattle.om_read.specs.Totals.{AreTotals}
 -- a refusal, no whole header yet, or the place after it
 abbrev pub JudgedHeader : ℕ → List ℕ → Result Totals Unread → Type 0
 JudgedHeader limit bytes (Err (Refused r)) = header_refusal limit bytes ≡ Some r
-JudgedHeader limit bytes (Err NeedMore) = (header_refusal limit bytes ≡ None) × (length bytes < header_length bytes)
+JudgedHeader limit bytes (Err NeedMore) =
+    (header_refusal limit bytes ≡ None) × (length bytes < header_length bytes)
 JudgedHeader limit bytes (Ok place) =
-    (header_refusal limit bytes ≡ None) × (header_length bytes ≤ length bytes) × AreTotals place (context (take (header_length bytes) bytes) [])
+    (header_refusal limit bytes ≡ None) × (header_length bytes ≤ length bytes)
+    × AreTotals place (context (take (header_length bytes) bytes) [])
 
 -- the steps after a right magic
 abbrev pub stated_steps : ℕ → Head → List Step
@@ -28,10 +30,13 @@ stated_steps limit head =
 
 -- the place after a header, before the first token
 abbrev pub start_of : Head → Totals → Type 0
-start_of head place = (place.head ≡ head) × (place.start ≡ (if head.big then 32 else 20)) × (place.taken ≡ 0) × (place.objects ≡ 0) × (place.pending ≡ 1) × (place.w32 ≡ 0) × (place.w64 ≡ 0)
+start_of head place =
+    (place.head ≡ head) × (place.start ≡ (if head.big then 32 else 20)) × (place.taken ≡ 0)
+    × (place.objects ≡ 0) × (place.pending ≡ 1) × (place.w32 ≡ 0) × (place.w64 ≡ 0)
 
 -- what they come to
 abbrev pub Begins : ℕ → Head → Result Totals Unread → Type 0
 Begins limit head (Err (Refused r)) = first_refusal 0 (stated_steps limit head) ≡ Some r
 Begins limit head (Err NeedMore) = ⊥
-Begins limit head (Ok place) = (first_refusal 0 (stated_steps limit head) ≡ None) × start_of head place
+Begins limit head (Ok place) =
+    (first_refusal 0 (stated_steps limit head) ≡ None) × start_of head place

@@ -32,15 +32,19 @@ pub record Spends (old : Left) (n : ℕ) (measure : Option Measure) (new : Left)
   pub w64 : new.w64 + of_object words64 measure ≡ old.w64
 
 -- the place is n bytes after the first, with this left, and the tokens before it build this
-pub record Stands (first : Totals) (n : ℕ) (header : List ℕ) (before : List (List ℕ)) (place : Totals) (left : Left) (state : Bounded) : Type 0 where
+pub record Stands (first : Totals) (n : ℕ) (header : List ℕ) (before : List (List ℕ))
+    (place : Totals) (left : Left) (state : Bounded) : Type 0 where
   pub leaves : Leaves first n place left
   pub builds : Builds header before place state
 
 -- one token of k bytes is taken and leads on, not to the end; or none is taken and all stays
-abbrev pub TakesLeft : Totals → ℕ → List ℕ → List (List ℕ) → List ℕ → Totals → Left → Bounded → Left → Bounded → ℕ → Type 0
+abbrev pub TakesLeft : Totals → ℕ → List ℕ → List (List ℕ) → List ℕ → Totals → Left → Bounded → Left
+    → Bounded → ℕ → Type 0
 TakesLeft first n header before bytes place left state left' state' k =
     (k ≡ 0 → (left' ≡ left) × (state' ≡ state))
-    × (0 < k → (next : Totals) × Leaves first (n + k) next left' × TakesOne header before bytes place state next state' k)
+    × (0 < k
+    → (next : Totals) × Leaves first (n + k) next left'
+    × TakesOne header before bytes place state next state' k)
 
 -- tokens of k bytes are taken, and the last is still to come
 abbrev pub TakesAll : Totals → ℕ → ℕ → List ℕ → List ℕ → Left → Bounded → ℕ → Type 0

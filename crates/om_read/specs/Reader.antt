@@ -32,7 +32,9 @@ IsStopped refusal reader = reader.refusal ≡ Some refusal
 
 -- a reader that was made and fed: some bytes lead to it, or it has refused them
 abbrev pub IsReader : Reader → Type 0
-IsReader reader = ((limit : ℕ) × (taken : List ℕ) × Leads limit taken reader) ⊎ ((refusal : ReadRefusal) × IsStopped refusal reader)
+IsReader reader =
+    ((limit : ℕ) × (taken : List ℕ) × Leads limit taken reader)
+    ⊎ ((refusal : ReadRefusal) × IsStopped refusal reader)
 
 -- it has a whole value
 abbrev pub IsDone : Reader → Type 0
@@ -47,17 +49,21 @@ pub record Feeds (limit : ℕ) (taken piece : List ℕ) (new : Reader) (fed : Fe
   -- not done: the whole piece, and the bytes are a front
   pub more : fed.done ≡ false → (fed.taken ≡ length piece) × IsFront limit (taken ++ piece)
   -- done: up to the last byte of a value
-  pub done : fed.done ≡ true → IsDone new × ((tree : Tree) × SpelledUnder limit (taken ++ take fed.taken piece) tree)
+  pub done : fed.done ≡ true
+      → IsDone new × ((tree : Tree) × SpelledUnder limit (taken ++ take fed.taken piece) tree)
 
--- the values to come are no more than the bytes left, and the words no more than the header states and the limit allows
+-- the values to come are no more than the bytes left, and the words no more than the header states
+-- and the limit allows
 abbrev pub IsWithin : ℕ → Option Totals → Bounded → Type 0
 IsWithin limit None built = heap_words built.built.objects ≡ 0
 IsWithin limit (Some totals) built =
-    (totals.taken + totals.pending ≤ totals.head.length) × (heap_words built.built.objects ≤ totals.head.w64) × (totals.head.w64 ≤ limit)
+    (totals.taken + totals.pending ≤ totals.head.length)
+    × (heap_words built.built.objects ≤ totals.head.w64) × (totals.head.w64 ≤ limit)
 
 -- ---- the value, and the end of the input
 
--- the value of the tree that the bytes spell, of as many words as their header states, which are no more than the limit
+-- the value of the tree that the bytes spell, of as many words as their header states, which are no
+-- more than the limit
 pub record Finishes (limit : ℕ) (taken : List ℕ) (value : Value) : Type 0 where
   pub tree : Tree
   pub spelled : SpelledUnder limit taken tree
@@ -68,4 +74,5 @@ pub record Finishes (limit : ℕ) (taken : List ℕ) (value : Value) : Type 0 wh
 -- nothing was taken or all of a value; or the bytes are a front, and as many as is said
 abbrev pub EndsInput : {U : Type 0} → ℕ → List ℕ → Result U Truncated → Type 0
 EndsInput limit taken (Ok unit) = (taken ≡ []) ⊎ ((tree : Tree) × SpelledUnder limit taken tree)
-EndsInput limit taken (Err truncated) = (truncated.taken ≡ length taken) × (0 < length taken) × IsFront limit taken
+EndsInput limit taken (Err truncated) =
+    (truncated.taken ≡ length taken) × (0 < length taken) × IsFront limit taken

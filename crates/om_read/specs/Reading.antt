@@ -1,4 +1,5 @@
--- What has been read of a value: its header and whole tokens, the place after them, and the graph that they build.
+-- What has been read of a value: its header and whole tokens, the place after them, and the graph
+-- that they build.
 use Rattle.std.specs.Prelude.{ℕ, ◌≡◌, ◌≢◌, ◌-◌, ◌<◌, ◌≤◌, List, length, take, All, Some, None, Result, Ok, Err}
 use Rattle.std.specs.List.{AllZip}
 use Rattle.om_model.specs.declared.refusal.ReadRefusal.{ReadRefusal}
@@ -16,9 +17,10 @@ use Rattle.om_read.specs.declared.value.Value.{Value}
 use Rattle.om_read.specs.Totals.{AreTotals}
 use Rattle.om_read.specs.Build.{Bounded, start, absorb_all}
 
--- the place is that after these bytes, and the graph is built from the tokens that they spell, in the room that the
--- header states
-pub record Builds (header : List ℕ) (before : List (List ℕ)) (place : Totals) (state : Bounded) : Type 0 where
+-- the place is that after these bytes, and the graph is built from the tokens that they spell, in
+-- the room that the header states
+pub record Builds (header : List ℕ) (before : List (List ℕ)) (place : Totals) (state : Bounded)
+    : Type 0 where
   pub tokens : List Token
   pub sums : AreTotals place (context header before)
   pub spells : AllZip Spells tokens before
@@ -29,16 +31,22 @@ pub record Builds (header : List ℕ) (before : List (List ℕ)) (place : Totals
 -- the next token, in the bytes that are left: a refusal, or it is not whole, or the place after it
 abbrev pub NextOf : List ℕ → List (List ℕ) → List ℕ → Bounded → Result Totals Unread → Type 0
 NextOf header before rest state (Err NeedMore) =
-    (first_refusal (length rest) (token_steps (context header before) rest) ≡ None) × (length rest < raw_length rest)
-NextOf header before rest state (Err (Refused r)) = r ≢ Memory → first_refusal (length rest) (token_steps (context header before) rest) ≡ Some r
+    (first_refusal (length rest) (token_steps (context header before) rest) ≡ None)
+    × (length rest < raw_length rest)
+NextOf header before rest state (Err (Refused r)) =
+    r ≢ Memory → first_refusal (length rest) (token_steps (context header before) rest) ≡ Some r
 NextOf header before rest state (Ok next) =
-    (first_refusal (length rest) (token_steps (context header before) rest) ≡ None) × (raw_length rest ≤ length rest) × Builds header (with_next before rest) next state
+    (first_refusal (length rest) (token_steps (context header before) rest) ≡ None)
+    × (raw_length rest ≤ length rest) × Builds header (with_next before rest) next state
 
 -- one token is taken and leads on, not to the end; or nothing is taken and all stays
-abbrev pub TakesOne : List ℕ → List (List ℕ) → List ℕ → Totals → Bounded → Totals → Bounded → ℕ → Type 0
+abbrev pub TakesOne : List ℕ → List (List ℕ) → List ℕ → Totals → Bounded → Totals → Bounded → ℕ
+    → Type 0
 TakesOne header before bytes place state next new n =
     (n ≡ 0 → (next ≡ place) × (new ≡ state))
-    × (0 < n → (n ≡ next.taken - place.taken) × (0 < next.pending) × NextOf header before bytes new (Ok next))
+    × (0 < n
+    → (n ≡ next.taken - place.taken) × (0 < next.pending)
+    × NextOf header before bytes new (Ok next))
 
 -- ---- a whole value
 
@@ -55,4 +63,5 @@ UnlessMemory refusal P = P
 
 -- some of the first bytes are refused so, unless memory runs out
 abbrev pub RefusedIn : ℕ → List ℕ → ReadRefusal → Type 0
-RefusedIn limit bytes refusal = UnlessMemory refusal ((n : ℕ) × (n ≤ length bytes) × IsRefused limit (take n bytes) refusal)
+RefusedIn limit bytes refusal =
+    UnlessMemory refusal ((n : ℕ) × (n ≤ length bytes) × IsRefused limit (take n bytes) refusal)

@@ -35,14 +35,18 @@ pub record AreTotals (place : Totals) (c : Context) : Type 0 where
 
 -- the context after the token that these bytes begin with
 abbrev pub after : Context → List ℕ → Context
-after c bytes = record c { taken = c.taken + raw_length bytes; sums = one_more c.sums (raw_measure bytes) }
+after c bytes =
+    record c { taken = c.taken + raw_length bytes; sums = one_more c.sums (raw_measure bytes) }
 
--- what the steps of a token come to in bytes that begin with it: a refusal, no whole token yet, or the place after it
+-- what the steps of a token come to in bytes that begin with it: a refusal, no whole token yet, or
+-- the place after it
 abbrev pub IsNext : Context → List ℕ → Result Totals Unread → Type 0
 IsNext c bytes (Err (Refused r)) = first_refusal (length bytes) (token_steps c bytes) ≡ Some r
-IsNext c bytes (Err NeedMore) = (first_refusal (length bytes) (token_steps c bytes) ≡ None) × (length bytes < raw_length bytes)
+IsNext c bytes (Err NeedMore) =
+    (first_refusal (length bytes) (token_steps c bytes) ≡ None) × (length bytes < raw_length bytes)
 IsNext c bytes (Ok next) =
-    (first_refusal (length bytes) (token_steps c bytes) ≡ None) × (raw_length bytes ≤ length bytes) × AreTotals next (after c bytes)
+    (first_refusal (length bytes) (token_steps c bytes) ≡ None) × (raw_length bytes ≤ length bytes)
+    × AreTotals next (after c bytes)
 
 -- the context after a token of n bytes whose object has this measure
 abbrev pub moved : Context → ℕ → Option Measure → Context
@@ -50,15 +54,18 @@ moved c n measure = record c { taken = c.taken + n; sums = one_more c.sums measu
 
 -- the context after a token of this kind
 abbrev pub after_kind : Context → CodeKind → List ℕ → Context
-after_kind c kind rest = moved c (1 + fixed_bytes kind + variable_bytes kind rest) (measure_after kind rest)
+after_kind c kind rest =
+    moved c (1 + fixed_bytes kind + variable_bytes kind rest) (measure_after kind rest)
 
--- the words of an object, on 32 bits or on 64, are fewer than three for each byte of its token and one for each field
+-- the words of an object, on 32 bits or on 64, are fewer than three for each byte of its token and
+-- one for each field
 abbrev pub AreFew : (Measure → ℕ) → Option Measure → ℕ → Type 0
 AreFew words measure n = of_object words measure + 1 ≤ 3 * n + of_object fields measure
 
 -- the place goes on so, and is not at the end; or it stays
 abbrev pub Advances : Totals → ℕ → Option Measure → Totals → Bool → Type 0
-Advances old n measure new true = (0 < new.pending) × AreTotals new (moved (context_of old) n measure)
+Advances old n measure new true =
+    (0 < new.pending) × AreTotals new (moved (context_of old) n measure)
 Advances old n measure new false = new ≡ old
 
 -- all kinds but customs
@@ -66,8 +73,10 @@ abbrev pub IsPlain : CodeKind → Type 0
 IsPlain (kinds.Custom old) = ⊥
 IsPlain kind = Unit {0}
 
--- a token of this kind is whole in the bytes after its code, its fields are sound, and it leads on to the next place
-pub record PassesTo (place : Totals) (code : ℕ) (kind : CodeKind) (rest : List ℕ) (next : Totals) : Type 0 where
+-- a token of this kind is whole in the bytes after its code, its fields are sound, and it leads on
+-- to the next place
+pub record PassesTo (place : Totals) (code : ℕ) (kind : CodeKind) (rest : List ℕ) (next : Totals)
+    : Type 0 where
   pub whole : fixed_bytes kind + variable_bytes kind rest ≤ length rest
   pub plain : IsPlain kind
   pub sound : field_refusal (context_of place) code kind rest ≡ None

@@ -1,4 +1,5 @@
-//! The graph that tokens build, one token after another: a block's fields come after it (`intern.c`).
+//! The graph that tokens build, one token after another: a block's fields come after it
+//! (`intern.c`).
 
 ghost use Rattle.std.specs.Prelude.{◌≡◌, ◌≢◌, ◌+◌, ◌≤◌, ◌<◌, ◌^◌, ◌∷◌, length, OnOk, vec_len, vec_capacity, IsSome, Some, MatchBool};
 ghost use Rattle.om_model.specs.Graph.{IsValue};
@@ -13,8 +14,8 @@ use om_model::value::Val;
 use std::alloc::Global;
 use std::marker::Model;
 
-/// A block some of whose fields are still to come: the number of its object, its next field, how many it has, and the
-/// word that refers to it.
+/// A block some of whose fields are still to come: the number of its object, its next field, how
+/// many it has, and the word that refers to it.
 #[derive(Clone, Copy)]
 pub struct OpenBlock {
     pub object: u64,
@@ -23,8 +24,9 @@ pub struct OpenBlock {
     pub at: u64,
 }
 
-/// The objects so far, the innermost open block, which is full where none is or one further out is the innermost, those
-/// further out, the last one nearest, the root once it has come, and how many words on 64 bits the objects may have.
+/// The objects so far, the innermost open block, which is full where none is or one further out is
+/// the innermost, those further out, the last one nearest, the root once it has come, and how many
+/// words on 64 bits the objects may have.
 #[derive(Drop)]
 pub struct Builder {
     heap: Heap,
@@ -60,7 +62,8 @@ fn settle(_heap: &Heap, inner: &mut OpenBlock, outer: &mut Vec<OpenBlock>)
     }
 }
 
-/// A value comes, whose word this is: it is the root, or the next field of the innermost open block.
+/// A value comes, whose word this is: it is the root, or the next field of the innermost open
+/// block.
 #[inline(always)]
 fn fill_next(
     heap: &mut Heap,
@@ -74,7 +77,8 @@ fn fill_next(
     requires settled { inner.old.next ≡ inner.old.size → vec_len _outer.now ≡ 0 }
     requires valid { IsValue (length heap.old) v }
     requires word { word ≡ word_of heap.old v }
-    ensures fills { building heap.new (stack inner.new _outer.now.items) root.new ≡ fill_next_of v heap.old (stack inner.old _outer.now.items) root.old }
+    ensures fills { building heap.new (stack inner.new _outer.now.items) root.new
+        ≡ fill_next_of v heap.old (stack inner.old _outer.now.items) root.old }
     ensures moved { inner.new.next ≢ inner.new.size → inner.old.next + 1 < inner.old.size }
 {
     if inner.next == inner.size {
@@ -105,7 +109,8 @@ fn open_block(
     block: OpenBlock,
 ) -> Result<(), Memory>
     requires { block.next ≢ block.size }
-    ensures { OnOk result (stack inner.new outer.new.items ≡ block ∷ stack inner.old outer.old.items) }
+    ensures { OnOk result
+        (stack inner.new outer.new.items ≡ block ∷ stack inner.old outer.old.items) }
 {
     if inner.next != inner.size {
         outer.push(*inner)?;
@@ -123,8 +128,8 @@ impl Builder {
     ghost use Rattle.om_read.specs.Build.{empty, in_room, fill_in, absorb_in, Fits};
     ghost use Rattle.om_model.specs.Graph.{IsInteger};
 
-    /// Nothing is built, in the memory of a heap that is done with, and the objects may have so many
-    /// words.
+    /// Nothing is built, in the memory of a heap that is done with, and the objects may have so
+    /// many words.
     pub fn over(alloc: Global, room: u64, heap: Heap) -> Builder
         ensures { result ≡ empty room }
     {
@@ -241,7 +246,8 @@ impl Builder {
         requires some { 0 < size }
         requires small { size < 2 ^ 53 }
         requires fits { Fits self.old (Some (measures.Block size)) }
-        ensures { MatchBool result (self.new ≡ absorb_in self.old (block_token tag size)) (self.new ≡ self.old) }
+        ensures { MatchBool result (self.new ≡ absorb_in self.old (block_token tag size))
+            (self.new ≡ self.old) }
     {
         settle(&self.heap, &mut self.inner, &mut self.outer);
         let fields = self.inner.size.saturating_sub(self.inner.next);
@@ -288,7 +294,9 @@ impl Builder {
         requires well { WellOpen self.old.built }
         requires small { length content.now < 2 ^ 53 }
         requires fits { Fits self.old (Some (measures.Bytes (length content.now))) }
-        ensures { MatchBool result (self.new ≡ absorb_in self.old (leaf (objects.Bytes content.now))) (self.new ≡ self.old) }
+        ensures { MatchBool result
+            (self.new ≡ absorb_in self.old (leaf (objects.Bytes content.now)))
+            (self.new ≡ self.old) }
     {
         let object = self.heap.count();
         let Some(at) = self.heap.add_bytes_in_room(content) else {
@@ -322,7 +330,8 @@ impl Builder {
     pub fn double_in_room(&mut self, bits: u64) -> bool
         requires well { WellOpen self.old.built }
         requires fits { Fits self.old (Some measures.Double) }
-        ensures { MatchBool result (self.new ≡ absorb_in self.old (leaf (objects.Double bits))) (self.new ≡ self.old) }
+        ensures { MatchBool result (self.new ≡ absorb_in self.old (leaf (objects.Double bits)))
+            (self.new ≡ self.old) }
     {
         let object = self.heap.count();
         let Some(at) = self.heap.add_double_in_room(bits) else {

@@ -1,5 +1,5 @@
-//! Most tokens pass for sure, by few tests, and need no memory: they are taken here, one after another. What is in doubt is
-//! left to the judge.
+//! Most tokens pass for sure, by few tests, and need no memory: they are taken here, one after
+//! another. What is in doubt is left to the judge.
 
 ghost use Rattle.std.specs.Prelude.{◌≡◌, ◌≤◌, ◌<◌, ◌+◌, ℕ, List, [], length, slice_index, None, Some, Ok, IfSome, OnSome};
 ghost use Rattle.om_format.specs.Code.{kind_of, IsKind};
@@ -19,13 +19,16 @@ use om_codes::code_kind;
 use om_model::bytes::skip;
 use om_model::code::CodeKind;
 
-/// How many bytes the token has after its code, if its kind is a common one, it is whole and its fields are sound: a
-/// reference goes back to one of so many objects, where the header states some.
+/// How many bytes the token has after its code, if its kind is a common one, it is whole and its
+/// fields are sound: a reference goes back to one of so many objects, where the header states some.
 #[inline(always)]
 fn sound_len(stated: u64, objects: u64, kind: CodeKind, rest: &[u8]) -> Option<usize>
     requires { IsKind kind }
-    ensures len { IfSome result (λ len. (len ≡ fixed_bytes kind + variable_bytes kind rest.now) × (len < 32) × (len ≤ length rest.now) × IsPlain kind) }
-    ensures sound { (c : Context) (code : ℕ) → c.head.objects ≡ stated → c.sums.objects ≡ objects → OnSome result (field_refusal c code kind rest.now ≡ None) }
+    ensures len { IfSome result
+        (λ len. (len ≡ fixed_bytes kind + variable_bytes kind rest.now) × (len < 32)
+        × (len ≤ length rest.now) × IsPlain kind) }
+    ensures sound { (c : Context) (code : ℕ) → c.head.objects ≡ stated → c.sums.objects ≡ objects
+        → OnSome result (field_refusal c code kind rest.now ≡ None) }
 {
     let len = match kind {
         CodeKind::SmallBlock(_, _) | CodeKind::SmallInt(_) => 0,
@@ -64,9 +67,12 @@ fn take_kind(
     requires kind { kind_of (slice_index bytes.now 0) ≡ Ok kind }
     requires known { IsKind kind }
     requires open { 0 < left.old.pending }
-    requires stands { (n : ℕ) × (header : List ℕ) × (before : List (List ℕ)) × (place : Totals) × Stands first.now n header before place left.old builder.old }
-    ensures { (n : ℕ) (header : List ℕ) (before : List (List ℕ)) (place : Totals) → Stands first.now n header before place left.old builder.old →
-        TakesLeft first.now n header before bytes.now place left.old builder.old left.new builder.new result }
+    requires stands { (n : ℕ) × (header : List ℕ) × (before : List (List ℕ)) × (place : Totals)
+        × Stands first.now n header before place left.old builder.old }
+    ensures { (n : ℕ) (header : List ℕ) (before : List (List ℕ)) (place : Totals)
+        → Stands first.now n header before place left.old builder.old
+        → TakesLeft first.now n header before bytes.now place left.old builder.old left.new
+        builder.new result }
 {
     let rest = skip(bytes, 1);
     let Some(len) = sound_len(first.head.objects, builder.count(), kind, rest) else {
@@ -88,9 +94,12 @@ fn take_kind(
 fn take_one(first: &Totals, left: &mut Left, builder: &mut Builder, bytes: &[u8]) -> usize
     requires some { 0 < length bytes.now }
     requires open { 0 < left.old.pending }
-    requires stands { (n : ℕ) × (header : List ℕ) × (before : List (List ℕ)) × (place : Totals) × Stands first.now n header before place left.old builder.old }
-    ensures { (n : ℕ) (header : List ℕ) (before : List (List ℕ)) (place : Totals) → Stands first.now n header before place left.old builder.old →
-        TakesLeft first.now n header before bytes.now place left.old builder.old left.new builder.new result }
+    requires stands { (n : ℕ) × (header : List ℕ) × (before : List (List ℕ)) × (place : Totals)
+        × Stands first.now n header before place left.old builder.old }
+    ensures { (n : ℕ) (header : List ℕ) (before : List (List ℕ)) (place : Totals)
+        → Stands first.now n header before place left.old builder.old
+        → TakesLeft first.now n header before bytes.now place left.old builder.old left.new
+        builder.new result }
 {
     // The kinds that are named get code of their own.
     match code_kind(bytes[0]) {
@@ -121,7 +130,8 @@ fn take_one(first: &Totals, left: &mut Left, builder: &mut Builder, bytes: &[u8]
 fn take_all(first: &Totals, left: &mut Left, builder: &mut Builder, bytes: &[u8]) -> usize
     requires open { 0 < first.now.pending }
     requires leaves { Leaves first.now 0 first.now left.old }
-    requires leads { (limit : ℕ) × (taken : List ℕ) × LeadsAs (Some first.now) limit taken builder.old [] }
+    requires leads { (limit : ℕ) × (taken : List ℕ)
+        × LeadsAs (Some first.now) limit taken builder.old [] }
     ensures { (limit : ℕ) (taken : List ℕ) → LeadsAs (Some first.now) limit taken builder.old [] →
         TakesAll first.now 0 limit taken bytes.now left.new builder.new result }
 {
@@ -139,7 +149,8 @@ fn take_all(first: &Totals, left: &mut Left, builder: &mut Builder, bytes: &[u8]
 /// Takes tokens that surely pass and need no memory: how many bytes they have.
 pub fn take_common(totals: &mut Totals, builder: &mut Builder, bytes: &[u8]) -> usize
     requires open { 0 < totals.old.pending }
-    requires leads { (limit : ℕ) × (taken : List ℕ) × LeadsAs (Some totals.old) limit taken builder.old [] }
+    requires leads { (limit : ℕ) × (taken : List ℕ)
+        × LeadsAs (Some totals.old) limit taken builder.old [] }
     ensures { (limit : ℕ) (taken : List ℕ) → LeadsAs (Some totals.old) limit taken builder.old [] →
         TakesCommon limit taken bytes.now totals.new builder.new result }
 {

@@ -62,14 +62,16 @@ fn doubles(
     requires small { count < 2 ^ 53 }
     requires fits { Fits builder.old (Some (measures.Doubles count)) }
     requires whole { length bytes.now ≡ 8 * count }
-    ensures { OnOk result ((all : List ℕ) → SpellsDoubles little all bytes.now → builder.new ≡ absorb_in builder.old (leaf (objects.Doubles all))) }
+    ensures { OnOk result
+        ((all : List ℕ) → SpellsDoubles little all bytes.now
+        → builder.new ≡ absorb_in builder.old (leaf (objects.Doubles all))) }
 {
     let all = doubles_of(alloc, bytes, count as usize, little)?;
     builder.doubles(all)
 }
 
-/// The token of this kind, after whose code stands `rest`, comes, if it is one that may be common and no memory is
-/// needed for it.
+/// The token of this kind, after whose code stands `rest`, comes, if it is one that may be common
+/// and no memory is needed for it.
 #[inline(always)]
 pub fn decode_in_room(builder: &mut Builder, kind: CodeKind, rest: &[u8]) -> bool
     requires well { WellOpen builder.old.built }
@@ -78,7 +80,9 @@ pub fn decode_in_room(builder: &mut Builder, kind: CodeKind, rest: &[u8]) -> boo
     requires size { of_object fields (measure_after kind rest.now) < 2 ^ 53 }
     requires fits { Fits builder.old (measure_after kind rest.now) }
     requires spelled { SpellsTokenAfter kind rest.now (length builder.old.built.objects) }
-    ensures { MatchBool result ((t : Token) → SpellsAfter kind rest.now t → builder.new ≡ absorb_in builder.old t) (builder.new ≡ builder.old) }
+    ensures { MatchBool result
+        ((t : Token) → SpellsAfter kind rest.now t → builder.new ≡ absorb_in builder.old t)
+        (builder.new ≡ builder.old) }
 {
     match kind {
         CodeKind::SmallBlock(tag, size) => {
@@ -124,7 +128,8 @@ pub fn decode(
     requires size { of_object fields (measure_after kind rest.now) < 2 ^ 53 }
     requires fits { Fits builder.old (measure_after kind rest.now) }
     requires spelled { SpellsTokenAfter kind rest.now (length builder.old.built.objects) }
-    ensures { OnOk result ((t : Token) → SpellsAfter kind rest.now t → builder.new ≡ absorb_in builder.old t) }
+    ensures { OnOk result
+        ((t : Token) → SpellsAfter kind rest.now t → builder.new ≡ absorb_in builder.old t) }
 {
     match kind {
         CodeKind::SmallBlock(tag, size) => block_or_atom(builder, tag, u64::from(size)),

@@ -12,7 +12,8 @@ use om_model::refusal::{ReadRefusal, Stated};
 /// More bytes than this no value's data may have.
 const LENGTH_LIMIT: u64 = (1 << 48) - 1;
 
-/// Judges the header, by all the bytes that are there: the place after it, once it is whole and passes.
+/// Judges the header, by all the bytes that are there: the place after it, once it is whole and
+/// passes.
 pub fn judge_header(bytes: &[u8], limit: u64) -> Result<Totals, Unread>
     ensures judged { JudgedHeader limit bytes.now result }
     ensures limited { IfOk result (λ place. place.head.w64 ≤ limit) }

@@ -1,4 +1,5 @@
-//! What is left for tokens that surely pass, in few numbers, so that each test of a token is one subtraction.
+//! What is left for tokens that surely pass, in few numbers, so that each test of a token is one
+//! subtraction.
 
 ghost use Rattle.std.specs.Prelude.{◌≡◌, ◌+◌, ◌<◌, ◌^◌, MatchBool};
 ghost use Rattle.std.specs.Option.{ForSome};
@@ -36,7 +37,8 @@ impl Left {
     ghost use Rattle.om_read.specs.Totals.{AreTotals, context_of};
     ghost use Rattle.om_read.specs.Left.{Leaves, Spends, limit_of};
 
-    /// The words on 32 bits that a header allows. A big one states none, and this is more than its data can come to.
+    /// The words on 32 bits that a header allows. A big one states none, and this is more than its
+    /// data can come to.
     fn limit32(head: &Head) -> u64
         ensures { result ≡ limit_of head.now }
     {
@@ -55,7 +57,8 @@ impl Left {
         }
     }
 
-    /// Goes on after a token of `n` bytes whose object has this measure, if it fits and is not the last.
+    /// Goes on after a token of `n` bytes whose object has this measure, if it fits and is not the
+    /// last.
     #[inline(always)]
     pub fn spend(&mut self, n: u64, measure: Option<Measure>) -> bool
         requires open { 0 < self.old.pending }
@@ -95,7 +98,8 @@ impl Left {
     /// The place that is reached, n bytes and so many objects after the first.
     pub fn place(self, first: &Totals, n: u64, objects: u64) -> Totals
         requires { (place : Totals) × Leaves first.now n place self × (objects ≡ place.objects) }
-        ensures { (place : Totals) → Leaves first.now n place self → objects ≡ place.objects → AreTotals result (context_of place) }
+        ensures { (place : Totals) → Leaves first.now n place self → objects ≡ place.objects
+            → AreTotals result (context_of place) }
     {
         Totals {
             head: first.head,

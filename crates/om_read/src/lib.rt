@@ -1,4 +1,5 @@
-//! Reads a value from bytes: the steps of its header and its tokens, and the graph that they build (`intern.c`).
+//! Reads a value from bytes: the steps of its header and its tokens, and the graph that they build
+//! (`intern.c`).
 #![tactic(auto)]
 
 mod build;

@@ -44,13 +44,15 @@ impl Pieces {
         }
     }
 
-    /// Takes a header or a token of the bytes, or all of them where they are a part of one. No part waits.
+    /// Takes a header or a token of the bytes, or all of them where they are a part of one. No part
+    /// waits.
     fn take_next(&mut self, alloc: Global, rest: &[u8]) -> Result<usize, ReadRefusal>
         requires none { self.old.part.items ≡ [] }
         requires some { 0 < length rest.now }
         requires open { IsWhole self.old.reading.totals → ⊥ }
         requires leads { (limit : ℕ) × (taken : List ℕ) × LeadsPieces limit taken self.old }
-        ensures { (limit : ℕ) (taken : List ℕ) → LeadsPieces limit taken self.old → Takes limit taken rest.now self.new result }
+        ensures { (limit : ℕ) (taken : List ℕ) → LeadsPieces limit taken self.old
+            → Takes limit taken rest.now self.new result }
     {
         let common = self.reading.take_common(rest);
         if common > 0 {
@@ -66,12 +68,14 @@ impl Pieces {
         }
     }
 
-    /// Takes the rest of the header or the token whose part waits, or joins some of the bytes to it.
+    /// Takes the rest of the header or the token whose part waits, or joins some of the bytes to
+    /// it.
     fn join_next(&mut self, alloc: Global, rest: &[u8]) -> Result<usize, ReadRefusal>
         requires some { 0 < length rest.now }
         requires open { IsWhole self.old.reading.totals → ⊥ }
         requires leads { (limit : ℕ) × (taken : List ℕ) × LeadsPieces limit taken self.old }
-        ensures { (limit : ℕ) (taken : List ℕ) → LeadsPieces limit taken self.old → Takes limit taken rest.now self.new result }
+        ensures { (limit : ℕ) (taken : List ℕ) → LeadsPieces limit taken self.old
+            → Takes limit taken rest.now self.new result }
     {
         let before = self.part.len();
         let more = joined(rest);
@@ -91,7 +95,8 @@ impl Pieces {
         requires some { 0 < length rest.now }
         requires open { IsWhole self.old.reading.totals → ⊥ }
         requires leads { (limit : ℕ) × (taken : List ℕ) × LeadsPieces limit taken self.old }
-        ensures { (limit : ℕ) (taken : List ℕ) → LeadsPieces limit taken self.old → Takes limit taken rest.now self.new result }
+        ensures { (limit : ℕ) (taken : List ℕ) → LeadsPieces limit taken self.old
+            → Takes limit taken rest.now self.new result }
     {
         if self.part.is_empty() {
             self.take_next(alloc, rest)
@@ -103,7 +108,8 @@ impl Pieces {
     /// Takes the bytes, or the front of them that ends the value.
     pub fn feed(&mut self, alloc: Global, piece: &[u8]) -> Result<usize, ReadRefusal>
         requires { (limit : ℕ) × (taken : List ℕ) × LeadsPieces limit taken self.old }
-        ensures { (limit : ℕ) (taken : List ℕ) → LeadsPieces limit taken self.old → TakesPiece limit taken piece.now self.new result }
+        ensures { (limit : ℕ) (taken : List ℕ) → LeadsPieces limit taken self.old
+            → TakesPiece limit taken piece.now self.new result }
     {
         let mut taken = 0;
         while taken < piece.len() && !self.reading.is_done() {
@@ -117,7 +123,8 @@ impl Pieces {
 
     /// How many bytes were taken.
     pub fn taken(&self) -> u64
-        ensures { (limit : ℕ) (taken : List ℕ) → LeadsPieces limit taken self.now → result ≡ length taken }
+        ensures { (limit : ℕ) (taken : List ℕ) → LeadsPieces limit taken self.now
+            → result ≡ length taken }
     {
         let part = self.part.len() as u64;
         match &self.reading.totals {
@@ -128,7 +135,8 @@ impl Pieces {
 
     /// The value that was read.
     pub fn finish(self) -> Value
-        requires leads { (limit : ℕ) × (taken : List ℕ) × AreBytes taken × LeadsPieces limit taken self }
+        requires leads { (limit : ℕ) × (taken : List ℕ) × AreBytes taken
+            × LeadsPieces limit taken self }
         requires whole { IsWhole self.reading.totals }
         ensures heap { result.heap ≡ self.reading.builder.built.objects }
         ensures root { self.reading.builder.built.root ≡ Some result.root }

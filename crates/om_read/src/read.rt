@@ -23,8 +23,10 @@ fn add(alloc: Global, builder: &mut Builder, token: &[u8]) -> Result<(), Memory>
     requires short { length token.now < 2 ^ 53 }
     requires small { of_object fields (raw_measure token.now) < 2 ^ 53 }
     requires fits { Fits builder.old (raw_measure token.now) }
-    requires spelled { (t : Token) × Spells t token.now × RefersBack t (length builder.old.built.objects) }
-    ensures { OnOk result ((t : Token) → Spells t token.now → builder.new ≡ absorb_in builder.old t) }
+    requires spelled { (t : Token) × Spells t token.now
+        × RefersBack t (length builder.old.built.objects) }
+    ensures { OnOk result
+        ((t : Token) → Spells t token.now → builder.new ≡ absorb_in builder.old t) }
 {
     match code_kind(token[0]) {
         Ok(kind) => decode(alloc, builder, kind, skip(token, 1)),
@@ -40,9 +42,12 @@ pub fn next_token(
     rest: &[u8],
 ) -> Result<Totals, Unread>
     requires open { 0 < place.now.pending }
-    requires leads { (header : List ℕ) × (before : List (List ℕ)) × Builds header before place.now builder.old }
+    requires leads { (header : List ℕ) × (before : List (List ℕ))
+        × Builds header before place.now builder.old }
     ensures kept { result ≡ Err Unread.NeedMore → builder.new ≡ builder.old }
-    ensures next { (header : List ℕ) (before : List (List ℕ)) → Builds header before place.now builder.old → NextOf header before rest.now builder.new result }
+    ensures next { (header : List ℕ) (before : List (List ℕ))
+        → Builds header before place.now builder.old
+        → NextOf header before rest.now builder.new result }
 {
     if rest.is_empty() {
         return Err(Unread::NeedMore);

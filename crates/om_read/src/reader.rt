@@ -23,8 +23,8 @@ pub struct Truncated {
     pub taken: u64,
 }
 
-/// What was read of one value, and the refusal once there is one. It does not keep the bytes that it took, but for a part of
-/// a header or a token.
+/// What was read of one value, and the refusal once there is one. It does not keep the bytes that
+/// it took, but for a part of a header or a token.
 #[derive(Drop)]
 pub struct Reader {
     alloc: Global,
@@ -44,7 +44,8 @@ impl Reader {
         Reader::over(alloc, limit, Heap::new(alloc))
     }
 
-    /// The same in the memory of a heap that is done with, as one after another of many values is read.
+    /// The same in the memory of a heap that is done with, as one after another of many values is
+    /// read.
     pub fn over(alloc: Global, limit: u64, heap: Heap) -> Reader
         ensures reader { IsReader result }
         ensures leads { Leads limit [] result }
@@ -57,20 +58,26 @@ impl Reader {
         }
     }
 
-    /// Takes the piece, or the front of it up to the value's last byte (`intern.c`). A reader that is done takes nothing.
+    /// Takes the piece, or the front of it up to the value's last byte (`intern.c`). A reader that
+    /// is done takes nothing.
     pub fn feed(&mut self, piece: &[u8]) -> Result<Fed, ReadRefusal>
         // A reader that `new` made and `feed` kept is one.
         requires { IsReader self.old }
         ensures reader { IsReader self.new }
-        ensures feeds { (limit : ℕ) (taken : List ℕ) → Leads limit taken self.old → IfOk result (Feeds limit taken piece.now self.new) }
+        ensures feeds { (limit : ℕ) (taken : List ℕ) → Leads limit taken self.old
+            → IfOk result (Feeds limit taken piece.now self.new) }
         ensures done { IfOk result (λ fed. fed.done ≡ true → IsDone self.new) }
         ensures reads { OnOk result (IsReading self.new) }
         // A refusal comes where some prefix of the bytes is refused so, or memory runs out.
-        ensures refuses { (limit : ℕ) (taken : List ℕ) → Leads limit taken self.old → IfErr result (RefusedIn limit (taken ++ piece.now)) }
+        ensures refuses { (limit : ℕ) (taken : List ℕ) → Leads limit taken self.old
+            → IfErr result (RefusedIn limit (taken ++ piece.now)) }
         // It is answered from then on.
         ensures stops { IfErr result (λ refusal. IsStopped refusal self.new) }
-        ensures again { (refusal : ReadRefusal) → IsStopped refusal self.old → result ≡ Err refusal }
-        ensures within { (limit : ℕ) (taken : List ℕ) → Leads limit taken self.old → OnOk result (IsWithin limit self.new.pieces.reading.totals self.new.pieces.reading.builder) }
+        ensures again { (refusal : ReadRefusal) → IsStopped refusal self.old
+            → result ≡ Err refusal }
+        ensures within { (limit : ℕ) (taken : List ℕ) → Leads limit taken self.old
+            → OnOk result
+            (IsWithin limit self.new.pieces.reading.totals self.new.pieces.reading.builder) }
     {
         if let Some(refusal) = self.refusal {
             return Err(refusal);
@@ -91,7 +98,8 @@ impl Reader {
     pub fn finish(self) -> Value
         requires reader { IsReader self }
         requires done { IsDone self }
-        ensures { (limit : ℕ) (taken : List ℕ) → Leads limit taken self → Finishes limit taken result }
+        ensures { (limit : ℕ) (taken : List ℕ) → Leads limit taken self
+            → Finishes limit taken result }
     {
         self.pieces.finish()
     }
@@ -99,7 +107,8 @@ impl Reader {
     /// The input ends here: inside a value, or not.
     pub fn at_end(&self) -> Result<(), Truncated>
         requires { IsReading self.now }
-        ensures { (limit : ℕ) (taken : List ℕ) → Leads limit taken self.now → EndsInput limit taken result }
+        ensures { (limit : ℕ) (taken : List ℕ) → Leads limit taken self.now
+            → EndsInput limit taken result }
     {
         if self.pieces.reading.is_done() {
             return Ok(());

@@ -52,10 +52,12 @@ impl Reading {
     /// Reads the header, where the bytes begin with all of it: how many bytes it has.
     fn next_header(&mut self, bytes: &[u8]) -> Result<usize, Unread>
         requires none { self.old.totals ≡ None }
-        requires leads { (taken part more : List ℕ) × LeadsAs None self.old.limit taken self.old.builder part × (bytes.now ≡ part ++ more) }
+        requires leads { (taken part more : List ℕ)
+            × LeadsAs None self.old.limit taken self.old.builder part × (bytes.now ≡ part ++ more) }
         ensures limit { self.new.limit ≡ self.old.limit }
-        ensures next { (taken part more : List ℕ) → LeadsAs None self.old.limit taken self.old.builder part → bytes.now ≡ part ++ more →
-            NextRead self.old.limit taken part more self.new result }
+        ensures next { (taken part more : List ℕ)
+            → LeadsAs None self.old.limit taken self.old.builder part → bytes.now ≡ part ++ more
+            → NextRead self.old.limit taken part more self.new result }
     {
         match judge_header(bytes, self.limit) {
             Ok(totals) => {
@@ -67,15 +69,19 @@ impl Reading {
         }
     }
 
-    /// Takes tokens after the header that surely pass and need no memory: how many bytes they have. A last token does not,
-    /// so it is left to the judge at once.
+    /// Takes tokens after the header that surely pass and need no memory: how many bytes they have.
+    /// A last token does not, so it is left to the judge at once.
     pub fn take_common(&mut self, bytes: &[u8]) -> usize
         requires open { IsWhole self.old.totals → ⊥ }
-        requires leads { (taken : List ℕ) × LeadsAs self.old.totals self.old.limit taken self.old.builder [] }
+        requires leads { (taken : List ℕ)
+            × LeadsAs self.old.totals self.old.limit taken self.old.builder [] }
         ensures limit { self.new.limit ≡ self.old.limit }
         ensures open { IsWhole self.new.totals → ⊥ }
-        ensures takes { (taken : List ℕ) → LeadsAs self.old.totals self.old.limit taken self.old.builder [] →
-            (result ≤ length bytes.now) × LeadsAs self.new.totals self.old.limit (taken ++ take result bytes.now) self.new.builder [] }
+        ensures takes { (taken : List ℕ)
+            → LeadsAs self.old.totals self.old.limit taken self.old.builder []
+            → (result ≤ length bytes.now)
+            × LeadsAs self.new.totals self.old.limit (taken ++ take result bytes.now)
+            self.new.builder [] }
     {
         let mut totals = match &self.totals {
             Some(totals) if totals.pending > 1 || opens_block(bytes) => *totals,
@@ -86,13 +92,17 @@ impl Reading {
         n
     }
 
-    /// Reads the header, or after it the next token, where the bytes begin with all of it: how many bytes it has.
+    /// Reads the header, or after it the next token, where the bytes begin with all of it: how many
+    /// bytes it has.
     pub fn next(&mut self, alloc: Global, bytes: &[u8]) -> Result<usize, Unread>
         requires open { IsWhole self.old.totals → ⊥ }
-        requires leads { (taken part more : List ℕ) × LeadsAs self.old.totals self.old.limit taken self.old.builder part × (bytes.now ≡ part ++ more) }
+        requires leads { (taken part more : List ℕ)
+            × LeadsAs self.old.totals self.old.limit taken self.old.builder part
+            × (bytes.now ≡ part ++ more) }
         ensures limit { self.new.limit ≡ self.old.limit }
-        ensures next { (taken part more : List ℕ) → LeadsAs self.old.totals self.old.limit taken self.old.builder part → bytes.now ≡ part ++ more →
-            NextRead self.old.limit taken part more self.new result }
+        ensures next { (taken part more : List ℕ)
+            → LeadsAs self.old.totals self.old.limit taken self.old.builder part
+            → bytes.now ≡ part ++ more → NextRead self.old.limit taken part more self.new result }
     {
         let Some(totals) = self.totals else {
             return self.next_header(bytes);

@@ -14,7 +14,8 @@ use om_model::code::{CodeFault, CodeKind, CustomKind, Measure};
 use om_model::header::Head;
 use om_model::refusal::{ReadRefusal, WordSum};
 
-/// The header, and sums over the tokens before the place: bytes, objects, values still to come, and words.
+/// The header, and sums over the tokens before the place: bytes, objects, values still to come, and
+/// words.
 #[derive(Clone, Copy)]
 pub struct Totals {
     pub head: Head,
@@ -127,8 +128,12 @@ impl Totals {
     fn native(&self, rest: &[u8]) -> Result<u64, Unread>
         requires room { self.now.taken + 4 ≤ self.now.head.length }
         requires known { 3 ≤ length rest.now }
-        ensures steps { answered result ≡ progress (length rest.now + 1) (native_steps (context_of self.now) (slice_index rest.now 3)) }
-        ensures len { IfOk result (λ len. (len ≡ 1 + native_bytes (slice_index rest.now 3)) × (self.now.taken + (4 + len) ≤ self.now.head.length)) }
+        ensures steps { answered result
+            ≡ progress (length rest.now + 1)
+            (native_steps (context_of self.now) (slice_index rest.now 3)) }
+        ensures len { IfOk result
+            (λ len. (len ≡ 1 + native_bytes (slice_index rest.now 3))
+            × (self.now.taken + (4 + len) ≤ self.now.head.length)) }
         ensures sized { OnOk result (4 ≤ length rest.now) }
     {
         pass(self.overlong(1, 4))?;
@@ -151,7 +156,8 @@ impl Totals {
         ensures steps { answered result ≡ progress (length rest.now + 1)
             (entry_steps (context_of self.now) code kind rest.now) }
         ensures whole { OnOk result (field_bytes kind ≤ length rest.now) }
-        ensures room { OnOk result (self.now.taken + (1 + fixed_bytes kind) ≤ self.now.head.length) }
+        ensures room { OnOk result
+            (self.now.taken + (1 + fixed_bytes kind) ≤ self.now.head.length) }
     {
         pass(self.overlong(u128::from(fixed_len(kind)), 1))?;
         if rest.len() < field_len(kind) {
@@ -168,7 +174,8 @@ impl Totals {
         ensures steps { answered result ≡ progress (length rest.now + 1)
             (variable_steps (context_of self.now) kind (custom_of (take 3 rest.now)) rest.now) }
         ensures len { IfOk result (λ len. len ≡ variable_bytes kind rest.now) }
-        ensures room { IfOk result (λ len. self.now.taken + (1 + fixed_bytes kind + len) ≤ self.now.head.length) }
+        ensures room { IfOk result
+            (λ len. self.now.taken + (1 + fixed_bytes kind + len) ≤ self.now.head.length) }
         ensures sized { OnOk result (sizing_bytes kind rest.now ≤ length rest.now) }
     {
         if matches!(kind, CodeKind::Custom(_)) && custom_at(rest) == Some(CustomKind::Native) {
@@ -221,7 +228,9 @@ impl Totals {
         ensures within32 { result ≡ None → self.now.head.big ≡ false → w32 ≤ self.now.head.w32 }
         ensures within64 { result ≡ None → w64 ≤ self.now.head.w64 }
         ensures refusal { let c = context_of self.now in
-            result ≡ or_else (words32_refusal nat_lt (place c) c.head w32) (words64_refusal nat_lt (place c) c.head w64) }
+            result
+            ≡ or_else (words32_refusal nat_lt (place c) c.head w32)
+            (words64_refusal nat_lt (place c) c.head w64) }
     {
         if !self.head.big && self.head.w32 < w32 {
             return Some(ReadRefusal::SizeMismatch(self.at(), WordSum::W32, self.head.w32, w32));
@@ -235,7 +244,9 @@ impl Totals {
     /// The whole value differs from what the header states.
     fn differs(&self, n: u64, objects: u64, w32: u64, w64: u64) -> Option<ReadRefusal>
         requires { self.now.taken + n ≤ self.now.head.length }
-        ensures { (m : ℕ) → n ≤ m → of_refusal result ≡ progress m (end_steps (context_of self.now) n (sums objects 0 w32 w64)) }
+        ensures { (m : ℕ) → n ≤ m
+            → of_refusal result
+            ≡ progress m (end_steps (context_of self.now) n (sums objects 0 w32 w64)) }
     {
         let at = self.at() + n;
         let left = self.head.length - (self.taken + n);
@@ -265,8 +276,11 @@ impl Totals {
         w64: u64,
     ) -> Result<(), Unread>
         requires { self.now.taken + n ≤ self.now.head.length }
-        ensures { answered result ≡ progress (length rest.now + 1)
-            (if pending == 0 then end_steps (context_of self.now) n (sums objects pending w32 w64) else []) }
+        ensures { answered result
+            ≡ progress (length rest.now + 1)
+            (if pending == 0
+            then end_steps (context_of self.now) n (sums objects pending w32 w64)
+            else []) }
     {
         if pending > 0 {
             return Ok(());
@@ -277,7 +291,8 @@ impl Totals {
         pass(self.differs(n, objects, w32, w64))
     }
 
-    /// The steps that need the token's size, and after the last token those of the whole value. The place after it.
+    /// The steps that need the token's size, and after the last token those of the whole value. The
+    /// place after it.
     #[tactic(auto, using(crate::proofs::SizeLemmas::measure_small, crate::proofs::SizeLemmas::few_words32, crate::proofs::SizeLemmas::few_words64))]
     fn close(&self, kind: CodeKind, rest: &[u8], len: u64) -> Result<Totals, Unread>
         requires open { 0 < self.now.pending }
@@ -286,9 +301,12 @@ impl Totals {
         requires sized { sizing_bytes kind rest.now ≤ length rest.now }
         requires len { len ≡ variable_bytes kind rest.now }
         requires room { self.now.taken + (1 + fixed_bytes kind + len) ≤ self.now.head.length }
-        ensures steps { answered result ≡ progress (length rest.now + 1) (closing_steps (context_of self.now) kind rest.now) }
-        ensures next { IfOk result (λ next. AreTotals next (after_kind (context_of self.now) kind rest.now)) }
-        ensures len { IfOk result (λ next. next.taken ≡ self.now.taken + (1 + fixed_bytes kind + len)) }
+        ensures steps { answered result
+            ≡ progress (length rest.now + 1) (closing_steps (context_of self.now) kind rest.now) }
+        ensures next { IfOk result
+            (λ next. AreTotals next (after_kind (context_of self.now) kind rest.now)) }
+        ensures len { IfOk result
+            (λ next. next.taken ≡ self.now.taken + (1 + fixed_bytes kind + len)) }
     {
         let n = 1 + fixed_len(kind) + len;
         let measure = measure_at(kind, rest);
@@ -313,12 +331,21 @@ impl Totals {
     fn steps(&self, code: u8, kind: CodeKind, rest: &[u8]) -> Result<Totals, Unread>
         requires open { 0 < self.now.pending }
         requires known { IsKind kind }
-        ensures steps { answered result ≡
-            and_then (progress (length rest.now + 1) (entry_steps (context_of self.now) code kind rest.now))
-            (and_then (progress (length rest.now + 1) (variable_steps (context_of self.now) kind (custom_of (take 3 rest.now)) rest.now))
-            (progress (length rest.now + 1) (closing_steps (context_of self.now) kind rest.now))) }
-        ensures next { IfOk result (λ next. AreTotals next (after_kind (context_of self.now) kind rest.now)) }
-        ensures len { IfOk result (λ next. next.taken ≡ self.now.taken + (1 + fixed_bytes kind + variable_bytes kind rest.now)) }
+        ensures steps { answered result
+            ≡ and_then
+            (progress (length rest.now + 1)
+            (entry_steps (context_of self.now) code kind rest.now))
+            (and_then
+            (progress (length rest.now + 1)
+            (variable_steps (context_of self.now) kind (custom_of (take 3 rest.now))
+            rest.now))
+            (progress (length rest.now + 1)
+            (closing_steps (context_of self.now) kind rest.now))) }
+        ensures next { IfOk result
+            (λ next. AreTotals next (after_kind (context_of self.now) kind rest.now)) }
+        ensures len { IfOk result
+            (λ next. next.taken
+            ≡ self.now.taken + (1 + fixed_bytes kind + variable_bytes kind rest.now)) }
     {
         self.fields(code, kind, rest)?;
         let len = self.variable(kind, rest)?;
@@ -336,7 +363,8 @@ impl Totals {
         }
     }
 
-    /// Judges the next token, by all the bytes that are there: the place after it, once it is whole and passes.
+    /// Judges the next token, by all the bytes that are there: the place after it, once it is whole
+    /// and passes.
     pub fn judge(&self, bytes: &[u8]) -> Result<Totals, Unread>
         requires open { 0 < self.now.pending }
         requires some { 0 < length bytes.now }

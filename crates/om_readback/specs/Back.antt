@@ -1,4 +1,5 @@
--- A text of pieces that is read back: as a literal that is the value again, with its objects and labels.
+-- A text of pieces that is read back: as a literal that is the value again, with its objects and
+-- labels.
 use Rattle.std.specs.Prelude.{ℕ, ◌+◌, ◌^◌, ◌<◌, ◌≡◌, true, List, ◌++◌, length, IsSome, Some}
 use Rattle.std.specs.List.{flat_map}
 use Rattle.om_model.specs.declared.value.Val.{Val}
@@ -18,8 +19,8 @@ use Rattle.om_literal_texts.specs.Listing.{IsText, AreTexts}
 use Rattle.om_literal_texts.specs.Numbered.{count_from, down, AreIncreasing}
 use Rattle.om_literal_texts.specs.Readable.{IsReadable}
 
--- What is known of values at types, from a value to its parts: each fits, and its type has names that
--- are read back.
+-- What is known of values at types, from a value to its parts: each fits, and its type has names
+-- that are read back.
 pub record AreShowable {T : Type 0} (shape : T → ShapeOf T) (names : T → Names) (graph : List Obj)
     (Holds : Val → T → Type 0) : Type 0 where
   pub fits : (v : Val) (t : T) → Holds v t → IsSome (fields_of graph v (shape t))
@@ -53,8 +54,8 @@ module _ {T : Type 0} (shape : T → ShapeOf T) (names : T → Names) where
     pub is_text : IsText text literal
     pub reads : Reads shape names labels literal value objects c d t
 
-  -- n objects are met from number c on, in the order of their numbers; and the text is read back, by any
-  -- labels
+  -- n objects are met from number c on, in the order of their numbers; and the text is read back,
+  -- by any labels
   pub record IsMetBack (c n : ℕ) (value : Val) (objects : List Obj) (t : T) (m : Met) :
       Type 0 where
     pub seen : m.seen ≡ down (c + n)

@@ -13,8 +13,8 @@ use Rattle.om_show.specs.Shown.{shown_text}
 use Rattle.om_literal_texts.specs.Readable.{AreReadable}
 use Rattle.om_readback.specs.ReadBack.{IsReadBack}
 
--- Where a tree's value has a type, its text is read back. Its objects are few enough for labels that are
--- integers of the lexer.
+-- Where a tree's value has a type, its text is read back. Its objects are few enough for labels
+-- that are integers of the lexer.
 abbrev pub TextsAreReadBack : Type 0
 TextsAreReadBack =
     (decls : List Decl) (t : Ty) (types : List Ty)

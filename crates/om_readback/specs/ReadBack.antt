@@ -9,7 +9,8 @@ use Rattle.om_format.specs.Tree.{Tree, root, objects_of}
 use Rattle.om_literal_grammar.specs.Literal.{Literal, literal_kinds}
 use Rattle.om_literal.specs.Reading.{reading, literal_read}
 
--- its lexemes are a literal, which is the tree's value at the type, with the tree's objects in order
+-- its lexemes are a literal, which is the tree's value at the type, with the tree's objects in
+-- order
 pub record IsReadBack {T : Type 0} (shape : T → ShapeOf T) (names : T → Names) (tree : Tree)
     (t : T) (text : List ℕ) : Type 0 where
   -- the text is one line, and not an empty one

@@ -192,10 +192,6 @@ declaration_spoken decls spoken name d e = let f = found_at (λ (d : Decl). byte
 
 -- ---- tags
 
-is_number_refl : (z : ℤ) → is_number z z ≡ true
-is_number_refl (pos n) = eq-eqb n n refl
-is_number_refl (negsuc n) = eq-eqb n n refl
-
 tag_at : (tags : List (TagOf Ty)) (i : ℕ) (name : TagName) → slice_get (map tag_name tags) i ≡ Some name → (tag : TagOf Ty) × (slice_get tags i ≡ Some tag) × (tag_name tag ≡ name)
 tag_at [] i name e = absurd cc
 tag_at (t ∷ ts) zero name e = (t, refl, same_Some (tag_name t) name e)

@@ -17,8 +17,8 @@ use Rattle.om_literal_texts.specs.Readable.{AreReadable}
 use Rattle.om_readback.specs.ReadBack.{IsReadBack}
 use Rattle.om_text.specs.Laws.{ReadsAgain}
 
--- The names are read back of each type that is reached from one that stands in a text, over declarations
--- that stand in one.
+-- The names are read back of each type that is reached from one that stands in a text, over
+-- declarations that stand in one.
 abbrev pub NamesAreReadBack : Type 0
 NamesAreReadBack =
     (file_text type_text : List ℕ) (decls : List Decl) (t : Ty) (types : List Ty)

@@ -17,9 +17,10 @@ use Rattle.om_type_table.specs.Made.{IsTypeTable}
 use Rattle.om_decl.specs.Read.{IsDeclared, IsTypeOf}
 use Rattle.om_text.specs.Laws.{ReadsAgain}
 
--- the text is read as the value of the tree: it is the same value, has the type, has that text, and its tree,
--- which says its canonical bytes, is the tree
-pub record IsRebuilt (decls : List Decl) (t : Ty) (table : TypeTable) (g : List Obj) (v : Val) (tree : Tree) :
+-- the text is read as the value of the tree: it is the same value, has the type, has that text, and
+-- its tree, which says its canonical bytes, is the tree
+pub record IsRebuilt (decls : List Decl) (t : Ty) (table : TypeTable) (g : List Obj) (v : Val)
+    (tree : Tree) :
     Type 0 where
   pub reads : ReadsAgain table tree (shown_text (shape decls) (names_of decls) g v t)
   pub same : Iso g v (objects_of tree 0) (root tree 0)

@@ -3,8 +3,8 @@
 ghost use Rattle.om_rebuild.specs.Laws.{DeclaredTextsAreReadBack, LiteralsAreReadBack, NamesAreReadBack};
 ghost use Rattle.om_rebuild.specs.Rebuilt.{ValuesAreRebuilt};
 
-/// Each type that is reached from a type that stands in a text, over declarations that stand in one, has names that are read
-/// back.
+/// Each type that is reached from a type that stands in a text, over declarations that stand in
+/// one, has names that are read back.
 pub fn names_are_read_back()
     ensures { NamesAreReadBack }
 {}
@@ -19,8 +19,8 @@ pub fn literals_are_read_back()
     ensures { LiteralsAreReadBack }
 {}
 
-/// So what is read from the text of any value of the type is the same value up to the numbers of its objects, has the type and
-/// the text, and its canonical bytes are those of the value.
+/// So what is read from the text of any value of the type is the same value up to the numbers of
+/// its objects, has the type and the text, and its canonical bytes are those of the value.
 pub fn values_are_rebuilt()
     ensures { ValuesAreRebuilt }
 {}

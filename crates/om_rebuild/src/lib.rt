@@ -1,6 +1,6 @@
-//! What is read from the text of a value is the value again, at each type that stands in a text, over declarations that stand
-//! in one: the names of such types are lexemes, and each stands for one thing. The functions do nothing: what each ensures is
-//! the law.
+//! What is read from the text of a value is the value again, at each type that stands in a text,
+//! over declarations that stand in one: the names of such types are lexemes, and each stands for
+//! one thing. The functions do nothing: what each ensures is the law.
 #![tactic(auto)]
 
 mod laws;

@@ -10,7 +10,8 @@ abbrev pub refusal_at : Context → List ℕ → Option ReadRefusal
 refusal_at c token = first_refusal (length token) (token_steps c token)
 
 -- so many of the bytes are refused, and fewer are not
-pub record IsDecided (refuse : List ℕ → Option ReadRefusal) (bytes : List ℕ) (d : Decided) : Type 0 where
+pub record IsDecided (refuse : List ℕ → Option ReadRefusal) (bytes : List ℕ) (d : Decided)
+    : Type 0 where
   pub within : d.count ≤ length bytes
   pub refused : refuse (take d.count bytes) ≡ Some (refusal_of d.refusal)
   pub fewer : (k : ℕ) → k < d.count → refuse (take k bytes) ≡ None

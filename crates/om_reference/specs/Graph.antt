@@ -19,4 +19,6 @@ AreTokens ts = (tree : Tree) × IsTree tree × (ts ≡ tokens tree)
 
 -- the graph of each such tree
 abbrev pub IsGraph : List Token → Graph → Type 0
-IsGraph ts graph = (tree : Tree) → IsTree tree → ts ≡ tokens tree → (graph.root ≡ root tree 0) × (graph.objects.items ≡ objects_of tree 0)
+IsGraph ts graph =
+    (tree : Tree) → IsTree tree → ts ≡ tokens tree
+    → (graph.root ≡ root tree 0) × (graph.objects.items ≡ objects_of tree 0)

@@ -1,4 +1,5 @@
--- What an answer says of bytes. It has the tokens of a tree in place of the tree, so a relation ties it to a judgement.
+-- What an answer says of bytes. It has the tokens of a tree in place of the tree, so a relation
+-- ties it to a judgement.
 use Rattle.std.specs.Prelude.{ℕ, ◌≡◌, List, map}
 use Rattle.om_format.specs.Tree.{Tree, tokens}
 use Rattle.om_format.specs.Judgement.{front, value, refused, Judges}
@@ -10,5 +11,6 @@ use Rattle.om_reference.specs.Refusal.{refusal_of}
 -- the answer is what becomes of the bytes
 abbrev pub JudgesTo : ℕ → List ℕ → Judgement → Type 0
 JudgesTo limit bytes Front = Judges limit bytes front
-JudgesTo limit bytes (Value n all) = (tree : Tree) × Judges limit bytes (value n tree) × (map token_of all.items ≡ tokens tree)
+JudgesTo limit bytes (Value n all) =
+    (tree : Tree) × Judges limit bytes (value n tree) × (map token_of all.items ≡ tokens tree)
 JudgesTo limit bytes (Refused n refusal) = Judges limit bytes (refused n (refusal_of refusal))

@@ -94,7 +94,8 @@ fn put_object(
     fields: &[Val],
     objects: &mut Vec<Obj>,
 ) -> Result<(), AllocError>
-    ensures { OnOk result (objects.new.items ≡ object_of (token_of token) fields.now ++ objects.old.items) }
+    ensures { OnOk result
+        (objects.new.items ≡ object_of (token_of token) fields.now ++ objects.old.items) }
 {
     match token {
         Token::Block(tag, _) => {

@@ -82,7 +82,8 @@ pub fn token_refused(
     c: &Context,
     bytes: &[u8],
 ) -> Result<Option<Decided>, AllocError>
-    ensures { IfOk result (λ decided. FirstRefused (refusal_at (context_of c.now)) bytes.now decided) }
+    ensures { IfOk result
+        (λ decided. FirstRefused (refusal_at (context_of c.now)) bytes.now decided) }
 {
     for i in 0..bytes.len() {
         let count = i + 1;

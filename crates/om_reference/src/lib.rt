@@ -1,4 +1,5 @@
-//! What becomes of bytes that should be a value, computed from the definitions step by step. Slow and plain.
+//! What becomes of bytes that should be a value, computed from the definitions step by step. Slow
+//! and plain.
 #![tactic(auto)]
 
 mod build;

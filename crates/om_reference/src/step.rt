@@ -9,7 +9,8 @@ use crate::header::{BIG_MAGIC, COMPRESSED_MAGIC, SMALL_MAGIC, head_of, header_le
 use crate::refusal::Refusal;
 use om_model::refusal::Stated;
 
-/// How many bytes of the header or the token hold the fields that a step reads, and the refusal where it fails.
+/// How many bytes of the header or the token hold the fields that a step reads, and the refusal
+/// where it fails.
 #[derive(Clone, Copy)]
 pub struct Step {
     pub ends: u128,

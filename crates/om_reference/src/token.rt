@@ -16,8 +16,9 @@ use om_model::list::List;
 use om_model::value::Obj;
 use std::alloc::{AllocError, Global};
 
-/// An integer; an atom, by its tag; a reference to the object so many places back from the next one; a block, by
-/// tag and size, whose fields are the values after it; and an object without fields.
+/// An integer; an atom, by its tag; a reference to the object so many places back from the next
+/// one; a block, by tag and size, whose fields are the values after it; and an object without
+/// fields.
 #[derive(Drop)]
 pub enum Token {
     Integer(i64),
@@ -89,7 +90,9 @@ fn doubles_token(
     bytes: &[u8],
 ) -> Result<Token, AllocError>
     requires { length bytes.now ≡ 8 * count }
-    ensures { IfOk result (λ t. (all : Seq ℕ) → SpellsDoubles little all bytes.now → token_of t ≡ leaf (objects.Doubles all)) }
+    ensures { IfOk result
+        (λ t. (all : Seq ℕ) → SpellsDoubles little all bytes.now
+        → token_of t ≡ leaf (objects.Doubles all)) }
 {
     let all = doubles_of(alloc, little, count, bytes)?;
     Ok(Token::Leaf(Obj::Doubles(List::of(all))))

@@ -135,7 +135,9 @@ fn add_variable(
     steps: &mut Vec<Step>,
 ) -> Result<(), AllocError>
     requires { IsKind kind }
-    ensures { OnOk result (steps_of steps.new.items ≡ steps_of steps.old.items ++ variable_steps (context_of c.now) kind custom rest.now) }
+    ensures { OnOk result
+        (steps_of steps.new.items
+        ≡ steps_of steps.old.items ++ variable_steps (context_of c.now) kind custom rest.now) }
 {
     match (kind, custom) {
         (CodeKind::Custom(_), Some(CustomKind::Native)) => {
@@ -215,7 +217,8 @@ fn entry_steps(c: &Context, code: u8, kind: CodeKind, rest: &[u8]) -> [Step; 2]
     ]
 }
 
-/// Adds the steps of the values that are to come and of the words, and after the last token those of the tree's end.
+/// Adds the steps of the values that are to come and of the words, and after the last token those
+/// of the tree's end.
 fn add_closing(
     c: &Context,
     kind: CodeKind,
@@ -223,7 +226,9 @@ fn add_closing(
     steps: &mut Vec<Step>,
 ) -> Result<(), AllocError>
     requires { IsKind kind }
-    ensures { OnOk result (steps_of steps.new.items ≡ steps_of steps.old.items ++ closing_steps (context_of c.now) kind rest.now) }
+    ensures { OnOk result
+        (steps_of steps.new.items
+        ≡ steps_of steps.old.items ++ closing_steps (context_of c.now) kind rest.now) }
 {
     let n = 1 + fixed_bytes(kind) + variable_bytes(kind, rest);
     let sized = 1 + sizing_bytes(kind, rest);
@@ -257,7 +262,8 @@ fn steps_after(
     rest: &[u8],
 ) -> Result<Vec<Step>, AllocError>
     requires { IsKind kind }
-    ensures { IfOk result (λ steps. steps_of steps.items ≡ steps_after (context_of c.now) code kind rest.now) }
+    ensures { IfOk result
+        (λ steps. steps_of steps.items ≡ steps_after (context_of c.now) code kind rest.now) }
 {
     let mut steps = Vec::from_slice(alloc, &entry_steps(c, code, kind, rest))?;
     add_variable(c, kind, custom_of(first(rest, 3)), rest, &mut steps)?;
@@ -268,7 +274,8 @@ fn steps_after(
 /// The steps of a token.
 #[tactic(auto, unfolding(om_format::specs::Step::token_steps))]
 pub fn token_steps(alloc: Global, c: &Context, token: &[u8]) -> Result<Vec<Step>, AllocError>
-    ensures { IfOk result (λ steps. steps_of steps.items ≡ token_steps (context_of c.now) token.now) }
+    ensures { IfOk result
+        (λ steps. steps_of steps.items ≡ token_steps (context_of c.now) token.now) }
 {
     let Some(code) = token.first() else {
         return Ok(Vec::new(alloc));

@@ -17,8 +17,8 @@ use om_model::bytes::skip;
 use om_model::list::List;
 use std::alloc::{AllocError, Global};
 
-/// A front, a value that the first `taken` bytes spell, with its tokens in preorder, or a refusal of the first `taken`
-/// bytes.
+/// A front, a value that the first `taken` bytes spell, with its tokens in preorder, or a refusal
+/// of the first `taken` bytes.
 #[derive(Drop)]
 pub enum Judgement {
     Front,
@@ -98,7 +98,8 @@ fn judge_bytes(alloc: Global, limit: u64, bytes: &[u8]) -> Result<Judgement, All
     judge_tokens(alloc, limit, bytes)
 }
 
-/// What becomes of bytes, computed from the definitions step by step. Slow: it cuts and sums anew at each token.
+/// What becomes of bytes, computed from the definitions step by step. Slow: it cuts and sums anew
+/// at each token.
 pub fn judge(alloc: Global, limit: u64, bytes: &[u8]) -> Result<Judgement, Memory>
     ensures { IfOk result (JudgesTo limit bytes.now) }
 {

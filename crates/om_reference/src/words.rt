@@ -91,8 +91,8 @@ fn sum_up(tokens: &[Option<Measure>]) -> Totals
     }
 }
 
-/// The sums over these tokens. Of the values that are still to come there is one at first, each token is one of them, and its
-/// fields come on top.
+/// The sums over these tokens. Of the values that are still to come there is one at first, each
+/// token is one of them, and its fields come on top.
 pub fn sums_of(tokens: &[Option<Measure>]) -> Sums
     requires { length tokens.now ≤ 2 ^ 62 }
     ensures sums { sums_in result ≡ sums_of tokens.now }

@@ -1,5 +1,5 @@
--- What a type with variables says (after Henry, Mauny, Chailloux and Manoury 2012, whose types are closed): what each closed
--- type says that stands for them.
+-- What a type with variables says (after Henry, Mauny, Chailloux and Manoury 2012, whose types are
+-- closed): what each closed type says that stands for them.
 use Rattle.std.specs.Prelude.{ℕ, ◌↔◌, List, [], Contains}
 use Rattle.om_model.specs.declared.value.Val.{Val}
 use Rattle.om_model.specs.declared.value.Obj.{Obj}
@@ -45,7 +45,8 @@ NumbersStandForAll =
     → (graph : List Obj) (v : Val)
     → HasType (table_shapes table) graph v 0 ↔ HasEachInstance decls graph v t
 
--- each sound type without variables is closed that reaches finitely many types, as one does of which a table is made
+-- each sound type without variables is closed that reaches finitely many types, as one does of
+-- which a table is made
 abbrev pub ReachedAreClosed : Type 0
 ReachedAreClosed =
     (decls : List Decl) (t : Ty) (types : List Ty)

@@ -27,7 +27,8 @@ TableTypesAreKept =
 abbrev pub DeclaredFaultsAreKept : Type 0
 DeclaredFaultsAreKept =
     (decls : List Decl) (g h : List Obj) (v w : Val) (t : Ty) (fault : Fault) → Iso g v h w
-    → IsLeastFault (declared_shapes decls) g v t fault → IsLeastFault (declared_shapes decls) h w t fault
+    → IsLeastFault (declared_shapes decls) g v t fault
+    → IsLeastFault (declared_shapes decls) h w t fault
 
 abbrev pub TableFaultsAreKept : Type 0
 TableFaultsAreKept =

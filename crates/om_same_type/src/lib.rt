@@ -1,5 +1,6 @@
-//! What is the same up to the numbers of objects has the same types, the same least faults and the same text: so what is said
-//! of a value holds of what is written of it. The functions do nothing: what each ensures is the law.
+//! What is the same up to the numbers of objects has the same types, the same least faults and the
+//! same text: so what is said of a value holds of what is written of it. The functions do nothing:
+//! what each ensures is the law.
 #![tactic(auto)]
 
 mod laws;

@@ -6,11 +6,8 @@ use Rattle.om_types.specs.declared.shape.ShapeOf.{ShapeOf}
 use Rattle.om_types.specs.Table.{node_or_none}
 use Rattle.om_fits.specs.declared.row.Row.{Row}
 use Rattle.om_fits.specs.Row.{IsRowOf}
-use Rattle.om_scan.specs.Rows.{AreRows}
+use Rattle.om_scan.specs.FittingRows.{AreRows}
 use Rattle.om_scan.proofs.PlaceLemmas.{slice_get-push_cases}
-
-pub rows_none : (nodes : List (ShapeOf ℕ)) → AreRows nodes []
-rows_none nodes i row at_i = absurd (none-some row at_i)
 
 pub rows_more :
     (nodes : List (ShapeOf ℕ)) (rows : List Row) (i : ℕ) (shape : ShapeOf ℕ) (row : Row) → length rows ≡ i → AreRows nodes rows

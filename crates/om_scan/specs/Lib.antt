@@ -1,5 +1,5 @@
 pub mod Row
-pub mod Rows
+pub mod FittingRows
 pub mod Taken
 pub mod Scanned
 pub mod Scan

@@ -31,7 +31,8 @@ AreKept old new = (key : ℕ) → 0 < slice_index old key → slice_index new ke
 abbrev pub IsMet : Table → List Obj → List ℕ → Val → ℕ → Type 0
 IsMet table graph marks (vals.Int z) t = (table_shapes table).fits graph (vals.Int z) t
 IsMet table graph marks (vals.Atom tag) t = (table_shapes table).fits graph (vals.Atom tag) t
-IsMet table graph marks (vals.Ref o) t = (u : ℕ) × (mark_of graph marks o ≡ suc u) × (table_shapes table).equal u t
+IsMet table graph marks (vals.Ref o) t =
+    (u : ℕ) × (mark_of graph marks o ≡ suc u) × (table_shapes table).equal u t
 
 -- a value that is no object does not fit the type
 abbrev pub IsUnfit : Table → List Obj → Val → ℕ → Type 0
@@ -42,16 +43,19 @@ IsUnfit table graph (vals.Ref o) t = ⊥
 -- the values of the first r needs of an object at a type are met
 abbrev pub AreMet : Table → List Obj → List ℕ → ℕ → ℕ → ℕ → Type 0
 AreMet table graph marks o t r =
-    (j i a : ℕ) → j < r → slice_get (object_needs table graph o t) j ≡ Some (i, a) → IsMet table graph marks (field_at graph o i) a
+    (j i a : ℕ) → j < r → slice_get (object_needs table graph o t) j ≡ Some (i, a)
+    → IsMet table graph marks (field_at graph o i) a
 
 -- So many needs of an object were tested.
-pub record IsMeeting (table : Table) (graph : List Obj) (old new : List ℕ) (o t r : ℕ) : Type 0 where
+pub record IsMeeting (table : Table) (graph : List Obj) (old new : List ℕ) (o t r : ℕ)
+    : Type 0 where
   pub marks : AreMarks table graph new
   pub kept : AreKept old new
   pub met : AreMet table graph new o t r
 
 -- This need of an object is the first that is not met.
-pub record IsUnmet (table : Table) (graph : List Obj) (marks : List ℕ) (o t : ℕ) (unmet : Unmet) : Type 0 where
+pub record IsUnmet (table : Table) (graph : List Obj) (marks : List ℕ) (o t : ℕ) (unmet : Unmet)
+    : Type 0 where
   pub type : ℕ
   pub at : slice_get (object_needs table graph o t) unmet.place ≡ Some (unmet.field, type)
   pub met : AreMet table graph marks o t unmet.place
@@ -67,21 +71,27 @@ pub record IsTaken (table : Table) (graph : List Obj) (marks : List ℕ) (o t : 
   pub met : AreMet table graph marks o t (length (object_needs table graph o t))
 
 -- The first n objects are taken, each at its type, in so many steps.
-pub record IsScanning (table : Table) (graph : List Obj) (marks types : List ℕ) (n steps : ℕ) : Type 0 where
+pub record IsScanning (table : Table) (graph : List Obj) (marks types : List ℕ) (n steps : ℕ)
+    : Type 0 where
   pub valid : AreMarks table graph marks
   pub root : mark_of graph marks 0 ≡ 1
   pub many : length types ≡ n
   pub taken : (o t : ℕ) → slice_get types o ≡ Some t → IsTaken table graph marks o t
   pub few : steps ≤ cost_of graph types
 
--- The object's turn ends the scan, since it is marked with a type that it does not fit, or since it fits and a need is not met.
+-- The object's turn ends the scan, since it is marked with a type that it does not fit, or since it
+-- fits and a need is not met.
 abbrev pub Stops : Table → List Obj → List ℕ → ℕ → Stop → Type 0
 Stops table graph marks o stops.Unmarked = Unit {0}
-Stops table graph marks o stops.Misfits = (t : ℕ) × (mark_of graph marks o ≡ suc t) × ¬ (table_shapes table).fits graph (vals.Ref o) t
+Stops table graph marks o stops.Misfits =
+    (t : ℕ) × (mark_of graph marks o ≡ suc t) × ¬ (table_shapes table).fits graph (vals.Ref o) t
 Stops table graph marks o (stops.Needs t unmet) =
-    (mark_of graph marks o ≡ suc t) × ((table_shapes table).fits graph (vals.Ref o) t × IsUnmet table graph marks o t unmet)
+    (mark_of graph marks o ≡ suc t)
+    × ((table_shapes table).fits graph (vals.Ref o) t × IsUnmet table graph marks o t unmet)
 
 -- The object is taken too, or ends the scan.
 abbrev pub IsTurned : Table → List Obj → List ℕ → List ℕ → ℕ → ℕ → Option Stop → Type 0
-IsTurned table graph marks types o steps None = IsScanning table graph marks (take (o + 1) types) (o + 1) steps
-IsTurned table graph marks types o steps (Some stop) = IsScanning table graph marks (take o types) o steps × Stops table graph marks o stop
+IsTurned table graph marks types o steps None =
+    IsScanning table graph marks (take (o + 1) types) (o + 1) steps
+IsTurned table graph marks types o steps (Some stop) =
+    IsScanning table graph marks (take o types) o steps × Stops table graph marks o stop

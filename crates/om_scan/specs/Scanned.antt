@@ -18,7 +18,8 @@ use Rattle.om_scan.specs.Taken.{types_in, seen_of, is_unfit_field, is_unfit_obje
 abbrev pub object_needs : Table → List Obj → ℕ → ℕ → List (ℕ × ℕ)
 object_needs table graph o t = (table_shapes table).needs graph (vals.Ref o) t
 
--- The type of each object, by its number: the first is at type 0, and objects and types justify one another.
+-- The type of each object, by its number: the first is at type 0, and objects and types justify one
+-- another.
 pub record IsScanned (table : Table) (graph : List Obj) (types : List ℕ) : Type 0 where
   pub many : length types ≡ length graph
   pub within : (o t : ℕ) → slice_get types o ≡ Some t → t < length table.nodes
@@ -27,26 +28,33 @@ pub record IsScanned (table : Table) (graph : List Obj) (types : List ℕ) : Typ
 
 -- ---- where the scan stopped
 
--- An object that was seen at a type: where it was taken it was at an equal one, and where it was found unfit it does not fit.
+-- An object that was seen at a type: where it was taken it was at an equal one, and where it was
+-- found unfit it does not fit.
 pub record IsSeenObject (table : Table) (graph : List Obj) (taken : Taken) (o t : ℕ) : Type 0 where
   pub taken_at : (u : ℕ) → slice_get (types_in taken) o ≡ Some u → (table_shapes table).equal u t
-  pub unfit : IsTrue (is_unfit_object taken.unfit o) → ¬ (table_shapes table).fits graph (vals.Ref o) t
+  pub unfit : IsTrue (is_unfit_object taken.unfit o)
+      → ¬ (table_shapes table).fits graph (vals.Ref o) t
 
 -- Field i of object o was seen at a type: where it is no object it fits, unless it was found unfit.
 abbrev pub IsSeen : Table → List Obj → Taken → ℕ → ℕ → Val → ℕ → Type 0
 IsSeen table graph taken o i (vals.Int z) t =
-    MatchBool (is_unfit_field taken.unfit o i) (¬ (table_shapes table).fits graph (vals.Int z) t) ((table_shapes table).fits graph (vals.Int z) t)
+    MatchBool (is_unfit_field taken.unfit o i) (¬ (table_shapes table).fits graph (vals.Int z) t)
+    ((table_shapes table).fits graph (vals.Int z) t)
 IsSeen table graph taken o i (vals.Atom tag) t =
-    MatchBool (is_unfit_field taken.unfit o i) (¬ (table_shapes table).fits graph (vals.Atom tag) t) ((table_shapes table).fits graph (vals.Atom tag) t)
+    MatchBool (is_unfit_field taken.unfit o i) (¬ (table_shapes table).fits graph (vals.Atom tag) t)
+    ((table_shapes table).fits graph (vals.Atom tag) t)
 IsSeen table graph taken o i (vals.Ref p) t = IsSeenObject table graph taken p t
 
--- The first objects, each at a type that it fits; what it needs there was seen, of the last one at the first fields.
+-- The first objects, each at a type that it fits; what it needs there was seen, of the last one at
+-- the first fields.
 pub record AreTaken (table : Table) (graph : List Obj) (taken : Taken) : Type 0 where
   pub many : length (types_in taken) ≤ length graph
   pub within : (o t : ℕ) → slice_get (types_in taken) o ≡ Some t → t < length table.nodes
-  pub fits : (o t : ℕ) → slice_get (types_in taken) o ≡ Some t → (table_shapes table).fits graph (vals.Ref o) t
+  pub fits : (o t : ℕ) → slice_get (types_in taken) o ≡ Some t
+      → (table_shapes table).fits graph (vals.Ref o) t
   pub seen :
-      (o t i a : ℕ) → slice_get (types_in taken) o ≡ Some t → i < seen_of taken o → Contains (object_needs table graph o t) (i, a)
+      (o t i a : ℕ) → slice_get (types_in taken) o ≡ Some t → i < seen_of taken o
+      → Contains (object_needs table graph o t) (i, a)
       → IsSeen table graph taken o i (field_at graph o i) a
 
 -- the type of each object, or of the first ones
@@ -62,9 +70,11 @@ cost_of graph types = sum_by (λ (entry : ℕ × ℕ). 1 + size_of graph entry.0
 abbrev pub left_of : List Obj → Taken → ℕ
 left_of graph taken = rest_of (size_of graph (taken.objects - 1)) taken.seen
 
--- Where the scan has told the types, its steps and one more are no more than the most; where it stopped, they and what is left
--- of the last object are no more than the objects taken and their fields.
+-- Where the scan has told the types, its steps and one more are no more than the most; where it
+-- stopped, they and what is left of the last object are no more than the objects taken and their
+-- fields.
 abbrev pub AreCounted : Table → List Obj → ℕ → ℕ → Result Scanned Memory → Type 0
 AreCounted table graph old new (Ok (answers.Told types)) = new + 1 ≤ old + most_steps table graph
-AreCounted table graph old new (Ok (answers.Stopped taken)) = new + left_of graph taken ≤ old + cost_of graph (types_in taken)
+AreCounted table graph old new (Ok (answers.Stopped taken)) =
+    new + left_of graph taken ≤ old + cost_of graph (types_in taken)
 AreCounted table graph old new (Err memory) = new ≡ old

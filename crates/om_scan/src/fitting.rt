@@ -6,7 +6,7 @@ ghost use Rattle.om_model.specs.declared.value.Val.{Val};
 ghost use Rattle.om_heap.specs.Heap.{word_of, IsFieldWord};
 ghost use Rattle.om_types.specs.Table.{table_shapes};
 ghost use Rattle.om_type_table.specs.Made.{table_of};
-ghost use Rattle.om_scan.specs.Rows.{AreRows};
+ghost use Rattle.om_scan.specs.FittingRows.{AreRows};
 
 use om_fits::{Row, needs_of, surely_fits};
 use om_heap::Heap;
@@ -20,7 +20,8 @@ pub fn fits_type(heap: &Heap, table: &TypeTable, rows: &[Row], ty: usize, word: 
     requires rows { AreRows table.now.nodes rows.now }
     requires word { IsFieldWord heap.now word }
     requires node { ty < length table.now.nodes }
-    ensures { (v : Val) → IsValue (length heap.now) v → word ≡ word_of heap.now v → IsTrue result ↔ (table_shapes (table_of table.now)).fits heap.now v ty }
+    ensures { (v : Val) → IsValue (length heap.now) v → word ≡ word_of heap.now v → IsTrue result
+        ↔ (table_shapes (table_of table.now)).fits heap.now v ty }
 {
     if ty < rows.len() && surely_fits(heap, rows[ty], word) {
         return true;
@@ -34,7 +35,8 @@ fn fits_by_kind(heap: &Heap, table: &TypeTable, ty: usize, word: u64) -> bool
     requires graph { IsGraph heap.now }
     requires word { IsFieldWord heap.now word }
     requires node { ty < length table.now.nodes }
-    ensures { (v : Val) → IsValue (length heap.now) v → word ≡ word_of heap.now v → IsTrue result ↔ (table_shapes (table_of table.now)).fits heap.now v ty }
+    ensures { (v : Val) → IsValue (length heap.now) v → word ≡ word_of heap.now v → IsTrue result
+        ↔ (table_shapes (table_of table.now)).fits heap.now v ty }
 {
     needs_of(heap, heap.value_of(word), table.shape(ty)).is_some()
 }

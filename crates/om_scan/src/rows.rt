@@ -1,7 +1,7 @@
 //! For each type what surely fits it.
 
 ghost use Rattle.std.specs.Prelude.{IfOk};
-ghost use Rattle.om_scan.specs.Rows.{AreRows};
+ghost use Rattle.om_scan.specs.FittingRows.{AreRows};
 
 use om_fits::{Row, row_of};
 use om_heap::Heap;
@@ -9,7 +9,8 @@ use om_model::Memory;
 use om_type_table::TypeTable;
 use std::alloc::Global;
 
-/// The rows of all types; none where the types are more than the objects, since to make them would cost more than it saves.
+/// The rows of all types; none where the types are more than the objects, since to make them would
+/// cost more than it saves.
 pub fn rows_of(alloc: Global, heap: &Heap, table: &TypeTable) -> Result<Vec<Row>, Memory>
     ensures { IfOk result (λ rows. AreRows table.now.nodes rows.items) }
 {

@@ -9,7 +9,7 @@ ghost use Rattle.om_heap.specs.Heap.{word_of, IsFieldWord};
 ghost use Rattle.om_types.specs.Table.{table_shapes};
 ghost use Rattle.om_fits.specs.Needs.{needs_in};
 ghost use Rattle.om_type_table.specs.Made.{table_of, IsLawful};
-ghost use Rattle.om_scan.specs.Rows.{AreRows};
+ghost use Rattle.om_scan.specs.FittingRows.{AreRows};
 ghost use Rattle.om_scan.specs.Taken.{types_in};
 ghost use Rattle.om_scan.specs.Scanned.{object_needs, Tells, AreTaken, AreCounted, cost_of, left_of};
 ghost use Rattle.om_scan.specs.Scan.{AreMarks, AreKept, IsMet, AreMet, IsUnmet, IsScanning, Stops, IsTurned};
@@ -50,13 +50,15 @@ struct Unmet {
     /// How many needs come before it.
     place: u64,
     field: u64,
-    /// Whether the field is no object, and does not fit; else it is an object that was met at another type.
+    /// Whether the field is no object, and does not fit; else it is an object that was met at
+    /// another type.
     unfit: bool,
 }
 
-/// Tries the objects in the order of their numbers, the first at type 0, which it fits, and each other at the type at which
-/// it was met first. Where each is met before its turn, at equal types only, and all fits, the answer is the type of each;
-/// where not, what was taken until then. A step is counted for each object taken, and for each need tested.
+/// Tries the objects in the order of their numbers, the first at type 0, which it fits, and each
+/// other at the type at which it was met first. Where each is met before its turn, at equal types
+/// only, and all fits, the answer is the type of each; where not, what was taken until then. A step
+/// is counted for each object taken, and for each need tested.
 pub fn scan(
     alloc: Global,
     heap: &Heap,
@@ -102,10 +104,12 @@ fn stop_at(
     requires lawful { IsLawful (table_of _table.now) }
     requires object { o < length _heap.now }
     requires many { length types ≡ length _heap.now }
-    requires scanning { IsScanning (table_of _table.now) _heap.now _marks.now (take o types) o taken.old }
+    requires scanning { IsScanning (table_of _table.now) _heap.now _marks.now (take o types) o
+        taken.old }
     requires stops { Stops (table_of _table.now) _heap.now _marks.now o stop }
     ensures types { IfOk result (AreTaken (table_of _table.now) _heap.now) }
-    ensures steps { IfOk result (λ stopped. taken.new + left_of _heap.now stopped ≤ cost_of _heap.now (types_in stopped)) }
+    ensures steps { IfOk result
+        (λ stopped. taken.new + left_of _heap.now stopped ≤ cost_of _heap.now (types_in stopped)) }
 {
     let objects = o as usize;
     match stop {
@@ -144,8 +148,8 @@ fn stop_at(
     }
 }
 
-/// Takes object o at the type that it is marked with. Where it is not marked, does not fit or a need is not met, it is
-/// not taken, and that is the answer.
+/// Takes object o at the type that it is marked with. Where it is not marked, does not fit or a
+/// need is not met, it is not taken, and that is the answer.
 #[inline(always)]
 fn take_object(
     heap: &Heap,
@@ -161,10 +165,12 @@ fn take_object(
     requires lawful { IsLawful (table_of table.now) }
     requires object { o < length heap.now }
     requires many { length types.old ≡ length heap.now }
-    requires scanning { IsScanning (table_of table.now) heap.now marks.old (take o types.old) o taken.old }
+    requires scanning { IsScanning (table_of table.now) heap.now marks.old (take o types.old) o
+        taken.old }
     requires root { (table_shapes (table_of table.now)).fits heap.now (vals.Ref 0) 0 }
     ensures many { OnOk result (length types.new ≡ length heap.now) }
-    ensures turned { IfOk result (IsTurned (table_of table.now) heap.now marks.new types.new o taken.new) }
+    ensures turned { IfOk result
+        (IsTurned (table_of table.now) heap.now marks.new types.new o taken.new) }
 {
     let word = heap.word(Val::Ref(o));
     let mark = marks.get(heap.key(word));
@@ -205,7 +211,8 @@ fn fits_mark(heap: &Heap, table: &TypeTable, rows: &[Row], o: u64, word: u64, ty
     fits_type(heap, table, rows, ty, word)
 }
 
-/// Tests the needs of an object, which has this word, at a type. The answer is the first that is not met.
+/// Tests the needs of an object, which has this word, at a type. The answer is the first that is
+/// not met.
 #[inline(always)]
 fn meet_all(
     heap: &Heap,
@@ -227,7 +234,11 @@ fn meet_all(
     requires marks { AreMarks (table_of table.now) heap.now marks.old }
     ensures marks { OnOk result (AreMarks (table_of table.now) heap.now marks.new) }
     ensures kept { OnOk result (AreKept marks.old marks.new) }
-    ensures met { IfOk result (λ unmet. MatchOption unmet (AreMet (table_of table.now) heap.now marks.new o ty (length (object_needs (table_of table.now) heap.now o ty))) (IsUnmet (table_of table.now) heap.now marks.new o ty)) }
+    ensures met { IfOk result
+        (λ unmet. MatchOption unmet
+        (AreMet (table_of table.now) heap.now marks.new o ty
+        (length (object_needs (table_of table.now) heap.now o ty)))
+        (IsUnmet (table_of table.now) heap.now marks.new o ty)) }
 {
     match needs {
         Needs::Listed(types) => meet_each(
@@ -266,7 +277,11 @@ fn meet_each(
     requires marks { AreMarks (table_of table.now) heap.now marks.old }
     ensures marks { OnOk result (AreMarks (table_of table.now) heap.now marks.new) }
     ensures kept { OnOk result (AreKept marks.old marks.new) }
-    ensures met { IfOk result (λ unmet. MatchOption unmet (AreMet (table_of table.now) heap.now marks.new o ty (length (object_needs (table_of table.now) heap.now o ty))) (IsUnmet (table_of table.now) heap.now marks.new o ty)) }
+    ensures met { IfOk result
+        (λ unmet. MatchOption unmet
+        (AreMet (table_of table.now) heap.now marks.new o ty
+        (length (object_needs (table_of table.now) heap.now o ty)))
+        (IsUnmet (table_of table.now) heap.now marks.new o ty)) }
 {
     if needs.len() == 0 {
         return Ok(None);
@@ -286,7 +301,8 @@ fn meet_each(
     Ok(None)
 }
 
-/// Tests the value of a word at a type: an object that is not marked is marked with the type, and tested at its turn.
+/// Tests the value of a word at a type: an object that is not marked is marked with the type, and
+/// tested at its turn.
 #[inline(always)]
 fn meet(
     heap: &Heap,
@@ -304,8 +320,14 @@ fn meet(
     requires marks { AreMarks (table_of table.now) heap.now marks.old }
     ensures marks { OnOk result (AreMarks (table_of table.now) heap.now marks.new) }
     ensures kept { OnOk result (AreKept marks.old marks.new) }
-    ensures met { IfOk result (λ met. OnTrue met ((v : Val) → IsValue (length heap.now) v → word ≡ word_of heap.now v → IsMet (table_of table.now) heap.now marks.new v ty)) }
-    ensures unmet { IfOk result (λ met. OnFalse met (word % 8 ≢ 0 → (v : Val) → IsValue (length heap.now) v → word ≡ word_of heap.now v → ¬ (table_shapes (table_of table.now)).fits heap.now v ty)) }
+    ensures met { IfOk result
+        (λ met. OnTrue met
+        ((v : Val) → IsValue (length heap.now) v → word ≡ word_of heap.now v
+        → IsMet (table_of table.now) heap.now marks.new v ty)) }
+    ensures unmet { IfOk result
+        (λ met. OnFalse met
+        (word % 8 ≢ 0 → (v : Val) → IsValue (length heap.now) v → word ≡ word_of heap.now v
+        → ¬ (table_shapes (table_of table.now)).fits heap.now v ty)) }
 {
     if word % 8 != 0 {
         return Ok(fits_type(heap, table, rows, ty, word));

@@ -14,7 +14,8 @@ pub struct Taken {
     pub types: Cells,
     /// How many there are: those behind them are not taken.
     pub objects: usize,
-    /// The needs of the last one were tested at the fields below this number; those of each before it at all fields.
+    /// The needs of the last one were tested at the fields below this number; those of each before
+    /// it at all fields.
     pub seen: u64,
     /// What was tested and does not fit.
     pub unfit: Unfit,

@@ -47,7 +47,8 @@ fn comes_back(
     }
 }
 
-/// The least place of a name whose node lies on a cycle. After the first one is found, only names before it are tried.
+/// The least place of a name whose node lies on a cycle. After the first one is found, only names
+/// before it are tried.
 fn least_cyclic_name(
     alloc: Global,
     graph: &[List<usize>],

@@ -13,7 +13,8 @@ use std::alloc::Global;
 
 /// The first place of each declared name.
 pub fn table_of<'a>(alloc: Global, decls: &'a [Decl]) -> Result<Table<'a>, Memory>
-    ensures { IfOk result (λ t. ArePlaces (names_of_decls decls.now) (length decls.now) (number_of t)) }
+    ensures { IfOk result
+        (λ t. ArePlaces (names_of_decls decls.now) (length decls.now) (number_of t)) }
 {
     let mut table = empty(alloc);
     for i in 0..decls.len() {

@@ -56,7 +56,8 @@ fn push_new(marks: &[Mark], nodes: &[usize], stack: &mut Vec<usize>) -> Result<(
     Ok(())
 }
 
-/// Ranks a node whose successors have ranks, and opens another one that is new. Whether it was opened.
+/// Ranks a node whose successors have ranks, and opens another one that is new. Whether it was
+/// opened.
 fn rank_or_open(graph: &[List<usize>], node: usize, turn: usize, marks: &mut [Mark]) -> bool
     requires node { node < length graph.now }
     requires ranks { AreRanks graph.now marks.old }
@@ -78,7 +79,8 @@ fn rank_or_open(graph: &[List<usize>], node: usize, turn: usize, marks: &mut [Ma
     false
 }
 
-/// Ranks a node once its successors have ranks. Before that, it puts those on the stack, and the node below them.
+/// Ranks a node once its successors have ranks. Before that, it puts those on the stack, and the
+/// node below them.
 fn visit(
     graph: &[List<usize>],
     node: usize,

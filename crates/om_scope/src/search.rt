@@ -27,8 +27,11 @@ fn expand(
     stack: &mut Vec<usize>,
 ) -> Result<(), Memory>
     requires { node < length graph.now }
-    ensures search { OnOk result ((start : ℕ) → IsSearch graph.now start seen.old (node ∷ stack.old.items) → IsSearch graph.now start seen.new stack.new.items) }
-    ensures counted { OnOk result (unseen_count seen.new + vec_len stack.new ≡ unseen_count seen.old + vec_len stack.old) }
+    ensures search { OnOk result
+        ((start : ℕ) → IsSearch graph.now start seen.old (node ∷ stack.old.items)
+        → IsSearch graph.now start seen.new stack.new.items) }
+    ensures counted { OnOk result
+        (unseen_count seen.new + vec_len stack.new ≡ unseen_count seen.old + vec_len stack.old) }
 {
     let nodes = successors(graph, node);
     for i in 0..nodes.len() {

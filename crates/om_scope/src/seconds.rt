@@ -28,7 +28,8 @@ pub fn least_second(alloc: Global, row: &[Placed]) -> Result<Option<usize>, Memo
 
 /// The same of several rows.
 pub fn least_second_of_rows(alloc: Global, rows: &[List<Placed>]) -> Result<Option<usize>, Memory>
-    ensures { IfOk result (IsLeast (λ k. (row : List PlacedName) × Contains rows.now row × IsSecond row k)) }
+    ensures { IfOk result
+        (IsLeast (λ k. (row : List PlacedName) × Contains rows.now row × IsSecond row k)) }
 {
     let mut best = None;
     for i in 0..rows.len() {

@@ -59,8 +59,8 @@ pub struct Use {
 /// What stands where in a declaration.
 #[derive(Drop)]
 pub struct Site {
-    /// The parameters, the constructors, the fields of each record, and the tags that each bracket writes: rows of
-    /// names that have to differ.
+    /// The parameters, the constructors, the fields of each record, and the tags that each bracket
+    /// writes: rows of names that have to differ.
     pub rows: List<List<Placed>>,
     /// The lexemes of the constructors with arguments.
     pub carrying: List<usize>,

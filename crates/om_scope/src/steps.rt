@@ -57,7 +57,8 @@ fn steps_of(
     site: &Site,
 ) -> Result<List<usize>, Memory>
     requires { ArePlaces (names_of_decls decls.now) (length decls.now) (number_of table.now) }
-    ensures { IfOk result (λ steps. (j : ℕ) → Contains steps j ↔ HasStep decls.now decl.now site.now.uses j) }
+    ensures { IfOk result
+        (λ steps. (j : ℕ) → Contains steps j ↔ HasStep decls.now decl.now site.now.uses j) }
 {
     let mut steps = List::new(alloc);
     if !is_abbreviation(decl) {

@@ -36,7 +36,8 @@ pub fn add<'a>(
     number: usize,
 ) -> Result<Option<usize>, Memory>
     ensures had { IfOk result (λ had. had ≡ number_of table.old name.now) }
-    ensures added { OnOk result ((q : List ℕ) → number_of table.new q ≡ added (number_of table.old) name.now number q) }
+    ensures added { OnOk result
+        ((q : List ℕ) → number_of table.new q ≡ added (number_of table.old) name.now number q) }
 {
     match find(table, name) {
         Some(had) => Ok(Some(had)),

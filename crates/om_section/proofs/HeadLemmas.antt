@@ -50,9 +50,6 @@ number_cut text object behind cut n rest number is =
     cut_is_one 32 object (decimal n) behind (32 ∷ rest) cut.none (decimal_lacks n 32 number (omega arith)) cut.begins (inr (rest, refl))
     (sym cut.whole ∙ is)
 
-pub no_pair_front : (line : List ℕ) → ((rest : List ℕ) → line ≢ codes "pair " ++ rest) → IsNoPairLine line
-no_pair_front line none pair is = none (decimal pair.0 ++ (codes " " ++ decimal pair.1)) is.1
-
 module _ (line text object behind : List ℕ) (front : line ≡ codes "pair " ++ text) (cut : IsCut text 32 object behind) where
   pair_cut : (pair : ℕ × ℕ) → IsPairLine line pair → (object ≡ decimal pair.0) × (behind ≡ 32 ∷ decimal pair.1)
   pair_cut pair is =
@@ -77,9 +74,6 @@ module _ (line text object behind : List ℕ) (front : line ≡ codes "pair " ++
   )
 
 -- ---- the head
-
-pub no_head_front : (k : ℕ) (line : List ℕ) → ((rest : List ℕ) → line ≢ codes "value " ++ rest) → IsNoHead k line
-no_head_front k line none number section stated is = none (decimal k ++ (codes " " ++ verdict_text section)) is
 
 module _ (k : ℕ) (line text digits behind : List ℕ) (front : line ≡ codes "value " ++ text) (cut : IsCut text 32 digits behind) where
   head_cut : IsNumber k → (section : Section) → line ≡ head_line k section → (digits ≡ decimal k) × (behind ≡ 32 ∷ verdict_text section)
@@ -117,9 +111,6 @@ module _ (k : ℕ) (line text digits behind : List ℕ) (front : line ≡ codes 
   }
 
 -- ---- one step of a path
-
-pub no_step_front : (text : List ℕ) → ((rest : List ℕ) → text ≢ codes "." ++ rest) → IsNoStep text
-no_step_front text none step rest is = none (decimal step ++ rest) is.spelled
 
 pub no_step_number : (text numbers digits rest : List ℕ) → text ≡ codes "." ++ numbers → IsCut numbers 46 digits rest → IsNoNumberText digits → IsNoStep text
 no_step_number text numbers digits rest dot cut none step more is =
@@ -177,9 +168,6 @@ pub record AreSteps (text path rest : List ℕ) : Type 0 where
   pub spelled : text ≡ steps_text path ++ rest
   pub begins : BeginsAt 46 rest
 
-pub steps_none : (text : List ℕ) → BeginsAt 46 text → AreSteps text [] text
-steps_none text begins = record { numbers = All-nil IsNumber; spelled = refl; begins = begins }
-
 pub steps_more :
     (text path rest : List ℕ) (step : ℕ) (more : List ℕ) → AreSteps text path rest → IsStep rest step more → AreSteps text (path ++ step ∷ []) more
 steps_more text path rest step more are is = record {
@@ -194,16 +182,6 @@ steps_more text path rest step more are is = record {
   one : steps_text (step ∷ []) ++ more ≡ codes "." ++ (decimal step ++ more)
   one = ap (λ (z : List ℕ). z ++ more) (append-nil (codes "." ++ decimal step))
 
-pub steps_fewer : (rest : List ℕ) (step : ℕ) (more : List ℕ) → IsStep rest step more → length more < length rest
-steps_fewer rest step more is =
-    let long = ap length is.spelled in
-    let both = length-append (decimal step) more in
-    omega (arith, long, both)
-
-pub steps_all : (text path rest : List ℕ) → AreSteps text path rest → rest ≡ [] → IsStepsText text path
-steps_all text path rest are none =
-    (are.numbers, are.spelled ∙ (ap (λ (z : List ℕ). steps_text path ++ z) none ∙ append-nil (steps_text path)))
-
 pub no_steps : (text path rest : List ℕ) → AreSteps text path rest → (rest ≡ [] → ⊥) → IsNoStep rest → IsNoStepsText text
 no_steps text path rest are some none all is = by_more has.more has.is has.spelled where
   has : HasMore path all rest
@@ -217,16 +195,6 @@ no_steps text path rest are some none all is = by_more has.more has.is has.spell
 
 -- ---- paths
 
-pub no_path_front : (text : List ℕ) → ((rest : List ℕ) → text ≢ codes "." ++ rest) → IsNoPathText text
-no_path_front text none [] is = none [] is.1
-no_path_front text none (step ∷ path) is = none (decimal step ++ steps_text path) is.1
-
-pub path_is_root : (text numbers : List ℕ) → text ≡ codes "." ++ numbers → numbers ≡ [] → IsPathText text []
-path_is_root text numbers dot none = (All-nil IsNumber, dot ∙ ap (λ (z : List ℕ). codes "." ++ z) none)
-
-pub begins_with_dot : (text numbers : List ℕ) → text ≡ codes "." ++ numbers → BeginsAt 46 text
-begins_with_dot text numbers dot = inr (numbers, dot)
-
 pub no_path_steps : (text numbers : List ℕ) → text ≡ codes "." ++ numbers → (numbers ≡ [] → ⊥) → IsNoStepsText text → IsNoPathText text
 no_path_steps text numbers dot some none [] is = some (append_cancel_left (codes ".") numbers [] (sym dot ∙ is.1))
 no_path_steps text numbers dot some none (step ∷ path) is = none (step ∷ path) is
@@ -239,20 +207,6 @@ path_is_steps text numbers (step ∷ path) dot is = is
 
 apart : (m n : ℕ) (a b : List ℕ) → (m < n) → m ∷ a ≡ n ∷ b → ⊥
 apart m n a b less is = let first : m ≡ n = first_byte (m ∷ a) (n ∷ b) is in omega (arith, less, first)
-
-nothing_increases : AreIncreasing []
-nothing_increases j k one other less at_j at_k = absurd (let inside = slice_get_within [] j one at_j in omega (arith, inside))
-
-pub verdict_is_yes : (text : List ℕ) → text ≡ codes "yes" → IsVerdict text (sections.Pairs [])
-verdict_is_yes text is = record { stated = (nothing_increases, All-nil AreNumbers); spelled = is; no_pair = refl }
-
-pub verdict_is_misfit : (text path : List ℕ) → IsPathText text path → IsVerdict (codes "misfit " ++ text) (sections.Misfit path)
-verdict_is_misfit text path is = record { stated = is.0; spelled = ap (λ (z : List ℕ). codes "misfit " ++ z) is.1; no_pair = refl }
-
-pub no_verdict_misfit : (text : List ℕ) → IsNoPathText text → IsNoVerdict (codes "misfit " ++ text)
-no_verdict_misfit text none (sections.Pairs pairs) stated is = apart 109 121 _ _ (omega arith) is
-no_verdict_misfit text none (sections.Misfit path) stated is = none path (stated, append_cancel_left (codes "misfit ") text (path_text path) is)
-no_verdict_misfit text none (sections.Clash first second) stated is = apart 99 109 _ _ (omega arith) (sym is)
 
 module _ (paths one behind : List ℕ) (cut : IsCut paths 32 one behind) where
   -- it is one with these two paths, or none
@@ -288,10 +242,3 @@ module _ (paths one behind : List ℕ) (cut : IsCut paths 32 one behind) where
         (cut.whole ∙ (ap (λ (z : List ℕ). z ++ behind) here.1 ∙ ap (λ (z : List ℕ). path_text first ++ z) (space ∙ ap (λ (z : List ℕ). codes " " ++ z) there.1)));
     no_pair = refl;
   }
-
-pub no_verdict :
-    (text : List ℕ) → (text ≡ codes "yes" → ⊥) → ((rest : List ℕ) → text ≢ codes "misfit " ++ rest) → ((rest : List ℕ) → text ≢ codes "clash " ++ rest)
-    → IsNoVerdict text
-no_verdict text no_yes no_misfit no_clash' (sections.Pairs pairs) stated is = no_yes is
-no_verdict text no_yes no_misfit no_clash' (sections.Misfit path) stated is = no_misfit (path_text path) is
-no_verdict text no_yes no_misfit no_clash' (sections.Clash first second) stated is = no_clash' (path_text first ++ (codes " " ++ path_text second)) is

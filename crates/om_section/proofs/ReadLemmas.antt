@@ -49,17 +49,6 @@ all_at : (pairs : List (ℕ × ℕ)) (pair : ℕ × ℕ) (rest : List (ℕ × �
 all_at [] pair rest all = All-head AreNumbers pair rest all
 all_at (p ∷ pairs) pair rest all = all_at pairs pair rest (λ k d inside. all (suc k) d (omega (arith, inside)))
 
-pub longer_is :
-    (pairs longer : List (ℕ × ℕ)) (pair : ℕ × ℕ) (line : List ℕ) → IsStated (sections.Pairs pairs) → longer ≡ pairs ++ pair ∷ [] → AreIncreasing longer
-    → IsPairLine line pair → HasOneMore (sections.Pairs pairs) line (sections.Pairs longer)
-longer_is pairs longer pair line stated is increasing spelled = record {
-  stated = (increasing, subst (λ (ps : List (ℕ × ℕ)). All AreNumbers ps) (sym is) (All-push AreNumbers pairs pair stated.1 spelled.0));
-  spelled =
-      ap (λ (ps : List (ℕ × ℕ)). map pair_line ps) is
-      ∙ (map-append pair_line pairs (pair ∷ []) ∙ ap (λ (l : List ℕ). map pair_line pairs ++ l ∷ []) (sym spelled.1));
-  same = refl;
-}
-
 pub no_longer :
     (pairs : List (ℕ × ℕ)) (pair : ℕ × ℕ) (line : List ℕ) → IsPairLine line pair → ¬ IsAbove pairs pair → HasNoMore (sections.Pairs pairs) line
 no_longer pairs pair line own below other above is =

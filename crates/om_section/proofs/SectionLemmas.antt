@@ -22,9 +22,6 @@ pub last_inside : (n : ℕ) → (n ≡ 0 → ⊥) → n - 1 < n
 last_inside zero some = absurd (some refl)
 last_inside (suc n) some = omega arith
 
-pub above_none : (pairs : List (ℕ × ℕ)) (pair : ℕ × ℕ) → length pairs ≡ 0 → IsAbove pairs pair
-above_none pairs pair none k one at = absurd (let inside = slice_get_within pairs k one at in omega (arith, inside, none))
-
 pub above_last :
     (pairs : List (ℕ × ℕ)) (last pair : ℕ × ℕ) (test : Bool) → AreIncreasing pairs → slice_get pairs (length pairs - 1) ≡ Some last
     → (IsTrue test ↔ IsSmaller last pair) → IsTrue test ↔ IsAbove pairs pair
@@ -34,15 +31,3 @@ above_last pairs last pair test increasing at_last tells = (λ yes'. all (tells.
       (λ less. smaller_transitive one last pair (increasing k (length pairs - 1) one last less at at_last) smaller)
       (λ same. subst (λ p. IsSmaller p pair) (same_Some last one (sym at_last ∙ (ap (slice_get pairs) (sym same) ∙ at))) smaller)
       (two_ways k (length pairs) (slice_get_within pairs k one at))
-
-pub smaller_here : (one : ℕ × ℕ) (o t : ℕ) → one.0 ≡ o → IsTrue (nat_lt one.1 t) ↔ IsSmaller one (o, t)
-smaller_here one o t same = (λ less. inr (same, ltb-true one.1 t less), λ smaller. lt-ltb one.1 t (second smaller)) where
-  second : IsSmaller one (o, t) → one.1 < t
-  second (inl less) = absurd (omega (arith, less, same))
-  second (inr both) = both.1
-
-pub smaller_there : (one : ℕ × ℕ) (o t : ℕ) → (one.0 ≡ o → ⊥) → IsTrue (nat_lt one.0 o) ↔ IsSmaller one (o, t)
-smaller_there one o t other = (λ less. inl (ltb-true one.0 o less), λ smaller. lt-ltb one.0 o (first smaller)) where
-  first : IsSmaller one (o, t) → one.0 < o
-  first (inl less) = less
-  first (inr both) = absurd (other both.0)

@@ -1,6 +1,6 @@
 //! Certificates read from their bytes, line by line.
 
-ghost use Rattle.std.specs.Prelude.{◌≡◌, ◌<◌, ◌++◌, ◌∷◌, [], length, IfOk, IfErr, MatchOption};
+ghost use Rattle.std.specs.Prelude.{◌≡◌, ◌<◌, IfOk, IfErr, MatchOption};
 ghost use Rattle.om_section.specs.Format.{IsCertificate, IsStated};
 ghost use Rattle.om_section.specs.Reading.{IsReading, GoesOn, GoesNowhere, HasOneMore, HasNoMore, IsFaultOf};
 ghost use Rattle.om_section.specs.declared.section.Section.TheVariants as sections;

@@ -18,7 +18,7 @@ use Rattle.om_format.specs.Tree.{Tree}
 use Rattle.om_edge.specs.Sink.{Puts, Writes}
 use Rattle.om_edge.specs.State.{ByteState, Change, change}
 use Rattle.om_edge.specs.declared.sink.WriteError.TheVariants as errors
-use Rattle.om_edit.specs.Answers.{Answer, Edited}
+use Rattle.om_edit.specs.EditedValues.{Answer, Edited}
 use Rattle.om_edit.specs.Laws.{IsDeclaredAnswer, SayTheSame, TablesEditAlike}
 use Rattle.om_edit.specs.Reasons.{Reason, no_field, no_literal, misread, ill_typed, reason_text, reason_or_none, literal_reason, reason_of}
 use Rattle.om_edit.specs.declared.refusal.EditRefusal.{EditRefusal}
@@ -257,16 +257,6 @@ module _ (compat : Bool) (k : ℕ) (g : List Obj) (v : Val) where
 
 is_below : (a b : ℕ) → a < b → nat_lt a b ≡ true
 is_below a b less = lt-ltb a b less
-
-not_below : (a b : ℕ) → b ≤ a → nat_lt a b ≡ false
-not_below a b more = le-ltb a b more
-
--- a line past so many values, or none
-pub past_here : (lines : List ScriptLine) (line : ScriptLine) (more : List ScriptLine) (n : ℕ) → lines ≡ line ∷ more → n ≤ line.value → line_past declared_types lines n ≡ Some line
-past_here lines line more n is past = ap (λ l. line_past declared_types l n) is ∙ rw (not_below line.value n past) refl
-
-pub past_later : (lines : List ScriptLine) (line : ScriptLine) (more : List ScriptLine) (n : ℕ) → lines ≡ line ∷ more → line.value < n → line_past declared_types lines n ≡ line_past declared_types more n
-past_later lines line more n is below = ap (λ l. line_past declared_types l n) is ∙ rw (is_below line.value n below) refl
 
 module _ (e : Edits) (trees : List Tree) (well : Bool) (n : ℕ) (counted : n ≡ length trees) (lines : List ScriptLine) (are : lines ≡ e.script.now.lines) where
   past_is : (number : Option ℕ) → IsPast lines n number → number ≡ option_map (λ line. line.number) (line_past declared_types e.script.now.lines (length trees))

@@ -29,7 +29,7 @@ use Rattle.om_path.specs.declared.edits.Script.{Script}
 use Rattle.om_path.specs.declared.edits.ScriptFault.{ScriptFault}
 use Rattle.om_path.specs.declared.edits.ScriptLine.{ScriptLine}
 use Rattle.om_canonical.proofs.SameTree.{one_tree_only}
-use Rattle.om_edit.specs.Answers.{Edited}
+use Rattle.om_edit.specs.EditedValues.{Edited}
 use Rattle.om_edit.specs.Laws.{EditsHaveOneAnswer}
 use Rattle.om_format.specs.Compat.{too_large_for_32}
 use Rattle.om_path.specs.declared.fault.PathFault.{PathFault}

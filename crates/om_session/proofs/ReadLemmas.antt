@@ -356,18 +356,6 @@ room_for_one w taken said values v short =
     let counted = v.counted in
     let some = v.some in omega (arith, fewer, short, counted, some)
 
--- memory ran out for the line, by `?`
-pub next_memory : (w : Work) (taken : List ℕ) (said : List Said) (trees : List Tree) (whole : List ℕ) (out : Change ByteState) (new : Values) (result : Result (Unit {0}) Halt)
-    → IsErrAnd result (λ h. h ≡ halts.Stop stops.Memory) → Puts out [] → PutsNext w taken said trees whole out new result
-next_memory w taken said trees whole out new (Ok unit) is none = absurd is
-next_memory w taken said trees whole out new (Err halt) is none = subst (λ h. PutsNext {U = Unit {0}} w taken said trees whole out new (Err h)) (sym is) (inl refl, none)
-
--- out failed, by `?`
-pub next_fault : (w : Work) (taken : List ℕ) (said : List Said) (trees : List Tree) (whole : List ℕ) (out : Change ByteState) (new : Values) (result : Result (Unit {0}) Halt)
-    → IsErrAnd result (λ h. h ≡ halts.WriteFault) → (next : Said) → AreSaid w taken (said ++ next ∷ []) → PutsPart out next.text → PutsNext w taken said trees whole out new result
-next_fault w taken said trees whole out new (Ok unit) is next are part = absurd is
-next_fault w taken said trees whole out new (Err halt) is next are part = subst (λ h. PutsNext {U = Unit {0}} w taken said trees whole out new (Err h)) (sym is) (next, are, part)
-
 -- what is refused in hand stops the run, or memory ran out
 pub stops_in : (w : Work) (trees : List Tree) (rest : List ℕ) (refusal : ReadRefusal) (stop : Stop) → MayTake w (length trees) → RefusedIn (word_limit w) rest refusal → IsStopOf (length trees) refusal stop
     → StopsIn w trees rest stop

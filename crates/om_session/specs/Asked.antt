@@ -9,7 +9,8 @@ use Rattle.om_session.specs.Telling.{AsksToTell, AsksToEdit}
 use Rattle.om_session.specs.Types.{GivesType, GivesScript}
 
 -- FILE and TYPE gave this type, and this is told of the values
-pub record AsksToSay (words : List (List ℕ)) (r : Requested) (saying : Saying) (limit : ℕ) (files : Change FilesState) : Type 0 where
+pub record AsksToSay (words : List (List ℕ)) (r : Requested) (saying : Saying) (limit : ℕ)
+    (files : Change FilesState) : Type 0 where
   pub file : List ℕ
   pub type : List ℕ
   pub asks : AsksToTell words file type saying limit
@@ -18,7 +19,8 @@ pub record AsksToSay (words : List (List ℕ)) (r : Requested) (saying : Saying)
   pub gives : GivesType file type found (Ok r)
 
 -- they did, and SCRIPT gave these lines
-pub record AsksForLines (words : List (List ℕ)) (r : Requested) (script : Script) (compat : Bool) (limit : ℕ) (files : Change FilesState) : Type 0 where
+pub record AsksForLines (words : List (List ℕ)) (r : Requested) (script : Script) (compat : Bool)
+    (limit : ℕ) (files : Change FilesState) : Type 0 where
   pub name : List ℕ
   pub between : FilesState
   pub asks : AsksToEdit words r name compat limit (change files.before between)

@@ -15,14 +15,15 @@ use Rattle.om_promises.specs.Call.{Call}
 use Rattle.om_session.specs.Language.{TypeOver, declared_types}
 use Rattle.om_promises.specs.Run.{IsHonest}
 
--- the canonical bytes of the tree keep the limit; its value has the type, and where it is asked for a reader on 32 bits can
--- hold it
+-- the canonical bytes of the tree keep the limit; its value has the type, and where it is asked for
+-- a reader on 32 bits can hold it
 pub record IsCanonical (t : TypeOver) (compat : Bool) (limit : ℕ) (tree : Tree) : Type 0 where
   pub spelled : SpelledUnder limit (canon tree) tree
   pub has : HasType (declared_shapes t.decls) (objects_of tree 0) (root tree 0) t.type
   pub fits : compat ≡ true → too_large_for_32 tree ≡ None
 
--- the words ask to edit by a SCRIPT that has no line, FILE and TYPE are accepted, and the input is canonical values
+-- the words ask to edit by a SCRIPT that has no line, FILE and TYPE are accepted, and the input is
+-- canonical values
 pub record IsLeftAlone (words : List (List ℕ)) (input : List ℕ) (files : List File) : Type 0 where
   pub file : List ℕ
   pub type : List ℕ
@@ -31,7 +32,8 @@ pub record IsLeftAlone (words : List (List ℕ)) (input : List ℕ) (files : Lis
   pub limit : ℕ
   pub asks : Asks words (edit file type script compat limit)
   pub type_is : TypeOver
-  pub typed : ReadsTypeOf declared_types (fetches_of (contents_of files)).file (file, type) (Ok type_is)
+  pub typed : ReadsTypeOf declared_types (fetches_of (contents_of files)).file (file, type)
+      (Ok type_is)
   pub no_line : ReadsScriptOf declared_types (fetches_of (contents_of files)).script script (Ok [])
   pub trees : List Tree
   pub bytes : input ≡ concat (map canon trees)
@@ -46,4 +48,5 @@ pub record PutsInput (call : Call) (input : List ℕ) : Type 0 where
 -- unless memory runs out, an honest call leaves such an input as it is
 abbrev pub LeavesCanonical : List (List ℕ) → Call → Type 0
 LeavesCanonical words call =
-    (input : List ℕ) (files : List File) → IsHonest call input files → call.status ≢ Memory → IsLeftAlone words input files → PutsInput call input
+    (input : List ℕ) (files : List File) → IsHonest call input files → call.status ≢ Memory
+    → IsLeftAlone words input files → PutsInput call input

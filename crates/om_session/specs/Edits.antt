@@ -10,7 +10,7 @@ use Rattle.om_types.specs.Ty.{Ty}
 use Rattle.om_types.specs.TypeText.{type_text}
 use Rattle.om_types.specs.Typing.{HasType}
 use Rattle.om_types.specs.VerdictText.{IsNoLine}
-use Rattle.om_edit.specs.Answers.{Edited, AreEdited}
+use Rattle.om_edit.specs.EditedValues.{Edited, AreEdited}
 use Rattle.om_edit.specs.Reasons.{Reason, reason_text}
 use Rattle.om_fault.specs.Text.{text_at}
 use Rattle.om_edge.specs.Sink.{Puts, PutsPart}
@@ -39,7 +39,8 @@ OrMemory Stops stop = (stop_of stop ≡ out_of_memory) ⊎ Stops stop
 
 abbrev pub IsUntypedStop : Requested → ℕ → List Obj → Val → Stop → Type 0
 IsUntypedStop r k graph v stop =
-    (text : List ℕ) × IsNoLine (declared_shapes r.decls) type_text graph v r.ty text × (stop_of stop ≡ untyped_value k text)
+    (text : List ℕ) × IsNoLine (declared_shapes r.decls) type_text graph v r.ty text
+    × (stop_of stop ≡ untyped_value k text)
 
 -- value k has the type; or the run stops, since it has not
 abbrev pub ChecksType : {U : Type 0} → Requested → ℕ → List Obj → Val → Result U Halt → Type 0
@@ -51,25 +52,33 @@ ChecksType r k graph v (Err halts.WriteFault) = ⊥
 
 -- what lines make of a value at the type
 abbrev pub Edit : Requested → List ScriptLine → List Obj → Val → Edited Ty → Type 0
-Edit r lines graph v all = AreEdited (shape r.decls) (names_of r.decls) (Equal r.decls) r.ty lines graph v all
+Edit r lines graph v all =
+    AreEdited (shape r.decls) (names_of r.decls) (Equal r.decls) r.ty lines graph v all
 
 -- a line, of value k or of another one, is followed by others
 pub record EditsOn (r : Requested) (k : ℕ) (line : ScriptLine) (old new : Value) : Type 0 where
   pub valid : IsValue (length new.heap) new.root
-  pub goes_on : (rest : List ScriptLine) (all : Edited Ty) → Edit r (lines_at k rest) new.heap new.root all → Edit r (lines_at k (line ∷ rest)) old.heap old.root all
+  pub goes_on : (rest : List ScriptLine) (all : Edited Ty)
+      → Edit r (lines_at k rest) new.heap new.root all
+      → Edit r (lines_at k (line ∷ rest)) old.heap old.root all
 
--- the stop at a line of this number that is refused for this reason; without one there is no such stop
+-- the stop at a line of this number that is refused for this reason; without one there is no such
+-- stop
 abbrev pub IsReasonStop : Requested → ℕ → Option (Reason ℕ) → Stop → Type 0
 IsReasonStop r number None stop = ⊥
-IsReasonStop r number (Some reason) stop = stop_of stop ≡ script_line number (reason_text (text_at r.table) reason)
+IsReasonStop r number (Some reason) stop =
+    stop_of stop ≡ script_line number (reason_text (text_at r.table) reason)
 
 -- it is refused, whatever others come
 abbrev pub IsRefusedLine : Requested → ℕ → ScriptLine → Value → Stop → Type 0
 IsRefusedLine r k line old stop =
-    (reason : Reason Ty) × ((rest : List ScriptLine) → Edit r (lines_at k (line ∷ rest)) old.heap old.root (Err (line.number, reason)))
+    (reason : Reason Ty)
+    × ((rest : List ScriptLine)
+    → Edit r (lines_at k (line ∷ rest)) old.heap old.root (Err (line.number, reason)))
     × (stop_of stop ≡ script_line line.number (reason_text type_text reason))
 
-abbrev pub EditsLine : {U : Type 0} → Requested → ℕ → ScriptLine → Value → Value → Result U Halt → Type 0
+abbrev pub EditsLine : {U : Type 0} → Requested → ℕ → ScriptLine → Value → Value → Result U Halt
+    → Type 0
 EditsLine r k line old new (Ok unit) = EditsOn r k line old new
 EditsLine r k line old new (Err (halts.Stop stop)) = OrMemory (IsRefusedLine r k line old) stop
 EditsLine r k line old new (Err halts.WriteFault) = ⊥
@@ -77,14 +86,18 @@ EditsLine r k line old new (Err halts.WriteFault) = ⊥
 -- some line of value k is refused
 abbrev pub AreRefusedLines : Requested → ℕ → List ScriptLine → Value → Stop → Type 0
 AreRefusedLines r k lines old stop =
-    (number : ℕ) × (reason : Reason Ty) × Edit r (lines_at k lines) old.heap old.root (Err (number, reason)) × (stop_of stop ≡ script_line number (reason_text type_text reason))
+    (number : ℕ) × (reason : Reason Ty)
+    × Edit r (lines_at k lines) old.heap old.root (Err (number, reason))
+    × (stop_of stop ≡ script_line number (reason_text type_text reason))
 
 -- the lines of value k made this of it
-pub record EditsAll (r : Requested) (k : ℕ) (lines : List ScriptLine) (old new : Value) : Type 0 where
+pub record EditsAll (r : Requested) (k : ℕ) (lines : List ScriptLine) (old new : Value)
+    : Type 0 where
   pub valid : IsValue (length new.heap) new.root
   pub made : Edit r (lines_at k lines) old.heap old.root (Ok (new.heap, new.root))
 
-abbrev pub EditsLines : {U : Type 0} → Requested → ℕ → List ScriptLine → Value → Value → Result U Halt → Type 0
+abbrev pub EditsLines : {U : Type 0} → Requested → ℕ → List ScriptLine → Value → Value
+    → Result U Halt → Type 0
 EditsLines r k lines old new (Ok unit) = EditsAll r k lines old new
 EditsLines r k lines old new (Err (halts.Stop stop)) = OrMemory (AreRefusedLines r k lines old) stop
 EditsLines r k lines old new (Err halts.WriteFault) = ⊥
@@ -93,22 +106,29 @@ EditsLines r k lines old new (Err halts.WriteFault) = ⊥
 
 -- there are no bytes of value k, where this is what is answered
 abbrev pub IsUnedited : ℕ → (Result (List ℕ) Unedited → Type 0) → Stop → Type 0
-IsUnedited k Answers stop = (why : Unedited) × Answers (Err why) × (stop_of stop ≡ unedited_stop k why)
+IsUnedited k Answers stop =
+    (why : Unedited) × Answers (Err why) × (stop_of stop ≡ unedited_stop k why)
 
 -- the bytes of value k are put; or the run stops, and nothing is; or out failed
-abbrev pub PutsAnswer : {U : Type 0} → ℕ → (Result (List ℕ) Unedited → Type 0) → Change ByteState → Result U Halt → Type 0
+abbrev pub PutsAnswer : {U : Type 0} → ℕ → (Result (List ℕ) Unedited → Type 0) → Change ByteState
+    → Result U Halt → Type 0
 PutsAnswer k Answers out (Ok unit) = (bytes : List ℕ) × Answers (Ok bytes) × Puts out bytes
-PutsAnswer k Answers out (Err (halts.Stop stop)) = OrMemory (IsUnedited k Answers) stop × Puts out []
-PutsAnswer k Answers out (Err halts.WriteFault) = (bytes : List ℕ) × Answers (Ok bytes) × PutsPart out bytes
+PutsAnswer k Answers out (Err (halts.Stop stop)) =
+    OrMemory (IsUnedited k Answers) stop × Puts out []
+PutsAnswer k Answers out (Err halts.WriteFault) =
+    (bytes : List ℕ) × Answers (Ok bytes) × PutsPart out bytes
 
-abbrev pub PutsBytes : {U : Type 0} → Bool → ℕ → List Obj → Val → Change ByteState → Result U Halt → Type 0
+abbrev pub PutsBytes : {U : Type 0} → Bool → ℕ → List Obj → Val → Change ByteState → Result U Halt
+    → Type 0
 PutsBytes compat k graph v out result = PutsAnswer k (AreBytesOf compat graph v) out result
 
 -- what is answered to value k
 abbrev pub AnswersOf : Edits → ℕ → List Obj → Val → Result (List ℕ) Unedited → Type 0
-AnswersOf e k graph v answer = IsBytesLine (type_over e.requested.now) (lines_at k e.script.now.lines) e.compat graph v answer
+AnswersOf e k graph v answer =
+    IsBytesLine (type_over e.requested.now) (lines_at k e.script.now.lines) e.compat graph v answer
 
-abbrev pub PutsEdited : {U : Type 0} → Edits → ℕ → List Obj → Val → Change ByteState → Result U Halt → Type 0
+abbrev pub PutsEdited : {U : Type 0} → Edits → ℕ → List Obj → Val → Change ByteState → Result U Halt
+    → Type 0
 PutsEdited e k graph v out result = PutsAnswer k (AnswersOf e k graph v) out result
 
 -- ---- the end

@@ -11,9 +11,12 @@ use Rattle.om_stops.specs.Stops.{stop_of}
 use Rattle.om_session.specs.declared.verdict.Speech.{Speech}
 use Rattle.om_session.specs.Verdict.{IsSaidOf}
 
--- the text is put, and the answer is whether nothing is wrong with the value; or memory ran out, and nothing is put; or out
--- failed
+-- the text is put, and the answer is whether nothing is wrong with the value; or memory ran out,
+-- and nothing is put; or out failed
 abbrev pub PutsSaid : Speech → List Obj → Val → Change ByteState → Result Bool Halt → Type 0
-PutsSaid speech graph root out (Ok well) = (text : List ℕ) × IsSaidOf speech graph root text well × Puts out text
-PutsSaid speech graph root out (Err (halts.Stop stop)) = (stop_of stop ≡ out_of_memory) × Puts out []
-PutsSaid speech graph root out (Err halts.WriteFault) = (text : List ℕ) × (well : Bool) × IsSaidOf speech graph root text well × PutsPart out text
+PutsSaid speech graph root out (Ok well) =
+    (text : List ℕ) × IsSaidOf speech graph root text well × Puts out text
+PutsSaid speech graph root out (Err (halts.Stop stop)) =
+    (stop_of stop ≡ out_of_memory) × Puts out []
+PutsSaid speech graph root out (Err halts.WriteFault) =
+    (text : List ℕ) × (well : Bool) × IsSaidOf speech graph root text well × PutsPart out text

@@ -1,4 +1,5 @@
--- The words that ask to tell something of the values at a FILE and a TYPE, or to edit them by a SCRIPT.
+-- The words that ask to tell something of the values at a FILE and a TYPE, or to edit them by a
+-- SCRIPT.
 use Rattle.std.specs.Prelude.{ℕ, ◌≡◌, Bool, List, Some, Result, Ok}
 use Rattle.om_outcome.specs.Outcome.{Found, Fetches, Stop, Saying, Work, Request, edit, Asks, typed_by, limit_of, TellsAt, FindsWork}
 use Rattle.om_path.specs.declared.edits.ScriptLine.{ScriptLine}
@@ -10,16 +11,20 @@ use Rattle.om_promises.specs.Run.{HasPath}
 use Rattle.om_session.specs.Types.{GivesType}
 
 -- PATH, if there, is a path, and what FILE and TYPE give is what is told
-pub record AsksToTell (words : List (List ℕ)) (name type : List ℕ) (saying : Saying) (limit : ℕ) : Type 0 where
+pub record AsksToTell (words : List (List ℕ)) (name type : List ℕ) (saying : Saying) (limit : ℕ)
+    : Type 0 where
   pub request : Request
   pub asks : Asks words request
   pub typed : typed_by request ≡ Some (name, type)
   pub limited : limit_of request ≡ limit
   pub has_path : HasPath declared_types request
-  pub finds : (found : Fetches) (result : Result (Work TypeOver ScriptLine) Stop) → TellsAt declared_types found.file (name, type) saying result → FindsWork declared_types found request result
+  pub finds : (found : Fetches) (result : Result (Work TypeOver ScriptLine) Stop)
+      → TellsAt declared_types found.file (name, type) saying result
+      → FindsWork declared_types found request result
 
 -- FILE and TYPE gave this type, and SCRIPT comes next
-pub record AsksToEdit (words : List (List ℕ)) (r : Requested) (script : List ℕ) (compat : Bool) (limit : ℕ) (files : Change FilesState) : Type 0 where
+pub record AsksToEdit (words : List (List ℕ)) (r : Requested) (script : List ℕ) (compat : Bool)
+    (limit : ℕ) (files : Change FilesState) : Type 0 where
   pub file : List ℕ
   pub type : List ℕ
   pub asks : Asks words (edit file type script compat limit)

@@ -80,22 +80,24 @@ IsKept (works.Say speech limit) trees kept = Unit {0}
 IsKept (works.Edit e limit) trees kept = Unit {0}
 IsKept (works.Compare limit) trees kept = AllZip IsValueOf kept trees × (length trees ≤ 2)
 
--- Of these bytes the reader has taken what comes after the values, a front of the next one, and nothing stops the run; this
--- is said of the values.
+-- Of these bytes the reader has taken what comes after the values, a front of the next one, and
+-- nothing stops the run; this is said of the values.
 pub record HasRead (w : Work) (taken : List ℕ) (said : List Said) (values : Values) : Type 0 where
   pub ready : IsReadyWork w
   pub trees : List Tree
   pub front : List ℕ
   pub first : SayFirst declared_types (task_of w) taken trees said front
   pub is_front : IsFront (word_limit w) front
-  pub goes_on : (stop : outcome.Stop) → StopsAt declared_types (work_of w) (word_limit w) trees front stop → ⊥
+  pub goes_on : (stop : outcome.Stop)
+      → StopsAt declared_types (work_of w) (word_limit w) trees front stop → ⊥
   pub leads : Leads (word_limit w) front values.reader
   pub counted : values.count ≡ length trees
   pub well : values.well ≡ all_well said
   pub kept : IsKept w trees values.kept.items
 
 -- The same where the reader has taken all of the next one.
-pub record IsValueRead (w : Work) (taken : List ℕ) (said : List Said) (values : Values) : Type 0 where
+pub record IsValueRead (w : Work) (taken : List ℕ) (said : List Said) (values : Values)
+    : Type 0 where
   pub ready : IsReadyWork w
   pub trees : List Tree
   pub whole : List ℕ
@@ -110,20 +112,26 @@ pub record IsValueRead (w : Work) (taken : List ℕ) (said : List Said) (values 
 
 -- this is said of the first values of the bytes
 abbrev pub AreSaid : Work → List ℕ → List Said → Type 0
-AreSaid w bytes said = (trees : List Tree) × (rest : List ℕ) × SayFirst declared_types (task_of w) bytes trees said rest
+AreSaid w bytes said =
+    (trees : List Tree) × (rest : List ℕ)
+    × SayFirst declared_types (task_of w) bytes trees said rest
 
 -- the value that is there is kept
 abbrev pub KeepsNext : {U : Type 0} → ℕ → List ℕ → List Said → Values → Result U Memory → Type 0
-KeepsNext limit taken said new (Ok unit) = HasRead (works.Compare limit) taken (said ++ nothing_said ∷ []) new
+KeepsNext limit taken said new (Ok unit) =
+    HasRead (works.Compare limit) taken (said ++ nothing_said ∷ []) new
 KeepsNext limit taken said new (Err memory) = Unit {0}
 
--- what is said of the value that is there, after these, is put, and the reader waits for the next one; or it stops the run, or
--- memory ran out, or out failed
-abbrev pub PutsNext : {U : Type 0} → Work → List ℕ → List Said → List Tree → List ℕ → Change ByteState → Values → Result U Halt → Type 0
+-- what is said of the value that is there, after these, is put, and the reader waits for the next
+-- one; or it stops the run, or memory ran out, or out failed
+abbrev pub PutsNext : {U : Type 0} → Work → List ℕ → List Said → List Tree → List ℕ
+    → Change ByteState → Values → Result U Halt → Type 0
 PutsNext w taken said trees whole out new (Ok unit) =
     (next : Said) × HasRead w taken (said ++ next ∷ []) new × Puts out next.text
 PutsNext w taken said trees whole out new (Err (halts.Stop stop)) =
-    OrMemory (λ stop. StopsAt declared_types (work_of w) (word_limit w) trees whole (stop_of stop)) stop × Puts out []
+    OrMemory (λ stop. StopsAt declared_types (work_of w) (word_limit w) trees whole (stop_of stop))
+    stop
+    × Puts out []
 PutsNext w taken said trees whole out new (Err halts.WriteFault) =
     (next : Said) × AreSaid w taken (said ++ next ∷ []) × PutsPart out next.text
 
@@ -132,81 +140,110 @@ PutsNext w taken said trees whole out new (Err halts.WriteFault) =
 -- the stop of value k that is refused, where it is not for out of memory
 abbrev pub IsStopOf : ℕ → ReadRefusal → Stop → Type 0
 IsStopOf k refusal stop =
-    ((refusal ≡ refusals.Memory) × (stop_of stop ≡ out_of_memory)) ⊎ ((refusal ≢ refusals.Memory) × (stop_of stop ≡ value k (refusal_text refusal)))
+    ((refusal ≡ refusals.Memory) × (stop_of stop ≡ out_of_memory))
+    ⊎ ((refusal ≢ refusals.Memory) × (stop_of stop ≡ value k (refusal_text refusal)))
 
--- after the values what comes there is refused where one more may come, or it stops the run; or memory ran out
+-- after the values what comes there is refused where one more may come, or it stops the run; or
+-- memory ran out
 abbrev pub StopsIn : Work → List Tree → List ℕ → Stop → Type 0
 StopsIn w trees rest stop =
     (stop_of stop ≡ out_of_memory)
-    ⊎ (((refusal : ReadRefusal) × IsTail (word_limit w) rest (refused refusal) × MayTake w (length trees) × (stop_of stop ≡ value (length trees) (refusal_text refusal)))
+    ⊎ (((refusal : ReadRefusal) × IsTail (word_limit w) rest (refused refusal)
+    × MayTake w (length trees) × (stop_of stop ≡ value (length trees) (refusal_text refusal)))
     ⊎ StopsAt declared_types (work_of w) (word_limit w) trees rest (stop_of stop))
 
--- The bytes before those in hand hold no stop. With those in hand the run stops, or the next value ends, and its line could
--- not be put whole.
+-- The bytes before those in hand hold no stop. With those in hand the run stops, or the next value
+-- ends, and its line could not be put whole.
 abbrev pub HaltsIn : Work → List ℕ → List ℕ → List Said → Change ByteState → Halt → Type 0
 HaltsIn w earlier in_hand said out (halts.Stop stop) =
-    (holds : HoldNoStop declared_types (task_of w) earlier said) × StopsIn w holds.trees (holds.front ++ in_hand) stop × Puts out []
+    (holds : HoldNoStop declared_types (task_of w) earlier said)
+    × StopsIn w holds.trees (holds.front ++ in_hand) stop × Puts out []
 HaltsIn w earlier in_hand said out halts.WriteFault =
     HoldNoStop declared_types (task_of w) earlier said
     × (next : Said) × AreSaid w (earlier ++ in_hand) (said ++ next ∷ []) × PutsPart out next.text
 
 -- some of the bytes in hand are taken, and what is said of the value that they end is put
-abbrev pub ReadsSome : Work → List ℕ → List Said → List ℕ → Change ByteState → Values → Result ℕ Halt → Type 0
+abbrev pub ReadsSome : Work → List ℕ → List Said → List ℕ → Change ByteState → Values
+    → Result ℕ Halt → Type 0
 ReadsSome w taken said rest out new (Ok n) =
-    (0 < n) × (n ≤ length rest) × (more : List Said) × HasRead w (taken ++ take n rest) (said ++ more) new × Puts out (texts_of more)
+    (0 < n) × (n ≤ length rest) × (more : List Said)
+    × HasRead w (taken ++ take n rest) (said ++ more) new × Puts out (texts_of more)
 ReadsSome w taken said rest out new (Err halt) = HaltsIn w taken rest said out halt
 
--- a piece is taken to its end, and what is said of the values that it ends is put; or it comes to a halt within the piece
-abbrev pub ReadsPiece : {U : Type 0} → Work → List ℕ → List Said → List ℕ → Change ByteState → Values → Result U Halt → Type 0
+-- a piece is taken to its end, and what is said of the values that it ends is put; or it comes to a
+-- halt within the piece
+abbrev pub ReadsPiece : {U : Type 0} → Work → List ℕ → List Said → List ℕ → Change ByteState
+    → Values → Result U Halt → Type 0
 ReadsPiece w taken said piece out new (Ok unit) =
     (more : List Said) × HasRead w (taken ++ piece) (said ++ more) new × Puts out (texts_of more)
 ReadsPiece w taken said piece out new (Err halt) =
     (done in_hand : List ℕ) × (more : List Said) × (between : ByteState) × (piece ≡ done ++ in_hand)
-    × Puts (change out.before between) (texts_of more) × HaltsIn w (taken ++ done) in_hand (said ++ more) (change between out.after) halt
+    × Puts (change out.before between) (texts_of more)
+    × HaltsIn w (taken ++ done) in_hand (said ++ more) (change between out.after) halt
 
 -- ---- the input's end
 
 -- the line on the values is put, and the answer is whether nothing is wrong with it
-abbrev pub PutsLast : outcome.Work TypeOver ScriptLine → List Tree → Change ByteState → Result Bool Halt → Type 0
-PutsLast work trees out (Ok well) = (final : Said) × Finishes declared_types work trees (says final) × (well ≡ final.well) × Puts out final.text
-PutsLast work trees out (Err (halts.Stop stop)) = (Finishes declared_types work trees (outcome.stops (stop_of stop)) ⊎ (stop_of stop ≡ out_of_memory)) × Puts out []
-PutsLast work trees out (Err halts.WriteFault) = (final : Said) × Finishes declared_types work trees (says final) × PutsPart out final.text
+abbrev pub PutsLast : outcome.Work TypeOver ScriptLine → List Tree → Change ByteState
+    → Result Bool Halt → Type 0
+PutsLast work trees out (Ok well) =
+    (final : Said) × Finishes declared_types work trees (says final) × (well ≡ final.well)
+    × Puts out final.text
+PutsLast work trees out (Err (halts.Stop stop)) =
+    (Finishes declared_types work trees (outcome.stops (stop_of stop))
+    ⊎ (stop_of stop ≡ out_of_memory))
+    × Puts out []
+PutsLast work trees out (Err halts.WriteFault) =
+    (final : Said) × Finishes declared_types work trees (says final) × PutsPart out final.text
 
 -- the values that are kept are compared, whatever their trees
 abbrev pub Compares : List Value → Change ByteState → Result Bool Halt → Type 0
-Compares kept out result = (trees : List Tree) → AllZip IsValueOf kept trees → PutsLast compares trees out result
+Compares kept out result =
+    (trees : List Tree) → AllZip IsValueOf kept trees → PutsLast compares trees out result
 
 -- a line that edits none of the values stops the run; else the answer is what it was
 abbrev pub EndsScript : Edits → List Tree → Bool → Result Bool Halt → Type 0
-EndsScript e trees well (Ok same) = Finishes declared_types (edits_by e) trees (says nothing_said) × (same ≡ well)
-EndsScript e trees well (Err (halts.Stop stop)) = Finishes declared_types (edits_by e) trees (outcome.stops (stop_of stop))
+EndsScript e trees well (Ok same) =
+    Finishes declared_types (edits_by e) trees (says nothing_said) × (same ≡ well)
+EndsScript e trees well (Err (halts.Stop stop)) =
+    Finishes declared_types (edits_by e) trees (outcome.stops (stop_of stop))
 EndsScript e trees well (Err halts.WriteFault) = ⊥
 
 -- the bytes end with a value, and what is said after all is put; or they cut the next one
 abbrev pub EndsAt : Work → List ℕ → List Said → Change ByteState → Result Bool Halt → Type 0
 EndsAt w taken said out (Ok well) =
     (trees : List Tree) × SayFirst declared_types (task_of w) taken trees said []
-    × (final : Said) × Finishes declared_types (work_of w) trees (says final) × (well ≡ (all_well said && final.well)) × Puts out final.text
+    × (final : Said) × Finishes declared_types (work_of w) trees (says final)
+    × (well ≡ (all_well said && final.well)) × Puts out final.text
 EndsAt w taken said out (Err (halts.Stop stop)) =
     (((holds : HoldNoStop declared_types (task_of w) taken said) × (0 < length holds.front)
     × (stop_of stop ≡ value (length holds.trees) (truncated_text (length holds.front))))
     ⊎ ((trees : List Tree) × SayFirst declared_types (task_of w) taken trees said []
-    × (Finishes declared_types (work_of w) trees (outcome.stops (stop_of stop)) ⊎ (stop_of stop ≡ out_of_memory)))) × Puts out []
+    × (Finishes declared_types (work_of w) trees (outcome.stops (stop_of stop))
+    ⊎ (stop_of stop ≡ out_of_memory)))) × Puts out []
 EndsAt w taken said out (Err halts.WriteFault) =
-    (trees : List Tree) × SayFirst declared_types (task_of w) taken trees said [] × (final : Said) × Finishes declared_types (work_of w) trees (says final) × PutsPart out final.text
+    (trees : List Tree) × SayFirst declared_types (task_of w) taken trees said [] × (final : Said)
+    × Finishes declared_types (work_of w) trees (says final) × PutsPart out final.text
 
 -- ---- all values
 
 -- what was put, and what the answer follows from
 abbrev pub EndsValues : Work → Taken → List Said → Change ByteState → Result Bool Halt → Type 0
 EndsValues w taken said out (Ok well) =
-    (final : Said) × ValuesReply declared_types (task_of w) taken (replies said (says final)) × (well ≡ all_well (said ++ final ∷ [])) × Puts out (texts_of (said ++ final ∷ []))
+    (final : Said) × ValuesReply declared_types (task_of w) taken (replies said (says final))
+    × (well ≡ all_well (said ++ final ∷ [])) × Puts out (texts_of (said ++ final ∷ []))
 EndsValues w taken said out (Err (halts.Stop stop)) =
-    (ValuesReply declared_types (task_of w) taken (replies said (outcome.stops (stop_of stop))) ⊎ (stop_of stop ≡ out_of_memory)) × Puts out (texts_of said)
+    (ValuesReply declared_types (task_of w) taken (replies said (outcome.stops (stop_of stop)))
+    ⊎ (stop_of stop ≡ out_of_memory))
+    × Puts out (texts_of said)
 EndsValues w taken said out (Err halts.WriteFault) =
-    (next : Said) × (AreSaid w taken.bytes (said ++ next ∷ []) ⊎ ValuesReply declared_types (task_of w) taken (replies said (says next))) × PutsPartAfter out (texts_of said) next.text
+    (next : Said)
+    × (AreSaid w taken.bytes (said ++ next ∷ [])
+    ⊎ ValuesReply declared_types (task_of w) taken (replies said (says next)))
+    × PutsPartAfter out (texts_of said) next.text
 
 -- the input is taken piece by piece, and what is said of its values is put
 abbrev pub PutsValues : Work → Change ByteState → Change ByteState → Result Bool Halt → Type 0
 PutsValues w input out result =
-    (taken : Taken) × Gathers input taken × (said : List Said) × IsPaced declared_types (task_of w) taken said × EndsValues w taken said out result
+    (taken : Taken) × Gathers input taken × (said : List Said)
+    × IsPaced declared_types (task_of w) taken said × EndsValues w taken said out result

@@ -40,13 +40,17 @@ IsVerdictOf r graph root verdict = IsVerdict (table_of r.table) graph root verdi
 
 -- this is said of a value, and whether nothing is wrong with it
 abbrev pub IsSaidOf : Speech → List Obj → Val → List ℕ → Bool → Type 0
-IsSaidOf (speeches.Tell r saying) graph v text well = SaysLine (saying_of saying) (type_over r.now) graph v text well
+IsSaidOf (speeches.Tell r saying) graph v text well =
+    SaysLine (saying_of saying) (type_over r.now) graph v text well
 IsSaidOf speeches.Dump graph v text well = (text ≡ dump_text graph v) × (well ≡ true)
 
 -- the line is put after another text, and the answer is whether nothing is wrong with the value
 abbrev pub PutsLine : outcome.Saying → TypeOver → List Obj → Val → List ℕ → List ℕ → Bool → Type 0
-PutsLine saying t graph root old new well = (line : List ℕ) × IsTypeLine saying t graph root line well × (new ≡ old ++ line)
+PutsLine saying t graph root old new well =
+    (line : List ℕ) × IsTypeLine saying t graph root line well × (new ≡ old ++ line)
 
 -- the line of the least fault is put after another text
 abbrev pub PutsNo : TypeOver → List Obj → Val → List ℕ → List ℕ → Type 0
-PutsNo t graph root old new = (line : List ℕ) × IsNoLine (declared_shapes t.decls) type_text graph root t.type line × (new ≡ old ++ line)
+PutsNo t graph root old new =
+    (line : List ℕ) × IsNoLine (declared_shapes t.decls) type_text graph root t.type line
+    × (new ≡ old ++ line)

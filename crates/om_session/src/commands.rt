@@ -1,4 +1,5 @@
-//! The commands on values at declared types, as commands in general, and what follows from what is promised of a call.
+//! The commands on values at declared types, as commands in general, and what follows from what is
+//! promised of a call.
 
 ghost use Rattle.std.specs.Prelude.{List};
 ghost use Rattle.om_types.specs.declared.decl.Decl.{Decl};
@@ -55,8 +56,8 @@ pub fn declared_commands_are_lawful()
     commands_are_lawful::<DeclaredTypes>();
 }
 
-/// What is promised of a call follows from its account; and from that follows what each status means, and where it
-/// has to come.
+/// What is promised of a call follows from its account; and from that follows what each status
+/// means, and where it has to come.
 pub fn declared_commands_keep_promises()
     ensures account { ArePromised (commands declared_types) }
     ensures stop { Follow (commands declared_types) (IfStop (commands declared_types)) }
@@ -68,14 +69,19 @@ pub fn declared_commands_keep_promises()
     ensures as_told { Follow (commands declared_types) (AreAsTold (commands declared_types)) }
     ensures read_fault { Follow (commands declared_types) (λ words. OnlyReadFault) }
     ensures write_fault { Follow (commands declared_types) (λ words. OnlyWriteFault) }
-    ensures open_fault { Follow (commands declared_types) (OnlyOpenFault (commands declared_types)) }
+    ensures open_fault { Follow (commands declared_types)
+        (OnlyOpenFault (commands declared_types)) }
     ensures missing { Follow (commands declared_types) (IfMissing (commands declared_types)) }
     ensures too_long { Follow (commands declared_types) (OnlyTooLong (commands declared_types)) }
-    ensures file_too_long { Follow (commands declared_types) (IfFileTooLong (commands declared_types)) }
-    ensures input_too_long { Follow (commands declared_types) (IfInputTooLong (commands declared_types)) }
-    ensures input_fails { Follow (commands declared_types) (IfInputFails (commands declared_types)) }
+    ensures file_too_long { Follow (commands declared_types)
+        (IfFileTooLong (commands declared_types)) }
+    ensures input_too_long { Follow (commands declared_types)
+        (IfInputTooLong (commands declared_types)) }
+    ensures input_fails { Follow (commands declared_types)
+        (IfInputFails (commands declared_types)) }
     ensures memory { Follow (commands declared_types) (IfMemory (commands declared_types)) }
-    ensures write_fault_by { Follow (commands declared_types) (IfWriteFault (commands declared_types)) }
+    ensures write_fault_by { Follow (commands declared_types)
+        (IfWriteFault (commands declared_types)) }
     ensures decided { Follow (commands declared_types) (IsDecided (commands declared_types)) }
     ensures exact { Follow (commands declared_types) (IsExact (commands declared_types)) }
     ensures complete { Follow (commands declared_types) (IsComplete (commands declared_types)) }

@@ -28,7 +28,8 @@ use om_types::fault::Fault;
 use om_write::{Write32Error, write, write32};
 use std::alloc::Global;
 
-/// The lines of a script, at a type; and whether a value that a reader on 32 bits cannot hold is refused.
+/// The lines of a script, at a type; and whether a value that a reader on 32 bits cannot hold is
+/// refused.
 #[derive(Clone, Copy)]
 pub struct Edits<'a> {
     pub requested: &'a Requested,
@@ -46,7 +47,8 @@ pub fn edit_value<K: Sink>(
 ) -> Result<(), Halt>
     requires value { IsValue (length value.old.heap) value.old.root }
     requires ready { IsReady edits.requested.now }
-    ensures { PutsEdited edits.entry number value.old.heap value.old.root (change (K.state out.old) (K.state out.new)) result }
+    ensures { PutsEdited edits.entry number value.old.heap value.old.root
+        (change (K.state out.old) (K.state out.new)) result }
 {
     check_type(alloc, &value.heap, value.root, number, edits.requested)?;
     edit_by_lines(alloc, value, number, edits.requested, edits.script)?;
@@ -205,7 +207,8 @@ fn put_bytes<K: Sink>(
     out: &mut K,
 ) -> Result<(), Halt>
     requires { IsValue (length heap.now) root }
-    ensures { PutsBytes compat number heap.now root (change (K.state out.old) (K.state out.new)) result }
+    ensures { PutsBytes compat number heap.now root (change (K.state out.old) (K.state out.new))
+        result }
 {
     if compat {
         put_compat(alloc, heap, root, number, out)
@@ -222,7 +225,9 @@ fn put_compat<K: Sink>(
     out: &mut K,
 ) -> Result<(), Halt>
     requires { IsValue (length heap.now) root }
-    ensures { (compat : Bool) → compat ≡ true → PutsBytes compat number heap.now root (change (K.state out.old) (K.state out.new)) result }
+    ensures { (compat : Bool) → compat ≡ true
+        → PutsBytes compat number heap.now root (change (K.state out.old) (K.state out.new))
+        result }
 {
     match write32(alloc, heap, root, out) {
         Ok(()) => Ok(()),
@@ -240,7 +245,9 @@ fn put_plain<K: Sink>(
     out: &mut K,
 ) -> Result<(), Halt>
     requires { IsValue (length heap.now) root }
-    ensures { (compat : Bool) → compat ≡ false → PutsBytes compat number heap.now root (change (K.state out.old) (K.state out.new)) result }
+    ensures { (compat : Bool) → compat ≡ false
+        → PutsBytes compat number heap.now root (change (K.state out.old) (K.state out.new))
+        result }
 {
     match write(alloc, heap, root, out) {
         Ok(()) => Ok(()),

@@ -21,8 +21,11 @@ pub enum Fetch {
 
 // Takes the bytes of the file fetched last, up to their end, a fault or 2^48 bytes.
 fn gather_file<O: Opener>(alloc: Global, files: &mut O) -> Result<Gathered, Memory>
-    ensures taken { MatchResult result (λ g. Gathers (change (as_source (O.state files.old)) (as_source (O.state files.new))) (taken_of g))
-        (λ _. GathersSome (change (as_source (O.state files.old)) (as_source (O.state files.new)))) }
+    ensures taken { MatchResult result
+        (λ g. Gathers (change (as_source (O.state files.old)) (as_source (O.state files.new)))
+        (taken_of g))
+        (λ _. GathersSome
+        (change (as_source (O.state files.old)) (as_source (O.state files.new)))) }
     ensures frame { O.state files.new ≡ record (O.state files.old) {
       left = (O.state files.new).left;
       read_faults = (O.state files.new).read_faults;

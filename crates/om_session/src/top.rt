@@ -65,7 +65,9 @@ fn take_values<S: Source, K: Sink, E: Sink>(
     err: &mut E,
 ) -> Status
     requires { IsReadyWork work }
-    ensures { TakesValues work.entry (change (S.state input.old) (S.state input.new)) (change (K.state out.old) (K.state out.new)) (change (E.state err.old) (E.state err.new)) result }
+    ensures { TakesValues work.entry (change (S.state input.old) (S.state input.new))
+        (change (K.state out.old) (K.state out.new)) (change (E.state err.old) (E.state err.new))
+        result }
 {
     match put_values(alloc, work, input, out) {
         Ok(well) => status_of_all(well),
@@ -84,9 +86,12 @@ fn tell_over<S: Source, K: Sink, E: Sink>(
     err: &mut E,
 ) -> Status
     requires { IsReady requested }
-    ensures { (words : List (List ℕ)) (files : Change FilesState) → AsksToSay words requested (saying_of saying.entry) limit files → Account (commands declared_types) words
+    ensures { (words : List (List ℕ)) (files : Change FilesState)
+        → AsksToSay words requested (saying_of saying.entry) limit files
+        → Account (commands declared_types) words
         (call (change (S.state input.old) (S.state input.new)) files
-        (change (K.state out.old) (K.state out.new)) (change (E.state err.old) (E.state err.new)) result) }
+        (change (K.state out.old) (K.state out.new))
+        (change (E.state err.old) (E.state err.new)) result) }
 {
     let work = Work::Say(Speech::Tell(&requested, saying), limit);
     take_values(alloc, work, input, out, err)
@@ -104,9 +109,13 @@ fn tell<S: Source, O: Opener, K: Sink, E: Sink>(
     out: &mut K,
     err: &mut E,
 ) -> Status
-    ensures { (words : List (List ℕ)) → AsksToTell words file.now type_text.now (saying_of saying.entry) limit → Account (commands declared_types) words
-        (call (change (S.state input.old) (S.state input.new)) (change (O.state files.old) (O.state files.new))
-        (change (K.state out.old) (K.state out.new)) (change (E.state err.old) (E.state err.new)) result) }
+    ensures { (words : List (List ℕ))
+        → AsksToTell words file.now type_text.now (saying_of saying.entry) limit
+        → Account (commands declared_types) words
+        (call (change (S.state input.old) (S.state input.new))
+        (change (O.state files.old) (O.state files.new))
+        (change (K.state out.old) (K.state out.new))
+        (change (E.state err.old) (E.state err.new)) result) }
 {
     match find_type(alloc, files, file, type_text) {
         Ok(requested) => tell_over(alloc, requested, saying, limit, input, out, err),
@@ -126,9 +135,13 @@ fn get<S: Source, O: Opener, K: Sink, E: Sink>(
     out: &mut K,
     err: &mut E,
 ) -> Status
-    ensures { (words : List (List ℕ)) → Asks words (get_of file.now type_text.now path_text.now limit) → Account (commands declared_types) words
-        (call (change (S.state input.old) (S.state input.new)) (change (O.state files.old) (O.state files.new))
-        (change (K.state out.old) (K.state out.new)) (change (E.state err.old) (E.state err.new)) result) }
+    ensures { (words : List (List ℕ))
+        → Asks words (get_of file.now type_text.now path_text.now limit)
+        → Account (commands declared_types) words
+        (call (change (S.state input.old) (S.state input.new))
+        (change (O.state files.old) (O.state files.new))
+        (change (K.state out.old) (K.state out.new))
+        (change (E.state err.old) (E.state err.new)) result) }
 {
     match read_path(alloc, path_text.as_bytes()) {
         Ok(path) => {
@@ -153,9 +166,12 @@ fn edit_with<S: Source, K: Sink, E: Sink>(
     err: &mut E,
 ) -> Status
     requires { IsReady requested.now }
-    ensures { (words : List (List ℕ)) (before after : FilesState) → AsksForLines words requested.now script compat limit (change before after) → Account (commands declared_types) words
+    ensures { (words : List (List ℕ)) (before after : FilesState)
+        → AsksForLines words requested.now script compat limit (change before after)
+        → Account (commands declared_types) words
         (call (change (S.state input.old) (S.state input.new)) (change before after)
-        (change (K.state out.old) (K.state out.new)) (change (E.state err.old) (E.state err.new)) result) }
+        (change (K.state out.old) (K.state out.new))
+        (change (E.state err.old) (E.state err.new)) result) }
 {
     let edits = Edits {
         requested,
@@ -178,9 +194,13 @@ fn edit_by<S: Source, O: Opener, K: Sink, E: Sink>(
     err: &mut E,
 ) -> Status
     requires { IsReady requested.now }
-    ensures { (words : List (List ℕ)) (before : FilesState) → AsksToEdit words requested.now script.now compat limit (change before (O.state files.old)) → Account (commands declared_types) words
-        (call (change (S.state input.old) (S.state input.new)) (change before (O.state files.new))
-        (change (K.state out.old) (K.state out.new)) (change (E.state err.old) (E.state err.new)) result) }
+    ensures { (words : List (List ℕ)) (before : FilesState)
+        → AsksToEdit words requested.now script.now compat limit
+        (change before (O.state files.old))
+        → Account (commands declared_types) words
+        (call (change (S.state input.old) (S.state input.new))
+        (change before (O.state files.new)) (change (K.state out.old) (K.state out.new))
+        (change (E.state err.old) (E.state err.new)) result) }
 {
     match find_script(alloc, files, script) {
         Ok(script) => edit_with(alloc, requested, script, compat, limit, input, out, err),
@@ -201,9 +221,12 @@ fn edit_over<S: Source, O: Opener, K: Sink, E: Sink>(
     err: &mut E,
 ) -> Status
     requires { IsReady requested }
-    ensures { (words : List (List ℕ)) (before : FilesState) → AsksToEdit words requested script.now compat limit (change before (O.state files.old)) → Account (commands declared_types) words
-        (call (change (S.state input.old) (S.state input.new)) (change before (O.state files.new))
-        (change (K.state out.old) (K.state out.new)) (change (E.state err.old) (E.state err.new)) result) }
+    ensures { (words : List (List ℕ)) (before : FilesState)
+        → AsksToEdit words requested script.now compat limit (change before (O.state files.old))
+        → Account (commands declared_types) words
+        (call (change (S.state input.old) (S.state input.new))
+        (change before (O.state files.new)) (change (K.state out.old) (K.state out.new))
+        (change (E.state err.old) (E.state err.new)) result) }
 {
     edit_by(
         alloc, &requested, script, compat, limit, input, files, out, err,
@@ -223,9 +246,13 @@ fn edit<S: Source, O: Opener, K: Sink, E: Sink>(
     out: &mut K,
     err: &mut E,
 ) -> Status
-    ensures { (words : List (List ℕ)) → Asks words (edit_of file.now type_text.now script.now compat limit) → Account (commands declared_types) words
-        (call (change (S.state input.old) (S.state input.new)) (change (O.state files.old) (O.state files.new))
-        (change (K.state out.old) (K.state out.new)) (change (E.state err.old) (E.state err.new)) result) }
+    ensures { (words : List (List ℕ))
+        → Asks words (edit_of file.now type_text.now script.now compat limit)
+        → Account (commands declared_types) words
+        (call (change (S.state input.old) (S.state input.new))
+        (change (O.state files.old) (O.state files.new))
+        (change (K.state out.old) (K.state out.new))
+        (change (E.state err.old) (E.state err.new)) result) }
 {
     match find_type(alloc, files, file, type_text) {
         Ok(requested) => edit_over(
@@ -244,9 +271,12 @@ fn run_request<S: Source, O: Opener, K: Sink, E: Sink>(
     out: &mut K,
     err: &mut E,
 ) -> Status
-    ensures { (words : List (List ℕ)) → Asks words (request_of request.entry) → Account (commands declared_types) words
-        (call (change (S.state input.old) (S.state input.new)) (change (O.state files.old) (O.state files.new))
-        (change (K.state out.old) (K.state out.new)) (change (E.state err.old) (E.state err.new)) result) }
+    ensures { (words : List (List ℕ)) → Asks words (request_of request.entry)
+        → Account (commands declared_types) words
+        (call (change (S.state input.old) (S.state input.new))
+        (change (O.state files.old) (O.state files.new))
+        (change (K.state out.old) (K.state out.new))
+        (change (E.state err.old) (E.state err.new)) result) }
 {
     match request {
         Request::Check {
@@ -317,8 +347,10 @@ fn run_command<S: Source, O: Opener, K: Sink, E: Sink>(
     err: &mut E,
 ) -> Status
     ensures { Account (commands declared_types) (texts words.now)
-        (call (change (S.state input.old) (S.state input.new)) (change (O.state files.old) (O.state files.new))
-        (change (K.state out.old) (K.state out.new)) (change (E.state err.old) (E.state err.new)) result) }
+        (call (change (S.state input.old) (S.state input.new))
+        (change (O.state files.old) (O.state files.new))
+        (change (K.state out.old) (K.state out.new))
+        (change (E.state err.old) (E.state err.new)) result) }
 {
     match read_words(alloc, words) {
         Ok(request) => run_request(alloc, request, input, files, out, err),
@@ -327,8 +359,8 @@ fn run_command<S: Source, O: Opener, K: Sink, E: Sink>(
     }
 }
 
-/// Runs the command that the words ask for: reads the files and the input, puts texts on out and a line on err where the
-/// run stops, and answers the status.
+/// Runs the command that the words ask for: reads the files and the input, puts texts on out and a
+/// line on err where the run stops, and answers the status.
 pub fn run<S: Source, O: Opener, K: Sink, E: Sink>(
     alloc: Global,
     words: &[String],
@@ -338,11 +370,15 @@ pub fn run<S: Source, O: Opener, K: Sink, E: Sink>(
     err: &mut E,
 ) -> Status
     ensures promises { Promises (commands declared_types) (texts words.now)
-        (call (change (S.state input.old) (S.state input.new)) (change (O.state files.old) (O.state files.new))
-        (change (K.state out.old) (K.state out.new)) (change (E.state err.old) (E.state err.new)) result) }
+        (call (change (S.state input.old) (S.state input.new))
+        (change (O.state files.old) (O.state files.new))
+        (change (K.state out.old) (K.state out.new))
+        (change (E.state err.old) (E.state err.new)) result) }
     ensures canonical { LeavesCanonical (texts words.now)
-        (call (change (S.state input.old) (S.state input.new)) (change (O.state files.old) (O.state files.new))
-        (change (K.state out.old) (K.state out.new)) (change (E.state err.old) (E.state err.new)) result) }
+        (call (change (S.state input.old) (S.state input.new))
+        (change (O.state files.old) (O.state files.new))
+        (change (K.state out.old) (K.state out.new))
+        (change (E.state err.old) (E.state err.new)) result) }
 {
     input.tells_bytes();
     one_judgement();

@@ -1,4 +1,5 @@
-//! The type that a run asks for: its FILE, and its TYPE; its SCRIPT; and the stops of texts that are refused.
+//! The type that a run asks for: its FILE, and its TYPE; its SCRIPT; and the stops of texts that
+//! are refused.
 
 ghost use Rattle.std.specs.Prelude.{ℕ, List as Seq};
 ghost use Rattle.om_types.specs.Accepted.{AreWellFormed};
@@ -105,7 +106,8 @@ fn read_gathered<'a>(
     gathered: &Gathered,
     type_text: &str,
 ) -> Result<Requested, Stop<'a>>
-    ensures { (file : Seq ℕ) → GivesType file type_text.now (opened (taken_of gathered.now)) result }
+    ensures { (file : Seq ℕ)
+        → GivesType file type_text.now (opened (taken_of gathered.now)) result }
 {
     match gathered.until {
         InputEnd::Fault => return Err(Stop::ReadFault),
@@ -125,7 +127,8 @@ pub fn find_type<'a, O: Opener>(
     file: &'a str,
     type_text: &str,
 ) -> Result<Requested, Stop<'a>>
-    ensures { FindsTypeIn (change (O.state files.old) (O.state files.new)) file.now type_text.now result }
+    ensures { FindsTypeIn (change (O.state files.old) (O.state files.new)) file.now type_text.now
+        result }
 {
     match fetch_file(alloc, files, file) {
         Ok(Fetch::Opened(gathered)) => read_gathered(alloc, &gathered, type_text),

@@ -30,8 +30,8 @@ use std::mem;
 /// So many bytes a call on the input is asked for.
 const PIECE: usize = 4096;
 
-/// What is done with the values: something is said of each, each is edited, or the two are compared. The number is the limit
-/// of words on 64 bits in a value.
+/// What is done with the values: something is said of each, each is edited, or the two are
+/// compared. The number is the limit of words on 64 bits in a value.
 #[derive(Clone, Copy)]
 pub enum Work<'a> {
     Say(Speech<'a>, u64),
@@ -78,7 +78,8 @@ fn put_said<K: Sink>(
 ) -> Result<bool, Halt>
     requires value { IsValue (length heap.now) root }
     requires ready { IsReadySpeech speech }
-    ensures { PutsSaid speech.entry heap.now root (change (K.state out.old) (K.state out.new)) result }
+    ensures { PutsSaid speech.entry heap.now root (change (K.state out.old) (K.state out.new))
+        result }
 {
     let line = line_of(alloc, heap, root, speech)?;
     put_all(out, line.text.as_slice())?;
@@ -107,8 +108,8 @@ fn compare<K: Sink>(alloc: Global, kept: &[Value], out: &mut K) -> Result<bool, 
     Ok(alike)
 }
 
-/// The values so far: how many there are, whether nothing is wrong with any, those that are kept, and the reader of the
-/// next one.
+/// The values so far: how many there are, whether nothing is wrong with any, those that are kept,
+/// and the reader of the next one.
 #[derive(Drop)]
 struct Values {
     reader: Reader,
@@ -120,7 +121,8 @@ struct Values {
 impl Values {
     /// No byte was taken.
     fn new(alloc: Global, limit: u64) -> Values
-        ensures { (work : AnyWork) → IsReadyWork work → word_limit work ≡ limit → HasRead work [] [] result }
+        ensures { (work : AnyWork) → IsReadyWork work → word_limit work ≡ limit
+            → HasRead work [] [] result }
     {
         Values {
             reader: Reader::new(alloc, limit),
@@ -133,7 +135,8 @@ impl Values {
     /// Whether any more byte stops the run.
     fn is_full(&self, work: Work<'_>) -> bool
         requires { (taken : List ℕ) × (said : List Said) × HasRead work taken said self.now }
-        ensures { MatchBool result (IsFull work.entry self.now.count) (MayTake work.entry self.now.count) }
+        ensures { MatchBool result (IsFull work.entry self.now.count)
+            (MayTake work.entry self.now.count) }
     {
         match work {
             Work::Say(..) | Work::Edit(..) => false,
@@ -141,7 +144,8 @@ impl Values {
         }
     }
 
-    /// Puts what is said of the value that the reader has whole. A new reader waits for the next one, in the memory of this one.
+    /// Puts what is said of the value that the reader has whole. A new reader waits for the next
+    /// one, in the memory of this one.
     fn put_line<K: Sink>(
         &mut self,
         alloc: Global,
@@ -149,9 +153,12 @@ impl Values {
         limit: u64,
         out: &mut K,
     ) -> Result<(), Halt>
-        requires { (taken : List ℕ) × (said : List Said) × IsValueRead (works.Say speech limit) taken said self.old × (length taken < 2 ^ 64) }
-        ensures { (taken : List ℕ) (said : List Said) (v : IsValueRead (works.Say speech.entry limit) taken said self.old) →
-            PutsNext (works.Say speech.entry limit) taken said v.trees v.whole (change (K.state out.old) (K.state out.new)) self.new result }
+        requires { (taken : List ℕ) × (said : List Said)
+            × IsValueRead (works.Say speech limit) taken said self.old × (length taken < 2 ^ 64) }
+        ensures { (taken : List ℕ) (said : List Said)
+            (v : IsValueRead (works.Say speech.entry limit) taken said self.old)
+            → PutsNext (works.Say speech.entry limit) taken said v.trees v.whole
+            (change (K.state out.old) (K.state out.new)) self.new result }
     {
         let reader = mem::replace(&mut self.reader, Reader::new(alloc, limit));
         let value = reader.finish();
@@ -162,8 +169,8 @@ impl Values {
         Ok(())
     }
 
-    /// Edits the value that the reader has whole, and puts its bytes. A new reader waits for the next one, in the memory of
-    /// this one.
+    /// Edits the value that the reader has whole, and puts its bytes. A new reader waits for the
+    /// next one, in the memory of this one.
     fn put_edited<K: Sink>(
         &mut self,
         alloc: Global,
@@ -171,9 +178,12 @@ impl Values {
         limit: u64,
         out: &mut K,
     ) -> Result<(), Halt>
-        requires { (taken : List ℕ) × (said : List Said) × IsValueRead (works.Edit edits limit) taken said self.old × (length taken < 2 ^ 64) }
-        ensures { (taken : List ℕ) (said : List Said) (v : IsValueRead (works.Edit edits.entry limit) taken said self.old) →
-            PutsNext (works.Edit edits.entry limit) taken said v.trees v.whole (change (K.state out.old) (K.state out.new)) self.new result }
+        requires { (taken : List ℕ) × (said : List Said)
+            × IsValueRead (works.Edit edits limit) taken said self.old × (length taken < 2 ^ 64) }
+        ensures { (taken : List ℕ) (said : List Said)
+            (v : IsValueRead (works.Edit edits.entry limit) taken said self.old)
+            → PutsNext (works.Edit edits.entry limit) taken said v.trees v.whole
+            (change (K.state out.old) (K.state out.new)) self.new result }
     {
         let reader = mem::replace(&mut self.reader, Reader::new(alloc, limit));
         let mut value = reader.finish();
@@ -185,8 +195,11 @@ impl Values {
 
     /// Keeps the value that the reader has whole. A new reader waits for the next one.
     fn keep_value(&mut self, alloc: Global, limit: u64) -> Result<(), Memory>
-        requires { (taken : List ℕ) × (said : List Said) × IsValueRead (works.Compare limit) taken said self.old × (length taken < 2 ^ 64) }
-        ensures { (taken : List ℕ) (said : List Said) → IsValueRead (works.Compare limit) taken said self.old → KeepsNext limit taken said self.new result }
+        requires { (taken : List ℕ) × (said : List Said)
+            × IsValueRead (works.Compare limit) taken said self.old × (length taken < 2 ^ 64) }
+        ensures { (taken : List ℕ) (said : List Said)
+            → IsValueRead (works.Compare limit) taken said self.old
+            → KeepsNext limit taken said self.new result }
     {
         let reader = mem::replace(&mut self.reader, Reader::new(alloc, limit));
         keep(&mut self.kept, reader.finish())?;
@@ -196,9 +209,12 @@ impl Values {
 
     /// Does the work with the value that the reader has whole.
     fn put_value<K: Sink>(&mut self, alloc: Global, work: Work<'_>, out: &mut K) -> Result<(), Halt>
-        requires { (taken : List ℕ) × (said : List Said) × IsValueRead work taken said self.old × (length taken < 2 ^ 64) }
-        ensures { (taken : List ℕ) (said : List Said) (v : IsValueRead work.entry taken said self.old) →
-            PutsNext work.entry taken said v.trees v.whole (change (K.state out.old) (K.state out.new)) self.new result }
+        requires { (taken : List ℕ) × (said : List Said) × IsValueRead work taken said self.old
+            × (length taken < 2 ^ 64) }
+        ensures { (taken : List ℕ) (said : List Said)
+            (v : IsValueRead work.entry taken said self.old)
+            → PutsNext work.entry taken said v.trees v.whole
+            (change (K.state out.old) (K.state out.new)) self.new result }
     {
         match work {
             Work::Say(speech, limit) => self.put_line(alloc, speech, limit, out),
@@ -216,9 +232,11 @@ impl Values {
         out: &mut K,
     ) -> Result<usize, Halt>
         requires some { 0 < length rest.now }
-        requires reads { (taken : List ℕ) × (said : List Said) × HasRead work taken said self.old × (length taken + length rest.now < 2 ^ 63) }
-        ensures { (taken : List ℕ) (said : List Said) → HasRead work.entry taken said self.old →
-            ReadsSome work.entry taken said rest.now (change (K.state out.old) (K.state out.new)) self.new result }
+        requires reads { (taken : List ℕ) × (said : List Said) × HasRead work taken said self.old
+            × (length taken + length rest.now < 2 ^ 63) }
+        ensures { (taken : List ℕ) (said : List Said) → HasRead work.entry taken said self.old
+            → ReadsSome work.entry taken said rest.now
+            (change (K.state out.old) (K.state out.new)) self.new result }
     {
         if self.is_full(work) {
             return Err(Halt::Stop(Stop::NotTwoValues));
@@ -243,9 +261,12 @@ impl Values {
         out: &mut K,
     ) -> Result<(), Halt>
         requires short { length piece.now ≤ 4096 }
-        requires reads { (taken : List ℕ) × (said : List Said) × HasRead work taken said self.old × (length taken < 2 ^ 48) }
-        ensures reads { (taken : List ℕ) (said : List Said) → HasRead work.entry taken said self.old →
-            ReadsPiece work.entry taken said piece.now (change (K.state out.old) (K.state out.new)) self.new result }
+        requires reads { (taken : List ℕ) × (said : List Said) × HasRead work taken said self.old
+            × (length taken < 2 ^ 48) }
+        ensures reads { (taken : List ℕ) (said : List Said)
+            → HasRead work.entry taken said self.old
+            → ReadsPiece work.entry taken said piece.now
+            (change (K.state out.old) (K.state out.new)) self.new result }
         ensures are_bytes { AreBytes piece.now }
     {
         let mut rest = piece;
@@ -258,7 +279,8 @@ impl Values {
 
     /// The input ends here with a value: a line that edits no value stops the run.
     fn finish_script(&self, edits: Edits<'_>) -> Result<bool, Halt>
-        ensures { (trees : List Tree) → self.now.count ≡ length trees → EndsScript edits.entry trees self.now.well result }
+        ensures { (trees : List Tree) → self.now.count ≡ length trees
+            → EndsScript edits.entry trees self.now.well result }
     {
         match line_past(edits.script.as_slice(), self.count) {
             Some(number) => Err(Halt::Stop(Stop::NoValue(number))),
@@ -266,7 +288,8 @@ impl Values {
         }
     }
 
-    /// The input ends here: whether nothing is wrong with any value, or a value is cut. Two values are compared.
+    /// The input ends here: whether nothing is wrong with any value, or a value is cut. Two values
+    /// are compared.
     fn finish<K: Sink>(&self, alloc: Global, work: Work<'_>, out: &mut K) -> Result<bool, Halt>
         requires { (taken : List ℕ) × (said : List Said) × HasRead work taken said self.now }
         ensures { (taken : List ℕ) (said : List Said) → HasRead work.entry taken said self.now →
@@ -283,8 +306,9 @@ impl Values {
     }
 }
 
-/// Takes the input piece by piece, from no value on, and says what is to be said of each value before it asks for the next
-/// piece. The answer at the input's end is whether nothing is wrong with any value.
+/// Takes the input piece by piece, from no value on, and says what is to be said of each value
+/// before it asks for the next piece. The answer at the input's end is whether nothing is wrong
+/// with any value.
 fn put_pieces<S: Source, K: Sink>(
     alloc: Global,
     work: Work<'_>,
@@ -293,7 +317,8 @@ fn put_pieces<S: Source, K: Sink>(
     out: &mut K,
 ) -> Result<bool, Halt>
     requires { HasRead work [] [] values.old }
-    ensures { PutsValues work.entry (change (S.state input.old) (S.state input.new)) (change (K.state out.old) (K.state out.new)) result }
+    ensures { PutsValues work.entry (change (S.state input.old) (S.state input.new))
+        (change (K.state out.old) (K.state out.new)) result }
 {
     let mut buffer = [0; PIECE];
     let mut taken = 0;
@@ -318,7 +343,8 @@ pub fn put_values<S: Source, K: Sink>(
     out: &mut K,
 ) -> Result<bool, Halt>
     requires { IsReadyWork work }
-    ensures { PutsValues work.entry (change (S.state input.old) (S.state input.new)) (change (K.state out.old) (K.state out.new)) result }
+    ensures { PutsValues work.entry (change (S.state input.old) (S.state input.new))
+        (change (K.state out.old) (K.state out.new)) result }
 {
     let mut values = Values::new(alloc, work.limit());
     put_pieces(alloc, work, &mut values, input, out)

@@ -29,7 +29,8 @@ use om_type_table::laws::tables_are_lawful;
 use om_types::fault::Fault;
 use std::alloc::Global;
 
-/// What is told of a value that has a type: that it has it, its text, or the text of the part at a path.
+/// What is told of a value that has a type: that it has it, its text, or the text of the part at a
+/// path.
 #[derive(Clone, Copy)]
 pub enum Saying<'a> {
     Verdict,
@@ -86,7 +87,9 @@ fn told_line(
 ) -> Result<Line, Memory>
     requires value { IsValue (length heap.now) root }
     requires ready { IsReady requested.now }
-    ensures { IfOk result (λ line. IsSaidOf (speeches.Tell requested.entry saying.entry) heap.now root line.text line.well) }
+    ensures { IfOk result
+        (λ line. IsSaidOf (speeches.Tell requested.entry saying.entry) heap.now root line.text
+        line.well) }
 {
     let verdict = find_verdict(alloc, heap, root, requested)?;
     line_by(alloc, heap, root, requested, saying, &verdict)
@@ -104,7 +107,9 @@ fn line_by(
     requires value { IsValue (length heap.now) root }
     requires ready { IsReady requested.now }
     requires verdict { IsVerdictOf requested.now heap.now root verdict.now }
-    ensures { IfOk result (λ line. IsSaidOf (speeches.Tell requested.entry saying.entry) heap.now root line.text line.well) }
+    ensures { IfOk result
+        (λ line. IsSaidOf (speeches.Tell requested.entry saying.entry) heap.now root line.text
+        line.well) }
 {
     let mut text = Vec::new(alloc);
     let well = put_line(&mut text, alloc, heap, root, requested, saying, verdict)?;
@@ -131,8 +136,8 @@ pub fn find_verdict(
     check(alloc, heap, root, &requested.table, &mut steps)
 }
 
-/// Puts what is told of a value of this verdict at the end, and answers whether nothing is wrong with it: `no` and the
-/// fault where it has not the type.
+/// Puts what is told of a value of this verdict at the end, and answers whether nothing is wrong
+/// with it: `no` and the fault where it has not the type.
 fn put_line(
     text: &mut Vec<u8>,
     alloc: Global,
@@ -145,7 +150,9 @@ fn put_line(
     requires value { IsValue (length heap.now) root }
     requires ready { IsReady requested.now }
     requires verdict { IsVerdictOf requested.now heap.now root verdict.now }
-    ensures { IfOk result (PutsLine (saying_of saying.entry) (type_over requested.now) heap.now root text.old.items text.new.items) }
+    ensures { IfOk result
+        (PutsLine (saying_of saying.entry) (type_over requested.now) heap.now root text.old.items
+        text.new.items) }
 {
     match verdict {
         Verdict::Yes(_) => put_told(text, alloc, heap, root, requested, saying),
@@ -168,7 +175,8 @@ pub fn put_no(
     requires value { IsValue (length heap.now) root }
     requires ready { IsReady requested.now }
     requires least { IsVerdictOf requested.now heap.now root (No fault.now) }
-    ensures { OnOk result (PutsNo (type_over requested.now) heap.now root text.old.items text.new.items) }
+    ensures { OnOk result
+        (PutsNo (type_over requested.now) heap.now root text.old.items text.new.items) }
 {
     tables_are_lawful();
     tables_decide();
@@ -180,7 +188,8 @@ pub fn put_no(
     Ok(())
 }
 
-/// Puts what is told of a value that has the type at the end, and answers whether nothing is wrong with it.
+/// Puts what is told of a value that has the type at the end, and answers whether nothing is wrong
+/// with it.
 fn put_told(
     text: &mut Vec<u8>,
     alloc: Global,
@@ -192,7 +201,9 @@ fn put_told(
     requires value { IsValue (length heap.now) root }
     requires ready { IsReady requested.now }
     requires typed { HasType (table_shapes (table_of requested.now.table)) heap.now root 0 }
-    ensures { IfOk result (PutsLine (saying_of saying.entry) (type_over requested.now) heap.now root text.old.items text.new.items) }
+    ensures { IfOk result
+        (PutsLine (saying_of saying.entry) (type_over requested.now) heap.now root text.old.items
+        text.new.items) }
 {
     tables_decide();
     tables_are_lawful();
@@ -210,7 +221,8 @@ fn put_told(
     }
 }
 
-/// Puts the text of the part at a path at the end, or `none` where it leads nowhere; and answers whether it leads anywhere.
+/// Puts the text of the part at a path at the end, or `none` where it leads nowhere; and answers
+/// whether it leads anywhere.
 fn put_part(
     text: &mut Vec<u8>,
     alloc: Global,
@@ -222,7 +234,9 @@ fn put_part(
     requires value { IsValue (length heap.now) root }
     requires ready { IsReady requested.now }
     requires typed { HasType (table_shapes (table_of requested.now.table)) heap.now root 0 }
-    ensures { IfOk result (PutsLine (the_part path.now) (type_over requested.now) heap.now root text.old.items text.new.items) }
+    ensures { IfOk result
+        (PutsLine (the_part path.now) (type_over requested.now) heap.now root text.old.items
+        text.new.items) }
 {
     tables_decide();
     tables_are_lawful();

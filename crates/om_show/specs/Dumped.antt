@@ -1,4 +1,5 @@
--- The text of a graph as it is, whatever its types: a line for the root, and one for each object in the order of numbers.
+-- The text of a graph as it is, whatever its types: a line for the root, and one for each object in
+-- the order of numbers.
 use Rattle.std.specs.Prelude.{ℕ, suc, List, [], ◌∷◌, ◌++◌}
 use Rattle.om_model.specs.declared.value.Val.{Val}
 use Rattle.om_model.specs.declared.value.Obj.{Obj}

@@ -22,8 +22,8 @@ use Rattle.om_show.specs.Tables.{shape_in, names_in}
 abbrev pub SameClass : TypeTable → ℕ → ℕ → Type 0
 SameClass table i j = slice_get table.classes i ≡ slice_get table.classes j
 
--- A value has one text at a number and at its type, and so has the part at each path. Which types are equal does not
--- matter: it is said for those of one class, and for those that are the same.
+-- A value has one text at a number and at its type, and so has the part at each path. Which types
+-- are equal does not matter: it is said for those of one class, and for those that are the same.
 pub record ShowAlike (decls : List Decl) (table : TypeTable) (i : ℕ) (t : Ty) : Type 0 where
   pub whole : (graph : List Obj) (v : Val)
       → shown_text (shape_in table) (names_in table) graph v i
@@ -44,9 +44,11 @@ TablesShowAlike =
 -- and at the number 0, which is that of the type that was asked for
 abbrev pub RootsShowAlike : Type 0
 RootsShowAlike =
-    (decls : List Decl) (t : Ty) (table : TypeTable) → IsTypeTable decls t table → ShowAlike decls table 0 t
+    (decls : List Decl) (t : Ty) (table : TypeTable) → IsTypeTable decls t table
+    → ShowAlike decls table 0 t
 
--- where more values may be one inside the other than there are objects, and one, the same pieces are met: nothing is cut off
+-- where more values may be one inside the other than there are objects, and one, the same pieces
+-- are met: nothing is cut off
 abbrev pub MoreIsTheSame : Type 0
 MoreIsTheSame =
     (decls : List Decl) (graph : List Obj) (v : Val) (t : Ty) (more : ℕ)
@@ -63,13 +65,16 @@ MoreIsTheSameByNumbers =
 -- where a value fits a type, the type has the names that its text wants
 abbrev pub NoNameIsMissing : Type 0
 NoNameIsMissing =
-    (decls : List Decl) (graph : List Obj) (v : Val) (t : Ty) → IsSome (fields_of graph v (shape decls t))
+    (decls : List Decl) (graph : List Obj) (v : Val) (t : Ty)
+    → IsSome (fields_of graph v (shape decls t))
     → HasItsNames (shape decls t) (names_of decls t) graph v
 
 -- so where a value has its type, the names are there at each of its parts
 abbrev pub NoNameIsMissingInParts : Type 0
 NoNameIsMissingInParts =
-    (decls : List Decl) (t : Ty) (types : List Ty) → AreWellFormed decls → IsSoundType decls t → IsReached decls t types
+    (decls : List Decl) (t : Ty) (types : List Ty) → AreWellFormed decls → IsSoundType decls t
+    → IsReached decls t types
     → (graph : List Obj) (v : Val) → HasType (declared_shapes decls) graph v t
-    → (path : List ℕ) (w : Val) (u : Ty) → value_at (declared_shapes decls) graph v t path ≡ Some (w, u)
+    → (path : List ℕ) (w : Val) (u : Ty)
+    → value_at (declared_shapes decls) graph v t path ≡ Some (w, u)
     → HasItsNames (shape decls u) (names_of decls u) graph w

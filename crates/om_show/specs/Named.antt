@@ -28,8 +28,10 @@ module _ {T : Type 0} where
   -- of a constructor, of fields, of a tag
   abbrev pub HasBlockNames : ShapeOf T → Names → ℕ → List Val → Type 0
   HasBlockNames (shapes.Sum constants blocks) names tag values =
-      IsSomeAnd (slice_get names.constructors tag) (λ (c : ConstrNames). AreForFields c.fields (length values))
-  HasBlockNames (shapes.Product mutable ts) names tag values = AreForFields names.fields (length values)
+      IsSomeAnd (slice_get names.constructors tag)
+      (λ (c : ConstrNames). AreForFields c.fields (length values))
+  HasBlockNames (shapes.Product mutable ts) names tag values =
+      AreForFields names.fields (length values)
   HasBlockNames (shapes.Poly tags) names tag values = HasTag names (tag_of_values values)
   HasBlockNames shape names tag values = Unit {0}
 
@@ -47,4 +49,5 @@ module _ {T : Type 0} where
   abbrev pub HasItsNames : ShapeOf T → Names → List Obj → Val → Type 0
   HasItsNames shape names graph (vals.Int z) = HasIntName shape names z
   HasItsNames shape names graph (vals.Atom tag) = Unit {0}
-  HasItsNames shape names graph (vals.Ref o) = IsSomeAnd (slice_get graph o) (HasObjectNames shape names)
+  HasItsNames shape names graph (vals.Ref o) =
+      IsSomeAnd (slice_get graph o) (HasObjectNames shape names)

@@ -1,5 +1,5 @@
--- The text of a value at a type, over any shapes and names. The text follows the value depth first, fields from left
--- to right.
+-- The text of a value at a type, over any shapes and names. The text follows the value depth first,
+-- fields from left to right.
 use Rattle.std.specs.Prelude.{ℕ, zero, suc, ◌+◌, if◌then◌else◌, List, [], ◌∷◌, ◌++◌, length, slice_get, codes}
 use Rattle.std.specs.Prelude.{Option, Some, None, option_map, unwrap_or}
 use Rattle.om_model.specs.declared.value.Val.{Val}
@@ -32,7 +32,8 @@ module _ {T : Type 0} (shape : T → ShapeOf T) (names : T → Names) (graph : L
   parts_from meet frame v i [] seen = met (Text frame.closing ∷ []) seen
   parts_from meet frame v i ((field, t) ∷ needs) seen =
       let one = meet seen (unwrap_or (field_of graph v field) v) t in
-      led_by (Text (before_part frame i) ∷ one.pieces) (parts_from meet frame v (suc i) needs one.seen)
+      led_by (Text (before_part frame i) ∷ one.pieces)
+      (parts_from meet frame v (suc i) needs one.seen)
 
   -- an object that is met for the first time
   abbrev pub object_met : (List ℕ → Val → T → Met) → List ℕ → ℕ → T → Option Obj → Met
@@ -41,7 +42,8 @@ module _ {T : Type 0} (shape : T → ShapeOf T) (names : T → Names) (graph : L
       let frame = frame_of (shape t) (names t) tag values in
       led_by (First o ∷ Text frame.opening ∷ [])
       (parts_from meet frame (vals.Ref o) 0 (or_none (fields_of graph (vals.Ref o) (shape t))) seen)
-  object_met meet seen o t (Some object) = met (First o ∷ Text (object_text (shape t) (names t) object) ∷ []) seen
+  object_met meet seen o t (Some object) =
+      met (First o ∷ Text (object_text (shape t) (names t) object) ∷ []) seen
 
   -- A value at a type, after these objects were met, with at most n values one inside the other.
   abbrev pub met_within : ℕ → List ℕ → Val → T → Met
@@ -52,8 +54,8 @@ module _ {T : Type 0} (shape : T → ShapeOf T) (names : T → Names) (graph : L
       if has seen o then met (Again o ∷ []) seen
       else object_met (met_within n) (o ∷ seen) o t (slice_get graph o)
 
-  -- objects that are open are not opened again, so that no more values are one inside the other than there are
-  -- objects, and one
+  -- objects that are open are not opened again, so that no more values are one inside the other
+  -- than there are objects, and one
   abbrev pub pieces_of : Val → T → List Piece
   pieces_of v t = (met_within (length graph + 1) [] v t).pieces
 
@@ -63,4 +65,6 @@ module _ {T : Type 0} (shape : T → ShapeOf T) (names : T → Names) (graph : L
 
   -- the text of the part at a path, if it leads anywhere
   abbrev pub shown_at : (T → T → Type 0) → Val → T → List ℕ → Option (List ℕ)
-  shown_at Equal v t path = option_map (λ place. shown_text place.0 place.1) (value_at (shaped shape Equal) graph v t path)
+  shown_at Equal v t path =
+      option_map (λ place. shown_text place.0 place.1)
+      (value_at (shaped shape Equal) graph v t path)

@@ -1,4 +1,5 @@
--- The shapes and the names that a table of types has by its numbers. A number that is not in the table has no values.
+-- The shapes and the names that a table of types has by its numbers. A number that is not in the
+-- table has no values.
 use Rattle.std.specs.Prelude.{ℕ, slice_get, unwrap_or}
 use Rattle.om_types.specs.declared.names.Names.{Names}
 use Rattle.om_types.specs.declared.shape.ShapeOf.{ShapeOf}

@@ -2,7 +2,8 @@
 
 ghost use Rattle.om_show.specs.Laws.{MoreIsTheSame, MoreIsTheSameByNumbers, NoNameIsMissing, NoNameIsMissingInParts, RootsShowAlike, TablesShowAlike};
 
-/// A value, and each part of it, has one text at a number of a table and at the type of this number.
+/// A value, and each part of it, has one text at a number of a table and at the type of this
+/// number.
 pub fn tables_show_alike()
     ensures { TablesShowAlike }
 {}
@@ -18,8 +19,8 @@ pub fn more_is_the_same()
     ensures numbers { MoreIsTheSameByNumbers }
 {}
 
-/// Where a value fits a type, no name that its text wants is missing: of a constructor, of a tag, of a field. Where it has a
-/// sound type, none is missing in its parts.
+/// Where a value fits a type, no name that its text wants is missing: of a constructor, of a tag,
+/// of a field. Where it has a sound type, none is missing in its parts.
 pub fn no_name_is_missing()
     ensures fitting { NoNameIsMissing }
     ensures parts { NoNameIsMissingInParts }

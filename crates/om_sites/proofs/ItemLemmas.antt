@@ -20,7 +20,7 @@ use Rattle.om_scope.specs.declared.brackets.BracketItem.{BracketItem}
 use Rattle.om_sites.specs.declared.fact.Facts.{Facts}
 use Rattle.om_scope.specs.Brackets.{item_of, item_told, items_told, brackets_told}
 use Rattle.om_sites.specs.Facts.{capped, fact_at, AreFacts}
-use Rattle.om_sites.specs.Rows.{without_item, tag_at, tag_if, tag_there}
+use Rattle.om_sites.specs.BracketItems.{without_item, tag_at, tag_if, tag_there}
 use Rattle.om_sites.proofs.WalkLemmas.{place_of, type_at-node, node_below}
 
 -- ---- the items of a bracket

@@ -42,8 +42,9 @@ after fresh (kind ∷ more) = after (opens_item kind) more
 abbrev pub one_if : Bool → ℕ → List ℕ
 one_if test k = if test then k ∷ [] else []
 
--- The marks of these lexemes, the first of which is lexeme k: each name, tag and variable, and before
--- them the first lexeme of each included type. Fresh says whether an item may begin with the first.
+-- The marks of these lexemes, the first of which is lexeme k: each name, tag and variable, and
+-- before them the first lexeme of each included type. Fresh says whether an item may begin with the
+-- first.
 abbrev pub marks : ℕ → Bool → Kinds → List ℕ
 marks k fresh [] = []
 marks k fresh (kind ∷ more) =
@@ -76,10 +77,11 @@ inner_count (tag_of whole x argument) =
 inner_count (including whole included) =
     inner_count whole + 1 + (inner_count included + own_count included)
 
--- The items of a bracket, each with its first lexeme; the first of the bracket's marks stands at the
--- first of these lexemes.
+-- The items of a bracket, each with its first lexeme; the first of the bracket's marks stands at
+-- the first of these lexemes.
 abbrev pub items_in : List ℕ → Ty → List PlacedItem
-items_in ms (tag whole x) = items_in ms whole ++ (slice_index ms (inner_count whole), tag bracket x) ∷ []
+items_in ms (tag whole x) =
+    items_in ms whole ++ (slice_index ms (inner_count whole), tag bracket x) ∷ []
 items_in ms (tag_of whole x argument) =
     items_in ms whole ++ (slice_index ms (inner_count whole), tag_of bracket x argument) ∷ []
 items_in ms (including whole included) =

@@ -85,7 +85,8 @@ abbrev pub records_in : List ℕ → Body → List (List Placed)
 records_in ms (bodies.Abbreviation t) = []
 records_in ms (bodies.Record fields) = names_of_fields ms fields ∷ []
 records_in ms (bodies.Variant all) =
-    along constructor_count (λ at (c : Constructor). record_in_arguments (drop 1 at) c.arguments) ms all
+    along constructor_count (λ at (c : Constructor). record_in_arguments (drop 1 at) c.arguments) ms
+    all
 
 abbrev pub in_body : List ℕ → Body → List Occurrence
 in_body ms (bodies.Abbreviation t) = in_type ms false t

@@ -36,18 +36,36 @@ abbrev pub capped : ℕ → ℕ
 capped n = min n 18446744073709551615
 
 abbrev pub nothing : Facts
-nothing = record { inner = 0; own = 0; arguments = 0; grows = false; holds = false; alone = false; base = 0 }
+nothing =
+    record
+    { inner = 0; own = 0; arguments = 0; grows = false; holds = false; alone = false; base = 0 }
 
 abbrev pub fact_at : List Facts → ℕ → Facts
 fact_at facts n = slice_index_or facts n nothing
 
 abbrev pub leaf : ℕ → Bool → ℕ → Facts
 leaf own alone base =
-    record { inner = 0; own = own; arguments = 0; grows = false; holds = alone; alone = alone; base = base }
+    record {
+      inner = 0;
+      own = own;
+      arguments = 0;
+      grows = false;
+      holds = alone;
+      alone = alone;
+      base = base;
+    }
 
 abbrev pub whole : Facts → ℕ → ℕ → Bool → Bool → Facts
 whole f inner arguments grows holds =
-    record { inner = inner; own = f.own; arguments = arguments; grows = grows; holds = holds; alone = false; base = f.base }
+    record {
+      inner = inner;
+      own = f.own;
+      arguments = arguments;
+      grows = grows;
+      holds = holds;
+      alone = false;
+      base = f.base;
+    }
 
 abbrev pub total_of : Facts → ℕ
 total_of g = capped (g.inner + g.own)
@@ -58,8 +76,10 @@ facts_of facts (nodes.Named x) = leaf 1 false (length facts)
 facts_of facts nodes.Tuple = leaf 0 false (length facts)
 facts_of facts nodes.Bracket = leaf 0 false (length facts)
 facts_of facts (nodes.Part w a) = let f = fact_at facts w in let g = fact_at facts a in
-    whole f (capped (f.inner + total_of g)) (capped (f.arguments + 1)) (f.grows || (g.holds && not g.alone)) (f.holds || g.holds)
-facts_of facts (nodes.Tag w x) = let f = fact_at facts w in whole f (capped (f.inner + 1)) 0 false f.holds
+    whole f (capped (f.inner + total_of g)) (capped (f.arguments + 1))
+    (f.grows || (g.holds && not g.alone)) (f.holds || g.holds)
+facts_of facts (nodes.Tag w x) =
+    let f = fact_at facts w in whole f (capped (f.inner + 1)) 0 false f.holds
 facts_of facts (nodes.TagOf w x a) = let f = fact_at facts w in let g = fact_at facts a in
     whole f (capped (capped (f.inner + 1) + total_of g)) 0 false (f.holds || g.holds)
 facts_of facts (nodes.Including w u) = let f = fact_at facts w in let g = fact_at facts u in

@@ -62,7 +62,8 @@ abbrev pub arguments_occurrences : ℕ → ArgumentsTree → List Occurrence
 arguments_occurrences k trees.no_arguments = []
 arguments_occurrences k (trees.inline r) = in_fields field_occurrences k r
 arguments_occurrences k (trees.listed a others) =
-    in_app k false a ++ spread (λ x. length (app x)) (λ j x. in_app j false x) (k + length (app a)) others
+    in_app k false a
+    ++ spread (λ x. length (app x)) (λ j x. in_app j false x) (k + length (app a)) others
 
 abbrev pub constr_occurrences : ℕ → ConstrTree → List Occurrence
 constr_occurrences k c = arguments_occurrences (k + 2) c.arguments

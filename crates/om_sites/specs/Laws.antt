@@ -14,8 +14,8 @@ TypesAreCounted =
     (k : ℕ) (in_tag : Bool) (t : Texpr)
     → in_type (marks k false (texpr t)) in_tag (type_of_texpr t) ≡ in_texpr k in_tag t
 
--- What stands in declarations by themselves is what stands in their text; the declarations are those
--- that the text stands for.
+-- What stands in declarations by themselves is what stands in their text; the declarations are
+-- those that the text stands for.
 pub record FilesAreCounted : Type 0 where
   pub declared : (tree : FileTree) → decls_of (file_places tree) ≡ declarations_of tree
   pub counted :

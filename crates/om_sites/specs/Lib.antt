@@ -2,7 +2,7 @@ pub mod Adds
 pub mod Bodies
 pub mod Facts
 pub mod Found
-pub mod Rows
+pub mod BracketItems
 pub mod Walk
 pub mod InText
 pub mod Counted

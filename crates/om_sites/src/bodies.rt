@@ -24,8 +24,11 @@ fn put_types<'m, 'a>(
     marks: &'m [usize],
     types: &'a [Ty],
 ) -> Result<&'m [usize], Memory>
-    ensures adds { OnOk result (AddsFound found.old found.new [] [] (along type_count (λ at t. in_type at false t) marks.now types.now)) }
-    ensures rest { IfOk result (λ rest. rest.now ≡ drop (count_all type_count types.now) marks.now) }
+    ensures adds { OnOk result
+        (AddsFound found.old found.new [] []
+        (along type_count (λ at t. in_type at false t) marks.now types.now)) }
+    ensures rest { IfOk result
+        (λ rest. rest.now ≡ drop (count_all type_count types.now) marks.now) }
 {
     let mut rest = marks;
     for ty in types {
@@ -41,8 +44,11 @@ fn put_fields<'m, 'a>(
     marks: &'m [usize],
     fields: &'a [Field],
 ) -> Result<&'m [usize], Memory>
-    ensures adds { OnOk result (AddsFound found.old found.new (names_of_fields marks.now fields.now ∷ []) [] (along field_count in_field marks.now fields.now)) }
-    ensures rest { IfOk result (λ rest. rest.now ≡ drop (count_all field_count fields.now) marks.now) }
+    ensures adds { OnOk result
+        (AddsFound found.old found.new (names_of_fields marks.now fields.now ∷ []) []
+        (along field_count in_field marks.now fields.now)) }
+    ensures rest { IfOk result
+        (λ rest. rest.now ≡ drop (count_all field_count fields.now) marks.now) }
 {
     let mut rest = marks;
     let mut row = List::new(alloc);
@@ -61,7 +67,9 @@ fn put_arguments<'m, 'a>(
     marks: &'m [usize],
     arguments: &'a Arguments,
 ) -> Result<&'m [usize], Memory>
-    ensures adds { OnOk result (AddsFound found.old found.new (record_in_arguments marks.now arguments.now) [] (in_arguments marks.now arguments.now)) }
+    ensures adds { OnOk result
+        (AddsFound found.old found.new (record_in_arguments marks.now arguments.now) []
+        (in_arguments marks.now arguments.now)) }
     ensures rest { IfOk result (λ rest. rest.now ≡ drop (arguments_count arguments.now) marks.now) }
 {
     match arguments {
@@ -78,8 +86,11 @@ fn put_constructor<'m, 'a>(
     marks: &'m [usize],
     constructor: &'a Constructor,
 ) -> Result<&'m [usize], Memory>
-    ensures adds { OnOk result (AddsFound found.old found.new (records_of marks.now constructor.now) (carrying_of marks.now constructor.now) (occurrences_of marks.now constructor.now)) }
-    ensures rest { IfOk result (λ rest. rest.now ≡ drop (constructor_count constructor.now) marks.now) }
+    ensures adds { OnOk result
+        (AddsFound found.old found.new (records_of marks.now constructor.now)
+        (carrying_of marks.now constructor.now) (occurrences_of marks.now constructor.now)) }
+    ensures rest { IfOk result
+        (λ rest. rest.now ≡ drop (constructor_count constructor.now) marks.now) }
 {
     put_carrying(found, marks, &constructor.arguments)?;
     put_arguments(alloc, found, skip(marks, 1), &constructor.arguments)
@@ -92,8 +103,14 @@ fn put_constructors<'m, 'a>(
     marks: &'m [usize],
     constructors: &'a [Constructor],
 ) -> Result<&'m [usize], Memory>
-    ensures adds { OnOk result (AddsFound found.old found.new (along constructor_count records_of marks.now constructors.now ++ constructor_names marks.now constructors.now ∷ []) (along constructor_count carrying_of marks.now constructors.now) (along constructor_count occurrences_of marks.now constructors.now)) }
-    ensures rest { IfOk result (λ rest. rest.now ≡ drop (count_all constructor_count constructors.now) marks.now) }
+    ensures adds { OnOk result
+        (AddsFound found.old found.new
+        (along constructor_count records_of marks.now constructors.now
+        ++ constructor_names marks.now constructors.now ∷ [])
+        (along constructor_count carrying_of marks.now constructors.now)
+        (along constructor_count occurrences_of marks.now constructors.now)) }
+    ensures rest { IfOk result
+        (λ rest. rest.now ≡ drop (count_all constructor_count constructors.now) marks.now) }
 {
     let mut rest = marks;
     let mut row = List::new(alloc);
@@ -112,7 +129,10 @@ pub fn put_body<'m, 'a>(
     marks: &'m [usize],
     body: &'a Body,
 ) -> Result<&'m [usize], Memory>
-    ensures adds { OnOk result (AddsFound found.old found.new (records_in marks.now body.now ++ names_in marks.now body.now ∷ []) (carrying_body marks.now body.now) (in_body marks.now body.now)) }
+    ensures adds { OnOk result
+        (AddsFound found.old found.new
+        (records_in marks.now body.now ++ names_in marks.now body.now ∷ [])
+        (carrying_body marks.now body.now) (in_body marks.now body.now)) }
     ensures rest { IfOk result (λ rest. rest.now ≡ drop (body_count body.now) marks.now) }
 {
     match body {

@@ -48,7 +48,9 @@ fn decl_found<'m, 'a>(
     decl: &'a Decl,
 ) -> Result<(Found<'a>, &'m [usize]), Memory>
     ensures site { IfOk result (λ found. IsSite found.0.site (counted_places marks.now decl.now)) }
-    ensures brackets { IfOk result (λ found. AreBrackets found.0.brackets (in_body (drop (length decl.now.parameters + 1) marks.now) decl.now.body)) }
+    ensures brackets { IfOk result
+        (λ found. AreBrackets found.0.brackets
+        (in_body (drop (length decl.now.parameters + 1) marks.now) decl.now.body)) }
     ensures rest { IfOk result (λ found. found.1.now ≡ drop (decl_count decl.now) marks.now) }
 {
     let mut found = nothing(alloc);
@@ -67,8 +69,10 @@ pub fn file_sites<'a>(
     marks: &[usize],
     decls: &'a [Decl],
 ) -> Result<FileSites<'a>, Memory>
-    ensures sites { IfOk result (λ found. AreSites decls.now found.names found.sites (counted_file marks.now decls.now)) }
-    ensures brackets { IfOk result (λ found. AreFileBrackets found.brackets (counted_file marks.now decls.now)) }
+    ensures sites { IfOk result
+        (λ found. AreSites decls.now found.names found.sites (counted_file marks.now decls.now)) }
+    ensures brackets { IfOk result
+        (λ found. AreFileBrackets found.brackets (counted_file marks.now decls.now)) }
 {
     let mut rest = marks;
     let mut names = List::new(alloc);

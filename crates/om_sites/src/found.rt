@@ -24,7 +24,11 @@ pub struct Found<'a> {
 
 /// Nothing yet.
 pub fn nothing<'a>(alloc: Global) -> Found<'a>
-    ensures { result ≡ record { site = record { rows = []; carrying = []; uses = []; variables = [] }; brackets = [] } }
+    ensures { result
+        ≡ record {
+          site = record { rows = []; carrying = []; uses = []; variables = [] };
+          brackets = [];
+        } }
 {
     Found {
         site: none(alloc),
@@ -34,7 +38,10 @@ pub fn nothing<'a>(alloc: Global) -> Found<'a>
 
 /// Adds a row of names that have to differ.
 pub fn put_names<'a>(found: &mut Found<'a>, row: List<Placed>) -> Result<(), Memory>
-    ensures { OnOk result (found.new ≡ record found.old { site = record found.old.site { rows = found.old.site.rows ++ row ∷ [] } }) }
+    ensures { OnOk result
+        (found.new
+        ≡ record found.old
+        { site = record found.old.site { rows = found.old.site.rows ++ row ∷ [] } }) }
 {
     put_row(&mut found.site, row)
 }
@@ -45,7 +52,12 @@ pub fn put_carrying<'a>(
     marks: &[usize],
     arguments: &Arguments,
 ) -> Result<(), Memory>
-    ensures { OnOk result (found.new ≡ record found.old { site = record found.old.site { carrying = found.old.site.carrying ++ carrying_in marks.now arguments.now } }) }
+    ensures { OnOk result
+        (found.new
+        ≡ record found.old {
+          site = record found.old.site
+              { carrying = found.old.site.carrying ++ carrying_in marks.now arguments.now };
+        }) }
 {
     match arguments {
         Arguments::Constant => Ok(()),
@@ -63,8 +75,11 @@ pub fn put_brackets<'a>(
 ) -> Result<(), Memory>
     requires { AreOrdered nodes.now }
     ensures site { OnOk result (found.new.site ≡ found.old.site) }
-    ensures ordered { OnOk result (All IsOrdered found.old.brackets → All IsOrdered found.new.brackets) }
-    ensures brackets { OnOk result (all_told found.new.brackets ≡ all_told found.old.brackets ++ brackets_told (types_of nodes.now) brackets) }
+    ensures ordered { OnOk result
+        (All IsOrdered found.old.brackets → All IsOrdered found.new.brackets) }
+    ensures brackets { OnOk result
+        (all_told found.new.brackets
+        ≡ all_told found.old.brackets ++ brackets_told (types_of nodes.now) brackets) }
 {
     if brackets.len() == 0 {
         return Ok(());

@@ -5,7 +5,7 @@ ghost use Rattle.om_types.specs.Nodes.{types_of, type_at, AreOrdered};
 ghost use Rattle.om_sites.specs.Counted.{items_in};
 ghost use Rattle.om_scope.specs.Brackets.{items_told};
 ghost use Rattle.om_sites.specs.Facts.{AreFacts};
-ghost use Rattle.om_sites.specs.Rows.{without_item};
+ghost use Rattle.om_sites.specs.BracketItems.{without_item};
 
 use crate::fact::{Facts, fact_at};
 use crate::mark::place_at;
@@ -38,7 +38,8 @@ fn reversed(alloc: Global, mut items: Vec<BracketItem>) -> Result<List<BracketIt
 
 /// Adds an item.
 fn put_item(items: &mut Vec<BracketItem>, place: usize, node: usize) -> Result<(), Memory>
-    ensures { OnOk result (items.new.items ≡ items.old.items ++ record { place = place; node = node } ∷ []) }
+    ensures { OnOk result
+        (items.new.items ≡ items.old.items ++ record { place = place; node = node } ∷ []) }
 {
     Ok(items.push(BracketItem { place, node })?)
 }
@@ -55,7 +56,9 @@ pub fn items_of(
     requires ordered { AreOrdered nodes.now }
     requires facts { AreFacts (types_of nodes.now) (length nodes.now) facts.now }
     requires node { node < length nodes.now }
-    ensures { IfOk result (λ items. items_told (types_of nodes.now) items ≡ items_in (drop first marks.now) (type_at (types_of nodes.now) node)) }
+    ensures { IfOk result
+        (λ items. items_told (types_of nodes.now) items
+        ≡ items_in (drop first marks.now) (type_at (types_of nodes.now) node)) }
 {
     let mut items = Vec::new(alloc);
     let mut n = node;

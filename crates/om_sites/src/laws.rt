@@ -2,8 +2,8 @@
 
 ghost use Rattle.om_sites.specs.Laws.{TypesAreCounted, FilesAreCounted};
 
-/// A type, as a tree of its own, tells which mark of its text each name, tag, variable and included type is. The function
-/// does nothing.
+/// A type, as a tree of its own, tells which mark of its text each name, tag, variable and included
+/// type is. The function does nothing.
 pub fn types_are_counted()
     ensures { TypesAreCounted }
 {}

@@ -1,5 +1,6 @@
-//! What stands where in a text of types and declarations: names, variables and brackets, each with the number of its
-//! lexeme; the same told from the types and declarations themselves, by counting; and as the rules of scope read it.
+//! What stands where in a text of types and declarations: names, variables and brackets, each with
+//! the number of its lexeme; the same told from the types and declarations themselves, by counting;
+//! and as the rules of scope read it.
 #![tactic(auto)]
 
 mod bodies;

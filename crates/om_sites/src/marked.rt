@@ -1,4 +1,5 @@
-//! The marks of lexemes: names, tags and variables, and where the types begin that brackets include.
+//! The marks of lexemes: names, tags and variables, and where the types begin that brackets
+//! include.
 
 ghost use Rattle.std.specs.Prelude.{◌≡◌, ◌&&◌, ◌++◌, false, IfOk, OnOk};
 ghost use Rattle.om_parse.specs.Parsed.{kinds_of};
@@ -53,8 +54,8 @@ fn push_if(test: bool, marked: &mut Vec<usize>, number: usize) -> Result<(), Mem
     Ok(())
 }
 
-/// The numbers of the lexemes that are names, tags or variables, and before these the number of the first lexeme of
-/// each type that a bracket includes.
+/// The numbers of the lexemes that are names, tags or variables, and before these the number of the
+/// first lexeme of each type that a bracket includes.
 pub fn marks(alloc: Global, lexemes: &[Lexeme]) -> Result<Vec<usize>, Memory>
     ensures { IfOk result (λ v. v.items ≡ marks 0 false (kinds_of lexemes.now)) }
 {

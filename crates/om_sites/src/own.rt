@@ -23,7 +23,8 @@ use std::alloc::Global;
 
 /// Adds a variable.
 fn put_variable(alloc: Global, site: &mut Site, place: usize, name: &List<u8>) -> Result<(), Memory>
-    ensures { OnOk result (site.new ≡ record site.old { variables = site.old.variables ++ (place, name.now) ∷ [] }) }
+    ensures { OnOk result
+        (site.new ≡ record site.old { variables = site.old.variables ++ (place, name.now) ∷ [] }) }
 {
     site.variables
         .push(Placed::new(place, copied(alloc, name)?))
@@ -49,8 +50,20 @@ fn put_bracket(
     requires ordered { AreOrdered nodes.now }
     requires facts { AreFacts (types_of nodes.now) (length nodes.now) facts.now }
     requires task { task.node < length nodes.now }
-    ensures site { OnOk result (site.new ≡ record site.old { rows = site.old.rows ++ filter_map written_tag (items_in (drop task.first marks.now) (type_at (types_of nodes.now) task.node)) ∷ [] }) }
-    ensures brackets { OnOk result (brackets_told (types_of nodes.now) brackets.new ≡ brackets_told (types_of nodes.now) brackets.old ++ items_in (drop task.first marks.now) (type_at (types_of nodes.now) task.node) ∷ []) }
+    ensures site { OnOk result
+        (site.new
+        ≡ record site.old {
+          rows = site.old.rows
+              ++ filter_map written_tag
+              (items_in (drop task.first marks.now)
+              (type_at (types_of nodes.now) task.node))
+              ∷ [];
+        }) }
+    ensures brackets { OnOk result
+        (brackets_told (types_of nodes.now) brackets.new
+        ≡ brackets_told (types_of nodes.now) brackets.old
+        ++ items_in (drop task.first marks.now) (type_at (types_of nodes.now) task.node)
+        ∷ []) }
 {
     let items = items_of(alloc, nodes, facts, marks, task.node, task.first)?;
     put_row(site, row_of(alloc, nodes, items.as_slice())?)?;
@@ -70,8 +83,12 @@ pub fn put_own(
     requires ordered { AreOrdered nodes.now }
     requires facts { AreFacts (types_of nodes.now) (length nodes.now) facts.now }
     requires task { task.node < length nodes.now }
-    ensures site { OnOk result (Adds site.old site.new [] [] (task_own (types_of nodes.now) marks.now task)) }
-    ensures brackets { OnOk result (brackets_told (types_of nodes.now) brackets.new ≡ brackets_told (types_of nodes.now) brackets.old ++ brackets_among (task_own (types_of nodes.now) marks.now task)) }
+    ensures site { OnOk result
+        (Adds site.old site.new [] [] (task_own (types_of nodes.now) marks.now task)) }
+    ensures brackets { OnOk result
+        (brackets_told (types_of nodes.now) brackets.new
+        ≡ brackets_told (types_of nodes.now) brackets.old
+        ++ brackets_among (task_own (types_of nodes.now) marks.now task)) }
 {
     if !task.whole {
         return Ok(());

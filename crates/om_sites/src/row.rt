@@ -5,7 +5,7 @@ ghost use Rattle.std.specs.List.{filter_map};
 ghost use Rattle.om_types.specs.Nodes.{types_of, AreOrdered};
 ghost use Rattle.om_types.specs.Scope.{written_tag};
 ghost use Rattle.om_scope.specs.Brackets.{items_told};
-ghost use Rattle.om_sites.specs.Rows.{tag_at, tag_there};
+ghost use Rattle.om_sites.specs.BracketItems.{tag_at, tag_there};
 
 use crate::mark::copied;
 use om_model::Memory;
@@ -44,7 +44,8 @@ fn put_written(
 /// The tags that a bracket of these items writes.
 pub fn row_of(alloc: Global, nodes: &[Node], items: &[BracketItem]) -> Result<List<Placed>, Memory>
     requires { AreOrdered nodes.now }
-    ensures { IfOk result (λ row. row ≡ filter_map written_tag (items_told (types_of nodes.now) items.now)) }
+    ensures { IfOk result
+        (λ row. row ≡ filter_map written_tag (items_told (types_of nodes.now) items.now)) }
 {
     let mut row = List::new(alloc);
     for item in items {

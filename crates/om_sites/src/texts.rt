@@ -43,7 +43,8 @@ pub fn file_text_sites<'a>(
     ghost tree: { FileTree }
     requires lexemes { file_kinds tree ≡ kinds_of lexemes.now }
     requires decls { decls.now ≡ declarations_of tree }
-    ensures sites { IfOk result (λ found. AreSites decls.now found.names found.sites (file_places tree)) }
+    ensures sites { IfOk result
+        (λ found. AreSites decls.now found.names found.sites (file_places tree)) }
     ensures brackets { IfOk result (λ found. AreFileBrackets found.brackets (file_places tree)) }
 {
     let places = marks(alloc, lexemes)?;

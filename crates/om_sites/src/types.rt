@@ -23,7 +23,8 @@ pub struct TypeFound<'a> {
 /// What stands where in a type with these marks.
 pub fn type_site<'a>(alloc: Global, marks: &[usize], ty: &'a Ty) -> Result<TypeFound<'a>, Memory>
     ensures site { IfOk result (λ found. IsTypeSite found.site (in_type marks.now false ty.now)) }
-    ensures brackets { IfOk result (λ found. AreBrackets found.brackets (in_type marks.now false ty.now)) }
+    ensures brackets { IfOk result
+        (λ found. AreBrackets found.brackets (in_type marks.now false ty.now)) }
 {
     let mut found = nothing(alloc);
     put_type(alloc, &mut found, marks, ty)?;

@@ -32,7 +32,11 @@ pub struct Task {
 
 /// Adds a part's task, and below it that of the whole that it is added to.
 fn push_both(tasks: &mut Vec<Task>, task: Task, w: usize, part: Task) -> Result<(), Memory>
-    ensures { OnOk result (tasks.new.items ≡ tasks.old.items ++ part ∷ record { node = w; first = task.first; in_tag = task.in_tag; whole = false } ∷ []) }
+    ensures { OnOk result
+        (tasks.new.items
+        ≡ tasks.old.items ++ part
+        ∷ record { node = w; first = task.first; in_tag = task.in_tag; whole = false }
+        ∷ []) }
 {
     tasks.push(part)?;
     tasks.push(Task {
@@ -110,8 +114,12 @@ fn walk(
     requires ordered { AreOrdered nodes.now }
     requires facts { AreFacts (types_of nodes.now) (length nodes.now) facts.now }
     requires top { top.node < length nodes.now }
-    ensures site { OnOk result (Adds site.old site.new [] [] (task_seen (types_of nodes.now) marks.now top)) }
-    ensures brackets { OnOk result (brackets_told (types_of nodes.now) brackets.new ≡ brackets_told (types_of nodes.now) brackets.old ++ brackets_among (task_seen (types_of nodes.now) marks.now top)) }
+    ensures site { OnOk result
+        (Adds site.old site.new [] [] (task_seen (types_of nodes.now) marks.now top)) }
+    ensures brackets { OnOk result
+        (brackets_told (types_of nodes.now) brackets.new
+        ≡ brackets_told (types_of nodes.now) brackets.old
+        ++ brackets_among (task_seen (types_of nodes.now) marks.now top)) }
 {
     let mut tasks = Vec::new(alloc);
     tasks.push(top)?;
@@ -129,7 +137,8 @@ pub fn put_type<'m, 'a>(
     marks: &'m [usize],
     ty: &'a Ty,
 ) -> Result<&'m [usize], Memory>
-    ensures adds { OnOk result (AddsFound found.old found.new [] [] (in_type marks.now false ty.now)) }
+    ensures adds { OnOk result
+        (AddsFound found.old found.new [] [] (in_type marks.now false ty.now)) }
     ensures rest { IfOk result (λ rest. rest.now ≡ drop (type_count ty.now) marks.now) }
 {
     let nodes = ty.nodes();

@@ -53,9 +53,11 @@ stop_of stops.ReadFault = outcome.read_fault
 stop_of stops.TooLong = outcome.too_long
 stop_of stops.Memory = outcome.out_of_memory
 
--- the line of the stop, or that memory ran out, is put and its status answered; or the line could not be put whole
+-- the line of the stop, or that memory ran out, is put and its status answered; or the line could
+-- not be put whole
 pub record Reports (stop : outcome.Stop) (err : Change ByteState) (status : Status) : Type 0 where
   pub said : outcome.Stop
   pub which : (said ≡ stop) ⊎ (said ≡ outcome.out_of_memory)
-  pub line : (Puts err (outcome.err_line (outcome.stop_text said)) × (status ≡ outcome.status_of said))
+  pub line :
+      (Puts err (outcome.err_line (outcome.stop_text said)) × (status ≡ outcome.status_of said))
       ⊎ (PutsPart err (outcome.err_line (outcome.stop_text said)) × (status ≡ WriteFault))

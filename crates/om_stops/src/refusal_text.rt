@@ -35,21 +35,27 @@ fn place_text(alloc: Global, name: &str, place: u64) -> Result<String, AllocErro
 
 // A name, a number and the place.
 fn number_text(alloc: Global, name: &str, number: u64, place: u64) -> Result<String, AllocError>
-    ensures { IfOk result (λ text. string_bytes text ≡ name.now ++ codes "(" ++ decimal number ++ codes ") at " ++ decimal place) }
+    ensures { IfOk result
+        (λ text. string_bytes text
+        ≡ name.now ++ codes "(" ++ decimal number ++ codes ") at " ++ decimal place) }
 {
     format!(in alloc; "{name}({number}) at {place}")
 }
 
 // A name, the digits of a number and the place.
 fn digits_text(alloc: Global, name: &str, digits: &str, place: u64) -> Result<String, AllocError>
-    ensures { IfOk result (λ text. string_bytes text ≡ name.now ++ codes "(" ++ digits.now ++ codes ") at " ++ decimal place) }
+    ensures { IfOk result
+        (λ text. string_bytes text
+        ≡ name.now ++ codes "(" ++ digits.now ++ codes ") at " ++ decimal place) }
 {
     format!(in alloc; "{name}({digits}) at {place}")
 }
 
 // A name, a code in hexadecimal and the place.
 fn code_text(alloc: Global, name: &str, code: u8, place: u64) -> Result<String, AllocError>
-    ensures { IfOk result (λ text. string_bytes text ≡ name.now ++ codes "(" ++ hex_byte code ++ codes ") at " ++ decimal place) }
+    ensures { IfOk result
+        (λ text. string_bytes text
+        ≡ name.now ++ codes "(" ++ hex_byte code ++ codes ") at " ++ decimal place) }
 {
     let digits = hex::encode(alloc, [code])?;
     digits_text(alloc, name, digits.as_str(), place)
@@ -63,20 +69,27 @@ fn numbers_text(
     second: u64,
     place: u64,
 ) -> Result<String, AllocError>
-    ensures { IfOk result (λ text. string_bytes text ≡ name.now ++ codes "(" ++ decimal first ++ codes ", " ++ decimal second ++ codes ") at " ++ decimal place) }
+    ensures { IfOk result
+        (λ text. string_bytes text
+        ≡ name.now ++ codes "(" ++ decimal first ++ codes ", " ++ decimal second
+        ++ codes ") at " ++ decimal place) }
 {
     format!(in alloc; "{name}({first}, {second}) at {place}")
 }
 
 fn magic_text(alloc: Global, magic: u32) -> Result<String, AllocError>
-    ensures { IfOk result (λ text. string_bytes text ≡ codes "BadMagic(" ++ hex_word magic ++ codes ")") }
+    ensures { IfOk result
+        (λ text. string_bytes text ≡ codes "BadMagic(" ++ hex_word magic ++ codes ")") }
 {
     let digits = hex::encode(alloc, magic.to_be_bytes())?;
     format!(in alloc; "BadMagic({digits})")
 }
 
 fn too_large_text(alloc: Global, which: &str, stated: u64, limit: u64) -> Result<String, AllocError>
-    ensures { IfOk result (λ text. string_bytes text ≡ codes "TooLarge(" ++ which.now ++ codes ", " ++ decimal stated ++ codes ", " ++ decimal limit ++ codes ")") }
+    ensures { IfOk result
+        (λ text. string_bytes text
+        ≡ codes "TooLarge(" ++ which.now ++ codes ", " ++ decimal stated ++ codes ", "
+        ++ decimal limit ++ codes ")") }
 {
     format!(in alloc; "TooLarge({which}, {stated}, {limit})")
 }
@@ -88,20 +101,28 @@ fn mismatch_text(
     found: u64,
     place: u64,
 ) -> Result<String, AllocError>
-    ensures { IfOk result (λ text. string_bytes text ≡ codes "SizeMismatch(" ++ which.now ++ codes ", " ++ decimal stated ++ codes ", " ++ decimal found ++ codes ") at " ++ decimal place) }
+    ensures { IfOk result
+        (λ text. string_bytes text
+        ≡ codes "SizeMismatch(" ++ which.now ++ codes ", " ++ decimal stated ++ codes ", "
+        ++ decimal found ++ codes ") at " ++ decimal place) }
 {
     format!(in alloc; "SizeMismatch({which}, {stated}, {found}) at {place}")
 }
 
 fn range_text(alloc: Global, value: i64, place: u64) -> Result<String, AllocError>
-    ensures { IfOk result (λ text. string_bytes text ≡ codes "IntRange(" ++ signed_decimal value ++ codes ") at " ++ decimal place) }
+    ensures { IfOk result
+        (λ text. string_bytes text
+        ≡ codes "IntRange(" ++ signed_decimal value ++ codes ") at " ++ decimal place) }
 {
     let mut buffer = Buffer::new();
     digits_text(alloc, "IntRange", buffer.format(value), place)
 }
 
 fn overlong_text(alloc: Global, need: u128, left: u64, place: u64) -> Result<String, AllocError>
-    ensures { IfOk result (λ text. string_bytes text ≡ codes "Overlong(" ++ decimal need ++ codes ", " ++ decimal left ++ codes ") at " ++ decimal place) }
+    ensures { IfOk result
+        (λ text. string_bytes text
+        ≡ codes "Overlong(" ++ decimal need ++ codes ", " ++ decimal left ++ codes ") at "
+        ++ decimal place) }
 {
     format!(in alloc; "Overlong({need}, {left}) at {place}")
 }

@@ -20,7 +20,8 @@ use om_outcome::status::Status;
 use om_write::Compat;
 use std::alloc::{AllocError, Global};
 
-/// Why a run stops. The first number of a value, or of a line of a script, is its own; a text is that of a fault.
+/// Why a run stops. The first number of a value, or of a line of a script, is its own; a text is
+/// that of a fault.
 #[derive(Drop)]
 pub enum Stop<'a> {
     Usage,
@@ -89,35 +90,43 @@ fn status(stop: &Stop) -> Status
 
 // The text of a value's refusal.
 fn value_text(alloc: Global, number: u64, refusal: &str) -> Result<String, AllocError>
-    ensures { IfOk result (λ text. string_bytes text ≡ codes "value " ++ decimal number ++ codes ": " ++ refusal.now) }
+    ensures { IfOk result
+        (λ text. string_bytes text
+        ≡ codes "value " ++ decimal number ++ codes ": " ++ refusal.now) }
 {
     format!(in alloc; "value {number}: {refusal}")
 }
 
 // What stands before the text of a value's fault, by its number.
 fn value_front(alloc: Global, number: u64) -> Result<String, AllocError>
-    ensures { IfOk result (λ text. string_bytes text ≡ codes "value " ++ decimal number ++ codes ": ") }
+    ensures { IfOk result
+        (λ text. string_bytes text ≡ codes "value " ++ decimal number ++ codes ": ") }
 {
     format!(in alloc; "value {number}: ")
 }
 
 // What stands before the text of a line's fault, by its number.
 fn line_front(alloc: Global, number: usize) -> Result<String, AllocError>
-    ensures { IfOk result (λ text. string_bytes text ≡ codes "script line " ++ decimal number ++ codes ": ") }
+    ensures { IfOk result
+        (λ text. string_bytes text ≡ codes "script line " ++ decimal number ++ codes ": ") }
 {
     format!(in alloc; "script line {number}: ")
 }
 
 // What is too large for a reader on 32 bits, with the digits of its number.
 fn digits_compat(alloc: Global, kind: &str, digits: &str) -> Result<String, AllocError>
-    ensures { IfOk result (λ text. string_bytes text ≡ codes "Compat(" ++ kind.now ++ codes ", " ++ digits.now ++ codes ")") }
+    ensures { IfOk result
+        (λ text. string_bytes text
+        ≡ codes "Compat(" ++ kind.now ++ codes ", " ++ digits.now ++ codes ")") }
 {
     format!(in alloc; "Compat({kind}, {digits})")
 }
 
 // The same with a signed number.
 fn signed_compat(alloc: Global, kind: &str, number: i64) -> Result<String, AllocError>
-    ensures { IfOk result (λ text. string_bytes text ≡ codes "Compat(" ++ kind.now ++ codes ", " ++ signed_decimal number ++ codes ")") }
+    ensures { IfOk result
+        (λ text. string_bytes text
+        ≡ codes "Compat(" ++ kind.now ++ codes ", " ++ signed_decimal number ++ codes ")") }
 {
     let mut buffer = Buffer::new();
     digits_compat(alloc, kind, buffer.format(number))
@@ -125,7 +134,9 @@ fn signed_compat(alloc: Global, kind: &str, number: i64) -> Result<String, Alloc
 
 // The same with a size.
 fn sized_compat(alloc: Global, kind: &str, number: u64) -> Result<String, AllocError>
-    ensures { IfOk result (λ text. string_bytes text ≡ codes "Compat(" ++ kind.now ++ codes ", " ++ decimal number ++ codes ")") }
+    ensures { IfOk result
+        (λ text. string_bytes text
+        ≡ codes "Compat(" ++ kind.now ++ codes ", " ++ decimal number ++ codes ")") }
 {
     format!(in alloc; "Compat({kind}, {number})")
 }
@@ -161,7 +172,8 @@ fn put_fault(
     name: &[u8],
     fault: &DeclFault,
 ) -> Result<(), Memory>
-    ensures { OnOk result (line.new.items ≡ line.old.items ++ (name.now ++ declared_text fault.now)) }
+    ensures { OnOk result
+        (line.new.items ≡ line.old.items ++ (name.now ++ declared_text fault.now)) }
 {
     let text = text_of_fault(alloc, fault)?;
     put(line, name)?;
@@ -175,7 +187,8 @@ fn put_refusal(
     number: u64,
     refusal: ReadRefusal,
 ) -> Result<(), Memory>
-    ensures { OnOk result (line.new.items ≡ line.old.items ++ stop_text (value number (text_of_refusal refusal))) }
+    ensures { OnOk result
+        (line.new.items ≡ line.old.items ++ stop_text (value number (text_of_refusal refusal))) }
 {
     let refusal = refusal_text(alloc, refusal)?;
     let text = value_text(alloc, number, refusal.as_str())?;
@@ -184,7 +197,8 @@ fn put_refusal(
 
 // Puts that a value is cut at the end.
 fn put_cut(line: &mut Vec<u8>, alloc: Global, number: u64, taken: u64) -> Result<(), Memory>
-    ensures { OnOk result (line.new.items ≡ line.old.items ++ stop_text (value number (text_of_cut taken))) }
+    ensures { OnOk result
+        (line.new.items ≡ line.old.items ++ stop_text (value number (text_of_cut taken))) }
 {
     let cut = truncated_text(alloc, taken)?;
     let text = value_text(alloc, number, cut.as_str())?;
@@ -202,7 +216,9 @@ fn put_value(line: &mut Vec<u8>, alloc: Global, number: u64, text: &[u8]) -> Res
 
 // Puts that a value is too large for a reader on 32 bits at the end.
 fn put_compat(line: &mut Vec<u8>, alloc: Global, number: u64, compat: Compat) -> Result<(), Memory>
-    ensures { OnOk result (line.new.items ≡ line.old.items ++ stop_text (large_value number (text_of_compat compat))) }
+    ensures { OnOk result
+        (line.new.items
+        ≡ line.old.items ++ stop_text (large_value number (text_of_compat compat))) }
 {
     let text = compat_text(alloc, compat)?;
     put_value(line, alloc, number, text.as_bytes())
@@ -210,7 +226,8 @@ fn put_compat(line: &mut Vec<u8>, alloc: Global, number: u64, compat: Compat) ->
 
 // Puts the text of a fault of a script's line at the end.
 fn put_script(line: &mut Vec<u8>, alloc: Global, number: usize, text: &[u8]) -> Result<(), Memory>
-    ensures { OnOk result (line.new.items ≡ line.old.items ++ stop_text (script_line number text.now)) }
+    ensures { OnOk result
+        (line.new.items ≡ line.old.items ++ stop_text (script_line number text.now)) }
 {
     let front = line_front(alloc, number)?;
     put(line, front.as_bytes())?;
@@ -224,7 +241,9 @@ fn put_script_fault(
     number: usize,
     fault: &DeclFault,
 ) -> Result<(), Memory>
-    ensures { OnOk result (line.new.items ≡ line.old.items ++ stop_text (script_line number (declared_text fault.now))) }
+    ensures { OnOk result
+        (line.new.items
+        ≡ line.old.items ++ stop_text (script_line number (declared_text fault.now))) }
 {
     let text = text_of_fault(alloc, fault)?;
     put_script(line, alloc, number, text.as_slice())
@@ -274,7 +293,8 @@ fn line(alloc: Global, stop: &Stop) -> Result<Vec<u8>, Memory>
     Ok(line)
 }
 
-/// Puts the line of a stop on err, and answers its status. Where memory runs out for the line, this is told.
+/// Puts the line of a stop on err, and answers its status. Where memory runs out for the line, this
+/// is told.
 pub fn report_stop<E: Sink>(alloc: Global, err: &mut E, stop: &Stop) -> Status
     ensures { Reports (stop_of stop.now) (change (E.state err.old) (E.state err.new)) result }
 {

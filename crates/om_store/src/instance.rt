@@ -13,8 +13,9 @@ use om_types::ty::{Node, Ty};
 use std::alloc::Global;
 
 impl Types {
-    /// The number of a type with each parameter replaced by its argument. Other variables stand for themselves. It takes
-    /// a step for each node of the type and each parameter before that of a variable.
+    /// The number of a type with each parameter replaced by its argument. Other variables stand for
+    /// themselves. It takes a step for each node of the type and each parameter before that of a
+    /// variable.
     pub fn instance(
         &mut self,
         alloc: Global,
@@ -23,7 +24,9 @@ impl Types {
         arguments: &[usize],
     ) -> Result<usize, Memory>
         requires { All (λ i. i < length self.old) arguments.now }
-        ensures ok { IfOk result (Holds self.old self.new (instance (argument_at self.old parameters.now arguments.now) t.now)) }
+        ensures ok { IfOk result
+            (Holds self.old self.new
+            (instance (argument_at self.old parameters.now arguments.now) t.now)) }
         ensures err { OnErr result (self.new ≡ self.old) }
     {
         let before = self.len();
@@ -39,7 +42,8 @@ impl Types {
     /// The number of each node's type.
     pub fn add_nodes(&mut self, alloc: Global, nodes: &[Node]) -> Result<Vec<usize>, Memory>
         requires { AreOrdered nodes.now }
-        ensures ok { IfOk result (λ numbers. HoldsEach self.old self.new (types_of nodes.now) numbers.items) }
+        ensures ok { IfOk result
+            (λ numbers. HoldsEach self.old self.new (types_of nodes.now) numbers.items) }
         ensures err { OnErr result (self.new ≡ self.old) }
     {
         let count = self.len();
@@ -74,7 +78,11 @@ fn grow(
     requires among { All (λ i. i < length types.old) arguments.now }
     requires ordered { AreOrdered nodes.now }
     ensures grown { Grows types.old types.new }
-    ensures ok { IfOk result (λ i. slice_get types.new i ≡ Some (instance (argument_at types.old parameters.now arguments.now) (type_of nodes.now))) }
+    ensures ok { IfOk result
+        (λ i. slice_get types.new i
+        ≡ Some
+        (instance (argument_at types.old parameters.now arguments.now)
+        (type_of nodes.now))) }
 {
     let numbers = numbers_of(types, alloc, nodes, parameters, arguments)?;
     match numbers.last() {
@@ -94,7 +102,10 @@ fn numbers_of(
     requires among { All (λ i. i < length types.old) arguments.now }
     requires ordered { AreOrdered nodes.now }
     ensures grown { Grows types.old types.new }
-    ensures ok { IfOk result (λ numbers. AreInstances types.old types.new (argument_at types.old parameters.now arguments.now) nodes.now (length nodes.now) numbers.items) }
+    ensures ok { IfOk result
+        (λ numbers. AreInstances types.old types.new
+        (argument_at types.old parameters.now arguments.now) nodes.now (length nodes.now)
+        numbers.items) }
 {
     let mut numbers = Vec::new(alloc);
     for node in nodes {
@@ -115,7 +126,10 @@ fn add_node(
     requires numbered { All (λ i. i < length types.old) numbers.now }
     requires among { All (λ i. i < length types.old) arguments.now }
     requires below { IsBelow (length numbers.now) node.now }
-    ensures ok { IfOk result (Holds types.old types.new (instance_of_node (argument_at types.old parameters.now arguments.now) (map (type_at types.old) numbers.now) node.now)) }
+    ensures ok { IfOk result
+        (Holds types.old types.new
+        (instance_of_node (argument_at types.old parameters.now arguments.now)
+        (map (type_at types.old) numbers.now) node.now)) }
     ensures err { OnErr result (types.new ≡ types.old) }
 {
     match node {
@@ -139,7 +153,9 @@ fn add_node(
 
 /// The argument of the first parameter of this name.
 fn argument(parameters: &[List<u8>], arguments: &[usize], name: &[u8]) -> Option<usize>
-    ensures stands { (types : List Ty) → argument_at types parameters.now arguments.now name.now ≡ type_or_variable types name.now result }
+    ensures stands { (types : List Ty)
+        → argument_at types parameters.now arguments.now name.now
+        ≡ type_or_variable types name.now result }
     ensures among { IfSome result (λ i. Contains arguments.now i) }
 {
     for i in 0..parameters.len().min(arguments.len()) {

@@ -39,7 +39,8 @@ impl Names {
         }
     }
 
-    /// The number of a name, which is added where it is not there. After `Memory` nothing has changed.
+    /// The number of a name, which is added where it is not there. After `Memory` nothing has
+    /// changed.
     pub fn number(&mut self, name: &[u8]) -> Result<usize, Memory>
         ensures ok { IfOk result (Adds self.old self.new name.now) }
         ensures err { OnErr result (self.new ≡ self.old) }

@@ -13,8 +13,8 @@ use om_model::Memory;
 use std::alloc::Global;
 use std::marker::Model;
 
-/// Types by numbers, each once. Contracts see the list of their trees: type i is the i-th. After `Memory` a call has
-/// changed nothing that they see.
+/// Types by numbers, each once. Contracts see the list of their trees: type i is the i-th. After
+/// `Memory` a call has changed nothing that they see.
 #[derive(Drop)]
 pub struct Types {
     names: Names,
@@ -95,7 +95,8 @@ impl Types {
     pub fn add_part(&mut self, whole: usize, added: usize) -> Result<usize, Memory>
         requires whole { whole < length self.old }
         requires added { added < length self.old }
-        ensures ok { IfOk result (Holds self.old self.new (part (type_at self.old whole) (type_at self.old added))) }
+        ensures ok { IfOk result
+            (Holds self.old self.new (part (type_at self.old whole) (type_at self.old added))) }
         ensures err { OnErr result (self.new ≡ self.old) }
     {
         put(&self.names, &mut self.nodes, Node::Part(whole, added))
@@ -120,7 +121,9 @@ impl Types {
     ) -> Result<usize, Memory>
         requires whole { whole < length self.old }
         requires argument { argument < length self.old }
-        ensures ok { IfOk result (Holds self.old self.new (tag_of (type_at self.old whole) name.now (type_at self.old argument))) }
+        ensures ok { IfOk result
+            (Holds self.old self.new
+            (tag_of (type_at self.old whole) name.now (type_at self.old argument))) }
         ensures err { OnErr result (self.new ≡ self.old) }
     {
         let name = known(&mut self.names, &self.nodes, name)?;
@@ -135,7 +138,9 @@ impl Types {
     pub fn add_including(&mut self, whole: usize, included: usize) -> Result<usize, Memory>
         requires whole { whole < length self.old }
         requires included { included < length self.old }
-        ensures ok { IfOk result (Holds self.old self.new (including (type_at self.old whole) (type_at self.old included))) }
+        ensures ok { IfOk result
+            (Holds self.old self.new
+            (including (type_at self.old whole) (type_at self.old included))) }
         ensures err { OnErr result (self.new ≡ self.old) }
     {
         put(
@@ -182,7 +187,10 @@ fn put(names: &Names, nodes: &mut IndexSet<Node>, node: Node) -> Result<usize, M
     requires named { IsNamedBelow (length names.now) node }
     requires below { IsBelow (length (types_in names.now nodes.old.keys)) (spelled names.now node) }
     ensures store { IsStore names.now nodes.new.keys }
-    ensures ok { let types = types_in names.now nodes.old.keys in IfOk result (Holds types (types_in names.now nodes.new.keys) (type_of_node types (spelled names.now node))) }
+    ensures ok { let types = types_in names.now nodes.old.keys in
+        IfOk result
+        (Holds types (types_in names.now nodes.new.keys)
+        (type_of_node types (spelled names.now node))) }
     ensures err { OnErr result (nodes.new.keys ≡ nodes.old.keys) }
 {
     number_of(nodes, node)

@@ -1,4 +1,5 @@
-//! A table of types decides what values have its types. The functions do nothing: what each ensures is the law.
+//! A table of types decides what values have its types. The functions do nothing: what each ensures
+//! is the law.
 #![tactic(auto)]
 
 mod laws;

@@ -1,5 +1,6 @@
-//! Tests of the crates below, which have none of their own: a crate that has tests is proved once more for them. Each compares
-//! with vectors from outside, or calls once what no stored question of `om_conformance` reaches.
+//! Tests of the crates below, which have none of their own: a crate that has tests is proved once
+//! more for them. Each compares with vectors from outside, or calls once what no stored question of
+//! `om_conformance` reaches.
 #![tactic(auto)]
 
 #[cfg(test)]

@@ -7,7 +7,7 @@ use Rattle.om_lex.specs.declared.lexeme.Lexeme.{Lexeme}
 use Rattle.om_lex.specs.declared.lexeme.LexFault.{LexFault}
 use Rattle.om_lex.specs.LexText.{Lexes, Faults, Outcome}
 use Rattle.om_lex.proofs.PartLaws.{has_one_outcome}
-use Rattle.om_literal.specs.Answers.{IsAnswer}
+use Rattle.om_literal.specs.LiteralAnswers.{IsAnswer}
 use Rattle.om_literal.specs.declared.fault.LiteralFault.{LiteralFault}
 use Rattle.om_literal.proofs.AnswerLemmas.{one_answer}
 use Rattle.std.proofs.Common.{true, false, ◌++◌, length-append}

@@ -14,11 +14,11 @@ use Rattle.om_format.specs.Tree.{Tree, IsTree, ReferBack, root, made, objects_of
 use Rattle.om_show.specs.Shown.{shown_text}
 use Rattle.om_type_table.specs.declared.table.TypeTable.{TypeTable}
 use Rattle.om_type_table.specs.Made.{types_of, IsTypeTable}
-use Rattle.om_literal.specs.Answers.{IsAnswer}
+use Rattle.om_literal.specs.LiteralAnswers.{IsAnswer}
 use Rattle.om_literal_texts.specs.Readable.{AreReadable}
 
--- The text is one line that is not empty, and what its lexemes are, over no objects, at the number 0 of the
--- table is the tree's value with its objects.
+-- The text is one line that is not empty, and what its lexemes are, over no objects, at the number
+-- 0 of the table is the tree's value with its objects.
 pub record ReadsAgain (table : TypeTable) (tree : Tree) (text : List ℕ) : Type 0 where
   pub lexemes : List Lexeme
   pub lexes : Lexes text lexemes
@@ -26,11 +26,13 @@ pub record ReadsAgain (table : TypeTable) (tree : Tree) (text : List ℕ) : Type
   pub one_line : AllByRecursion (λ b. b ≢ 10) text
   pub answer : (end : ℕ) → IsAnswer table 0 lexemes end [] (Ok (objects_of tree 0, root tree 0))
 
--- so it is of a value of a type of which the table was made, where the names of all its types are read back
+-- so it is of a value of a type of which the table was made, where the names of all its types are
+-- read back
 abbrev pub TextsAreReadAgain : Type 0
 TextsAreReadAgain =
     (decls : List Decl) (t : Ty) (table : TypeTable)
-    → AreWellFormed decls → IsSoundType decls t → IsTypeTable decls t table → AreReadable decls (types_of table)
+    → AreWellFormed decls → IsSoundType decls t → IsTypeTable decls t table
+    → AreReadable decls (types_of table)
     → (tree : Tree) → IsTree tree → ReferBack tree 0 → made tree < 2 ^ 63
     → HasType (declared_shapes decls) (objects_of tree 0) (root tree 0) t
     → ReadsAgain table tree

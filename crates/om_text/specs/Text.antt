@@ -7,7 +7,7 @@ use Rattle.om_lex.specs.declared.lexeme.Lexeme.{Lexeme}
 use Rattle.om_lex.specs.LexText.{Lexes, Faults}
 use Rattle.om_format.specs.Tree.{Tree, root, objects_of}
 use Rattle.om_type_table.specs.declared.table.TypeTable.{TypeTable}
-use Rattle.om_literal.specs.Answers.{IsAnswer}
+use Rattle.om_literal.specs.LiteralAnswers.{IsAnswer}
 use Rattle.om_text.specs.Laws.{ReadsAgain}
 use Rattle.om_text.specs.declared.text.TextFault.{TextFault}
 use Rattle.om_text.specs.declared.text.TextFault.TheVariants as faults
@@ -16,8 +16,8 @@ use Rattle.om_text.specs.declared.text.TextFault.TheVariants as faults
 abbrev pub TextAnswer : Type 0
 TextAnswer = Result (Option (List Obj × Val)) TextFault
 
--- A line without lexemes is blank. Else they are a literal of a value and its objects, or have the fault of
--- a literal, over no objects and with the line's end as the end.
+-- A line without lexemes is blank. Else they are a literal of a value and its objects, or have the
+-- fault of a literal, over no objects and with the line's end as the end.
 abbrev pub IsTextAnswer : TypeTable → List ℕ → TextAnswer → Type 0
 IsTextAnswer table line (Ok None) = Lexes line []
 IsTextAnswer table line (Ok (Some built)) =

@@ -10,8 +10,8 @@ pub fn one_text_answer()
     ensures { (table : TypeTable) (line : List ℕ) → HasOneTextAnswer table line }
 {}
 
-/// What is read from the text of a value, at the number 0 of the table of its type, is the value, where the names of the
-/// table's types are read back.
+/// What is read from the text of a value, at the number 0 of the table of its type, is the value,
+/// where the names of the table's types are read back.
 pub fn texts_are_read_again()
     ensures { TextsAreReadAgain }
 {}

@@ -1,4 +1,5 @@
-//! Lines of text as values of a type: what a line is, and the law that what is read from the text of a value is the value.
+//! Lines of text as values of a type: what a line is, and the law that what is read from the text
+//! of a value is the value.
 #![tactic(auto)]
 
 mod laws;

@@ -22,8 +22,9 @@ pub enum TextFault {
     Memory,
 }
 
-/// Reads a line as a value of the type of number 0, whose objects are then those of the heap; a blank line is none. The objects
-/// that the heap had are dropped, and their memory serves the new ones.
+/// Reads a line as a value of the type of number 0, whose objects are then those of the heap; a
+/// blank line is none. The objects that the heap had are dropped, and their memory serves the new
+/// ones.
 pub fn read_text(
     alloc: Global,
     heap: &mut Heap,
@@ -32,7 +33,8 @@ pub fn read_text(
 ) -> Result<Option<Val>, TextFault>
     requires { length table.now.names ≡ length table.now.nodes }
 
-    // What the line is, or why it is no value, and then the heap is empty. So it is out of memory too.
+    // What the line is, or why it is no value, and then the heap is empty. So it is out of memory
+    // too.
     ensures reads { ReadsText table.now line.now heap.new result }
 
     // The one answer is given, unless memory runs out.

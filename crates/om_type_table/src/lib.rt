@@ -1,4 +1,5 @@
-//! The table of the types that a type reaches: for each number a shape over numbers, a class, names and a text.
+//! The table of the types that a type reaches: for each number a shape over numbers, a class, names
+//! and a text.
 #![tactic(auto)]
 
 pub mod laws;

@@ -7,7 +7,8 @@ use om_store::Types;
 use om_types::names::Names;
 use om_types::shape::ShapeOf;
 
-/// Types by their numbers, in the order in which they are met. The type that was asked for has the number 0.
+/// Types by their numbers, in the order in which they are met. The type that was asked for has the
+/// number 0.
 #[derive(Drop)]
 pub struct TypeTable {
     /// A store that has the types.

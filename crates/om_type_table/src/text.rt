@@ -18,7 +18,8 @@ impl TypeTable {
     pub fn text(&self, alloc: Global, number: usize) -> Result<List<u8>, Memory>
         requires within { All (λ i. i < length self.now.store) self.now.stored }
         requires number { number < length self.now.stored }
-        ensures { IfOk result (λ text. IfSome (slice_get (types_of self.now) number) (λ t. text ≡ type_text t)) }
+        ensures { IfOk result
+            (λ text. IfSome (slice_get (types_of self.now) number) (λ t. text ≡ type_text t)) }
     {
         text_in(alloc, &self.store, self.stored.as_slice()[number])
     }
@@ -52,7 +53,9 @@ fn put_next<'a>(
     requires next { IsWithin types.now next }
     requires within { All (IsWithin types.now) waiting.old.items }
     ensures within { OnOk result (All (IsWithin types.now) waiting.new.items) }
-    ensures put { OnOk result (IsPut types.now text.old.items text.new.items waiting.old.items waiting.new.items (text_of_waiting types.now next.entry)) }
+    ensures put { OnOk result
+        (IsPut types.now text.old.items text.new.items waiting.old.items waiting.new.items
+        (text_of_waiting types.now next.entry)) }
 {
     match next {
         Waiting::Text(bytes) => put(text, bytes),
@@ -71,7 +74,9 @@ fn put_added<'a>(
     requires number { number < length types.now }
     requires within { All (IsWithin types.now) waiting.old.items }
     ensures within { OnOk result (All (IsWithin types.now) waiting.new.items) }
-    ensures put { OnOk result (IsPut types.now text.old.items text.new.items waiting.old.items waiting.new.items (added_text asked (type_at types.now number))) }
+    ensures put { OnOk result
+        (IsPut types.now text.old.items text.new.items waiting.old.items waiting.new.items
+        (added_text asked (type_at types.now number))) }
 {
     match types.node(number) {
         TypeNode::Part(_, added) => put_part(text, waiting, types, added, asked),
@@ -97,7 +102,10 @@ fn put_part<'a>(
     requires number { number < length types.now }
     requires within { All (IsWithin types.now) waiting.old.items }
     ensures within { OnOk result (All (IsWithin types.now) waiting.new.items) }
-    ensures put { OnOk result (IsPut types.now text.old.items text.new.items waiting.old.items waiting.new.items (in_parentheses asked (is_tuple (type_at types.now number)) (type_text (type_at types.now number)))) }
+    ensures put { OnOk result
+        (IsPut types.now text.old.items text.new.items waiting.old.items waiting.new.items
+        (in_parentheses asked (is_tuple (type_at types.now number))
+        (type_text (type_at types.now number)))) }
 {
     if asked && is_tuple(types, number) {
         put(text, b"(")?;
@@ -129,7 +137,9 @@ fn put_type<'a>(
     requires number { number < length types.now }
     requires within { All (IsWithin types.now) waiting.old.items }
     ensures within { OnOk result (All (IsWithin types.now) waiting.new.items) }
-    ensures put { OnOk result (IsPut types.now text.old.items text.new.items waiting.old.items waiting.new.items (type_text (type_at types.now number))) }
+    ensures put { OnOk result
+        (IsPut types.now text.old.items text.new.items waiting.old.items waiting.new.items
+        (type_text (type_at types.now number))) }
 {
     match types.node(stem_of(types, number)) {
         TypeNode::Variable(name) => {
@@ -161,7 +171,9 @@ fn put_arguments<'a>(
     requires number { number < length types.now }
     requires within { All (IsWithin types.now) waiting.old.items }
     ensures within { OnOk result (All (IsWithin types.now) waiting.new.items) }
-    ensures put { OnOk result (IsPut types.now text.old.items text.new.items waiting.old.items waiting.new.items (arguments_text (type_at types.now number))) }
+    ensures put { OnOk result
+        (IsPut types.now text.old.items text.new.items waiting.old.items waiting.new.items
+        (arguments_text (type_at types.now number))) }
 {
     let Some(whole) = before_part(types, number) else {
         return Ok(());

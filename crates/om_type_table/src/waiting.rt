@@ -17,8 +17,13 @@ pub(crate) enum Waiting<'a> {
 
 /// Has one more wait: it comes first.
 pub(crate) fn wait<'a>(waiting: &mut Vec<Waiting<'a>>, next: Waiting<'a>) -> Result<(), Memory>
-    ensures within { OnOk result ((types : List Ty) → IsWithin types next.entry → All (IsWithin types) waiting.old.items → All (IsWithin types) waiting.new.items) }
-    ensures text { OnOk result ((types : List Ty) → waiting_text types waiting.new.items ≡ text_of_waiting types next.entry ++ waiting_text types waiting.old.items) }
+    ensures within { OnOk result
+        ((types : List Ty) → IsWithin types next.entry → All (IsWithin types) waiting.old.items
+        → All (IsWithin types) waiting.new.items) }
+    ensures text { OnOk result
+        ((types : List Ty)
+        → waiting_text types waiting.new.items
+        ≡ text_of_waiting types next.entry ++ waiting_text types waiting.old.items) }
 {
     waiting.push(next)?;
     Ok(())
@@ -35,7 +40,10 @@ pub(crate) fn push_parts<'a>(
     requires number { number < length types.now }
     requires within { All (IsWithin types.now) waiting.old.items }
     ensures within { OnOk result (All (IsWithin types.now) waiting.new.items) }
-    ensures parts { OnOk result (waiting_text types.now waiting.new.items ≡ parts_text asked between.now [] (type_at types.now number) ++ waiting_text types.now waiting.old.items) }
+    ensures parts { OnOk result
+        (waiting_text types.now waiting.new.items
+        ≡ parts_text asked between.now [] (type_at types.now number)
+        ++ waiting_text types.now waiting.old.items) }
 {
     let mut at = number;
     let mut end: &'static [u8] = b"";

@@ -32,7 +32,8 @@ AreWithin types numbers = All (λ i. i < length types) numbers
 -- ---- one type
 
 -- The entry is the layout by places, with the names of its head.
-pub record IsPlacedEntry (decls : List Decl) (before after : List ℕ) (layout : Layout) (entry : Entry) : Type 0 where
+pub record IsPlacedEntry (decls : List Decl) (before after : List ℕ) (layout : Layout)
+    (entry : Entry) : Type 0 where
   pub middle : List ℕ
   pub shape : IsShapePlaced before middle layout.shape entry.shape
   pub head : IsHeadPlaced middle after layout.head entry.head
@@ -40,7 +41,8 @@ pub record IsPlacedEntry (decls : List Decl) (before after : List ℕ) (layout :
 
 -- What a type names is met after the types that were met before. By places its entry is right, also
 -- where more types are met later.
-pub record IsEntry (decls : List Decl) (t : Ty) (before after : List Ty) (entry : Entry) : Type 0 where
+pub record IsEntry (decls : List Decl) (t : Ty) (before after : List Ty) (entry : Entry)
+    : Type 0 where
   pub added : List Ty
   pub kept : after ≡ before ++ added
   pub new : IsWithoutRepeats before (reached_from decls t) added

@@ -13,7 +13,8 @@ use Rattle.om_types.specs.Table.{with_parts, head_with_parts, constr_with, tag_w
 
 -- what the one says of each place, the other says of the number there
 pub record SayTheSame (met : List ℕ) (of_place of_number : ℕ → Option Ty) : Type 0 where
-  pub at : (place number : ℕ) → slice_get met place ≡ Some number → of_place place ≡ of_number number
+  pub at : (place number : ℕ) → slice_get met place ≡ Some number
+      → of_place place ≡ of_number number
 
 -- The numbers in what was given are met after those that were met before, each where it is new.
 -- What was made says of their places what was given says of them.
@@ -31,14 +32,16 @@ AreNumbersPlaced =
 
 abbrev pub IsOptionPlaced : List ℕ → List ℕ → Option ℕ → Option ℕ → Type 0
 IsOptionPlaced =
-    IsPlaced {A = Option ℕ} {B = Option (Option Ty)} (λ n. listed_if n) (λ says n. option_map says n)
+    IsPlaced {A = Option ℕ} {B = Option (Option Ty)} (λ n. listed_if n)
+    (λ says n. option_map says n)
 
 abbrev pub fields_in : Constr ℕ → List ℕ
 fields_in constr = constr.fields
 
 abbrev pub AreBlocksPlaced : List ℕ → List ℕ → List (Constr ℕ) → List (Constr ℕ) → Type 0
 AreBlocksPlaced =
-    IsPlaced {A = List (Constr ℕ)} {B = List (Constr (Option Ty))} (λ blocks. flat_map fields_in blocks)
+    IsPlaced {A = List (Constr ℕ)} {B = List (Constr (Option Ty))}
+    (λ blocks. flat_map fields_in blocks)
     (λ says blocks. map (constr_with says) blocks)
 
 abbrev pub argument_in : PolyTag ℕ → List ℕ
@@ -46,11 +49,13 @@ argument_in tag = listed_if tag.arg
 
 abbrev pub IsTagPlaced : List ℕ → List ℕ → PolyTag ℕ → PolyTag ℕ → Type 0
 IsTagPlaced =
-    IsPlaced {A = PolyTag ℕ} {B = PolyTag (Option Ty)} argument_in (λ says tag. tag_with_parts says tag)
+    IsPlaced {A = PolyTag ℕ} {B = PolyTag (Option Ty)} argument_in
+    (λ says tag. tag_with_parts says tag)
 
 abbrev pub AreTagsPlaced : List ℕ → List ℕ → List (PolyTag ℕ) → List (PolyTag ℕ) → Type 0
 AreTagsPlaced =
-    IsPlaced {A = List (PolyTag ℕ)} {B = List (PolyTag (Option Ty))} (λ tags. flat_map argument_in tags)
+    IsPlaced {A = List (PolyTag ℕ)} {B = List (PolyTag (Option Ty))}
+    (λ tags. flat_map argument_in tags)
     (λ says tags. map (tag_with_parts says) tags)
 
 abbrev pub IsShapePlaced : List ℕ → List ℕ → ShapeOf ℕ → ShapeOf ℕ → Type 0

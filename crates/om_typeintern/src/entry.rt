@@ -31,7 +31,8 @@ pub(crate) struct Entry {
     pub(crate) names: Names,
 }
 
-/// The entry of a type. What the type names is met: first what its shape names, then the parts of its head.
+/// The entry of a type. What the type names is met: first what its shape names, then the parts of
+/// its head.
 pub(crate) fn entry_of(
     alloc: Global,
     types: &mut Types,
@@ -40,12 +41,15 @@ pub(crate) fn entry_of(
     table: &Table<'_>,
     number: usize,
 ) -> Result<Entry, Memory>
-    requires places { ArePlaces (names_of_decls decls.now) (length decls.now) (number_of table.now) }
+    requires places { ArePlaces (names_of_decls decls.now) (length decls.now)
+        (number_of table.now) }
     requires number { number < length types.old }
     requires met { AreWithin types.old met.old.keys }
     requires sound { AreSound decls.now }
     ensures within { OnOk result (AreWithin types.new met.new.keys) }
-    ensures ok { IfOk result (IsEntry decls.now (type_at types.old number) (types_at types.old met.old.keys) (types_at types.new met.new.keys)) }
+    ensures ok { IfOk result
+        (IsEntry decls.now (type_at types.old number) (types_at types.old met.old.keys)
+        (types_at types.new met.new.keys)) }
     ensures grown { Grows types.old types.new }
 {
     let layout = layout_of(alloc, types, decls, table, number)?;
@@ -70,7 +74,9 @@ fn placed_entry(
 
 /// The entry of what a type looks like, with these names.
 fn placed(alloc: Global, met: &mut Met, layout: &Layout, names: Names) -> Result<Entry, Memory>
-    ensures { IfOk result (λ entry. (decls : List Declaration) → AreNamesAt decls layout.now.head names → IsPlacedEntry decls met.old.keys met.new.keys layout.now entry) }
+    ensures { IfOk result
+        (λ entry. (decls : List Declaration) → AreNamesAt decls layout.now.head names
+        → IsPlacedEntry decls met.old.keys met.new.keys layout.now entry) }
 {
     let shape = placed_shape(alloc, met, &layout.shape)?;
     let head = placed_head(alloc, met, &layout.head)?;

@@ -21,7 +21,8 @@ use om_types::shape::ShapeOf;
 use om_types::ty::Ty;
 use std::alloc::Global;
 
-/// A store of types, the numbers in it of those that were met, and the shapes, heads and names of the first of these.
+/// A store of types, the numbers in it of those that were met, and the shapes, heads and names of
+/// the first of these.
 #[derive(Drop)]
 pub(crate) struct Listing {
     pub(crate) types: Types,
@@ -57,13 +58,16 @@ pub(crate) fn go_on(
     decls: &[Decl],
     table: &Table<'_>,
 ) -> Result<(), Memory>
-    requires places { ArePlaces (names_of_decls decls.now) (length decls.now) (number_of table.now) }
+    requires places { ArePlaces (names_of_decls decls.now) (length decls.now)
+        (number_of table.now) }
     requires within { AreWithin listing.old.types listing.old.met.keys }
     requires more { length listing.old.nodes.items < length listing.old.met.keys }
     requires sound { AreSound decls.now }
     ensures within { OnOk result (AreWithin listing.new.types listing.new.met.keys) }
-    ensures one { OnOk result (length listing.new.nodes.items ≡ length listing.old.nodes.items + 1) }
-    ensures is { OnOk result ((t : Tree) → IsListingOf decls.now t listing.old → IsListingOf decls.now t listing.new) }
+    ensures one { OnOk result
+        (length listing.new.nodes.items ≡ length listing.old.nodes.items + 1) }
+    ensures is { OnOk result
+        ((t : Tree) → IsListingOf decls.now t listing.old → IsListingOf decls.now t listing.new) }
 {
     let number = listing.met.as_slice()[listing.nodes.len()];
     let entry = entry_of(
@@ -82,9 +86,12 @@ pub(crate) fn go_on(
 fn put(listing: &mut Listing, entry: Entry) -> Result<(), Memory>
     ensures types { listing.new.types ≡ listing.old.types }
     ensures met { listing.new.met ≡ listing.old.met }
-    ensures nodes { OnOk result (listing.new.nodes.items ≡ listing.old.nodes.items ++ entry.shape ∷ []) }
-    ensures heads { OnOk result (listing.new.heads.items ≡ listing.old.heads.items ++ entry.head ∷ []) }
-    ensures names { OnOk result (listing.new.names.items ≡ listing.old.names.items ++ entry.names ∷ []) }
+    ensures nodes { OnOk result
+        (listing.new.nodes.items ≡ listing.old.nodes.items ++ entry.shape ∷ []) }
+    ensures heads { OnOk result
+        (listing.new.heads.items ≡ listing.old.heads.items ++ entry.head ∷ []) }
+    ensures names { OnOk result
+        (listing.new.names.items ≡ listing.old.names.items ++ entry.names ∷ []) }
 {
     listing.nodes.push(entry.shape)?;
     listing.heads.push(entry.head)?;

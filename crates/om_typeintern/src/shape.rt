@@ -9,8 +9,8 @@ use om_model::list::List;
 use om_types::shape::{Constr, PolyTag, ShapeOf};
 use std::alloc::Global;
 
-/// A shape by the places of the numbers in it. They are met constructor by constructor and field by field, and tags in
-/// their order.
+/// A shape by the places of the numbers in it. They are met constructor by constructor and field by
+/// field, and tags in their order.
 pub(crate) fn placed_shape(
     alloc: Global,
     met: &mut Met,

@@ -22,8 +22,8 @@ use std::alloc::Global;
 /// How many types a table has at most.
 const MOST: usize = 65536;
 
-/// The table of the types that a type reaches, in the order in which they are met: the type, and then for each in turn
-/// what its shape names and the parts of its head.
+/// The table of the types that a type reaches, in the order in which they are met: the type, and
+/// then for each in turn what its shape names and the parts of its head.
 pub fn build(alloc: Global, decls: &[Decl], ty: &Ty) -> Result<TypeTable, TypeFault>
     requires well { AreWellFormed decls.now }
     requires sound { IsSoundType decls.now ty.now }

@@ -21,7 +21,8 @@ type_of_field needs i = option_map (λ need. need.1) (find (λ need. need.0 == i
 -- one step from a value at a type: field i at the type that is needed there
 abbrev pub step : {T : Type 0} → Shapes T → List Obj → Val → T → ℕ → Option (Val × T)
 step shapes graph v t i =
-    option_and_then (λ w. option_map (λ u. (w, u)) (type_of_field (shapes.needs graph v t) i)) (field_of graph v i)
+    option_and_then (λ w. option_map (λ u. (w, u)) (type_of_field (shapes.needs graph v t) i))
+    (field_of graph v i)
 
 -- the value and its type at the end of a path, if it leads anywhere
 abbrev pub value_at : {T : Type 0} → Shapes T → List Obj → Val → T → List ℕ → Option (Val × T)
@@ -38,14 +39,17 @@ IsLexicallyBefore (i ∷ first) (j ∷ second) = (i < j) ⊎ ((i ≡ j) × IsLex
 -- paths go by length, then by their numbers from the left
 abbrev pub IsBefore : List ℕ → List ℕ → Type 0
 IsBefore first second =
-    (length first < length second) ⊎ ((length first ≡ length second) × IsLexicallyBefore first second)
+    (length first < length second)
+    ⊎ ((length first ≡ length second) × IsLexicallyBefore first second)
 
 -- the value at the path does not fit its type
 abbrev pub IsMisfit : {T : Type 0} → Shapes T → List Obj → Val → T → List ℕ → Type 0
-IsMisfit shapes graph v t path = IsSomeAnd (value_at shapes graph v t path) (λ place. ¬ shapes.fits graph place.0 place.1)
+IsMisfit shapes graph v t path =
+    IsSomeAnd (value_at shapes graph v t path) (λ place. ¬ shapes.fits graph place.0 place.1)
 
 -- the two paths lead to one object at unequal types, at one of which it is mutable
-pub record IsClash {T : Type 0} (shapes : Shapes T) (graph : List Obj) (v : Val) (t : T) (first second : List ℕ) : Type 0 where
+pub record IsClash {T : Type 0} (shapes : Shapes T) (graph : List Obj) (v : Val) (t : T)
+    (first second : List ℕ) : Type 0 where
   pub object : ℕ
   pub one : T
   pub other : T

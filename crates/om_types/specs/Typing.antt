@@ -1,5 +1,5 @@
--- Which values have a type: those that some list of objects and types justifies. Nothing is traversed (this project's own,
--- after Henry, Mauny, Chailloux and Manoury 2012).
+-- Which values have a type: those that some list of objects and types justifies. Nothing is
+-- traversed (this project's own, after Henry, Mauny, Chailloux and Manoury 2012).
 use Rattle.std.specs.Prelude.{ℕ, List, [], Option, slice_get, option_and_then, IsSomeAnd, Contains}
 use Rattle.om_model.specs.declared.value.Val.{Val}
 use Rattle.om_model.specs.declared.value.Val.TheVariants as vals
@@ -28,24 +28,31 @@ IsListed shapes pairs (vals.Atom tag) t = Unit {0}
 IsListed {T} shapes pairs (vals.Ref o) t = (u : T) × Contains pairs (o, u) × shapes.equal u t
 
 -- the value fits the type and is listed
-pub record IsHeld {T : Type 0} (shapes : Shapes T) (graph : List Obj) (pairs : List (ℕ × T)) (v : Val) (t : T) : Type 0 where
+pub record IsHeld {T : Type 0} (shapes : Shapes T) (graph : List Obj) (pairs : List (ℕ × T))
+    (v : Val) (t : T) : Type 0 where
   pub fits : shapes.fits graph v t
   pub listed : IsListed shapes pairs v t
 
--- Pairs of objects and types that justify one another: each fits, each field that a pair needs is held, and a mutable
--- object has one type.
-pub record IsTyping {T : Type 0} (shapes : Shapes T) (graph : List Obj) (pairs : List (ℕ × T)) : Type 0 where
+-- Pairs of objects and types that justify one another: each fits, each field that a pair needs is
+-- held, and a mutable object has one type.
+pub record IsTyping {T : Type 0} (shapes : Shapes T) (graph : List Obj) (pairs : List (ℕ × T))
+    : Type 0 where
   pub fits : (o : ℕ) (t : T) → Contains pairs (o, t) → shapes.fits graph (vals.Ref o) t
-  pub held : (o : ℕ) (t : T) (i : ℕ) (u : T) → Contains pairs (o, t) → Contains (shapes.needs graph (vals.Ref o) t) (i, u) → IsSomeAnd (field_at graph o i) (λ v. IsHeld shapes graph pairs v u)
-  pub one_type : (o : ℕ) (t u : T) → Contains pairs (o, t) → Contains pairs (o, u) → shapes.mutable graph o t → shapes.equal t u
+  pub held : (o : ℕ) (t : T) (i : ℕ) (u : T) → Contains pairs (o, t)
+      → Contains (shapes.needs graph (vals.Ref o) t) (i, u)
+      → IsSomeAnd (field_at graph o i) (λ v. IsHeld shapes graph pairs v u)
+  pub one_type : (o : ℕ) (t u : T) → Contains pairs (o, t) → Contains pairs (o, u)
+      → shapes.mutable graph o t → shapes.equal t u
 
 -- where the value is a reference, some typing has its object at the type
 abbrev pub IsTyped : {T : Type 0} → Shapes T → List Obj → Val → T → Type 0
 IsTyped shapes graph (vals.Int z) t = Unit {0}
 IsTyped shapes graph (vals.Atom tag) t = Unit {0}
-IsTyped {T} shapes graph (vals.Ref o) t = (pairs : List (ℕ × T)) × IsTyping shapes graph pairs × Contains pairs (o, t)
+IsTyped {T} shapes graph (vals.Ref o) t =
+    (pairs : List (ℕ × T)) × IsTyping shapes graph pairs × Contains pairs (o, t)
 
 -- the value fits the type and is typed
-pub record HasType {T : Type 0} (shapes : Shapes T) (graph : List Obj) (v : Val) (t : T) : Type 0 where
+pub record HasType {T : Type 0} (shapes : Shapes T) (graph : List Obj) (v : Val) (t : T)
+    : Type 0 where
   pub fits : shapes.fits graph v t
   pub typed : IsTyped shapes graph v t

@@ -16,7 +16,8 @@ use Rattle.om_types.specs.LeastFault.{IsLeastFault}
 
 abbrev pub object_text : Option Obj → List ℕ
 object_text None = []
-object_text (Some (objects.Block tag values)) = codes "block " ++ decimal tag ++ codes " of " ++ decimal (length values)
+object_text (Some (objects.Block tag values)) =
+    codes "block " ++ decimal tag ++ codes " of " ++ decimal (length values)
 object_text (Some (objects.Bytes bytes)) = codes "string"
 object_text (Some (objects.Double bits)) = codes "float"
 object_text (Some (objects.Doubles all)) = codes "float array of " ++ decimal (length all)
@@ -34,24 +35,31 @@ kind_text graph (vals.Ref o) = object_text (slice_get graph o)
 
 -- a path leads to a value that was to be of a type
 abbrev pub misfit_text : {T : Type 0} → (T → List ℕ) → List Obj → List ℕ → Val → T → List ℕ
-misfit_text type_text graph path v t = path_text path ++ codes ": expected " ++ type_text t ++ codes ", found " ++ kind_text graph v
+misfit_text type_text graph path v t =
+    path_text path ++ codes ": expected " ++ type_text t ++ codes ", found " ++ kind_text graph v
 
 -- two paths lead to one object, each at its type
 abbrev pub clash_text : {T : Type 0} → (T → List ℕ) → List ℕ → T → List ℕ → T → List ℕ
-clash_text type_text first t second u = path_text first ++ codes " and " ++ path_text second ++ codes ": " ++ type_text t ++ codes " and " ++ type_text u ++ codes " share a mutable object"
+clash_text type_text first t second u =
+    path_text first ++ codes " and " ++ path_text second ++ codes ": " ++ type_text t
+    ++ codes " and " ++ type_text u ++ codes " share a mutable object"
 
 -- the values and the types are those at the ends of the paths
-abbrev pub IsFaultText : {T : Type 0} → Shapes T → (T → List ℕ) → List Obj → Val → T → Fault → List ℕ → Type 0
+abbrev pub IsFaultText : {T : Type 0} → Shapes T → (T → List ℕ) → List Obj → Val → T → Fault
+    → List ℕ → Type 0
 IsFaultText {T} shapes type_text graph v t (Misfit path) text =
-    (w : Val) × (u : T) × (value_at shapes graph v t path ≡ Some (w, u)) × (text ≡ misfit_text type_text graph path w u)
+    (w : Val) × (u : T) × (value_at shapes graph v t path ≡ Some (w, u))
+    × (text ≡ misfit_text type_text graph path w u)
 IsFaultText {T} shapes type_text graph v t (Clash first second) text =
-    (o : Val) × (one other : T) × (value_at shapes graph v t first ≡ Some (o, one)) × (value_at shapes graph v t second ≡ Some (o, other))
+    (o : Val) × (one other : T) × (value_at shapes graph v t first ≡ Some (o, one))
+    × (value_at shapes graph v t second ≡ Some (o, other))
     × (text ≡ clash_text type_text first one second other)
 
 -- ---- the line
 
 -- the least fault, and its text after `no`
-pub record IsNoLine {T : Type 0} (shapes : Shapes T) (type_text : T → List ℕ) (graph : List Obj) (v : Val) (t : T) (line : List ℕ) : Type 0 where
+pub record IsNoLine {T : Type 0} (shapes : Shapes T) (type_text : T → List ℕ) (graph : List Obj)
+    (v : Val) (t : T) (line : List ℕ) : Type 0 where
   pub fault : Fault
   pub text : List ℕ
   pub least : IsLeastFault shapes graph v t fault

@@ -54,7 +54,8 @@ pub enum Body {
     Variant(List<Constructor>),
 }
 
-/// A declaration. The group is how many declarations come before those that are declared together with it.
+/// A declaration. The group is how many declarations come before those that are declared together
+/// with it.
 #[derive(Drop)]
 pub struct Decl {
     pub name: List<u8>,

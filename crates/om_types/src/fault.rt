@@ -2,8 +2,8 @@
 
 use om_model::path::Path;
 
-/// A path to a value that does not fit its type, or two paths, the lesser first, to one object at unequal types, at
-/// one of which it is mutable.
+/// A path to a value that does not fit its type, or two paths, the lesser first, to one object at
+/// unequal types, at one of which it is mutable.
 #[derive(Drop)]
 pub enum Fault {
     Misfit(Path),

@@ -1,5 +1,5 @@
-//! Types of values: declarations, type expressions, shapes, equality, typings, paths, faults and their texts, as
-//! definitions (Henry and others, 2012), and the laws on them.
+//! Types of values: declarations, type expressions, shapes, equality, typings, paths, faults and
+//! their texts, as definitions (Henry and others, 2012), and the laws on them.
 #![tactic(auto)]
 
 pub mod decl;

@@ -2,7 +2,8 @@
 
 use om_model::list::List;
 
-/// The name of a constructor with arguments, and those of the fields of its inline record, where it has one.
+/// The name of a constructor with arguments, and those of the fields of its inline record, where it
+/// has one.
 #[derive(Drop)]
 pub struct ConstrNames {
     pub name: List<u8>,
@@ -16,7 +17,8 @@ pub struct TagName {
     pub hash: i64,
 }
 
-/// The constant constructors, the other constructors, the fields of a record, and the tags, each in declared order.
+/// The constant constructors, the other constructors, the fields of a record, and the tags, each in
+/// declared order.
 #[derive(Drop)]
 pub struct Names {
     pub constants: List<List<u8>>,

@@ -6,8 +6,8 @@ ghost use Rattle.om_types.specs.Nodes.{type_of, AreOrdered};
 use om_model::list::List;
 use std::marker::Model;
 
-/// A variable; or a name, a tuple or a bracket of tags; or one of these three with a part more. Nodes are named by
-/// their places in the list.
+/// A variable; or a name, a tuple or a bracket of tags; or one of these three with a part more.
+/// Nodes are named by their places in the list.
 #[derive(Drop)]
 pub enum Node {
     /// A variable, without its quote.
@@ -25,8 +25,8 @@ pub enum Node {
     Including(usize, usize),
 }
 
-/// A type as it is written, abbreviations unexpanded. Parentheses leave nothing. Contracts see the tree of its last
-/// node.
+/// A type as it is written, abbreviations unexpanded. Parentheses leave nothing. Contracts see the
+/// tree of its last node.
 #[derive(Drop)]
 pub struct Ty {
     nodes: Vec<Node>,

@@ -16,7 +16,8 @@ HasFault shapes graph v t = (fault : Fault) × IsFault shapes graph v t fault
 abbrev pub HasTypeOrFault : {T : Type 0} → Shapes T → List Obj → Val → T → Type 0
 HasTypeOrFault shapes graph v t = HasType shapes graph v t ⊎ HasFault shapes graph v t
 
--- over all shapes that are lawful and decidable, a value has a type that reaches few or has a fault there
+-- over all shapes that are lawful and decidable, a value has a type that reaches few or has a fault
+-- there
 abbrev pub FaultsAreComplete : Type 1
 FaultsAreComplete =
     (T : Type 0) (shapes : Shapes T) → AreLawful shapes Everything → AreDecidable shapes

@@ -8,12 +8,14 @@ use Rattle.om_types.specs.declared.fault.Fault.TheVariants.{Misfit, Clash}
 use Rattle.om_types.specs.Shapes.{Shapes}
 use Rattle.om_types.specs.Fault.{IsBefore, value_at}
 
--- without its last step the path leads to an object at a type, and no lesser path leads to this object at an equal type
+-- without its last step the path leads to an object at a type, and no lesser path leads to this
+-- object at an equal type
 abbrev pub IsLeastWay : {T : Type 0} → Shapes T → List Obj → Val → T → List ℕ → Type 0
 IsLeastWay {T} shapes graph root t path =
     (front : List ℕ) (i : ℕ) → path ≡ front ++ i ∷ [] → (o : ℕ) (u : T) (other : List ℕ) (w : T)
     → value_at shapes graph root t front ≡ Some (vals.Ref o, u)
-    → value_at shapes graph root t other ≡ Some (vals.Ref o, w) → shapes.equal u w → ¬ IsBefore other front
+    → value_at shapes graph root t other ≡ Some (vals.Ref o, w) → shapes.equal u w
+    → ¬ IsBefore other front
 
 -- each path of the fault
 abbrev pub AreLeastWays : {T : Type 0} → Shapes T → List Obj → Val → T → Fault → Type 0

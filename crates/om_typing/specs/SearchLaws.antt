@@ -1,5 +1,5 @@
--- What a search of objects at types finds: the least of all faults, over infinitely many paths. Types
--- are the numbers of a table.
+-- What a search of objects at types finds: the least of all faults, over infinitely many paths.
+-- Types are the numbers of a table.
 use Rattle.std.specs.Prelude.{ℕ, List}
 use Rattle.om_model.specs.declared.value.Val.{Val}
 use Rattle.om_model.specs.declared.value.Obj.{Obj}

@@ -22,7 +22,11 @@ pub record AreEntries (table : Table) (graph : List Obj) (entries : List (ℕ ×
 -- one for the root, and for each entry one and one for each of its needs
 abbrev pub steps_of : Table → List Obj → List (ℕ × ℕ) → ℕ
 steps_of table graph entries =
-    1 + sum_by (λ (entry : ℕ × ℕ). 1 + length ((table_shapes table).needs graph (vals.Ref entry.0) entry.1)) entries
+    1
+    + sum_by
+    (λ (entry : ℕ × ℕ). 1
+    + length ((table_shapes table).needs graph (vals.Ref entry.0) entry.1))
+    entries
 
 -- these are no more than one, and for each class one for each object and each field
 abbrev pub StepsAreFew : Type 0

@@ -9,8 +9,8 @@ pub fn searches_find_the_least()
     ensures clash { LeastClashIsLeast }
 {}
 
-/// A check that takes each object at each class once, and tests each of its needs once, takes at most one step and, for each
-/// class, one for each object and each field.
+/// A check that takes each object at each class once, and tests each of its needs once, takes at
+/// most one step and, for each class, one for each object and each field.
 pub fn checks_take_few_steps()
     ensures { StepsAreFew }
 {}

@@ -1,5 +1,5 @@
-//! Whether a value has a type is decidable: it has the type or a fault, and a search finds the least one. The functions do
-//! nothing: what each ensures is the law.
+//! Whether a value has a type is decidable: it has the type or a fault, and a search finds the
+//! least one. The functions do nothing: what each ensures is the law.
 #![tactic(auto)]
 
 mod laws;

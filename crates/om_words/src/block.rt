@@ -50,8 +50,10 @@ impl Block {
 
     /// Makes the block a larger one.
     pub(crate) fn grow(&mut self, alloc: &Global, len: usize, old: usize, cap: usize) -> bool
-        requires { (len ≡ length self.old.words) × (old ≡ self.old.cap) × (0 < old) × (old ≤ cap) × (cap < 2 ^ 60) }
-        ensures { (self.new.words ≡ self.old.words) × (self.new.cap ≡ (if result then cap else old)) }
+        requires { (len ≡ length self.old.words) × (old ≡ self.old.cap) × (0 < old) × (old ≤ cap)
+            × (cap < 2 ^ 60) }
+        ensures { (self.new.words ≡ self.old.words)
+            × (self.new.cap ≡ (if result then cap else old)) }
     {
         match unsafe { alloc.grow(self.at, len, old, cap) } {
             Ok(block) => {
@@ -72,8 +74,10 @@ impl Block {
 
     /// Puts n times w after the `len` words.
     pub(crate) fn push_run(&mut self, len: usize, n: usize, w: u64)
-        requires { (len ≡ length self.old.words) × (len + n ≤ self.old.cap) × (self.old.cap < 2 ^ 60) }
-        ensures { (self.new.words ≡ self.old.words ++ replicate n w) × (self.new.cap ≡ self.old.cap) }
+        requires { (len ≡ length self.old.words) × (len + n ≤ self.old.cap)
+            × (self.old.cap < 2 ^ 60) }
+        ensures { (self.new.words ≡ self.old.words ++ replicate n w)
+            × (self.new.cap ≡ self.old.cap) }
     {
         for k in 0..n {
             self.push(len + k, w);
@@ -82,7 +86,8 @@ impl Block {
 
     /// Puts these words after the `len` words.
     pub(crate) fn push_all(&mut self, len: usize, words: &[u64])
-        requires { (len ≡ length self.old.words) × (len + length words.now ≤ self.old.cap) × (self.old.cap < 2 ^ 60) }
+        requires { (len ≡ length self.old.words) × (len + length words.now ≤ self.old.cap)
+            × (self.old.cap < 2 ^ 60) }
         ensures { (self.new.words ≡ self.old.words ++ words.now) × (self.new.cap ≡ self.old.cap) }
     {
         for k in 0..words.len() {

@@ -1,7 +1,6 @@
 //! A region: words side by side in one block of memory.
 
 ghost use Rattle.std.specs.Prelude.{◌≡◌, ◌↔◌, ◌+◌, ◌-◌, ◌*◌, ◌^◌, ◌<◌, ◌≤◌, [], ◌∷◌, ◌++◌, length, take, replicate, slice_index, slice_set, slice_range, IsTrue, OnOk, OnErr};
-ghost use Rattle.std.specs.Borrow.{sem};
 ghost use Rattle.om_words.specs.Region.{capacity};
 
 use crate::block::Block;
@@ -9,8 +8,8 @@ use om_model::Memory;
 use std::alloc::Global;
 use std::marker::Model;
 
-/// Words, which contracts see as the list `words`, and as `spare` the number of those that can still be appended
-/// without taking memory. The memory is freed when the region is dropped.
+/// Words, which contracts see as the list `words`, and as `spare` the number of those that can
+/// still be appended without taking memory. The memory is freed when the region is dropped.
 pub struct Region {
     block: Block,
     len: usize,
@@ -61,7 +60,8 @@ impl Region {
     pub fn reserve(&mut self, n: usize) -> Result<(), Memory>
         ensures words { self.new.words ≡ self.old.words }
         ensures room { OnOk result (n ≤ self.new.spare) }
-        ensures doubled { OnOk result (self.old.spare < n → 2 * capacity self.old ≤ capacity self.new) }
+        ensures doubled { OnOk result
+            (self.old.spare < n → 2 * capacity self.old ≤ capacity self.new) }
         ensures refused { OnErr result ((self.new ≡ self.old) × (self.old.spare < n)) }
     {
         if n <= self.cap - self.len {

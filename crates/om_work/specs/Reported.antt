@@ -20,14 +20,15 @@ use Rattle.om_work.specs.Runs.{Runs}
 abbrev pub ending_status : Bool → Status
 ending_status well = if well then statuses.Well else statuses.No
 
--- The stop is reported, where the run stopped. Where out failed, or the run went to its end, err has nothing.
+-- The stop is reported, where the run stopped. Where out failed, or the run went to its end, err
+-- has nothing.
 abbrev pub IsReported : Result Bool Halt → Change ByteState → Status → Type 0
 IsReported (Ok well) err status = Puts err [] × (status ≡ ending_status well)
 IsReported (Err (halts.Stop stop)) err status = Reports (stop_of stop) err status
 IsReported (Err halts.WriteFault) err status = Puts err [] × (status ≡ statuses.WriteFault)
 
--- The stop is the command's own; or the outside has it: memory ran out, a call on the input failed, or it has 2^48 bytes
--- or more.
+-- The stop is the command's own; or the outside has it: memory ran out, a call on the input failed,
+-- or it has 2^48 bytes or more.
 abbrev pub HasReason : Change ByteState → outcome.Stop → Type 0
 HasReason input stop =
     IsInner stop

@@ -13,15 +13,15 @@ use Rattle.om_promises.specs.Outside.{PutsPartAfter}
 use Rattle.om_work.specs.Works.{AreSaid}
 
 module _ {A : Type 0} (c : Commands A) (a : A) where
-  -- what is said of the items that came, where the input is read: no piece more was taken once something stopped the
-  -- run; else nothing was taken
+  -- what is said of the items that came, where the input is read: no piece more was taken once
+  -- something stopped the run; else nothing was taken
   abbrev pub IsSaidOf : Taken → List Said → Type 0
   IsSaidOf taken said =
       (c.Reads a × IsPaced c a taken said)
       ⊎ ((c.Reads a → ⊥) × (taken ≡ nothing) × (said ≡ []))
 
-  -- After what was said all was put that belongs to the last reply, which follows from what was taken, or memory ran out;
-  -- or out failed within the next text.
+  -- After what was said all was put that belongs to the last reply, which follows from what was
+  -- taken, or memory ran out; or out failed within the next text.
   abbrev pub EndsRun : Taken → List Said → Change ByteState → Result Bool Halt → Type 0
   EndsRun taken said out (Ok well) =
       (final : Said) × Answers c a taken (replies said (says final))

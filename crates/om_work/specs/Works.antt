@@ -25,8 +25,8 @@ module _ {A : Type 0} (c : Commands A) (a : A) where
 
   -- ---- in a piece
 
-  -- The bytes before those in hand hold no stop. With those in hand the run stops, or memory ran out; or the next item
-  -- ends, and its text could not be put whole.
+  -- The bytes before those in hand hold no stop. With those in hand the run stops, or memory ran
+  -- out; or the next item ends, and its text could not be put whole.
   abbrev pub HaltsIn : List ℕ → List ℕ → List Said → Change ByteState → Halt → Type 0
   HaltsIn earlier in_hand said out (halts.Stop stop) =
       (holds : HoldNoStop c a earlier said)
@@ -48,8 +48,8 @@ module _ {A : Type 0} (c : Commands A) (a : A) where
     pub put : Puts (change out.before between) (texts_of more)
     pub halts : HaltsIn (bytes ++ done) in_hand (said ++ more) (change between out.after) halt
 
-  -- Some bytes in hand are taken, one at least, and what is said of the items that end in them is put; or it comes to a
-  -- halt within those in hand.
+  -- Some bytes in hand are taken, one at least, and what is said of the items that end in them is
+  -- put; or it comes to a halt within those in hand.
   abbrev pub Feeds : Has → Has → List ℕ → Change ByteState → Result ℕ Halt → Type 0
   Feeds before after in_hand out (Ok n) =
       (0 < n) × (n ≤ length in_hand)
@@ -60,7 +60,8 @@ module _ {A : Type 0} (c : Commands A) (a : A) where
       (bytes : List ℕ) (said : List Said) → before bytes said
       → HaltsWithin bytes said in_hand out halt
 
-  -- a piece is taken to its end, and what is said of the items that end in it is put; or it comes to a halt within it
+  -- a piece is taken to its end, and what is said of the items that end in it is put; or it comes
+  -- to a halt within it
   abbrev pub FeedsAll :
       {U : Type 0} → Has → Has → List ℕ → Change ByteState → Result U Halt → Type 0
   FeedsAll before after piece out (Ok done) =
@@ -72,8 +73,8 @@ module _ {A : Type 0} (c : Commands A) (a : A) where
 
   -- ---- at the end
 
-  -- The last reply is put, and the answer is whether nothing is wrong with any of it; or it is a stop, or memory ran out;
-  -- or it could not be put whole.
+  -- The last reply is put, and the answer is whether nothing is wrong with any of it; or it is a
+  -- stop, or memory ran out; or it could not be put whole.
   abbrev pub PutsLast :
       List Said → List Item → List ℕ → Change ByteState → Result Bool Halt → Type 0
   PutsLast said items rest out (Ok well) =

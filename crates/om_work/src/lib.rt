@@ -1,5 +1,5 @@
-//! A command as a value: what it does with its input as it comes, and the one loop that takes the input piece by piece.
-//! The loop knows no type, no text and no edit.
+//! A command as a value: what it does with its input as it comes, and the one loop that takes the
+//! input piece by piece. The loop knows no type, no text and no edit.
 #![tactic(auto)]
 
 mod piece;

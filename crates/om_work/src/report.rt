@@ -47,8 +47,8 @@ pub fn run_reported<W: Work, S: Source, K: Sink, E: Sink>(
     report(alloc, err, ended)
 }
 
-/// A command that is lawful answers no status of the outside, 6 to 10, but for a call that has it. The function does
-/// nothing: what it ensures is a law.
+/// A command that is lawful answers no status of the outside, 6 to 10, but for a call that has it.
+/// The function does nothing: what it ensures is a law.
 pub fn outside_is_told<W: Work>()
     ensures { TellsOutside W.commands }
 {}

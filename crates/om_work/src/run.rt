@@ -15,8 +15,8 @@ pub const PIECE: usize = 4096;
 /// So many bytes are too many.
 pub const LENGTH_LIMIT: usize = 1 << 48;
 
-/// Takes the input piece by piece, from no byte on. What is to be said of the items that end in a piece is put before the
-/// next piece is asked for.
+/// Takes the input piece by piece, from no byte on. What is to be said of the items that end in a
+/// piece is put before the next piece is asked for.
 fn take_pieces<W: Work, S: Source, K: Sink>(
     alloc: Global,
     work: &mut W,
@@ -45,8 +45,8 @@ fn take_pieces<W: Work, S: Source, K: Sink>(
     Err(Halt::Stop(Stop::TooLong))
 }
 
-/// Does the work with the input, or without it where it is not to be read. The answer at the end is whether nothing is wrong
-/// with any of what was said.
+/// Does the work with the input, or without it where it is not to be read. The answer at the end is
+/// whether nothing is wrong with any of what was said.
 pub fn run_work<W: Work, S: Source, K: Sink>(
     alloc: Global,
     work: &mut W,

@@ -28,7 +28,8 @@ pub trait Work {
     fn reads(&self) -> bool
         ensures { IsTrue result ↔ commands.Reads (act self.now) };
 
-    /// Takes some of the bytes in hand, one at least, and puts what is to be said of the items that end in them.
+    /// Takes some of the bytes in hand, one at least, and puts what is to be said of the items that
+    /// end in them.
     fn feed<K: Sink>(&mut self, alloc: Global, in_hand: &[u8], out: &mut K) -> Result<usize, Halt>
         requires some { 0 < length in_hand.now }
         requires reads { commands.Reads (act self.old) }
@@ -38,15 +39,16 @@ pub trait Work {
         ensures feeds { Feeds commands (act self.old) (has self.old) (has self.new) in_hand.now
             (change (K.state out.old) (K.state out.new)) result };
 
-    /// No more bytes come: puts the last reply, and answers whether nothing is wrong with any of it.
+    /// No more bytes come: puts the last reply, and answers whether nothing is wrong with any of
+    /// it.
     fn end<K: Sink>(&mut self, alloc: Global, out: &mut K) -> Result<bool, Halt>
         requires { (bytes : List ℕ) × (said : List Said) × has self.old bytes said
             × (length bytes < 2 ^ 48) }
         ensures { EndsAt commands (act self.old) (has self.old)
             (change (K.state out.old) (K.state out.new)) result };
 
-    /// Nothing in what was taken stops the run, and an item stays one when bytes follow. The method does nothing: what it
-    /// ensures are laws.
+    /// Nothing in what was taken stops the run, and an item stays one when bytes follow. The method
+    /// does nothing: what it ensures are laws.
     fn laws(&self)
         ensures holds { (bytes : List ℕ) (said : List Said) → has self.now bytes said
             → HoldNoStop commands (act self.now) bytes said }

@@ -1,4 +1,5 @@
--- Three small commands: one reads nothing, one takes lines, and one takes bytes and refuses one of them.
+-- Three small commands: one reads nothing, one takes lines, and one takes bytes and refuses one of
+-- them.
 use Rattle.std.specs.Prelude.{ℕ, ◌≡◌, ◌≢◌, true, List, [], ◌∷◌, ◌++◌, length, Ok, codes}
 use Rattle.std.specs.List.{AllByRecursion}
 use Rattle.om_model.specs.declared.refusal.ReadRefusal.TheVariants.{Compressed}

@@ -8,8 +8,8 @@ ghost use Rattle.om_work_examples.specs.Small.{telling, lines, bytes_but};
 use crate::{BytesBut, Lines, Telling};
 use om_work::outside_is_told;
 
-/// The small commands are lawful, whatever they are to do: so they answer a status of the outside only for a call that has
-/// it. The function does nothing: what it ensures are laws.
+/// The small commands are lawful, whatever they are to do: so they answer a status of the outside
+/// only for a call that has it. The function does nothing: what it ensures are laws.
 pub fn small_commands_tell_outside()
     ensures telling { ((a : List ℕ) → AreLawfulAt telling a) × TellsOutside telling }
     ensures lines { ((a : Unit {0}) → AreLawfulAt lines a) × TellsOutside lines }

@@ -1,5 +1,6 @@
-//! Three small commands, each as a value: so a command that reads nothing, one that takes lines of text, and one that takes
-//! bytes and refuses one of them have the shape that the one loop asks for.
+//! Three small commands, each as a value: so a command that reads nothing, one that takes lines of
+//! text, and one that takes bytes and refuses one of them have the shape that the one loop asks
+//! for.
 #![tactic(auto)]
 
 mod bytes;

@@ -17,7 +17,8 @@ fn keep(line: &mut Vec<u8>, byte: u8) -> Result<(), Memory>
     Ok(line.push(byte)?)
 }
 
-/// Says each line again. What comes after the last line feed is kept, and said with a line feed at the end.
+/// Says each line again. What comes after the last line feed is kept, and said with a line feed at
+/// the end.
 #[derive(Drop)]
 pub struct Lines {
     rest: Vec<u8>,

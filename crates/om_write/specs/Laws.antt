@@ -9,16 +9,18 @@ use Rattle.om_format.specs.Iso.{Iso, IsTreeOf}
 use Rattle.om_format.specs.Spelled.{SpelledUnder}
 use Rattle.om_format.specs.Tree.{Tree, tokens, root, objects_of}
 
--- the canonical bytes of a value spell its tree, whose value is the same, where the tree has no more words than the limit
--- and its data are not too long
+-- the canonical bytes of a value spell its tree, whose value is the same, where the tree has no
+-- more words than the limit and its data are not too long
 abbrev pub WrittenIsRead : Type 0
 WrittenIsRead =
     (limit : ℕ) (g : List Obj) (v : Val) (tree : Tree) → limit < 2 ^ 64 → IsTreeOf g v tree
-    → all_words64 (map measure_of (tokens tree)) ≤ limit → length (data_spelling (tokens tree)) < 2 ^ 48
+    → all_words64 (map measure_of (tokens tree)) ≤ limit
+    → length (data_spelling (tokens tree)) < 2 ^ 48
     → SpelledUnder limit (canon tree) tree × Iso g v (objects_of tree 0) (root tree 0)
 
 -- bytes that are the canonical ones of the tree that they spell are written again as they were read
 abbrev pub ReadIsWritten : Type 0
 ReadIsWritten =
-    (limit : ℕ) (bytes : List ℕ) (tree other : Tree) → SpelledUnder limit bytes tree → canon tree ≡ bytes
+    (limit : ℕ) (bytes : List ℕ) (tree other : Tree) → SpelledUnder limit bytes tree
+    → canon tree ≡ bytes
     → IsTreeOf (objects_of tree 0) (root tree 0) other → canon other ≡ bytes

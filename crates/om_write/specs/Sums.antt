@@ -46,7 +46,8 @@ pub record FitTotals (all : Totals) : Type 0 where
 
 -- of an object with so many bytes
 abbrev pub object_totals : ℕ → Measure → Totals
-object_totals n measure = record { length = n; objects = 1; w32 = words32 measure; w64 = words64 measure }
+object_totals n measure =
+    record { length = n; objects = 1; w32 = words32 measure; w64 = words64 measure }
 
 abbrev pub head_of_totals : Totals → Head
 head_of_totals all = record {

@@ -11,11 +11,18 @@ pub record Carries (before now : ByteState) (buffer text : List ℕ) : Type 0 wh
 
 -- each text was lengthened by a piece
 abbrev pub AddsAll : ByteState → ByteState → List ℕ → List ℕ → List ℕ → Type 0
-AddsAll old new buffer buffer' piece = (before : ByteState) (text : List ℕ) → Carries before old buffer text → Carries before new buffer' (text ++ piece)
+AddsAll old new buffer buffer' piece =
+    (before : ByteState) (text : List ℕ) → Carries before old buffer text
+    → Carries before new buffer' (text ++ piece)
 
 -- a call failed, and not all of the text with the piece was put
 abbrev pub AddsPart : ByteState → ByteState → List ℕ → List ℕ → Type 0
-AddsPart old new buffer piece = (before : ByteState) (text : List ℕ) → Carries before old buffer text → PutsPart (change before new) (text ++ piece)
+AddsPart old new buffer piece =
+    (before : ByteState) (text : List ℕ) → Carries before old buffer text
+    → PutsPart (change before new) (text ++ piece)
 
-abbrev pub Adds : {A E : Type 0} → ByteState → ByteState → List ℕ → List ℕ → List ℕ → Result A E → Type 0
-Adds old new buffer buffer' piece result = MatchResult result (λ _. AddsAll old new buffer buffer' piece) (λ _. AddsPart old new buffer piece)
+abbrev pub Adds : {A E : Type 0} → ByteState → ByteState → List ℕ → List ℕ → List ℕ → Result A E
+    → Type 0
+Adds old new buffer buffer' piece result =
+    MatchResult result (λ _. AddsAll old new buffer buffer' piece)
+    (λ _. AddsPart old new buffer piece)

@@ -18,7 +18,9 @@ use Rattle.om_write.specs.declared.walk.Walk.{Walk}
 
 -- those of a block whose words are left
 abbrev pub fields_left : List Obj → Frame → List Val
-fields_left g frame = drop (length (fields_of (object_at g frame.block)) - length frame.rest.now) (fields_of (object_at g frame.block))
+fields_left g frame =
+    drop (length (fields_of (object_at g frame.block)) - length frame.rest.now)
+    (fields_of (object_at g frame.block))
 
 -- the words are theirs
 pub record IsFrame (g : List Obj) (frame : Frame) : Type 0 where
@@ -40,7 +42,8 @@ left_of g walk = fields_left g walk.last ++ left_in g walk.frames.items
 -- the word of the first of them is taken, if there is one
 abbrev pub Takes : List Obj → List Val → List Val → Option ℕ → Type 0
 Takes g old new None = (old ≡ []) × (new ≡ [])
-Takes g old new (Some word) = (v : Val) × (old ≡ v ∷ new) × IsValue (length g) v × (word ≡ word_of g v)
+Takes g old new (Some word) =
+    (v : Val) × (old ≡ v ∷ new) × IsValue (length g) v × (word ≡ word_of g v)
 
 abbrev pub root_left : Walk → List Val
 root_left walk = if walk.given == 0 then walk.root ∷ [] else []
@@ -80,7 +83,8 @@ AreInOrder ks = (i k : ℕ) → slice_get ks i ≡ Some k → k ≡ i
 -- ---- the place in the tree
 
 -- after c objects these trees are left, and they are those of these values
-pub record AreLeft (tree : Tree) (ks : List ℕ) (c : ℕ) (forest : Forest) (values : List Val) : Type 0 where
+pub record AreLeft (tree : Tree) (ks : List ℕ) (c : ℕ) (forest : Forest) (values : List Val)
+    : Type 0 where
   pub are_trees : AreTrees forest
   pub back : AllReferBack forest c
   pub objects : drop c (objects_of tree 0) ≡ all_objects forest c

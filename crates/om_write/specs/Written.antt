@@ -9,11 +9,14 @@ use Rattle.om_write.specs.Tells.{Tells}
 use Rattle.om_write.specs.declared.writer32.Write32Error.{Write32Error}
 use Rattle.om_write.specs.declared.writer32.Write32Error.TheVariants as errors32
 
--- `Writes` of the canonical bytes where a reader on 32 bits can hold the value; or what it cannot hold
+-- `Writes` of the canonical bytes where a reader on 32 bits can hold the value; or what it cannot
+-- hold
 abbrev pub Writes32 : {A : Type 0} → Change ByteState → Tree → Result A Write32Error → Type 0
 Writes32 sink tree (Ok done) = (too_large_for_32 tree ≡ None) × Puts sink (canon tree)
-Writes32 sink tree (Err (errors32.Compat compat)) = IsSomeAnd (too_large_for_32 tree) (λ large. Tells large compat)
-Writes32 sink tree (Err errors32.Fault) = (too_large_for_32 tree ≡ None) × PutsPart sink (canon tree)
+Writes32 sink tree (Err (errors32.Compat compat)) =
+    IsSomeAnd (too_large_for_32 tree) (λ large. Tells large compat)
+Writes32 sink tree (Err errors32.Fault) =
+    (too_large_for_32 tree ≡ None) × PutsPart sink (canon tree)
 Writes32 sink tree (Err errors32.Memory) = Unit {0}
 
 -- nothing was put then

@@ -16,8 +16,8 @@ use om_headers::Head;
 use om_heap::{Heap, Kind};
 use om_model::code::Custom;
 
-/// What is too large: an integer or a `Nativeint` by itself, a block by its fields, a string by its bytes, an array by its
-/// doubles, and a header by the greatest of its numbers.
+/// What is too large: an integer or a `Nativeint` by itself, a block by its fields, a string by its
+/// bytes, an array by its doubles, and a header by the greatest of its numbers.
 #[derive(Clone, Copy, Debug)]
 pub enum Compat {
     Int(i64),
@@ -35,7 +35,8 @@ pub fn first_large<'a>(heap: &'a Heap, walk: &mut Walk<'a>) -> Option<Compat>
     requires again { walk.old.again ≡ true }
     ensures walk { IsWalk heap.now walk.new }
     ensures root { walk.new.root ≡ walk.old.root }
-    ensures end { IsNone result → (tree : Tree) → IsTreeOf heap.now walk.old.root tree → walk.new.given ≡ length (tokens tree) }
+    ensures end { IsNone result → (tree : Tree) → IsTreeOf heap.now walk.old.root tree
+        → walk.new.given ≡ length (tokens tree) }
     ensures large { (tree : Tree) → IsTreeOf heap.now walk.old.root tree → MatchOption result
         (find is_large (tokens tree) ≡ None)
         (λ compat. IsSomeAnd (find is_large (tokens tree)) (λ t. Tells (token t) compat)) }
@@ -50,7 +51,8 @@ pub fn first_large<'a>(heap: &'a Heap, walk: &mut Walk<'a>) -> Option<Compat>
 
 /// The greatest number of a header that has to be big.
 pub fn head_compat(head: Head) -> Option<Compat>
-    ensures { MatchOption result (large_header head ≡ None) (λ compat. IsSomeAnd (large_header head) (λ t. Tells t compat)) }
+    ensures { MatchOption result (large_header head ≡ None)
+        (λ compat. IsSomeAnd (large_header head) (λ t. Tells t compat)) }
 {
     if head.big {
         let greatest = head.length.max(head.w32.max(head.w64));
@@ -63,7 +65,8 @@ pub fn head_compat(head: Head) -> Option<Compat>
 fn step_compat(heap: &Heap, step: Step) -> Option<Compat>
     requires { IsHeld heap.now step }
     ensures { MatchOption result (is_large (token_in heap.now step) ≡ false)
-        (λ compat. (is_large (token_in heap.now step) ≡ true) × Tells (token (token_in heap.now step)) compat) }
+        (λ compat. (is_large (token_in heap.now step) ≡ true)
+        × Tells (token (token_in heap.now step)) compat) }
 {
     match step {
         Step::Integer(-0x4000_0000..0x4000_0000) => None,
@@ -77,7 +80,8 @@ fn step_compat(heap: &Heap, step: Step) -> Option<Compat>
 fn leaf_compat(heap: &Heap, k: u64) -> Option<Compat>
     requires { k < length heap.now }
     ensures { MatchOption result (is_large (leaf (object_at heap.now k)) ≡ false)
-        (λ compat. (is_large (leaf (object_at heap.now k)) ≡ true) × Tells (token (leaf (object_at heap.now k))) compat) }
+        (λ compat. (is_large (leaf (object_at heap.now k)) ≡ true)
+        × Tells (token (leaf (object_at heap.now k))) compat) }
 {
     match heap.kind(k) {
         Kind::Bytes(n) if n > 0xff_fffb => Some(Compat::Bytes(n)),
@@ -88,7 +92,8 @@ fn leaf_compat(heap: &Heap, k: u64) -> Option<Compat>
 }
 
 fn native_compat(z: i64) -> Option<Compat>
-    ensures { MatchOption result (is_signed 31 z ≡ true) (λ compat. (is_signed 31 z ≡ false) × (compat ≡ Compat.Native z)) }
+    ensures { MatchOption result (is_signed 31 z ≡ true)
+        (λ compat. (is_signed 31 z ≡ false) × (compat ≡ Compat.Native z)) }
 {
     match z {
         -0x8000_0000..0x8000_0000 => None,

@@ -2,7 +2,8 @@
 
 ghost use Rattle.om_write.specs.Laws.{WrittenIsRead, ReadIsWritten};
 
-/// What is put of a value is read as the same value, under each limit that the words of its tree keep.
+/// What is put of a value is read as the same value, under each limit that the words of its tree
+/// keep.
 pub fn written_is_read()
     ensures { WrittenIsRead }
 {}

@@ -6,8 +6,8 @@ ghost use Rattle.om_write.specs.Marks.{mark_in_order, in_order, marks_of};
 use om_model::Memory;
 use std::alloc::Global;
 
-/// Of each object its number among those met, counted from 1, or 0. While objects are met in the order of their numbers,
-/// only how many were met is kept.
+/// Of each object its number among those met, counted from 1, or 0. While objects are met in the
+/// order of their numbers, only how many were met is kept.
 #[derive(Drop)]
 pub struct Marks {
     objects: u64,
@@ -59,7 +59,9 @@ impl Marks {
     pub fn set(&mut self, k: u64, mark: u64) -> Result<(), Memory>
         requires inside { k < length (marks_of self.old) }
         requires some { 0 < mark }
-        ensures marks { MatchResult result (λ _. marks_of self.new ≡ slice_set (marks_of self.old) k mark) (λ _. self.new ≡ self.old) }
+        ensures marks { MatchResult result
+            (λ _. marks_of self.new ≡ slice_set (marks_of self.old) k mark)
+            (λ _. self.new ≡ self.old) }
         ensures met { OnOk result (self.new.ordered ≡ true → self.new.met ≡ mark) }
         ensures table { self.old.ordered ≡ false → IsOk result }
         ensures next { k ≡ self.old.met → mark ≡ self.old.met + 1 → IsOk result }

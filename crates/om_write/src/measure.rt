@@ -88,8 +88,10 @@ pub fn measure<'a>(heap: &'a Heap, walk: &mut Walk<'a>) -> Result<Head, Memory>
     requires first { walk.old.given ≡ 0 }
     ensures walk { OnOk result (IsWalk heap.now walk.new) }
     ensures root { OnOk result (walk.new.root ≡ walk.old.root) }
-    ensures head { (tree : Tree) → IsTreeOf heap.now walk.old.root tree → IfOk result (λ head. head ≡ canonical_head (tokens tree)) }
-    ensures end { (tree : Tree) → IsTreeOf heap.now walk.old.root tree → OnOk result (walk.new.given ≡ length (tokens tree)) }
+    ensures head { (tree : Tree) → IsTreeOf heap.now walk.old.root tree
+        → IfOk result (λ head. head ≡ canonical_head (tokens tree)) }
+    ensures end { (tree : Tree) → IsTreeOf heap.now walk.old.root tree
+        → OnOk result (walk.new.given ≡ length (tokens tree)) }
 {
     let mut totals = Totals::of_bytes(0);
     'tokens: while let Some(step) = walk.next(heap)? {

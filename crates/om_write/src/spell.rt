@@ -26,7 +26,8 @@ pub fn add_step<K: Sink>(
     requires heap { IsHeap heap.now }
     requires held { IsHeld heap.now step }
     requires room { LIMIT ≤ vec_capacity buffer.old }
-    ensures adds { Adds (K.state out.old) (K.state out.new) buffer.old.items buffer.new.items (spelling (token_in heap.now step)) result }
+    ensures adds { Adds (K.state out.old) (K.state out.new) buffer.old.items buffer.new.items
+        (spelling (token_in heap.now step)) result }
     ensures room { LIMIT ≤ vec_capacity buffer.new }
 {
     match step {
@@ -47,7 +48,8 @@ fn add_front<K: Sink>(
 ) -> Result<(), Failed>
     requires few { front.1 ≤ 9 }
     requires room { LIMIT ≤ vec_capacity buffer.old }
-    ensures adds { Adds (K.state out.old) (K.state out.new) buffer.old.items buffer.new.items (take front.1 front.0) result }
+    ensures adds { Adds (K.state out.old) (K.state out.new) buffer.old.items buffer.new.items
+        (take front.1 front.0) result }
     ensures room { LIMIT ≤ vec_capacity buffer.new }
 {
     let (bytes, len) = front;
@@ -73,7 +75,8 @@ fn add_leaf<K: Sink>(
     requires inside { k < length heap.now }
     requires word { word ≡ word_of heap.now (vals.Ref k) }
     requires room { LIMIT ≤ vec_capacity buffer.old }
-    ensures adds { Adds (K.state out.old) (K.state out.new) buffer.old.items buffer.new.items (leaf_spelling (object_at heap.now k)) result }
+    ensures adds { Adds (K.state out.old) (K.state out.new) buffer.old.items buffer.new.items
+        (leaf_spelling (object_at heap.now k)) result }
     ensures room { LIMIT ≤ vec_capacity buffer.new }
 {
     match kind_at(heap, k, word) {
@@ -113,7 +116,8 @@ fn add_bytes<K: Sink>(
     requires string { object_at heap.now k ≡ objects.Bytes (bytes_of (object_at heap.now k)) }
     requires all { n ≡ length (bytes_of (object_at heap.now k)) }
     requires room { LIMIT ≤ vec_capacity buffer.old }
-    ensures adds { Adds (K.state out.old) (K.state out.new) buffer.old.items buffer.new.items (bytes_of (object_at heap.now k)) result }
+    ensures adds { Adds (K.state out.old) (K.state out.new) buffer.old.items buffer.new.items
+        (bytes_of (object_at heap.now k)) result }
     ensures room { LIMIT ≤ vec_capacity buffer.new }
 {
     let words = body(heap, k, word);
@@ -150,7 +154,8 @@ fn add_doubles<K: Sink>(
     requires doubles { body_of heap.now (object_at heap.now k) ≡ doubles_of (object_at heap.now k) }
     requires all { n ≡ length (doubles_of (object_at heap.now k)) }
     requires room { LIMIT ≤ vec_capacity buffer.old }
-    ensures adds { Adds (K.state out.old) (K.state out.new) buffer.old.items buffer.new.items (flat_map double_bytes (doubles_of (object_at heap.now k))) result }
+    ensures adds { Adds (K.state out.old) (K.state out.new) buffer.old.items buffer.new.items
+        (flat_map double_bytes (doubles_of (object_at heap.now k))) result }
     ensures room { LIMIT ≤ vec_capacity buffer.new }
 {
     let words = body(heap, k, word);

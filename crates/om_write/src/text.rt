@@ -21,7 +21,8 @@ pub fn new_buffer(alloc: Global) -> Result<Vec<u8>, Memory>
 /// Puts what the buffer has.
 #[inline(never)]
 pub fn flush<K: Sink>(out: &mut K, buffer: &mut Vec<u8>) -> Result<(), Failed>
-    ensures adds { Adds (K.state out.old) (K.state out.new) buffer.old.items buffer.new.items [] result }
+    ensures adds { Adds (K.state out.old) (K.state out.new) buffer.old.items buffer.new.items []
+        result }
     ensures empty { OnOk result (buffer.new.items ≡ []) }
     ensures none { OnOk result (vec_len buffer.new ≡ 0) }
     ensures capacity { vec_capacity buffer.new ≡ vec_capacity buffer.old }
@@ -35,7 +36,8 @@ pub fn flush<K: Sink>(out: &mut K, buffer: &mut Vec<u8>) -> Result<(), Failed>
 #[inline(always)]
 fn make_room<K: Sink>(out: &mut K, buffer: &mut Vec<u8>, n: usize) -> Result<(), Failed>
     requires { n ≤ LIMIT }
-    ensures adds { Adds (K.state out.old) (K.state out.new) buffer.old.items buffer.new.items [] result }
+    ensures adds { Adds (K.state out.old) (K.state out.new) buffer.old.items buffer.new.items []
+        result }
     ensures room { OnOk result (vec_len buffer.new + n ≤ LIMIT) }
     ensures capacity { vec_capacity buffer.new ≡ vec_capacity buffer.old }
 {
@@ -50,7 +52,8 @@ fn make_room<K: Sink>(out: &mut K, buffer: &mut Vec<u8>, n: usize) -> Result<(),
 pub fn add<K: Sink>(out: &mut K, buffer: &mut Vec<u8>, piece: &[u8]) -> Result<(), Failed>
     requires short { length piece.now ≤ LIMIT }
     requires room { LIMIT ≤ vec_capacity buffer.old }
-    ensures adds { Adds (K.state out.old) (K.state out.new) buffer.old.items buffer.new.items piece.now result }
+    ensures adds { Adds (K.state out.old) (K.state out.new) buffer.old.items buffer.new.items
+        piece.now result }
     ensures room { LIMIT ≤ vec_capacity buffer.new }
 {
     make_room(out, buffer, piece.len())?;
@@ -69,7 +72,8 @@ pub fn add_first<K: Sink>(
     requires short { length piece.now ≤ LIMIT }
     requires inside { n ≤ length piece.now }
     requires room { LIMIT ≤ vec_capacity buffer.old }
-    ensures adds { Adds (K.state out.old) (K.state out.new) buffer.old.items buffer.new.items (take n piece.now) result }
+    ensures adds { Adds (K.state out.old) (K.state out.new) buffer.old.items buffer.new.items
+        (take n piece.now) result }
     ensures room { LIMIT ≤ vec_capacity buffer.new }
 {
     make_room(out, buffer, piece.len())?;
@@ -83,7 +87,8 @@ pub fn add_first<K: Sink>(
 #[inline(always)]
 pub fn add_byte<K: Sink>(out: &mut K, buffer: &mut Vec<u8>, byte: u8) -> Result<(), Failed>
     requires { LIMIT ≤ vec_capacity buffer.old }
-    ensures adds { Adds (K.state out.old) (K.state out.new) buffer.old.items buffer.new.items (byte ∷ []) result }
+    ensures adds { Adds (K.state out.old) (K.state out.new) buffer.old.items buffer.new.items
+        (byte ∷ []) result }
     ensures room { LIMIT ≤ vec_capacity buffer.new }
 {
     make_room(out, buffer, 1)?;

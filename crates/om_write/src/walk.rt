@@ -1,5 +1,5 @@
-//! The tokens of a value, depth first and fields from left to right: an object where it is met first, and references to
-//! it after that.
+//! The tokens of a value, depth first and fields from left to right: an object where it is met
+//! first, and references to it after that.
 
 ghost use Rattle.std.specs.Prelude.{◌≡◌, ◌≢◌, ◌+◌, ◌-◌, ◌*◌, ◌≤◌, ◌<◌, ◌^◌, ◌∷◌, ◌++◌, [], length, true, All, IfSome, IfNone, IfOk, IsOk, OnOk, MatchOption, vec_len, vec_capacity, slice_index};
 ghost use Rattle.om_model.specs.declared.value.Val.TheVariants as vals;
@@ -40,7 +40,8 @@ impl<'a> Frame<'a> {
     #[inline(always)]
     fn take(&mut self, heap: &Heap) -> Option<u64>
         requires { IsFrame heap.now self.old }
-        ensures takes { Takes heap.now (fields_left heap.now self.old) (fields_left heap.now self.new) result }
+        ensures takes { Takes heap.now (fields_left heap.now self.old)
+            (fields_left heap.now self.new) result }
         ensures frame { IsFrame heap.now self.new }
     {
         let (word, rest) = self.rest.split_first()?;
@@ -93,7 +94,8 @@ impl<'a> Walk<'a> {
     /// Goes back from the end to the first token.
     pub fn restart(&mut self, heap: &Heap)
         requires walk { IsWalk heap.now self.old }
-        requires end { (tree : Tree) → IsTreeOf heap.now self.old.root tree → self.old.given ≡ length (tokens tree) }
+        requires end { (tree : Tree) → IsTreeOf heap.now self.old.root tree
+            → self.old.given ≡ length (tokens tree) }
         ensures walk { IsWalk heap.now self.new }
         ensures root { self.new.root ≡ self.old.root }
         ensures given { self.new.given ≡ 0 }
@@ -120,7 +122,8 @@ impl<'a> Walk<'a> {
         ensures root { OnOk result (self.new.root ≡ self.old.root) }
         ensures again { self.new.again ≡ self.old.again }
         ensures next { (tree : Tree) → IsTreeOf heap.now self.old.root tree
-            → IfOk result (λ step. IsNext heap.now (tokens tree) self.old.given step self.new.given) }
+            → IfOk result
+            (λ step. IsNext heap.now (tokens tree) self.old.given step self.new.given) }
         ensures held { IfOk result (λ step. IfSome step (IsHeld heap.now)) }
         ensures succeeds { self.old.again ≡ true → IsOk result }
     {
@@ -153,14 +156,16 @@ impl<'a> Walk<'a> {
         }
     }
 
-    // The next value and its word: the root, and then the next field of the block met last that has one left.
+    // The next value and its word: the root, and then the next field of the block met last that has
+    // one left.
     #[inline(always)]
     fn next_value(&mut self, heap: &Heap) -> Option<(Val, u64)>
         requires heap { IsHeap heap.now }
         requires last { IsFrame heap.now self.old.last }
         requires frames { All (IsOuter heap.now) self.old.frames.items }
         requires root { IsValue (length heap.now) self.old.root }
-        requires next { self.old.marks.ordered ≡ true → self.old.next ≡ 8 * place heap.now self.old.count }
+        requires next { self.old.marks.ordered ≡ true
+            → self.old.next ≡ 8 * place heap.now self.old.count }
         ensures value { MatchOption result (pending heap.now self.old ≡ [])
             (λ r. pending heap.now self.old ≡ r.0 ∷ left_of heap.now self.new) }
         ensures valid { IfSome result (λ r. IsValue (length heap.now) r.0) }
@@ -169,7 +174,8 @@ impl<'a> Walk<'a> {
         ensures frames { All (IsOuter heap.now) self.new.frames.items }
         ensures depth { vec_len self.new.frames ≤ vec_len self.old.frames }
         ensures capacity { vec_capacity self.new.frames ≡ vec_capacity self.old.frames }
-        ensures frame { self.new ≡ record self.old { last = self.new.last; frames = self.new.frames } }
+        ensures frame { self.new
+            ≡ record self.old { last = self.new.last; frames = self.new.frames } }
         ensures none { IfNone result (left_of heap.now self.new ≡ left_of heap.now self.old) }
     {
         if self.given == 0 {
@@ -184,12 +190,14 @@ impl<'a> Walk<'a> {
     fn next_word(&mut self, heap: &Heap) -> Option<u64>
         requires last { IsFrame heap.now self.old.last }
         requires frames { All (IsOuter heap.now) self.old.frames.items }
-        ensures takes { Takes heap.now (left_of heap.now self.old) (left_of heap.now self.new) result }
+        ensures takes { Takes heap.now (left_of heap.now self.old) (left_of heap.now self.new)
+            result }
         ensures last { IsFrame heap.now self.new.last }
         ensures frames { All (IsOuter heap.now) self.new.frames.items }
         ensures depth { vec_len self.new.frames ≤ vec_len self.old.frames }
         ensures capacity { vec_capacity self.new.frames ≡ vec_capacity self.old.frames }
-        ensures frame { self.new ≡ record self.old { last = self.new.last; frames = self.new.frames } }
+        ensures frame { self.new
+            ≡ record self.old { last = self.new.last; frames = self.new.frames } }
     {
         if let Some(word) = self.last.take(heap) {
             return Some(word);
@@ -198,12 +206,14 @@ impl<'a> Walk<'a> {
         self.last.take(heap)
     }
 
-    // The value of a word. The object after those met is known by its word where they are met in order.
+    // The value of a word. The object after those met is known by its word where they are met in
+    // order.
     #[inline(always)]
     fn value_of(&self, heap: &Heap, word: u64) -> Val
         requires heap { IsHeap heap.now }
         requires word { IsFieldWord heap.now word }
-        requires next { self.now.marks.ordered ≡ true → self.now.next ≡ 8 * place heap.now self.now.count }
+        requires next { self.now.marks.ordered ≡ true
+            → self.now.next ≡ 8 * place heap.now self.now.count }
         ensures word { word ≡ word_of heap.now result }
         ensures valid { IsValue (length heap.now) result }
     {
@@ -224,13 +234,20 @@ impl<'a> Walk<'a> {
         requires behind { slice_index (marks_of self.old.marks) k ≤ self.old.count }
         requires last { IsFrame heap.now self.old.last }
         requires frames { All (IsOuter heap.now) self.old.frames.items }
-        requires room { slice_index (marks_of self.old.marks) k ≡ 0 → vec_len self.old.frames < vec_capacity self.old.frames }
+        requires room { slice_index (marks_of self.old.marks) k ≡ 0
+            → vec_len self.old.frames < vec_capacity self.old.frames }
         requires few { slice_index (marks_of self.old.marks) k ≡ 0 → self.old.count + 1 < 2 ^ 64 }
         requires met { self.old.marks.ordered ≡ true → self.old.marks.met ≡ self.old.count }
-        requires order { self.old.again ≡ true → self.old.marks.ordered ≡ true → slice_index (marks_of self.old.marks) k ≡ 0 → k ≡ self.old.count }
-        ensures met { slice_index (marks_of self.old.marks) k ≡ 0 → IfOk result (IsMet heap.now k self.old self.new) }
-        ensures again { slice_index (marks_of self.old.marks) k ≢ 0 → (self.new ≡ self.old)
-            × IfOk result (λ step. step ≡ Step.Shared (self.old.count - (slice_index (marks_of self.old.marks) k - 1))) }
+        requires order { self.old.again ≡ true → self.old.marks.ordered ≡ true
+            → slice_index (marks_of self.old.marks) k ≡ 0 → k ≡ self.old.count }
+        ensures met { slice_index (marks_of self.old.marks) k ≡ 0
+            → IfOk result (IsMet heap.now k self.old self.new) }
+        ensures again { slice_index (marks_of self.old.marks) k ≢ 0
+            → (self.new ≡ self.old)
+            × IfOk result
+            (λ step. step
+            ≡ Step.Shared
+            (self.old.count - (slice_index (marks_of self.old.marks) k - 1))) }
         ensures same { self.new.again ≡ self.old.again }
         ensures held { IfOk result (IsHeld heap.now) }
         ensures succeeds { self.old.again ≡ true → IsOk result }
@@ -253,7 +270,8 @@ impl<'a> Walk<'a> {
         requires last { IsFrame heap.now self.old.last }
         requires frames { All (IsOuter heap.now) self.old.frames.items }
         requires room { vec_len self.old.frames < vec_capacity self.old.frames }
-        ensures left { left_of heap.now self.new ≡ fields_of (object_at heap.now k) ++ left_of heap.now self.old }
+        ensures left { left_of heap.now self.new
+            ≡ fields_of (object_at heap.now k) ++ left_of heap.now self.old }
         ensures last { IsFrame heap.now self.new.last }
         ensures frames { All (IsOuter heap.now) self.new.frames.items }
         ensures depth { vec_len self.new.frames ≤ vec_len self.old.frames + 1 }
@@ -261,7 +279,9 @@ impl<'a> Walk<'a> {
         ensures token { token_in heap.now result ≡ object_token (object_at heap.now k) }
         ensures held { IsHeld heap.now result }
         ensures next { self.new.next ≡ 8 * place heap.now (k + 1) }
-        ensures frame { self.new ≡ record self.old { next = self.new.next; last = self.new.last; frames = self.new.frames } }
+        ensures frame { self.new
+            ≡ record self.old
+            { next = self.new.next; last = self.new.last; frames = self.new.frames } }
     {
         let header = heap.header_at(word);
         self.next = word + 8 * (header / 1024 + 1);
@@ -290,7 +310,8 @@ impl<'a> Walk<'a> {
         ensures frames { All (IsOuter heap.now) self.new.frames.items }
         ensures depth { vec_len self.new.frames ≤ vec_len self.old.frames + 1 }
         ensures capacity { vec_capacity self.new.frames ≡ vec_capacity self.old.frames }
-        ensures frame { self.new ≡ record self.old { last = self.new.last; frames = self.new.frames } }
+        ensures frame { self.new
+            ≡ record self.old { last = self.new.last; frames = self.new.frames } }
     {
         if self.last.rest.is_empty() {
             self.last = inner;

@@ -20,8 +20,8 @@ use om_heap::Heap;
 use om_model::value::Val;
 use std::alloc::Global;
 
-/// Puts the bytes that the runtime writes for a value: those of the one tree whose value is the same. All memory is
-/// taken before the first byte is put.
+/// Puts the bytes that the runtime writes for a value: those of the one tree whose value is the
+/// same. All memory is taken before the first byte is put.
 pub fn write<K: Sink>(alloc: Global, heap: &Heap, root: Val, out: &mut K) -> Result<(), WriteError>
     requires { IsValue (length heap.now) root }
     ensures puts { (tree : Tree) × IsTreeOf heap.now root tree
@@ -48,7 +48,8 @@ pub fn put_value<'a, K: Sink>(
     requires walk { IsWalk heap.now walk.old }
     requires first { walk.old.given ≡ 0 }
     requires again { walk.old.again ≡ true }
-    requires head { (tree : Tree) → IsTreeOf heap.now walk.old.root tree → head ≡ canonical_head (tokens tree) }
+    requires head { (tree : Tree) → IsTreeOf heap.now walk.old.root tree
+        → head ≡ canonical_head (tokens tree) }
     requires empty { buffer.old.items ≡ [] }
     requires room { LIMIT ≤ vec_capacity buffer.old }
     ensures { (tree : Tree) → IsTreeOf heap.now walk.old.root tree → MatchResult result
@@ -73,7 +74,8 @@ fn add_tokens<'a, K: Sink>(
     requires again { walk.old.again ≡ true }
     requires room { LIMIT ≤ vec_capacity buffer.old }
     ensures adds { (tree : Tree) → IsTreeOf heap.now walk.old.root tree
-        → Adds (K.state out.old) (K.state out.new) buffer.old.items buffer.new.items (data_spelling (tokens tree)) result }
+        → Adds (K.state out.old) (K.state out.new) buffer.old.items buffer.new.items
+        (data_spelling (tokens tree)) result }
     ensures room { LIMIT ≤ vec_capacity buffer.new }
 {
     'tokens: while let Some(step) = walk.next_again(heap) {

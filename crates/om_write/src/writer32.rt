@@ -47,8 +47,8 @@ impl From<Memory> for Write32Error {
     }
 }
 
-/// Puts what `write` puts, where a reader on 32 bits can hold the value. Else it answers the first token that is too
-/// large, or where there is none the header, and puts nothing.
+/// Puts what `write` puts, where a reader on 32 bits can hold the value. Else it answers the first
+/// token that is too large, or where there is none the header, and puts nothing.
 pub fn write32<K: Sink>(
     alloc: Global,
     heap: &Heap,

@@ -8,4 +8,6 @@ use Rattle.om_edge.specs.State.{ByteState, Change}
 
 -- the line of the stop is put and its status answered; or the line could not be put whole
 abbrev pub Says : Stop → Change ByteState → Status → Type 0
-Says stop err status = (Puts err (err_line (stop_text stop)) × (status ≡ status_of stop)) ⊎ (PutsPart err (err_line (stop_text stop)) × (status ≡ WriteFault))
+Says stop err status =
+    (Puts err (err_line (stop_text stop)) × (status ≡ status_of stop))
+    ⊎ (PutsPart err (err_line (stop_text stop)) × (status ≡ WriteFault))

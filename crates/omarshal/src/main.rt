@@ -23,8 +23,10 @@ use std::process::ExitCode;
 
 /// Puts the line of a run whose words could not be read, and answers its status.
 fn stop<K: Sink>(err: &mut K, kind: ErrorKind) -> Status
-    ensures memory { kind ≡ kinds.OutOfMemory → Says out_of_memory (change (K.state err.old) (K.state err.new)) result }
-    ensures others { kind ≢ kinds.OutOfMemory → Says usage (change (K.state err.old) (K.state err.new)) result }
+    ensures memory { kind ≡ kinds.OutOfMemory
+        → Says out_of_memory (change (K.state err.old) (K.state err.new)) result }
+    ensures others { kind ≢ kinds.OutOfMemory
+        → Says usage (change (K.state err.old) (K.state err.new)) result }
 {
     match kind {
         ErrorKind::OutOfMemory => report(err, b"omarshal: out of memory\n", Status::Memory),
@@ -55,8 +57,8 @@ fn read_words(rt: &HostRuntime) -> Result<Vec<String>, ErrorKind> {
     }
 }
 
-/// Standard input. Where it is closed, it cannot be duplicated; a file that is opened later may have its descriptor, and is
-/// not read for it.
+/// Standard input. Where it is closed, it cannot be duplicated; a file that is opened later may
+/// have its descriptor, and is not read for it.
 fn standard_input(rt: &HostRuntime) -> MaybeClosed<StdinLock> {
     let stdin = rt.stdin();
     match stdin.as_fd().try_clone_to_owned() {

@@ -5,8 +5,8 @@ use om_codes::{
     spell_string_len,
 };
 
-// A letter for the kind, small where the code itself carries its number, and the numbers: 1 says little endian, or the code of
-// an old runtime.
+// A letter for the kind, small where the code itself carries its number, and the numbers: 1 says
+// little endian, or the code of an old runtime.
 fn told(kind: CodeKind) -> (char, u8, u8) {
     match kind {
         CodeKind::SmallBlock(tag, size) => ('b', tag, size),

@@ -26,7 +26,8 @@ fn spells_customs(rt: HostRuntime) {
     }
 }
 
-// A letter for what the data of a `Nativeint` say, with how many bytes are missing or the kind byte, and the number.
+// A letter for what the data of a `Nativeint` say, with how many bytes are missing or the kind
+// byte, and the number.
 fn told(step: NativeStep) -> (char, usize, i64) {
     match step {
         NativeStep::More(missing) => ('m', missing, 0),
@@ -35,7 +36,8 @@ fn told(step: NativeStep) -> (char, usize, i64) {
     }
 }
 
-// The data that OCaml's `Marshal.to_string` writes, some cut short and some with a byte after them; and a kind that it never writes.
+// The data that OCaml's `Marshal.to_string` writes, some cut short and some with a byte after them;
+// and a kind that it never writes.
 #[test]
 fn reads_nativeints(rt: HostRuntime) {
     let rows: [(&[u8], (char, usize, i64)); 8] = [

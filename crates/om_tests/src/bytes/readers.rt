@@ -1,4 +1,5 @@
-//! What a reader answers that no stored question shows: deep values, and a refusal asked for once more.
+//! What a reader answers that no stored question shows: deep values, and a refusal asked for once
+//! more.
 
 use om_model::Memory;
 use om_model::refusal::ReadRefusal;

@@ -1,4 +1,5 @@
-//! The adapters over files, and over a reader and a writer that fail. Runs over the fakes in memory stand in `om_conformance`.
+//! The adapters over files, and over a reader and a writer that fail. Runs over the fakes in memory
+//! stand in `om_conformance`.
 
 use om_edge::{
     DiskFiles, Failed, MemFiles, OpenError, Opener, Sink, Source, StdSink, StdSource, WriteError,

@@ -1,5 +1,6 @@
-//! Sinks that fail while a value is written, and sizes that do not fit a 32-bit machine. Values that OCaml wrote are written
-//! again in `om_conformance`, which also tries the integers at the ends of 31 and 32 bits.
+//! Sinks that fail while a value is written, and sizes that do not fit a 32-bit machine. Values
+//! that OCaml wrote are written again in `om_conformance`, which also tries the integers at the
+//! ends of 31 and 32 bits.
 
 use om_edge::{MemSink, WriteError};
 use om_heap::Heap;
@@ -10,7 +11,8 @@ use std::alloc::Global;
 use std::process::Abort;
 use std::test::Fail;
 
-// Writes a text of 100,000 bytes to a sink with this room whose calls of these numbers fail, and tells how many bytes it holds.
+// Writes a text of 100,000 bytes to a sink with this room whose calls of these numbers fail, and
+// tells how many bytes it holds.
 fn written(
     rt: &impl Abort,
     alloc: Global,

@@ -1,4 +1,5 @@
-//! Of texts of values: a string whose bytes are at hand, which the program prints word by word (`om_conformance` shows that).
+//! Of texts of values: a string whose bytes are at hand, which the program prints word by word
+//! (`om_conformance` shows that).
 
 use om_leaves::put_string;
 use std::test::Fail;

@@ -7,7 +7,7 @@ use Rattle.om_types.specs.Declarations.{predeclared}
 use Rattle.om_types.specs.Head.{head}
 use Rattle.om_literal_grammar.specs.Literal.{Literal, labelled, integer, string, constant, applied, cons_head, empty_head, no_parts, more_parts}
 use Rattle.om_literal.specs.Reading.{misfit_at, int_range_at}
-use Rattle.om_edit.specs.Rows as rows
+use Rattle.om_edit.specs.WorkedEdits as rows
 use Rattle.om_edit.proofs.laws.worked_edits_are_made.Goals as goal
 
 abbrev number : ℕ → Literal

@@ -4,7 +4,7 @@ use Rattle.std.proofs.lemmas.List.{append-nil}
 use Rattle.om_literal_grammar.specs.declared.node.Form.TheVariants as forms
 use Rattle.om_literal_grammar.specs.declared.node.Node.{Node}
 use Rattle.om_literal_grammar.specs.Literal.{again}
-use Rattle.om_literal.specs.Answers.{shape_in, names_in}
+use Rattle.om_literal.specs.LiteralAnswers.{shape_in, names_in}
 use Rattle.om_literal.specs.Reading.{is_next, literal_read}
 use Rattle.om_literal.specs.Standing.{Stands, own_node}
 use Rattle.om_literal.specs.Underway.{IsMade, Begins, MayRefuse}

@@ -5,7 +5,7 @@ use Rattle.om_types.specs.declared.shape.ShapeOf.{ShapeOf}
 use Rattle.om_lex.specs.declared.lexeme.Lexeme.{Lexeme}
 use Rattle.om_literal_grammar.specs.declared.node.Node.{Node}
 use Rattle.om_literal_grammar.specs.Literal.{label_kinds}
-use Rattle.om_literal.specs.Answers.{shape_in, names_in}
+use Rattle.om_literal.specs.LiteralAnswers.{shape_in, names_in}
 use Rattle.om_literal.specs.Started.{start_in}
 use Rattle.om_literal.specs.Starts.{start_at}
 use Rattle.om_literal.proofs.StandingLemmas.{lead_is}

@@ -1,6 +1,6 @@
 use Rattle.om_types.specs.Names.{names_of}
 use Rattle.om_types.specs.Shape.{shape}
-use Rattle.om_literal.specs.Answers.{shape_in, names_in}
+use Rattle.om_literal.specs.LiteralAnswers.{shape_in, names_in}
 use Rattle.om_literal_texts.proofs.LawLemmas.{values_are_literals}
 use Rattle.om_literal_texts.proofs.laws.values_are_literals.Goals as goal
 

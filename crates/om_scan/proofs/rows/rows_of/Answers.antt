@@ -1,6 +1,6 @@
 use Rattle.std.proofs.Common.{◌+◌, ◌∙◌, [], ◌∷◌, length, sym, ap, subst}
 use Rattle.std.proofs.lemmas.List.{length-append}
-use Rattle.om_scan.specs.Rows.{AreRows}
+use Rattle.om_scan.specs.FittingRows.{AreRows}
 use Rattle.om_scan.proofs.RowLemmas.{rows_more}
 use Rattle.om_scan.proofs.rows.rows_of.Goals as goal
 

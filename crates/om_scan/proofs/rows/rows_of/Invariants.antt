@@ -1,5 +1,5 @@
 use Rattle.std.proofs.Common.{◌≡◌, length}
-use Rattle.om_scan.specs.Rows.{AreRows}
+use Rattle.om_scan.specs.FittingRows.{AreRows}
 use Rattle.om_scan.proofs.rows.rows_of.Given as goal
 
 abbrev pub invariant-loop-i : goal.invariant-loop-i

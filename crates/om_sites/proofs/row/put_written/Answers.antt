@@ -3,7 +3,7 @@ use Rattle.std.specs.Prelude.{slice_get}
 use Rattle.std.proofs.lemmas.Bool.{ltb-false}
 use Rattle.std.proofs.lemmas.List.{append-nil}
 use Rattle.std.proofs.lemmas.Option.{slice_get_past}
-use Rattle.om_sites.specs.Rows.{tag_if}
+use Rattle.om_sites.specs.BracketItems.{tag_if}
 use Rattle.om_sites.proofs.row.put_written.Goals as goal
 
 pub returns-in-None : goal.returns-in-None

@@ -17,7 +17,8 @@ use Rattle.om_literal.specs.Reading.{Refusal, misfit_at, int_range_at, label_at,
 
 -- where a lexeme begins, or the end
 abbrev pub byte_of : List Lexeme → ℕ → ℕ → ℕ
-byte_of lexemes end k = unwrap_or (option_map (λ (lexeme : Lexeme). lexeme.span.first) (slice_get lexemes k)) end
+byte_of lexemes end k =
+    unwrap_or (option_map (λ (lexeme : Lexeme). lexeme.span.first) (slice_get lexemes k)) end
 
 -- a refusal at bytes in place of lexemes
 abbrev pub in_bytes : {T : Type 0} → List Lexeme → ℕ → Refusal T → Refusal T
@@ -40,8 +41,10 @@ names_in table i = unwrap_or (slice_get table.names i) no_names
 
 -- ---- what is answered
 
--- the lexemes are a literal of this value at the type, and the new objects stand behind the old ones
-pub record IsValue (table : TypeTable) (at : ℕ) (lexemes : List Lexeme) (old new : List Obj) (value : Val) : Type 0 where
+-- the lexemes are a literal of this value at the type, and the new objects stand behind the old
+-- ones
+pub record IsValue (table : TypeTable) (at : ℕ) (lexemes : List Lexeme) (old new : List Obj)
+    (value : Val) : Type 0 where
   pub literal : Literal
   pub objects : List Obj
   pub spelled : literal_kinds literal ≡ kinds_of lexemes
@@ -49,7 +52,8 @@ pub record IsValue (table : TypeTable) (at : ℕ) (lexemes : List Lexeme) (old n
   pub behind : new ≡ old ++ objects
 
 -- the lexemes are a literal that has this fault at the type
-pub record IsMisread (table : TypeTable) (at : ℕ) (lexemes : List Lexeme) (end : ℕ) (count : ℕ) (fault : LiteralFault) : Type 0 where
+pub record IsMisread (table : TypeTable) (at : ℕ) (lexemes : List Lexeme) (end : ℕ) (count : ℕ)
+    (fault : LiteralFault) : Type 0 where
   pub literal : Literal
   pub refusal : Refusal ℕ
   pub spelled : literal_kinds literal ≡ kinds_of lexemes
@@ -62,25 +66,34 @@ pub record IsNoLiteral (lexemes : List Lexeme) (end place : ℕ) : Type 0 where
   pub syntax : IsSyntax literal_kinds (kinds_of lexemes) lexeme
   pub is : place ≡ byte_of lexemes end lexeme
 
--- the objects of the heap and a value, or a fault: what the lexemes are at a type over a heap; never out of memory
-abbrev pub IsAnswer : TypeTable → ℕ → List Lexeme → ℕ → List Obj → Result (List Obj × Val) LiteralFault → Type 0
+-- the objects of the heap and a value, or a fault: what the lexemes are at a type over a heap;
+-- never out of memory
+abbrev pub IsAnswer : TypeTable → ℕ → List Lexeme → ℕ → List Obj
+    → Result (List Obj × Val) LiteralFault → Type 0
 IsAnswer table at lexemes end old (Ok answer) = IsValue table at lexemes old answer.0 answer.1
 IsAnswer table at lexemes end old (Err (faults.Syntax place)) = IsNoLiteral lexemes end place
-IsAnswer table at lexemes end old (Err (faults.Misfit place t)) = IsMisread table at lexemes end (length old) (faults.Misfit place t)
-IsAnswer table at lexemes end old (Err (faults.IntRange place)) = IsMisread table at lexemes end (length old) (faults.IntRange place)
-IsAnswer table at lexemes end old (Err (faults.Label place)) = IsMisread table at lexemes end (length old) (faults.Label place)
+IsAnswer table at lexemes end old (Err (faults.Misfit place t)) =
+    IsMisread table at lexemes end (length old) (faults.Misfit place t)
+IsAnswer table at lexemes end old (Err (faults.IntRange place)) =
+    IsMisread table at lexemes end (length old) (faults.IntRange place)
+IsAnswer table at lexemes end old (Err (faults.Label place)) =
+    IsMisread table at lexemes end (length old) (faults.Label place)
 IsAnswer table at lexemes end old (Err faults.Memory) = ⊥
 
 -- ---- what a call gives
 
 -- the answer with the heap that is left; out of memory, and at a fault, it is as it was
-abbrev pub IsAnswered : TypeTable → ℕ → List Lexeme → ℕ → List Obj → List Obj → Result Val LiteralFault → Type 0
-IsAnswered table at lexemes end old new (Ok value) = IsAnswer table at lexemes end old (Ok (new, value))
+abbrev pub IsAnswered : TypeTable → ℕ → List Lexeme → ℕ → List Obj → List Obj
+    → Result Val LiteralFault → Type 0
+IsAnswered table at lexemes end old new (Ok value) =
+    IsAnswer table at lexemes end old (Ok (new, value))
 IsAnswered table at lexemes end old new (Err faults.Memory) = new ≡ old
-IsAnswered table at lexemes end old new (Err fault) = (new ≡ old) × IsAnswer table at lexemes end old (Err fault)
+IsAnswered table at lexemes end old new (Err fault) =
+    (new ≡ old) × IsAnswer table at lexemes end old (Err fault)
 
 -- a call gives this answer, unless memory runs out
-abbrev pub Gives : Result (List Obj × Val) LiteralFault → List Obj → Result Val LiteralFault → Type 0
+abbrev pub Gives : Result (List Obj × Val) LiteralFault → List Obj → Result Val LiteralFault
+    → Type 0
 Gives answer new (Ok value) = answer ≡ Ok (new, value)
 Gives answer new (Err faults.Memory) = ⊤
 Gives answer new (Err fault) = answer ≡ Err fault
@@ -89,4 +102,5 @@ Gives answer new (Err fault) = answer ≡ Err fault
 abbrev pub HasOneAnswer : TypeTable → ℕ → List Lexeme → ℕ → List Obj → Type 0
 HasOneAnswer table at lexemes end old =
     (answer : Result (List Obj × Val) LiteralFault) × IsAnswer table at lexemes end old answer
-    × ((other : Result (List Obj × Val) LiteralFault) → IsAnswer table at lexemes end old other → other ≡ answer)
+    × ((other : Result (List Obj × Val) LiteralFault) → IsAnswer table at lexemes end old other
+    → other ≡ answer)

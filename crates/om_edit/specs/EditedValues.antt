@@ -1,5 +1,5 @@
--- What an edit makes of a value at its type, over any shapes and names: an edited value, or the reason why it is refused. A value
--- is a graph and a root.
+-- What an edit makes of a value at its type, over any shapes and names: an edited value, or the
+-- reason why it is refused. A value is a graph and a root.
 use Rattle.std.specs.Prelude.{ℕ, ◌≡◌, Option, Some, None, Result, Ok, Err, List, [], ◌∷◌, ◌++◌, length, slice_get}
 use Rattle.om_model.specs.declared.value.Val.{Val}
 use Rattle.om_model.specs.declared.value.Val.TheVariants as vals
@@ -15,7 +15,7 @@ use Rattle.om_grammar.specs.Refusals.{IsSyntax}
 use Rattle.om_heap.specs.Heap.{set_field}
 use Rattle.om_literal_grammar.specs.Literal.{Literal, literal_kinds}
 use Rattle.om_literal_grammar.specs.Nodes.{kinds_of}
-use Rattle.om_literal.specs.Answers.{byte_of, in_bytes}
+use Rattle.om_literal.specs.LiteralAnswers.{byte_of, in_bytes}
 use Rattle.om_literal.specs.Reading.{Refusal, IsRead, IsRefused}
 use Rattle.om_path.specs.declared.edits.Edit.{Edit}
 use Rattle.om_path.specs.declared.edits.Edit.TheVariants as edits
@@ -57,7 +57,8 @@ module _ {T : Type 0} where
 
   abbrev pub copied : List Obj → Val → Spot → Option Obj → Answer T
   copied graph root spot None = Err not_block
-  copied graph root spot (Some object) = Ok (put_at spot (vals.Ref (length graph)) (graph ++ object ∷ []) root)
+  copied graph root spot (Some object) =
+      Ok (put_at spot (vals.Ref (length graph)) (graph ++ object ∷ []) root)
 
   abbrev pub unshared : List Obj → Val → Result (Place T) ℕ → Answer T
   unshared graph root (Err step) = Err (no_field Left step)
@@ -69,24 +70,29 @@ module _ {T : Type 0} (shape : T → ShapeOf T) (names : T → Names) where
   -- the lexemes are a literal of this value at the type, and these are its objects, behind so many
   abbrev pub IsLiteral : T → List Lexeme → ℕ → List Obj → Val → Type 0
   IsLiteral t lexemes count objects value =
-      (literal : Literal) × (literal_kinds literal ≡ kinds_of lexemes) × IsRead shape names literal t count value objects
+      (literal : Literal) × (literal_kinds literal ≡ kinds_of lexemes)
+      × IsRead shape names literal t count value objects
 
   -- the lexemes are a literal that is none of the type
   abbrev pub IsMisread : T → List Lexeme → ℕ → ℕ → Refusal T → Type 0
   IsMisread t lexemes end count refusal =
-      (literal : Literal) × (at : Refusal T) × (literal_kinds literal ≡ kinds_of lexemes) × IsRefused shape names literal t count at
+      (literal : Literal) × (at : Refusal T) × (literal_kinds literal ≡ kinds_of lexemes)
+      × IsRefused shape names literal t count at
       × (refusal ≡ in_bytes lexemes end at)
 
   -- the lexemes are no literal, first at this byte
   abbrev pub IsNoLiteral : List Lexeme → ℕ → ℕ → Type 0
-  IsNoLiteral lexemes end place = (k : ℕ) × IsSyntax literal_kinds (kinds_of lexemes) k × (place ≡ byte_of lexemes end k)
+  IsNoLiteral lexemes end place =
+      (k : ℕ) × IsSyntax literal_kinds (kinds_of lexemes) k × (place ≡ byte_of lexemes end k)
 
   -- at a place
   abbrev pub IsSetAt : List Obj → Val → Place T → List Lexeme → ℕ → Answer T → Type 0
   IsSetAt graph root p lexemes end (Ok made) =
-      (objects : List Obj) × (value : Val) × IsLiteral p.ty lexemes (length graph) objects value × (made ≡ put_at p.spot value (graph ++ objects) root)
+      (objects : List Obj) × (value : Val) × IsLiteral p.ty lexemes (length graph) objects value
+      × (made ≡ put_at p.spot value (graph ++ objects) root)
   IsSetAt graph root p lexemes end (Err (no_literal place)) = IsNoLiteral lexemes end place
-  IsSetAt graph root p lexemes end (Err (misread refusal)) = IsMisread p.ty lexemes end (length graph) refusal
+  IsSetAt graph root p lexemes end (Err (misread refusal)) =
+      IsMisread p.ty lexemes end (length graph) refusal
   IsSetAt graph root p lexemes end (Err reason) = ⊥
 
   abbrev pub IsSet : List Obj → Val → Result (Place T) ℕ → List Lexeme → ℕ → Answer T → Type 0
@@ -99,17 +105,22 @@ module _ {T : Type 0} (shape : T → ShapeOf T) (names : T → Names) where
 
     -- what an edit makes, whether it has the type or not
     abbrev pub IsMade : Edit → List Obj → Val → Answer T → Type 0
-    IsMade (edits.Set path lexemes end) graph root made = IsSet graph root (place_in graph root path) lexemes end made
-    IsMade (edits.Link path source) graph root made = made ≡ linked graph root (place_in graph root path) (place_in graph root source)
-    IsMade (edits.Unshare path) graph root made = made ≡ unshared graph root (place_in graph root path)
+    IsMade (edits.Set path lexemes end) graph root made =
+        IsSet graph root (place_in graph root path) lexemes end made
+    IsMade (edits.Link path source) graph root made =
+        made ≡ linked graph root (place_in graph root path) (place_in graph root source)
+    IsMade (edits.Unshare path) graph root made =
+        made ≡ unshared graph root (place_in graph root path)
 
     -- what an edit makes has the type
-    pub record IsEdited (edit : Edit) (graph : List Obj) (root : Val) (edited : List Obj × Val) : Type 0 where
+    pub record IsEdited (edit : Edit) (graph : List Obj) (root : Val) (edited : List Obj × Val)
+        : Type 0 where
       pub made : IsMade edit graph root (Ok edited)
       pub typed : HasType (shaped shape Equal) edited.0 edited.1 t
 
     -- it has not, and this is its least fault
-    pub record IsIllTyped (edit : Edit) (graph : List Obj) (root : Val) (fault : Fault) : Type 0 where
+    pub record IsIllTyped (edit : Edit) (graph : List Obj) (root : Val) (fault : Fault)
+        : Type 0 where
       pub edited : List Obj × Val
       pub made : IsMade edit graph root (Ok edited)
       pub least : IsLeastFault (shaped shape Equal) edited.0 edited.1 t fault
@@ -129,4 +140,5 @@ module _ {T : Type 0} (shape : T → ShapeOf T) (names : T → Names) where
     abbrev pub AreEdited : List ScriptLine → List Obj → Val → Edited T → Type 0
     AreEdited [] graph root all = all ≡ Ok (graph, root)
     AreEdited (line ∷ lines) graph root all =
-        (first : Answer T) × IsAnswer line.edit graph root first × IsContinued line.number (AreEdited lines) first all
+        (first : Answer T) × IsAnswer line.edit graph root first
+        × IsContinued line.number (AreEdited lines) first all

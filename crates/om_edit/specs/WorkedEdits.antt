@@ -10,13 +10,13 @@ use Rattle.om_types.specs.Equal.{Equal}
 use Rattle.om_types.specs.Names.{names_of}
 use Rattle.om_types.specs.Shape.{shape}
 use Rattle.om_types.specs.Ty.{Ty, named}
-use Rattle.om_literal_grammar.specs.Rows.{symbol as mark}
+use Rattle.om_literal_grammar.specs.WorkedTrees.{symbol as mark}
 use Rattle.om_literal.specs.Reading.{misfit_at, int_range_at}
-use Rattle.om_literal.specs.Rows.{int, one, pair, number, lexemes_of}
+use Rattle.om_literal.specs.WorkedLiterals.{int, one, pair, number, lexemes_of}
 use Rattle.om_path.specs.declared.edits.Edit.{Edit}
 use Rattle.om_path.specs.declared.edits.Edit.TheVariants.{Set, Link, Unshare}
 use Rattle.om_edit.specs.declared.refusal.Side.TheVariants.{Left, Right}
-use Rattle.om_edit.specs.Answers.{Answer, IsMade}
+use Rattle.om_edit.specs.EditedValues.{Answer, IsMade}
 use Rattle.om_edit.specs.Reasons.{no_field, not_block, misread}
 
 abbrev pub string : Ty
@@ -46,12 +46,26 @@ a_string = Bytes (codes "abc") ∷ []
 pub record Rows : Type 0 where
   -- `0 set .1 = ::(7, [])`: the new object is at the end
   pub new_rest : Makes int_list two_items
-      (Set (1 ∷ []) (lexemes_of ((11, mark symbols.DoubleColon) ∷ (13, mark symbols.OpenParen) ∷ (14, number false (pos 7) suffixes.Absent) ∷ (15, mark symbols.Comma) ∷ (17, mark symbols.OpenBracket) ∷ (18, mark symbols.CloseBracket) ∷ (19, mark symbols.CloseParen) ∷ [])) 20)
-      (Ok (Block 0 (Int (pos 1) ∷ Ref 2 ∷ []) ∷ Block 0 (Int (pos 2) ∷ Int (pos 0) ∷ []) ∷ Block 0 (Int (pos 7) ∷ Int (pos 0) ∷ []) ∷ [], Ref 0))
+      (Set (1 ∷ [])
+      (lexemes_of
+      ((11, mark symbols.DoubleColon) ∷ (13, mark symbols.OpenParen)
+      ∷ (14, number false (pos 7) suffixes.Absent) ∷ (15, mark symbols.Comma)
+      ∷ (17, mark symbols.OpenBracket) ∷ (18, mark symbols.CloseBracket)
+      ∷ (19, mark symbols.CloseParen) ∷ []))
+      20)
+      (Ok (
+        Block 0 (Int (pos 1) ∷ Ref 2 ∷ []) ∷ Block 0 (Int (pos 2) ∷ Int (pos 0) ∷ [])
+            ∷ Block 0 (Int (pos 7) ∷ Int (pos 0) ∷ []) ∷ [],
+        Ref 0,
+      ))
   -- `0 set .2 = 1`
-  pub no_such_field : Makes int_list two_items (Set (2 ∷ []) (lexemes_of ((11, number false (pos 1) suffixes.Absent) ∷ [])) 12) (Err (no_field Left 0))
+  pub no_such_field : Makes int_list two_items
+      (Set (2 ∷ []) (lexemes_of ((11, number false (pos 1) suffixes.Absent) ∷ [])) 12)
+      (Err (no_field Left 0))
   -- `0 set .1.1.0 = 1`: behind the last item
-  pub no_such_step : Makes int_list two_items (Set (1 ∷ 1 ∷ 0 ∷ []) (lexemes_of ((15, number false (pos 1) suffixes.Absent) ∷ [])) 16) (Err (no_field Left 2))
+  pub no_such_step : Makes int_list two_items
+      (Set (1 ∷ 1 ∷ 0 ∷ []) (lexemes_of ((15, number false (pos 1) suffixes.Absent) ∷ [])) 16)
+      (Err (no_field Left 2))
   -- `0 link . = .5`
   pub no_such_source : Makes int_list two_items (Link [] (5 ∷ [])) (Err (no_field Right 0))
   -- `0 link .2 = .5`: the left path comes first
@@ -59,22 +73,39 @@ pub record Rows : Type 0 where
   -- `0 unshare .0`
   pub an_integer : Makes int_list two_items (Unshare (0 ∷ [])) (Err not_block)
   -- `0 set .0 = 4611686018427387904`
-  pub out_of_range : Makes int_list two_items (Set (0 ∷ []) (lexemes_of ((11, number false (pos 4611686018427387904) suffixes.Absent) ∷ [])) 30) (Err (misread (int_range_at 11)))
+  pub out_of_range : Makes int_list two_items
+      (Set (0 ∷ []) (lexemes_of ((11, number false (pos 4611686018427387904) suffixes.Absent) ∷ []))
+      30)
+      (Err (misread (int_range_at 11)))
   -- `0 link .1.1 = .`: the list goes round
   pub goes_round : Makes int_list two_items (Link (1 ∷ 1 ∷ []) [])
       (Ok (Block 0 (Int (pos 1) ∷ Ref 1 ∷ []) ∷ Block 0 (Int (pos 2) ∷ Ref 0 ∷ []) ∷ [], Ref 0))
   -- `0 set .0.0 = 5`: the other part of the pair changes too, and has not its type
-  pub both_change : Makes options shared_pair (Set (0 ∷ 0 ∷ []) (lexemes_of ((13, number false (pos 5) suffixes.Absent) ∷ [])) 14)
+  pub both_change : Makes options shared_pair
+      (Set (0 ∷ 0 ∷ []) (lexemes_of ((13, number false (pos 5) suffixes.Absent) ∷ [])) 14)
       (Ok (Block 0 (Ref 1 ∷ Ref 1 ∷ []) ∷ Block 0 (Int (pos 5) ∷ []) ∷ [], Ref 0))
   -- `0 unshare .1`
   pub parted : Makes options shared_pair (Unshare (1 ∷ []))
-      (Ok (Block 0 (Ref 1 ∷ Ref 2 ∷ []) ∷ Block 0 (Int (pos 0) ∷ []) ∷ Block 0 (Int (pos 0) ∷ []) ∷ [], Ref 0))
+      (Ok (
+        Block 0 (Ref 1 ∷ Ref 2 ∷ []) ∷ Block 0 (Int (pos 0) ∷ []) ∷ Block 0 (Int (pos 0) ∷ [])
+            ∷ [],
+        Ref 0,
+      ))
   -- `0 unshare .`: what lies below is not copied
   pub root_alone : Makes options shared_pair (Unshare [])
-      (Ok (Block 0 (Ref 1 ∷ Ref 1 ∷ []) ∷ Block 0 (Int (pos 0) ∷ []) ∷ Block 0 (Ref 1 ∷ Ref 1 ∷ []) ∷ [], Ref 2))
+      (Ok (
+        Block 0 (Ref 1 ∷ Ref 1 ∷ []) ∷ Block 0 (Int (pos 0) ∷ []) ∷ Block 0 (Ref 1 ∷ Ref 1 ∷ [])
+            ∷ [],
+        Ref 2,
+      ))
   -- `0 set . = "xyz!"`
-  pub new_root : Makes string a_string (Set [] (lexemes_of ((10, kinds.Text (codes "xyz!")) ∷ [])) 16) (Ok (Bytes (codes "abc") ∷ Bytes (codes "xyz!") ∷ [], Ref 1))
+  pub new_root : Makes string a_string
+      (Set [] (lexemes_of ((10, kinds.Text (codes "xyz!")) ∷ [])) 16)
+      (Ok (Bytes (codes "abc") ∷ Bytes (codes "xyz!") ∷ [], Ref 1))
   -- `0 set . = 5`
-  pub no_string : Makes string a_string (Set [] (lexemes_of ((10, number false (pos 5) suffixes.Absent) ∷ [])) 11) (Err (misread (misfit_at 10 string)))
+  pub no_string : Makes string a_string
+      (Set [] (lexemes_of ((10, number false (pos 5) suffixes.Absent) ∷ [])) 11)
+      (Err (misread (misfit_at 10 string)))
   -- `0 unshare .`: a string is an object too
-  pub string_copied : Makes string a_string (Unshare []) (Ok (Bytes (codes "abc") ∷ Bytes (codes "abc") ∷ [], Ref 1))
+  pub string_copied : Makes string a_string (Unshare [])
+      (Ok (Bytes (codes "abc") ∷ Bytes (codes "abc") ∷ [], Ref 1))

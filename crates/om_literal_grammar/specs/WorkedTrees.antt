@@ -31,35 +31,52 @@ abbrev pub cyclic : Literal
 cyclic = labelled (Some 0) (applied cons_head (more_parts no_parts (small 1)) (again 0))
 
 abbrev pub cyclic_lexemes : Kinds
-cyclic_lexemes = symbol symbols.Hash ∷ number 0 ∷ symbol symbols.Equals ∷ symbol symbols.DoubleColon ∷ symbol symbols.OpenParen ∷ number 1 ∷ symbol symbols.Comma ∷ symbol symbols.Hash ∷ number 0 ∷ symbol symbols.CloseParen ∷ []
+cyclic_lexemes =
+    symbol symbols.Hash ∷ number 0 ∷ symbol symbols.Equals ∷ symbol symbols.DoubleColon
+    ∷ symbol symbols.OpenParen ∷ number 1 ∷ symbol symbols.Comma ∷ symbol symbols.Hash ∷ number 0
+    ∷ symbol symbols.CloseParen ∷ []
 
 -- `(#0=ref(0), #0)`
 abbrev pub shared : Literal
 shared = alone (tuple no_parts (labelled (Some 0) (applied ref_head no_parts (small 0))) (again 0))
 
 abbrev pub shared_lexemes : Kinds
-shared_lexemes = symbol symbols.OpenParen ∷ symbol symbols.Hash ∷ number 0 ∷ symbol symbols.Equals ∷ kinds.Lower (codes "ref") ∷ symbol symbols.OpenParen ∷ number 0 ∷ symbol symbols.CloseParen ∷ symbol symbols.Comma ∷ symbol symbols.Hash ∷ number 0 ∷ symbol symbols.CloseParen ∷ []
+shared_lexemes =
+    symbol symbols.OpenParen ∷ symbol symbols.Hash ∷ number 0 ∷ symbol symbols.Equals
+    ∷ kinds.Lower (codes "ref") ∷ symbol symbols.OpenParen ∷ number 0 ∷ symbol symbols.CloseParen
+    ∷ symbol symbols.Comma ∷ symbol symbols.Hash ∷ number 0 ∷ symbol symbols.CloseParen ∷ []
 
 -- `{x = $3ff0000000000000; y = 5L}`
 abbrev pub rows : Literal
-rows = alone (fields None (more_rows no_rows (codes "x") (alone (double 4607182418800017408))) (codes "y") (alone (integer (record { minus = false; value = pos 5; suffix = suffixes.Int64 }))))
+rows =
+    alone
+    (fields None (more_rows no_rows (codes "x") (alone (double 4607182418800017408))) (codes "y")
+    (alone (integer (record { minus = false; value = pos 5; suffix = suffixes.Int64 }))))
 
 abbrev pub rows_lexemes : Kinds
-rows_lexemes = symbol symbols.OpenBrace ∷ kinds.Lower (codes "x") ∷ symbol symbols.Equals ∷ kinds.Double 4607182418800017408 ∷ symbol symbols.Semicolon ∷ kinds.Lower (codes "y") ∷ symbol symbols.Equals ∷ kinds.Integer (record { minus = false; value = pos 5; suffix = suffixes.Int64 }) ∷ symbol symbols.CloseBrace ∷ []
+rows_lexemes =
+    symbol symbols.OpenBrace ∷ kinds.Lower (codes "x") ∷ symbol symbols.Equals
+    ∷ kinds.Double 4607182418800017408 ∷ symbol symbols.Semicolon ∷ kinds.Lower (codes "y")
+    ∷ symbol symbols.Equals
+    ∷ kinds.Integer (record { minus = false; value = pos 5; suffix = suffixes.Int64 })
+    ∷ symbol symbols.CloseBrace ∷ []
 
 -- `C{x = 1}`
 abbrev pub inline : Literal
 inline = alone (fields (Some (upper_head (codes "C"))) no_rows (codes "x") (small 1))
 
 abbrev pub inline_lexemes : Kinds
-inline_lexemes = kinds.Upper (codes "C") ∷ symbol symbols.OpenBrace ∷ kinds.Lower (codes "x") ∷ symbol symbols.Equals ∷ number 1 ∷ symbol symbols.CloseBrace ∷ []
+inline_lexemes =
+    kinds.Upper (codes "C") ∷ symbol symbols.OpenBrace ∷ kinds.Lower (codes "x")
+    ∷ symbol symbols.Equals ∷ number 1 ∷ symbol symbols.CloseBrace ∷ []
 
 -- `` `B(3) ``
 abbrev pub carrying : Literal
 carrying = alone (applied (tag_head (codes "B")) no_parts (small 3))
 
 abbrev pub carrying_lexemes : Kinds
-carrying_lexemes = kinds.Tag (codes "B") ∷ symbol symbols.OpenParen ∷ number 3 ∷ symbol symbols.CloseParen ∷ []
+carrying_lexemes =
+    kinds.Tag (codes "B") ∷ symbol symbols.OpenParen ∷ number 3 ∷ symbol symbols.CloseParen ∷ []
 
 -- the nodes where the literal begins at lexeme 0
 abbrev pub nodes : Literal → List Node
@@ -76,17 +93,29 @@ pub record Rows : Type 0 where
   pub inline_read : reading inline_lexemes ≡ Some inline
   pub carrying_spelled : literal_kinds carrying ≡ carrying_lexemes
   pub carrying_read : reading carrying_lexemes ≡ Some carrying
-  pub empty_spelled : literal_kinds (alone empty_array) ≡ symbol symbols.OpenArray ∷ symbol symbols.CloseArray ∷ []
-  pub empty_read : reading (symbol symbols.OpenArray ∷ symbol symbols.CloseArray ∷ []) ≡ Some (alone empty_array)
-  pub unit_spelled : literal_kinds (alone unit) ≡ symbol symbols.OpenParen ∷ symbol symbols.CloseParen ∷ []
-  pub unit_read : reading (symbol symbols.OpenParen ∷ symbol symbols.CloseParen ∷ []) ≡ Some (alone unit)
+  pub empty_spelled : literal_kinds (alone empty_array)
+      ≡ symbol symbols.OpenArray ∷ symbol symbols.CloseArray ∷ []
+  pub empty_read : reading (symbol symbols.OpenArray ∷ symbol symbols.CloseArray ∷ [])
+      ≡ Some (alone empty_array)
+  pub unit_spelled : literal_kinds (alone unit)
+      ≡ symbol symbols.OpenParen ∷ symbol symbols.CloseParen ∷ []
+  pub unit_read : reading (symbol symbols.OpenParen ∷ symbol symbols.CloseParen ∷ [])
+      ≡ Some (alone unit)
   -- one part in parentheses is no literal, nor is a name with empty parentheses
-  pub alone_refused : reading (symbol symbols.OpenParen ∷ number 1 ∷ symbol symbols.CloseParen ∷ []) ≡ None
-  pub nothing_applied : reading (kinds.Upper (codes "C") ∷ symbol symbols.OpenParen ∷ symbol symbols.CloseParen ∷ []) ≡ None
+  pub alone_refused : reading (symbol symbols.OpenParen ∷ number 1 ∷ symbol symbols.CloseParen ∷ [])
+      ≡ None
+  pub nothing_applied : reading
+      (kinds.Upper (codes "C") ∷ symbol symbols.OpenParen ∷ symbol symbols.CloseParen ∷ [])
+      ≡ None
   -- the nodes: form, label, number of the first lexeme, count of the parts
-  pub cyclic_nodes : nodes cyclic ≡ node forms.Named (Some 0) 0 2 ∷ node forms.Integer None 5 0 ∷ node forms.Again (Some 0) 7 0 ∷ []
-  pub shared_nodes : nodes shared ≡ node forms.Tuple None 0 2 ∷ node forms.Named (Some 0) 1 1 ∷ node forms.Integer None 6 0 ∷ node forms.Again (Some 0) 9 0 ∷ []
-  pub rows_nodes : nodes rows ≡ node forms.Fields None 0 2 ∷ node forms.Double None 3 0 ∷ node forms.Integer None 7 0 ∷ []
+  pub cyclic_nodes : nodes cyclic
+      ≡ node forms.Named (Some 0) 0 2 ∷ node forms.Integer None 5 0 ∷ node forms.Again (Some 0) 7 0
+      ∷ []
+  pub shared_nodes : nodes shared
+      ≡ node forms.Tuple None 0 2 ∷ node forms.Named (Some 0) 1 1 ∷ node forms.Integer None 6 0
+      ∷ node forms.Again (Some 0) 9 0 ∷ []
+  pub rows_nodes : nodes rows
+      ≡ node forms.Fields None 0 2 ∷ node forms.Double None 3 0 ∷ node forms.Integer None 7 0 ∷ []
   pub inline_nodes : nodes inline ≡ node forms.Fields None 0 1 ∷ node forms.Integer None 4 0 ∷ []
   pub carrying_nodes : nodes carrying ≡ node forms.Named None 0 1 ∷ node forms.Integer None 2 0 ∷ []
   pub empty_nodes : nodes (alone empty_array) ≡ node forms.Array None 0 0 ∷ []

@@ -7,4 +7,6 @@ use Rattle.om_fits.specs.Row.{IsRowOf}
 
 -- each row is that of the type of its number
 abbrev pub AreRows : List (ShapeOf ℕ) → List Row → Type 0
-AreRows nodes rows = (i : ℕ) (row : Row) → slice_get rows i ≡ Some row → IsRowOf (node_or_none (slice_get nodes i)) row
+AreRows nodes rows =
+    (i : ℕ) (row : Row) → slice_get rows i ≡ Some row
+    → IsRowOf (node_or_none (slice_get nodes i)) row
