@@ -7,7 +7,6 @@ use Rattle.om_outcome.specs.Outcome as outcome
 use Rattle.om_outcome.specs.Outcome.{Stop, Said, nothing_said, says}
 use Rattle.om_outcome.specs.RefusalText.{refusal_text}
 use Rattle.om_promises.specs.Commands.{Item, text, Commands}
-use Rattle.om_promises.specs.Example.{IsFirstByte}
 
 -- nothing is wrong
 abbrev pub fine : List ℕ → Said
@@ -60,6 +59,10 @@ lines = record {
 }
 
 -- ---- each byte is said again, but for one, which is refused
+
+-- a byte, and then the rest
+abbrev pub IsFirstByte : List ℕ → Item → List ℕ → Type 0
+IsFirstByte bytes item more = (b : ℕ) × (bytes ≡ b ∷ more) × (item ≡ text (b ∷ []))
 
 abbrev pub SaysByte : ℕ → Item → Said → Type 0
 SaysByte refused item said =
