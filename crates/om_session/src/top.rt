@@ -11,6 +11,7 @@ ghost use Rattle.om_session.specs.Halts.{ReportsHalt, ending_status};
 ghost use Rattle.om_session.specs.Language.{declared_types};
 ghost use Rattle.om_promises.specs.Account.{Account};
 ghost use Rattle.om_promises.specs.Promises.{Promises};
+ghost use Rattle.om_promises.specs.Run.{Promises as Causes};
 ghost use Rattle.om_commands.specs.Tasks.{commands};
 ghost use Rattle.om_session.specs.Telling.{AsksToTell, AsksToEdit};
 ghost use Rattle.om_session.specs.Types.{IsReady};
@@ -19,7 +20,9 @@ ghost use Rattle.om_session.specs.Verdict.{saying_of};
 ghost use Rattle.om_command_line.specs.Requests.{texts, request_of};
 ghost use Rattle.om_stops.specs.Stops.{stop_of, Reports};
 
-use crate::commands::{declared_commands_keep_promises, declared_types_are_lawful};
+use crate::commands::{
+    all_is_promised, declared_commands_keep_promises, declared_types_are_lawful,
+};
 use crate::edit::Edits;
 use crate::types::{Requested, find_script, find_type, path_stop};
 use crate::values::{Work, put_values};
@@ -374,6 +377,11 @@ pub fn run<S: Source, O: Opener, K: Sink, E: Sink>(
         (change (O.state files.old) (O.state files.new))
         (change (K.state out.old) (K.state out.new))
         (change (E.state err.old) (E.state err.new)) result) }
+    ensures causes { Causes declared_types (texts words.now)
+        (call (change (S.state input.old) (S.state input.new))
+        (change (O.state files.old) (O.state files.new))
+        (change (K.state out.old) (K.state out.new))
+        (change (E.state err.old) (E.state err.new)) result) }
     ensures canonical { LeavesCanonical (texts words.now)
         (call (change (S.state input.old) (S.state input.new))
         (change (O.state files.old) (O.state files.new))
@@ -384,5 +392,6 @@ pub fn run<S: Source, O: Opener, K: Sink, E: Sink>(
     one_judgement();
     declared_types_are_lawful();
     declared_commands_keep_promises();
+    all_is_promised();
     run_command(alloc, words, input, files, out, err)
 }
