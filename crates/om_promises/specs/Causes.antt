@@ -15,13 +15,13 @@ use Rattle.om_promises.specs.Outside.{PutsPartAfter, IsWellRead, IsHonest, IsUns
 use Rattle.om_promises.specs.Promises.{told_files, Gives, OnlyMeant}
 
 module _ {A : Type 0} (c : Commands A) (words : List (List ℕ)) where
-  -- each status that does not come of the outside has its meaning
+  -- each status other than 6, 7, 9 and 10 has its meaning
   abbrev pub AreMeant : Call → Type 0
   AreMeant call = (status : Status) → OnlyMeant c words call status
 
   -- ---- the words, and a command that reads no input
 
-  -- where the words stop the run, whatever comes of files, that is its status
+  -- where the words stop the run, whatever comes of files, that is its status, or 7 or 9 comes
   abbrev pub IfWords : Call → Type 0
   IfWords call = (stop : Stop) → ((files : Fetches) → Prepares c words files (Err stop))
       → (call.status ≡ status_of stop) ⊎ IsUnsaid call.status
@@ -96,7 +96,7 @@ module _ {A : Type 0} (c : Commands A) (words : List (List ℕ)) where
       → (call.status ≡ TooLong) ⊎ IsOutside call.status
 
   -- where files that are told stop the run, and those that are wanted are short enough, that is its
-  -- status
+  -- status, or 6 to 9 comes
   abbrev pub IfFiles : Call → Type 0
   IfFiles call = (files : List File) (stop : Stop) → call.files.before.map ≡ Some files
       → ((turn : ℕ) → AreShortBefore files turn) → Prepares c words (told_files files) (Err stop)

@@ -83,7 +83,7 @@ module _ {A : Type 0} (c : Commands A) where
         → ((turn : ℕ) (name : List ℕ) → c.Wants request files turn name
         → files turn name ≡ others turn name)
         → c.Finds request files result → c.Finds request others result
-    -- each of them is read, or it stops the run
+    -- each of them is read or is not there, or it stops the run
     pub reads_wanted : (request : Request) (files : Fetches) (result : Result A Stop)
         → c.Finds request files result
         → (turn : ℕ) (name : List ℕ) → c.Wants request files turn name

@@ -52,7 +52,7 @@ pub record IsHonest (call : Call) (input : List ℕ) (files : List File) : Type 
   pub out : ¬ RoseOrLast call.out.before.faults call.out.after.faults
   pub err : ¬ RoseOrLast call.err.before.faults call.err.after.faults
 
--- it could not be said, for out of memory or since err failed
+-- it could not be said: memory ran out, or out or err failed
 abbrev pub IsUnsaid : Status → Type 0
 IsUnsaid status = (status ≡ Memory) ⊎ (status ≡ WriteFault)
 

@@ -83,7 +83,7 @@ module _ {A : Type 0} (c : Commands A) where
         × (a : A) × Prepares c words found (Ok a)
         × (input : List ℕ) × IfSome call.input.before.bytes (λ bytes. bytes ≡ input) × Holds a input
 
-    -- the files stop the run
+    -- the run stops before the input
     pub record StopsBefore (call : Call) (status : Status) : Type 0 where
       pub found : Fetches
       pub files : FetchesFor c words call.files found
@@ -93,13 +93,14 @@ module _ {A : Type 0} (c : Commands A) where
       pub finds : c.Finds request found (Err stop)
       pub is : status_of stop ≡ status
 
-    -- what a status means: the words ask for nothing, the files stop the run, or the input gives it
+    -- what a status means: the words ask for nothing, the run stops before the input, or the
+    -- input gives it
     abbrev pub Means : Call → Status → Type 0
     Means call status =
         (IsUsage words × (status ≡ Usage))
         ⊎ (StopsBefore call status ⊎ AtInput call (λ a input. Gives a input status))
 
-    -- a status that does not come of the outside means that
+    -- a status other than 6, 7, 9 and 10 means that
     abbrev pub OnlyMeant : Call → Status → Type 0
     OnlyMeant call status = status ≢ ReadFault → status ≢ TooLong → (IsUnsaid status → ⊥)
         → call.status ≡ status → Means call status
@@ -113,18 +114,20 @@ module _ {A : Type 0} (c : Commands A) where
       pub reads : c.Reads a
       pub input : call.input.before.bytes ≡ Some bytes
 
-    -- where the input that is told holds a stop in its first 2^48 bytes, its status comes
+    -- where the input that is told holds a stop in its first 2^48 bytes, its status comes, or
+    -- 6 to 9
     abbrev pub IfStop : Call → Type 0
     IfStop call = (a : A) (bytes : List ℕ) (stop : Stop) → TellsTask call a bytes
         → HoldStop c a (take (2 ^ 48) bytes) stop
         → (call.status ≡ status_of stop) ⊎ IsOutside call.status
 
-    -- where the input that is told, and is short enough, ends with this reply, its status comes
+    -- where the input that is told, and is short enough, ends with this reply, its status comes, or
+    -- 6 to 9
     abbrev pub IfEnd : Call → Type 0
     IfEnd call = (a : A) (bytes : List ℕ) (all : Replies) → TellsTask call a bytes
         → length bytes < 2 ^ 48 → HoldEnd a bytes all.said all.last
         → (call.status ≡ (ending_of all).status) ⊎ IsOutside call.status
 
-    -- 2: the words ask for nothing
+    -- 2 comes, or 7 or 9, where the words ask for nothing
     abbrev pub IfUsage : Call → Type 0
     IfUsage call = IsUsage words → (call.status ≡ Usage) ⊎ IsUnsaid call.status

@@ -1,5 +1,6 @@
--- What is promised of a call of `run`. One account of the call carries all: what the outside gave,
--- what is said of that, and how much of it was put. The others follow from it.
+-- What each status of a call means, over a language directly. One account of the call carries all:
+-- what the outside gave, what is said of that, and how much of it was put. The others follow from
+-- it.
 use Rattle.std.specs.Prelude.{ℕ, suc, Bool, ◌+◌, ◌^◌, ◌<◌, ◌≤◌, ◌≡◌, ◌≢◌, ◌⊎◌, true, false, List, [], ◌∷◌, ◌++◌, length, take, Some, None, IsSomeAnd, IfSome, Ok, Err}
 use Rattle.om_outcome.specs.declared.status.Status.{Status}
 use Rattle.om_outcome.specs.declared.status.Status.TheVariants.{Well, No, Usage, ReadFault, WriteFault, OpenFault, Memory, TooLong, Types, Value, Script, Compat}
