@@ -29,14 +29,14 @@ pub trait Work {
         ensures { IsTrue result ↔ commands.Reads (act self.now) };
 
     /// Takes some of the bytes in hand, one at least, and puts what is to be said of the items that
-    /// end in them.
+    /// end in them. Of a command that reads nothing this says nothing: it is not called.
     fn feed<K: Sink>(&mut self, alloc: Global, in_hand: &[u8], out: &mut K) -> Result<usize, Halt>
         requires some { 0 < length in_hand.now }
-        requires reads { commands.Reads (act self.old) }
         requires has { (bytes : List ℕ) × (said : List Said) × has self.old bytes said
             × (length bytes + length in_hand.now < 2 ^ 63) }
         ensures kept { act self.new ≡ act self.old }
-        ensures feeds { Feeds commands (act self.old) (has self.old) (has self.new) in_hand.now
+        ensures feeds { commands.Reads (act self.old)
+            → Feeds commands (act self.old) (has self.old) (has self.new) in_hand.now
             (change (K.state out.old) (K.state out.new)) result };
 
     /// No more bytes come: puts the last reply, and answers whether nothing is wrong with any of

@@ -33,7 +33,7 @@ impl Work for Telling<'_> {
         _in_hand: &[u8],
         _out: &mut K,
     ) -> Result<usize, Halt> {
-        unreachable!()
+        Ok(0)
     }
 
     fn end<K: Sink>(&mut self, _alloc: Global, out: &mut K) -> Result<bool, Halt> {

@@ -19,9 +19,6 @@ feed-requires-clause-has g c =
     let short = c.requires.short in
     (r.0 ++ s.done, r.1 ++ s.more, s.there, piece_room g.W.Work.commands (g.W.Work.act c.args.work.now) _ _ _ _ _ _ _ s (2 ^ 63) (omega (arith, few, short)))
 
-pub feed-requires-clause-reads : goal.feed-requires-clause-reads
-feed-requires-clause-reads g c = subst g.W.Work.commands.Reads (sym c.loop-rest.invariant.kept) c.requires.reads
-
 pub returns-in_err-taken-clause-kept : goal.returns-in_err-taken-clause-kept
 returns-in_err-taken-clause-kept g c = c.in_err-taken.ensures.kept ∙ c.loop-rest.invariant.kept
 
@@ -30,13 +27,13 @@ returns-in_err-taken-clause-feeds g c =
     fed_halts g.W.Work.commands (g.W.Work.act c.args.work.now) _ (g.W.Work.has c.loop-rest.work) _ _ _ _ c.loop-rest.invariant.fed (g.K.Sink.state c.feed.new.out)
     (g.W.Work.has c.feed.new.self) (g.W.Work.has c.feed.new.self) c.in_err-taken.field-0.0 c.from_residual.result c.from_residual.ensures.1
     (subst (λ a. Feeds g.W.Work.commands a (g.W.Work.has c.loop-rest.work) (g.W.Work.has c.feed.new.self) c.loop-rest.rest.now
-    (change (g.K.Sink.state c.loop-rest.out) (g.K.Sink.state c.feed.new.out)) (Err c.in_err-taken.field-0.0)) c.loop-rest.invariant.kept c.in_err-taken.ensures.feeds)
+    (change (g.K.Sink.state c.loop-rest.out) (g.K.Sink.state c.feed.new.out)) (Err c.in_err-taken.field-0.0)) c.loop-rest.invariant.kept (c.in_err-taken.ensures.feeds (subst g.W.Work.commands.Reads (sym c.loop-rest.invariant.kept) c.requires.reads)))
 
 pub loop-rest-smaller : goal.loop-rest-smaller
 loop-rest-smaller g c =
     subst (λ rest. length rest < length c.loop-rest.rest.now) (sym c.skip-rest.ensures)
     (piece_smaller g.W.Work.commands (g.W.Work.act c.loop-rest.work) (g.W.Work.has c.loop-rest.work) (g.W.Work.has c.feed.new.self) c.loop-rest.rest.now
-    (change (g.K.Sink.state c.loop-rest.out) (g.K.Sink.state c.feed.new.out)) c.in_ok-taken.taken c.in_ok-taken.ensures.feeds)
+    (change (g.K.Sink.state c.loop-rest.out) (g.K.Sink.state c.feed.new.out)) c.in_ok-taken.taken (c.in_ok-taken.ensures.feeds (subst g.W.Work.commands.Reads (sym c.loop-rest.invariant.kept) c.requires.reads)))
 
 pub loop-rest-preserved : goal.loop-rest-preserved
 loop-rest-preserved g c = rw c.skip-rest.ensures record {
@@ -44,7 +41,7 @@ loop-rest-preserved g c = rw c.skip-rest.ensures record {
   fed = fed_more g.W.Work.commands (g.W.Work.act c.args.work.now) _ (g.W.Work.has c.loop-rest.work) _ _ _ _ c.loop-rest.invariant.fed (g.K.Sink.state c.feed.new.out)
       (g.W.Work.has c.feed.new.self) c.in_ok-taken.taken
       (subst (λ a. Feeds g.W.Work.commands a (g.W.Work.has c.loop-rest.work) (g.W.Work.has c.feed.new.self) c.loop-rest.rest.now
-      (change (g.K.Sink.state c.loop-rest.out) (g.K.Sink.state c.feed.new.out)) (Ok c.in_ok-taken.taken)) c.loop-rest.invariant.kept c.in_ok-taken.ensures.feeds);
+      (change (g.K.Sink.state c.loop-rest.out) (g.K.Sink.state c.feed.new.out)) (Ok c.in_ok-taken.taken)) c.loop-rest.invariant.kept (c.in_ok-taken.ensures.feeds (subst g.W.Work.commands.Reads (sym c.loop-rest.invariant.kept) c.requires.reads)));
 }
 
 pub returns-clause-kept : goal.returns-clause-kept

@@ -8,13 +8,13 @@ use Rattle.om_work_examples.proofs.BytesLemmas.{front_byte, count_few, byte_refu
 use Rattle.om_work_examples.proofs.bytes.BytesButWork.feed.Goals as goal
 
 pub returns-then-byte-self-clause-feeds : goal.returns-then-byte-self-clause-feeds
-returns-then-byte-self-clause-feeds g c = λ bytes said h.
+returns-then-byte-self-clause-feeds g c = λ reads. λ bytes said h.
     let f = front_byte c.args.in_hand.now c.requires.some in
     byte_refused c.args.self.now.refused c.args.self.now.count bytes said h c.args.in_hand.now f.0 (g.K.Sink.state c.args.out.now)
     (f.1 ∙ ap (λ b. b ∷ f.0) c.if-byte-self.true)
 
 pub returns-in_err-put_all-clause-feeds : goal.returns-in_err-put_all-clause-feeds
-returns-in_err-put_all-clause-feeds g c =
+returns-in_err-put_all-clause-feeds g c = λ reads.
     feeds_halt bytes_but c.args.self.now.refused (HasBytes c.args.self.now.refused c.args.self.now.count) (HasBytes c.args.self.now.refused c.args.self.now.count) c.args.in_hand.now (change (g.K.Sink.state c.args.out.now) (g.K.Sink.state c.put_all.new.sink)) halts.WriteFault
     c.from_residual.result c.from_residual.ensures.1
     (λ bytes said h.
@@ -29,6 +29,6 @@ overflow_add-self g c =
     let short = r.3 in omega (arith, few, short)
 
 pub returns-clause-feeds : goal.returns-clause-feeds
-returns-clause-feeds g c =
+returns-clause-feeds g c = λ reads.
     byte_feeds c.args.self.now.refused c.args.self.now.count c.args.in_hand.now (g.K.Sink.state c.args.out.now) (g.K.Sink.state c.put_all.new.sink)
     c.requires.some c.if-byte-self.false c.in_ok-put_all.ensures.puts

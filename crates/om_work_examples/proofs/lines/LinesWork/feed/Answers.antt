@@ -8,23 +8,23 @@ use Rattle.om_work_examples.proofs.LinesLemmas.{lines_memory, line_more, line_fe
 use Rattle.om_work_examples.proofs.lines.LinesWork.feed.Goals as goal
 
 pub returns-in_err-keep-clause-feeds : goal.returns-in_err-keep-clause-feeds
-returns-in_err-keep-clause-feeds g c =
+returns-in_err-keep-clause-feeds g c = λ reads.
     feeds_halt lines tt (HasLines c.args.self.now.rest.items) (HasLines c.keep.new.line.items) c.args.in_hand.now (change (g.K.Sink.state c.args.out.now) (g.K.Sink.state c.args.out.now)) (halts.Stop codes.Memory)
     c.from_residual.result c.from_residual.ensures.1
     (λ bytes said h. lines_memory c.args.self.now.rest.items bytes said h c.args.in_hand.now (g.K.Sink.state c.args.out.now))
 
 pub returns-then-byte-ne-LINE_FEED-clause-feeds : goal.returns-then-byte-ne-LINE_FEED-clause-feeds
-returns-then-byte-ne-LINE_FEED-clause-feeds g c =
+returns-then-byte-ne-LINE_FEED-clause-feeds g c = λ reads.
     line_more c.args.self.now.rest.items c.keep.new.line.items c.args.in_hand.now c.requires.some c.in_ok-keep.ensures (g.K.Sink.state c.args.out.now) c.if-byte-ne-LINE_FEED.true
 
 pub returns-in_err-put_all-clause-feeds : goal.returns-in_err-put_all-clause-feeds
-returns-in_err-put_all-clause-feeds g c =
+returns-in_err-put_all-clause-feeds g c = λ reads.
     feeds_halt lines tt (HasLines c.args.self.now.rest.items) (HasLines c.keep.new.line.items) c.args.in_hand.now (change (g.K.Sink.state c.args.out.now) (g.K.Sink.state c.put_all.new.sink)) halts.WriteFault
     c.from_residual-in_err-put_all.result c.from_residual-in_err-put_all.ensures.1
     (line_feeds_fault c.args.self.now.rest.items c.keep.new.line.items c.args.in_hand.now c.requires.some c.in_ok-keep.ensures c.if-byte-ne-LINE_FEED.false
     c.as_slice.result.now c.as_slice.ensures.value (g.K.Sink.state c.args.out.now) (g.K.Sink.state c.put_all.new.sink) c.in_err-put_all.ensures.puts)
 
 pub returns-clause-feeds : goal.returns-clause-feeds
-returns-clause-feeds g c =
+returns-clause-feeds g c = λ reads.
     line_feeds c.args.self.now.rest.items c.keep.new.line.items c.args.in_hand.now c.requires.some c.in_ok-keep.ensures c.if-byte-ne-LINE_FEED.false
     c.as_slice.result.now c.as_slice.ensures.value c.clear.new.self.items c.clear.ensures.items (g.K.Sink.state c.args.out.now) (g.K.Sink.state c.put_all.new.sink) c.in_ok-put_all.ensures.puts
