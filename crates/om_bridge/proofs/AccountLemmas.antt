@@ -1,19 +1,18 @@
--- An account by the commands in the general form is one over their language; and the other way, where
--- it is known which turn fetched what.
+-- An account by the commands in the general form is one over their language.
 use Rattle.std.proofs.Common.{◌≡◌, ◌⊎◌, ℕ, List, [], ◌∷◌, ◌++◌, inl, inr}
 use Rattle.om_model.specs.Bytes.{AreBytes}
 use Rattle.om_format.specs.Laws.{HasOneJudgement}
 use Rattle.om_outcome.specs.Outcome as outcome
 use Rattle.om_outcome.specs.Outcome.{Said, says, Reply, stops, replies, out_of_memory, Language}
 use Rattle.om_promises.specs.Account as account
-use Rattle.om_promises.specs.Account.{MayBe, IsSaidFirst, Completes, Breaks, Account}
+use Rattle.om_promises.specs.Account.{IsSaidFirst, Completes, Breaks, Account}
 use Rattle.om_promises.specs.Call.{Call}
 use Rattle.om_promises.specs.Commands.{Given, RunReplies}
 use Rattle.om_promises.specs.Run as run
 use Rattle.om_commands.specs.Tasks.{commands}
 use Rattle.om_bridge.specs.Bridge.{old_given, HaveOldAccount}
 use Rattle.om_bridge.proofs.FetchLemmas.{old_fetches}
-use Rattle.om_bridge.proofs.ReplyLemmas.{new_pace, old_pace, new_replies, old_replies, new_first, old_first}
+use Rattle.om_bridge.proofs.ReplyLemmas.{old_pace, old_replies, old_first}
 
 module _ {D T E : Type 0} (language : Language D T E) (law : HasOneJudgement)
     (words : List (List ℕ)) where
@@ -25,13 +24,6 @@ module _ {D T E : Type 0} (language : Language D T E) (law : HasOneJudgement)
     old_said (inr (a, p, reads, paced)) =
         inr (a, p, old_pace language law a words given.input said are_bytes paced)
 
-    new_said :
-        run.IsSaidFirst language words (old_given given) said
-        → IsSaidFirst (commands language) words given said
-    new_said (inl none) = inl none
-    new_said (inr (a, p, paced)) =
-        inr (a, p, tt, new_pace language law a words given.input said are_bytes paced)
-
     old_may :
         (last : Reply)
         → RunReplies (commands language) words given (replies said last)
@@ -42,16 +34,6 @@ module _ {D T E : Type 0} (language : Language D T E) (law : HasOneJudgement)
         inl (old_replies language law words given (replies said last) are_bytes r)
     old_may last (inr memory) = inr memory
 
-    new_may :
-        (last : Reply)
-        → outcome.RunReplies language words (old_given given) (replies said last)
-        ⊎ (last ≡ stops out_of_memory)
-        → RunReplies (commands language) words given (replies said last)
-        ⊎ (last ≡ stops out_of_memory)
-    new_may last (inl r) =
-        inl (new_replies language law words given (replies said last) are_bytes r)
-    new_may last (inr memory) = inr memory
-
     old_next :
         (next : Said)
         → account.SaysOfFirst (commands language) words given (said ++ next ∷ [])
@@ -61,16 +43,6 @@ module _ {D T E : Type 0} (language : Language D T E) (law : HasOneJudgement)
     old_next next (inl first) = inl (old_first language words given (said ++ next ∷ []) first)
     old_next next (inr r) =
         inr (old_replies language law words given (replies said (says next)) are_bytes r)
-
-    new_next :
-        (next : Said)
-        → outcome.SaysOfFirst language words (old_given given) (said ++ next ∷ [])
-        ⊎ outcome.RunReplies language words (old_given given) (replies said (says next))
-        → account.SaysOfFirst (commands language) words given (said ++ next ∷ [])
-        ⊎ RunReplies (commands language) words given (replies said (says next))
-    new_next next (inl first) = inl (new_first language words given (said ++ next ∷ []) first)
-    new_next next (inr r) =
-        inr (new_replies language law words given (replies said (says next)) are_bytes r)
 
     module _ (call : Call) where
       old_ends :
@@ -92,25 +64,6 @@ module _ {D T E : Type 0} (language : Language D T E) (law : HasOneJudgement)
         status = h.status;
       })
 
-      new_ends :
-          run.Completes language words (old_given given) said call
-          ⊎ run.Breaks language words (old_given given) said call
-          → Completes (commands language) words given said call
-          ⊎ Breaks (commands language) words given said call
-      new_ends (inl h) = inl (record {
-        last = h.last;
-        may_end = new_may h.last h.may_end;
-        out = h.out;
-        line = h.line;
-      })
-      new_ends (inr h) = inr (record {
-        next = h.next;
-        is_next = new_next h.next h.is_next;
-        out = h.out;
-        err = h.err;
-        status = h.status;
-      })
-
   pub old_account :
       (call : Call) → Account (commands language) words call → run.Account language words call
   old_account call a =
@@ -123,20 +76,6 @@ module _ {D T E : Type 0} (language : Language D T E) (law : HasOneJudgement)
         first = old_said a.given are_bytes a.said a.first;
         ends = old_ends a.given are_bytes a.said call a.ends;
       }
-
-  pub new_account :
-      (call : Call) (given : Given) → MayBe (commands language) words call given
-      → (said : List Said) → run.IsSaidFirst language words (old_given given) said
-      → run.Completes language words (old_given given) said call
-      ⊎ run.Breaks language words (old_given given) said call
-      → Account (commands language) words call
-  new_account call given may_be said first ends = record {
-    given = given;
-    may_be = may_be;
-    said = said;
-    first = new_said given may_be.input.are_bytes said first;
-    ends = new_ends given may_be.input.are_bytes said call ends;
-  }
 
 module _ {D T E : Type 0} (language : Language D T E) (law : HasOneJudgement) where
   pub have_old_account : HaveOldAccount language

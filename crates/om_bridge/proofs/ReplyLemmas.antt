@@ -13,7 +13,7 @@ use Rattle.om_promises.proofs.StreamLemmas.{spell_bytes}
 use Rattle.om_commands.specs.Tasks.{items_of, commands}
 use Rattle.om_bridge.specs.Bridge.{old_given, HaveSameReplies, HaveSameOutcome}
 use Rattle.om_bridge.proofs.ItemLemmas.{says_first, say_first}
-use Rattle.om_bridge.proofs.LastLemmas.{front_end, goes_on, front_of, new_last, old_last, free_of}
+use Rattle.om_bridge.proofs.LastLemmas.{front_of, new_last, old_last, free_of}
 
 module _ {D T E : Type 0} (language : Language D T E) where
   module _ (law : HasOneJudgement) where
@@ -56,20 +56,6 @@ module _ {D T E : Type 0} (language : Language D T E) where
       -- ---- where nothing stops
 
       module _ (words : List (List ℕ)) where
-        pub new_hold :
-            (bytes : List ℕ) (said : List Said) → AreBytes bytes
-            → run.HoldNoStop language a bytes said
-            → account.HoldNoStop (commands language) a bytes said
-        new_hold bytes said are_bytes h =
-            let rest = spell_bytes a.limit bytes h.front h.trees h.first.spelled are_bytes in
-            let e = front_end a.limit h.front h.is_front in
-            record {
-              items = items_of h.trees;
-              rest = h.front;
-              first = says_first language a bytes h.trees said h.front h.first;
-              goes_on = goes_on language law a h.trees h.front rest e.0 e.1 e.2 h.goes_on;
-            }
-
         pub old_hold :
             (bytes : List ℕ) (said : List Said) → AreBytes bytes
             → account.HoldNoStop (commands language) a bytes said
@@ -93,21 +79,6 @@ module _ {D T E : Type 0} (language : Language D T E) where
             let all : AreBytes (earlier ++ in_hand) = subst AreBytes same are_bytes in
             subst AreBytes (take-append_seam earlier in_hand)
             (All-take (λ b. b < 256) (length earlier) (earlier ++ in_hand) all)
-
-        pub new_pace :
-            (taken : Taken) (said : List Said) → AreBytes taken.bytes
-            → run.IsPaced language a taken said
-            → account.IsPaced (commands language) a taken said
-        new_pace taken said are_bytes p =
-            let bytes = earlier_bytes taken.bytes p.earlier p.in_hand p.bytes_are are_bytes in
-            record {
-              earlier = p.earlier;
-              in_hand = p.in_hand;
-              bytes_are = p.bytes_are;
-              holds = new_hold p.earlier said bytes p.holds;
-              piece = p.piece;
-              asked = p.asked;
-            }
 
         pub old_pace :
             (taken : Taken) (said : List Said) → AreBytes taken.bytes
@@ -152,20 +123,7 @@ module _ {D T E : Type 0} (language : Language D T E) where
         (record { files = λ turn name. outcome.found_of (files name); input = outcome.whole bytes })
         are_bytes all
 
-  -- what is said of the first values, and of the first items
-  pub new_first :
-      (words : List (List ℕ)) (given : Given) (said : List Said)
-      → outcome.SaysOfFirst language words (old_given given) said
-      → account.SaysOfFirst (commands language) words given said
-  new_first words given said (a, p, trees, rest, first) = (
-    a,
-    p,
-    tt,
-    items_of trees,
-    rest,
-    says_first language a given.input.bytes trees said rest first,
-  )
-
+  -- what is said of the first items is said of the first values
   pub old_first :
       (words : List (List ℕ)) (given : Given) (said : List Said)
       → account.SaysOfFirst (commands language) words given said

@@ -63,6 +63,18 @@ module _ (limit : ℕ) (bytes : List ℕ) (are_bytes : AreBytes bytes) where
   no_tail t more end (first, after, same, spelled, rest) tail =
       value_or_tail one_judgement_lem limit first after bytes t end are_bytes spelled same tail
 
+-- an item stays one when bytes follow
+pub item_stays :
+    {D T E : Type 0} (language : Language D T E) (a : Task T E)
+    (bytes : List ℕ) (item : Item) (more later : List ℕ)
+    → IsFirstValue language a.limit bytes item more
+    → IsFirstValue language a.limit (bytes ++ later) item (more ++ later)
+item_stays language a bytes item more later h = record {
+  tree = h.tree;
+  is = h.is;
+  spelled = spell_after a.limit bytes more later (h.tree ∷ []) h.spelled;
+}
+
 -- ---- what is said
 
 both_same : (said other : Said) → said.text ≡ other.text → said.well ≡ other.well → said ≡ other
@@ -264,16 +276,6 @@ module _ {D T E : Type 0} (language : Language D T E) (lawful : IsLawful languag
         let s = h.spelled in
         (s.0, s.2 ∙ ap (λ more. s.0 ++ more) s.4, spelled_some a.limit s.0 h.tree s.3)
 
-    item_stays :
-        (bytes : List ℕ) (item : Item) (more later : List ℕ)
-        → IsFirstValue language a.limit bytes item more
-        → IsFirstValue language a.limit (bytes ++ later) item (more ++ later)
-    item_stays bytes item more later h = record {
-      tree = h.tree;
-      is = h.is;
-      spelled = spell_after a.limit bytes more later (h.tree ∷ []) h.spelled;
-    }
-
     why_stays :
         (trees : List Tree) (bytes later : List ℕ) (stop : Stop)
         → outcome.StopsAt language a.work a.limit trees bytes stop
@@ -323,7 +325,7 @@ module _ {D T E : Type 0} (language : Language D T E) (lawful : IsLawful languag
       stops_once = stop_once;
       ends_once = end_reply_once;
       front = item_front;
-      item_stays = item_stays;
+      item_stays = item_stays language a;
       stop_stays = stop_stays;
       stops_inside = λ items bytes stop h. why_inner h.trees bytes stop h.why;
       ends_inside = λ items bytes stop h. ends_inner a.work h.trees h.end stop h.ends;

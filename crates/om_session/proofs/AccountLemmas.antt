@@ -2,8 +2,7 @@
 use Rattle.std.proofs.Common.{◌≡◌, ◌⊎◌, ℕ, zero, suc, Bool, List, [], Ok, Err, inl, inr, refl, sym, ap, ◌∙◌, subst}
 use Rattle.om_outcome.specs.declared.status.Status.{Status}
 use Rattle.std.specs.Borrow.{Bor}
-use Rattle.om_format.proofs.JudgementLaws.{one_judgement_lem}
-use Rattle.om_outcome.specs.Outcome.{IsUsage, Found, unfetched, nothing, Stop, usage, bad_path, out_of_memory, stops as stops_reply, stopped, ending_of, Request, get, edit, dump, compare, Asks, ReadsTypeOf, RunReplies, dumps, compares}
+use Rattle.om_outcome.specs.Outcome.{IsUsage, Found, unfetched, nothing, Stop, usage, bad_path, out_of_memory, stops as stops_reply, stopped, ending_of, Request, get, edit, dump, compare, Asks, ReadsTypeOf, dumps, compares}
 use Rattle.om_edge.specs.State.{ByteState, FilesState, Change, change}
 use Rattle.om_stops.specs.declared.stop.Stop as codes
 use Rattle.om_path.specs.Answer.{IsAnswer, UnlessMemory}
@@ -11,16 +10,15 @@ use Rattle.om_path.specs.declared.edits.Script.{Script}
 use Rattle.om_path.specs.declared.fault.PathFault.{PathFault}
 use Rattle.om_promises.specs.Call.{Call, call}
 use Rattle.om_promises.specs.Account.{FetchesFor, MayBe, Account}
-use Rattle.om_promises.specs.Commands.{Fetches, Given, Prepares}
+use Rattle.om_promises.specs.Commands.{Fetches, Given, Prepares, RunReplies}
 use Rattle.om_session.specs.declared.types.Requested.{Requested}
-use Rattle.om_session.specs.declared.values.Work.{Work}
-use Rattle.om_session.specs.declared.values.Work.TheVariants as works
+use Rattle.om_session.specs.declared.values.Job.{Job}
+use Rattle.om_session.specs.declared.values.Job.TheVariants as jobs
 use Rattle.om_session.specs.declared.verdict.Saying.{Saying}
 use Rattle.om_session.specs.declared.verdict.Speech.TheVariants as speeches
-use Rattle.om_session.specs.Ends.{ClosesValues, TakesValues}
 use Rattle.om_promises.specs.Given.{Fetched}
 use Rattle.om_session.specs.Language.{declared_types}
-use Rattle.om_promises.specs.Run.{AsksFor, AsksForScript, PutsLine, Completes, Breaks}
+use Rattle.om_promises.specs.Run.{AsksFor, AsksForScript, PutsLine}
 use Rattle.om_stops.specs.Stops.{stop_of, Reports}
 use Rattle.om_session.specs.Telling.{AsksToTell, AsksToEdit}
 use Rattle.om_session.specs.Types.{type_over, IsPathStop, GivesType, GivesScript}
@@ -30,9 +28,8 @@ use Rattle.om_promises.proofs.PutLemmas.{puts_nothing}
 use Rattle.om_promises.proofs.TakeLemmas.{took_nothing}
 use Rattle.om_session.proofs.TypeLemmas.{path_refused}
 use Rattle.om_commands.specs.Tasks.{by_turns, commands}
-use Rattle.om_bridge.specs.Bridge.{old_given}
+use Rattle.om_work.specs.Reported.{HasAccount}
 use Rattle.om_bridge.proofs.FetchLemmas.{wants_file, wants_script, new_fetches}
-use Rattle.om_bridge.proofs.AccountLemmas.{new_account}
 
 -- ---- a stop before the values
 
@@ -49,10 +46,14 @@ module _ (words : List (List ℕ)) (found : Fetches) (input out : ByteState) (fi
   may_be : MayBe (commands declared_types) words ended given
   may_be = record { input = took_nothing input; files = fetches; untaken = λ none. refl }
 
-  account_of : (s : Stop) → (RunReplies declared_types words (old_given given) (stopped s) ⊎ (stops_reply s ≡ stops_reply out_of_memory)) → PutsLine err status (ending_of (stopped s)) → Ended
-  account_of s may line =
-      new_account declared_types one_judgement_lem words ended given may_be [] (inl (refl, refl))
-      (inl (record { last = stops_reply s; may_end = may; out = puts_nothing out; line = line }))
+  account_of : (s : Stop) → (RunReplies (commands declared_types) words given (stopped s) ⊎ (stops_reply s ≡ stops_reply out_of_memory)) → PutsLine err status (ending_of (stopped s)) → Ended
+  account_of s may line = record {
+    given = given;
+    may_be = may_be;
+    said = [];
+    first = inl (refl, refl);
+    ends = inl (record { last = stops_reply s; may_end = may; out = puts_nothing out; line = line });
+  }
 
   memory_account : PutsLine err status (ending_of (stopped out_of_memory)) → Ended
   memory_account line = account_of out_of_memory (inr refl) line
@@ -70,26 +71,9 @@ module _ (words : List (List ℕ)) (found : Fetches) (input out : ByteState) (fi
 
 -- ---- the values
 
--- the work is done with the values
-values_account : (w : Work) (words : List (List ℕ)) (found : Fetches) (files : Change FilesState) → FetchesFor (commands declared_types) words files found → Prepares (commands declared_types) words found (Ok (task_of w))
-    → (input out err : Change ByteState) (status : Status) → TakesValues w input out err status → Account (commands declared_types) words (call input files out err status)
-values_account w words found files fetches prepared input out err status (taken, gathers, said, paced, closes) =
-    new_account declared_types one_judgement_lem words (call input files out err status) given
-    (record { input = gathers; files = fetches; untaken = λ none. absurd (none (task_of w) prepared tt) }) said
-    (inr (task_of w, prepared, paced)) (ends closes) where
-      given : Given
-      given = record { files = found; input = taken }
-
-      ends : ClosesValues w taken said out err status
-          → Completes declared_types words (old_given given) said (call input files out err status) ⊎ Breaks declared_types words (old_given given) said (call input files out err status)
-      ends (inl (last, inl reply, puts, line)) =
-          inl (record { last = last; may_end = inl (Ok (task_of w), prepared, reply); out = puts; line = line })
-      ends (inl (last, inr memory, puts, line)) =
-          inl (record { last = last; may_end = inr memory; out = puts; line = line })
-      ends (inr (next, inl (trees, rest, first), part, none, same)) =
-          inr (record { next = next; is_next = inl (task_of w, prepared, trees, rest, first); out = part; err = none; status = same })
-      ends (inr (next, inr reply, part, none, same)) =
-          inr (record { next = next; is_next = inr (Ok (task_of w), prepared, reply); out = part; err = none; status = same })
+-- the job is done with the values
+abbrev DoesJob : Job → Change ByteState → Change ByteState → Change ByteState → Status → Type 0
+DoesJob job = HasAccount (commands declared_types) (task_of job)
 
 -- ---- the words
 
@@ -143,9 +127,9 @@ module _ (words : List (List ℕ)) (name type : List ℕ) (saying : Saying) (lim
       (inl (name, wants_file declared_types words all_found name type is_asked, fetched)) (inr (refl, λ script is. refl))
 
   prepared_ok : (t : Bor Requested) → ReadsTypeOf declared_types (λ name. found) (name, type) (Ok (type_over t.now))
-      → Prepares (commands declared_types) words all_found (Ok (task_of (works.Say (speeches.Tell t saying) limit)))
+      → Prepares (commands declared_types) words all_found (Ok (task_of (jobs.Say (speeches.Tell t saying) limit)))
   prepared_ok t reads =
-      let told = task_of (works.Say (speeches.Tell t saying) limit) in
+      let told = task_of (jobs.Say (speeches.Tell t saying) limit) in
       (Ok asks.request, asks.asks, (Ok told.work, asks.finds (by_turns all_found) (Ok told.work) (Ok (type_over t.now), reads, refl), ap (λ n. Ok (record { work = told.work; limit = n })) (sym asks.limited)))
 
   prepared_err : (s : Stop) → ReadsTypeOf declared_types (λ name. found) (name, type) (Err s) → Prepares (commands declared_types) words all_found (Err s)
@@ -163,9 +147,8 @@ module _ (words : List (List ℕ)) (name type : List ℕ) (saying : Saying) (lim
 
   -- this is told of the values at the type
   pub told_account : (t : Bor Requested) → GivesType name type found (Ok t.now) → (input out err : Change ByteState) (status : Status)
-      → TakesValues (works.Say (speeches.Tell t saying) limit) input out err status → Account (commands declared_types) words (call input files out err status)
-  told_account t gives input out err status takes =
-      values_account (works.Say (speeches.Tell t saying) limit) words all_found files fetches (prepared_ok t gives.0) input out err status takes
+      → DoesJob (jobs.Say (speeches.Tell t saying) limit) input out err status → Account (commands declared_types) words (call input files out err status)
+  told_account t gives input out err status does = does words all_found files fetches (prepared_ok t gives.0)
 
 -- ---- SCRIPT
 
@@ -232,19 +215,17 @@ module _ (words : List (List ℕ)) (r : Bor Requested) (script : List ℕ) (comp
 
   -- the values are edited
   pub edits_account : (s : Bor Script) → GivesScript script found (Ok s.now) → (input out err : Change ByteState) (status : Status)
-      → TakesValues (works.Edit (record { requested = r; script = s; compat = compat }) limit) input out err status → Account (commands declared_types) words (call input (change a c) out err status)
-  edits_account s gives input out err status takes =
-      let w = works.Edit (record { requested = r; script = s; compat = compat }) limit in
-      values_account w words both_found (change a c) both_fetched
-      (Ok request, asks.asks, (Ok (task_of w).work, (Ok (type_over r.now), asks.gives.0, (Ok s.now.lines, gives, refl)), refl)) input out err status takes
+      → DoesJob (jobs.Edit (record { requested = r; script = s; compat = compat }) limit) input out err status → Account (commands declared_types) words (call input (change a c) out err status)
+  edits_account s gives input out err status does =
+      let job = jobs.Edit (record { requested = r; script = s; compat = compat }) limit in
+      does words both_found (change a c) both_fetched
+      (Ok request, asks.asks, (Ok (task_of job).work, (Ok (type_over r.now), asks.gives.0, (Ok s.now.lines, gives, refl)), refl))
 
 module _ (words : List (List ℕ)) (limit : ℕ) (files : FilesState) (input out err : Change ByteState) (status : Status) where
   -- the values are put as they are
-  pub dump_account : Asks words (dump limit) → TakesValues (works.Say speeches.Dump limit) input out err status → Account (commands declared_types) words (call input (change files files) out err status)
-  dump_account asks takes =
-      values_account (works.Say speeches.Dump limit) words nothing_found (change files files) (none_fetched words files) (Ok (dump limit), asks, (Ok dumps, refl, refl)) input out err status takes
+  pub dump_account : Asks words (dump limit) → DoesJob (jobs.Say speeches.Dump limit) input out err status → Account (commands declared_types) words (call input (change files files) out err status)
+  dump_account asks does = does words nothing_found (change files files) (none_fetched words files) (Ok (dump limit), asks, (Ok dumps, refl, refl))
 
   -- two values are compared
-  pub compare_account : Asks words (compare limit) → TakesValues (works.Compare limit) input out err status → Account (commands declared_types) words (call input (change files files) out err status)
-  compare_account asks takes =
-      values_account (works.Compare limit) words nothing_found (change files files) (none_fetched words files) (Ok (compare limit), asks, (Ok compares, refl, refl)) input out err status takes
+  pub compare_account : Asks words (compare limit) → DoesJob (jobs.Compare limit) input out err status → Account (commands declared_types) words (call input (change files files) out err status)
+  compare_account asks does = does words nothing_found (change files files) (none_fetched words files) (Ok (compare limit), asks, (Ok compares, refl, refl))

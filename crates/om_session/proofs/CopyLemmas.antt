@@ -1,5 +1,5 @@
 -- Canonical values that are edited by no line are put as they came.
-use Rattle.std.proofs.Common.{◌≡◌, ◌≢◌, ℕ, suc, Bool, true, false, List, [], ◌∷◌, ◌++◌, map, Option, Some, None, Result, Ok, inl, inr, refl, sym, ap, ◌∙◌, subst}
+use Rattle.std.proofs.Common.{◌≡◌, ℕ, suc, Bool, true, false, List, [], ◌∷◌, ◌++◌, map, Option, Some, None, Ok, inl, inr, refl, sym, ap, ◌∙◌, subst}
 use Rattle.std.specs.Prelude.{if◌then◌else◌}
 use Rattle.std.specs.List.{concat, AllByRecursion}
 use Rattle.om_outcome.specs.declared.status.Status.TheVariants as statuses
@@ -10,12 +10,12 @@ use Rattle.om_format.specs.Compat.{TooLargeFor32, too_large_for_32}
 use Rattle.om_format.specs.Laws.{HasOneJudgement}
 use Rattle.om_format.specs.Stream.{SpellAll, clean}
 use Rattle.om_format.specs.Tree.{Tree, root, objects_of}
-use Rattle.om_outcome.specs.Outcome.{edit, Unedited, Said, nothing_said, says, Replies, replies, texts_of, all_well, ending_of, edits, Task, task, Prepares, AllSay, ValuesReply, whole, fetches_of, Outcome}
+use Rattle.om_outcome.specs.Outcome.{edit, Said, nothing_said, says, Replies, replies, all_well, ending_of, edits, Task, task, AllSay, ValuesReply, whole, Outcome}
 use Rattle.om_edge.specs.Files.{File, contents_of}
 use Rattle.om_edge.specs.Sink.{Puts}
 use Rattle.om_path.specs.declared.edits.ScriptLine.{ScriptLine}
 use Rattle.om_promises.specs.Call.{Call}
-use Rattle.om_session.specs.Copied.{IsCanonical, IsLeftAlone, PutsInput, LeavesCanonical}
+use Rattle.om_session.specs.Copied.{IsCanonical, IsLeftAlone, LeavesCanonical}
 use Rattle.om_promises.specs.Given.{TellsBytes}
 use Rattle.om_session.specs.Language.{TypeOver, declared_types, bytes_for, IsBytesLine}
 use Rattle.om_promises.specs.Run.{Account}

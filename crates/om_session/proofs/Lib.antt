@@ -3,11 +3,7 @@ pub mod VerdictLemmas
 pub mod ReadLemmas
 pub mod TypedLemmas
 pub mod EditLemmas
-pub mod EndLemmas
-pub mod LoopLemmas
-pub mod CloseLemmas
 pub mod AccountLemmas
 pub mod LanguageLemmas
 pub mod CopyLemmas
-pub mod HaltLemmas
 pub mod SaidLemmas

@@ -1,5 +1,5 @@
 -- What is said of the values so far, as a piece is taken.
-use Rattle.std.proofs.Common.{◌≡◌, ℕ, zero, suc, ◌+◌, ◌^◌, ◌<◌, ◌≤◌, Bool, true, false, List, [], ◌∷◌, ◌++◌, length, take, drop, Result, Ok, Err, inl, inr, refl, sym, ap, ◌∙◌, subst, append_assoc, append-nil, length-append, take_all, arith}
+use Rattle.std.proofs.Common.{◌≡◌, ◌⊎◌, ℕ, zero, suc, ◌+◌, ◌^◌, ◌<◌, ◌≤◌, Bool, true, false, List, [], ◌∷◌, ◌++◌, length, take, drop, Result, Ok, Err, inl, inr, refl, sym, ap, ◌∙◌, subst, append_assoc, append-nil, length-append, take_all, arith}
 use Rattle.std.proofs.lemmas.List.{length-take-le, take-append-drop}
 use Rattle.std.specs.Prelude.{◌&&◌, ◌↔◌, ◌≢◌, IsTrue, IsErrAnd, Vec}
 use Rattle.std.specs.List.{AllZip, AllByRecursion}
@@ -20,17 +20,23 @@ use Rattle.om_read.specs.declared.reader.Truncated.{Truncated}
 use Rattle.om_read.specs.declared.value.Value.{Value}
 use Rattle.om_read.specs.Reading.{IsValueOf}
 use Rattle.om_read.specs.Reader.{Leads, Feeds, Finishes, EndsInput}
-use Rattle.om_format.specs.Stream.{SpellAll, refused, cut, IsTail}
+use Rattle.om_format.specs.Stream.{SpellAll, clean, cut}
 use Rattle.om_format.proofs.JudgementLaws.{one_judgement_lem}
 use Rattle.om_model.specs.Bytes.{AreBytes}
 use Rattle.om_session.specs.declared.edit.Edits.{Edits}
 use Rattle.om_session.specs.Edits.{AnswersOf, PutsEdited}
 use Rattle.om_promises.proofs.HeadlineLemmas.{stops_more}
+use Rattle.om_commands.specs.Tasks.{items_of, MayCome, StopsHere, EndsHere, commands}
+use Rattle.om_commands.proofs.ItemLemmas.{item_stays}
+use Rattle.om_bridge.proofs.ItemLemmas.{says_first}
+use Rattle.om_bridge.proofs.LastLemmas.{front_end, goes_on}
+use Rattle.om_work.specs.Works.{ItemsStay, HaltsWithin, PutsLast}
+use Rattle.om_work.proofs.PieceLemmas.{halts_at_once}
 use Rattle.om_promises.proofs.StreamLemmas.{value_or_tail}
 use Rattle.om_promises.proofs.LengthLemmas.{spelled_some}
 use Rattle.om_outcome.specs.RefusalText.{truncated_text}
 use Rattle.om_outcome.specs.Outcome as outcome
-use Rattle.om_outcome.specs.Outcome.{Said, Says, SayFirst, StopsAt, Finishes as FinishesRun, nothing_said, says, not_two_values, comparison, all_well, compares}
+use Rattle.om_outcome.specs.Outcome.{Said, Says, SayFirst, StopsAt, Finishes as FinishesRun, nothing_said, says, not_two_values, out_of_memory, comparison, all_well, compares}
 use Rattle.om_session.specs.declared.verdict.Speech.{Speech}
 use Rattle.om_session.specs.declared.verdict.Speech.TheVariants as speeches
 use Rattle.om_session.specs.declared.values.Values.{Values}
@@ -38,15 +44,15 @@ use Rattle.om_stops.specs.declared.stop.Halt.TheVariants as halts
 use Rattle.om_stops.specs.declared.stop.Stop.TheVariants as stops
 use Rattle.om_session.specs.Language.{declared_types}
 use Rattle.om_session.specs.Verdict.{work_by, IsSaidOf}
-use Rattle.om_promises.specs.Run.{HoldNoStop}
+use Rattle.om_promises.specs.Account.{HoldNoStop}
 use Rattle.om_stops.specs.Stops.{stop_of}
 use Rattle.om_stops.specs.declared.stop.Stop.{Stop}
 use Rattle.om_format.specs.Front.{IsRefused}
 use Rattle.om_read.specs.Reading.{RefusedIn}
 use Rattle.om_read.proofs.ReadingLemmas.{unless_memory}
-use Rattle.om_session.specs.declared.values.Work.{Work}
-use Rattle.om_session.specs.declared.values.Work.TheVariants as works
-use Rattle.om_session.specs.Values.{IsStopOf, StopsIn, HaltsIn, ReadsSome, IsReadyWork, IsFull, MayTake, AreValues, IsKept, HasRead, IsValueRead, PutsNext, PutsLast, Compares, AreSaid, EndsScript, EndsAt, work_of, task_of, word_limit}
+use Rattle.om_session.specs.declared.values.Job.{Job}
+use Rattle.om_session.specs.declared.values.Job.TheVariants as jobs
+use Rattle.om_session.specs.Values.{IsStopOf, IsReadyJob, IsFull, MayTake, AreValues, IsKept, HasRead, IsValueRead, PutsNext, PutsComparison, Compares, EndsScript, work_of, task_of, word_limit}
 use Rattle.om_promises.proofs.PutLemmas.{puts_nothing}
 use Rattle.om_promises.proofs.ValueLemmas.{not_whole, nothing_front, first_none, first_more, first_after, silent, and_true, all_well-snoc}
 
@@ -58,43 +64,45 @@ front_or_value limit rest more tree are_bytes front (first, after, same, spelled
     value_or_tail one_judgement_lem limit first after rest tree (cut (length rest)) are_bytes spelled same (omega (arith, some, size), refl, front)
 
 -- where one more value may come, a front of one stops nothing
-front_goes_on : (w : Work) (limit : ℕ) (trees : List Tree) (rest : List ℕ) (stop : outcome.Stop) → MayTake w (length trees) → AreBytes rest → IsFront limit rest
+front_goes_on : (w : Job) (limit : ℕ) (trees : List Tree) (rest : List ℕ) (stop : outcome.Stop) → MayTake w (length trees) → AreBytes rest → IsFront limit rest
     → StopsAt declared_types (work_of w) limit trees rest stop → ⊥
-front_goes_on (works.Say (speeches.Tell r saying) most) limit trees rest stop may are_bytes front at = at
-front_goes_on (works.Say speeches.Dump most) limit trees rest stop may are_bytes front at = at
-front_goes_on (works.Edit e most) limit trees rest stop may are_bytes front at = front_or_value limit rest at.more at.tree are_bytes front at.spelled
-front_goes_on (works.Compare most) limit trees rest stop may are_bytes front at = let two = at.0 in omega (arith, may, two)
-
--- nor do bytes that are refused
-pub refused_goes_on : (w : Work) (limit : ℕ) (trees : List Tree) (rest : List ℕ) (refusal : ReadRefusal) (stop : outcome.Stop) → MayTake w (length trees) → AreBytes rest → IsTail limit rest (refused refusal)
-    → StopsAt declared_types (work_of w) limit trees rest stop → ⊥
-refused_goes_on (works.Say (speeches.Tell r saying) most) limit trees rest refusal stop may are_bytes tail at = at
-refused_goes_on (works.Say speeches.Dump most) limit trees rest refusal stop may are_bytes tail at = at
-refused_goes_on (works.Edit e most) limit trees rest refusal stop may are_bytes tail at =
-    let s = at.spelled in value_or_tail one_judgement_lem limit s.0 s.1 rest at.tree (refused refusal) are_bytes s.3 s.2 tail
-refused_goes_on (works.Compare most) limit trees rest refusal stop may are_bytes tail at = let two = at.0 in omega (arith, may, two)
+front_goes_on (jobs.Say (speeches.Tell r saying) most) limit trees rest stop may are_bytes front at = at
+front_goes_on (jobs.Say speeches.Dump most) limit trees rest stop may are_bytes front at = at
+front_goes_on (jobs.Edit e most) limit trees rest stop may are_bytes front at = front_or_value limit rest at.more at.tree are_bytes front at.spelled
+front_goes_on (jobs.Compare most) limit trees rest stop may are_bytes front at = let two = at.0 in omega (arith, may, two)
 
 -- and where none come, nothing stops the run
-pub none_goes_on : (w : Work) (limit : ℕ) (trees : List Tree) (stop : outcome.Stop) → StopsAt declared_types (work_of w) limit trees [] stop → ⊥
-none_goes_on (works.Say (speeches.Tell r saying) most) limit trees stop at = at
-none_goes_on (works.Say speeches.Dump most) limit trees stop at = at
-none_goes_on (works.Edit e most) limit trees stop at =
+none_goes_on : (w : Job) (limit : ℕ) (trees : List Tree) (stop : outcome.Stop) → StopsAt declared_types (work_of w) limit trees [] stop → ⊥
+none_goes_on (jobs.Say (speeches.Tell r saying) most) limit trees stop at = at
+none_goes_on (jobs.Say speeches.Dump most) limit trees stop at = at
+none_goes_on (jobs.Edit e most) limit trees stop at =
     let s = at.spelled in
     let some : 0 < length s.0 = spelled_some limit s.0 at.tree s.3 in
     let size : length {A = ℕ} [] ≡ length s.0 + length s.1 = ap length s.2 ∙ length-append s.0 s.1 in omega (arith, some, size)
-none_goes_on (works.Compare most) limit trees stop at = at.1 refl
+none_goes_on (jobs.Compare most) limit trees stop at = at.1 refl
 
 -- what was taken holds no stop
-abbrev pub holds : (w : Work) (taken : List ℕ) (said : List Said) (values : Values) → HasRead w taken said values → HoldNoStop declared_types (task_of w) taken said
-holds w taken said values h = record { trees = h.trees; front = h.front; first = h.first; is_front = h.is_front; goes_on = h.goes_on }
+abbrev pub holds : (w : Job) (taken : List ℕ) (said : List Said) (values : Values) → HasRead w values taken said → HoldNoStop (commands declared_types) (task_of w) taken said
+holds w taken said values h =
+    let e = front_end (word_limit w) h.front h.is_front in
+    record {
+      items = items_of h.trees;
+      rest = h.front;
+      first = says_first declared_types (task_of w) taken h.trees said h.front h.first;
+      goes_on = goes_on declared_types one_judgement_lem (task_of w) h.trees h.front h.leads.bytes e.0 e.1 e.2 h.goes_on;
+    }
+
+-- a value stays one when bytes follow
+pub values_stay : (w : Job) → ItemsStay (commands declared_types) (task_of w)
+values_stay w = item_stays declared_types (task_of w)
 
 -- no value was read
-begins_kept : (w : Work) (kept : List Value) → kept ≡ [] → IsKept w [] kept
-begins_kept (works.Say speech most) kept none = tt
-begins_kept (works.Edit e most) kept none = tt
-begins_kept (works.Compare most) kept none = (subst (λ k. AllZip IsValueOf k []) (sym none) tt, omega arith)
+begins_kept : (w : Job) (kept : List Value) → kept ≡ [] → IsKept w [] kept
+begins_kept (jobs.Say speech most) kept none = tt
+begins_kept (jobs.Edit e most) kept none = tt
+begins_kept (jobs.Compare most) kept none = (subst (λ k. AllZip IsValueOf k []) (sym none) tt, omega arith)
 
-pub begins : (w : Work) (values : Values) → IsReadyWork w → Leads (word_limit w) [] values.reader → values.count ≡ 0 → values.well ≡ true → values.kept.items ≡ [] → HasRead w [] [] values
+pub begins : (w : Job) (values : Values) → IsReadyJob w → Leads (word_limit w) [] values.reader → values.count ≡ 0 → values.well ≡ true → values.kept.items ≡ [] → HasRead w values [] []
 begins w values ready leads counted well none = record {
   ready = ready;
   trees = [];
@@ -127,9 +135,9 @@ compares_alike kept trees are first second two alike is = at trees (subst (λ k.
 
 -- out failed within the line, by `?`
 pub last_fault : (trees : List Tree) (out : Change ByteState) (result : Result Bool Halt) → IsErrAnd result (λ h. h ≡ halts.WriteFault) → (final : Said) → FinishesRun declared_types compares trees (says final) → PutsPart out final.text
-    → PutsLast compares trees out result
+    → PutsComparison trees out result
 last_fault trees out (Ok well) is final finishes part = absurd is
-last_fault trees out (Err halt) is final finishes part = subst (λ h. PutsLast compares trees out (Err h)) (sym is) (final, finishes, part)
+last_fault trees out (Err halt) is final finishes part = subst (λ h. PutsComparison trees out (Err h)) (sym is) (final, finishes, part)
 
 -- or other than two
 pub compares_none : (kept : List Value) (trees : List Tree) → AllZip IsValueOf kept trees → length kept ≢ 2 → FinishesRun declared_types compares trees (outcome.stops not_two_values)
@@ -149,22 +157,45 @@ kept_values kept trees are = All-from_recursion (λ v. IsValue (length v.heap) v
   each (v ∷ kept) [] are = absurd are
   each (v ∷ kept) (t ∷ trees) are = (are.0.valid, each kept trees are.1)
 
-module _ (w : Work) (taken : List ℕ) (said : List Said) (values : Values) (h : HasRead w taken said values) where
+-- the last reply follows from the values and the rest
+abbrev Replies : Job → List Tree → List ℕ → outcome.Reply → Type 0
+Replies w trees rest last = EndsHere declared_types (task_of w) (items_of trees) rest last
+
+module _ (w : Job) (taken : List ℕ) (said : List Said) (values : Values) (h : HasRead w values taken said) where
+  -- how the input ends is known
+  abbrev Ends : Change ByteState → Result Bool Halt → Type 0
+  Ends out result = PutsLast (commands declared_types) (task_of w) said (items_of h.trees) h.front out result
+
   -- the reader is at the end of a value
-  ended : EndsInput {U = Unit {0}} (word_limit w) h.front (Ok tt) → SayFirst declared_types (task_of w) taken h.trees said []
-  ended (inl none) = subst (λ f. SayFirst declared_types (task_of w) taken h.trees said f) none h.first
-  ended (inr (tree, spelled)) = absurd (not_whole (word_limit w) h.front tree h.leads.bytes h.is_front spelled)
+  ends_clean : EndsInput {U = Unit {0}} (word_limit w) h.front (Ok tt) → (last : outcome.Reply) → FinishesRun declared_types (work_of w) h.trees last → Replies w h.trees h.front last
+  ends_clean end last finishes = record { trees = h.trees; are = refl; end = clean; tail = none end; ends = finishes } where
+    none : EndsInput {U = Unit {0}} (word_limit w) h.front (Ok tt) → h.front ≡ []
+    none (inl empty) = empty
+    none (inr (tree, spelled)) = absurd (not_whole (word_limit w) h.front tree h.leads.bytes h.is_front spelled)
 
   -- or within one
-  pub ends_cut : (truncated : Truncated) → EndsInput {U = Unit {0}} (word_limit w) h.front (Err truncated) → (out : Change ByteState) → Puts out []
-      → EndsAt w taken said out (Err (halts.Stop (stops.Cut values.count truncated.taken)))
-  ends_cut truncated within out none = (
-    inl (
-      holds w taken said values h,
-      within.1,
-      ap (λ n. outcome.value n (truncated_text truncated.taken)) h.counted ∙ ap (λ n. outcome.value (length h.trees) (truncated_text n)) within.0,
-    ),
-    none,
+  pub ends_cut : (truncated : Truncated) → EndsInput {U = Unit {0}} (word_limit w) h.front (Err truncated) → (o : ByteState) → Ends (change o o) (Err (halts.Stop (stops.Cut values.count truncated.taken)))
+  ends_cut truncated within o =
+      let is : outcome.value values.count (truncated_text truncated.taken) ≡ outcome.value (length h.trees) (truncated_text (length h.front)) =
+      ap (λ n. outcome.value n (truncated_text truncated.taken)) h.counted ∙ ap (λ n. outcome.value (length h.trees) (truncated_text n)) within.0 in (
+        inl (record {
+          trees = h.trees;
+          are = refl;
+          end = cut (length h.front);
+          tail = (within.1, refl, h.is_front);
+          ends = ap (λ stop. outcome.stops stop) is;
+        }),
+        puts_nothing o,
+      )
+
+  -- nothing more is said
+  silent_end : EndsInput {U = Unit {0}} (word_limit w) h.front (Ok tt) → FinishesRun declared_types (work_of w) h.trees (says nothing_said) → (o : ByteState) (well : Bool) → well ≡ values.well
+      → Ends (change o o) (Ok well)
+  silent_end end finishes o well same = (
+    nothing_said,
+    ends_clean end (says nothing_said) finishes,
+    same ∙ (h.well ∙ sym (all_well-snoc said nothing_said ∙ and_true (all_well said))),
+    puts_nothing o,
   )
 
 -- values of which something was said are done with
@@ -172,50 +203,56 @@ said_finishes : (speech : Speech) (trees : List Tree) → FinishesRun declared_t
 said_finishes (speeches.Tell r saying) trees = refl
 said_finishes speeches.Dump trees = refl
 
-pub ends_said : (speech : Speech) (most : ℕ) (taken : List ℕ) (said : List Said) (values : Values) (h : HasRead (works.Say speech most) taken said values) → EndsInput {U = Unit {0}} most h.front (Ok tt) → (o : ByteState)
-    → EndsAt (works.Say speech most) taken said (change o o) (Ok values.well)
-ends_said speech most taken said values h e o =
-    (h.trees, ended (works.Say speech most) taken said values h e, nothing_said, said_finishes speech h.trees, h.well ∙ sym (and_true (all_well said)), puts_nothing o)
+ends_said : (speech : Speech) (most : ℕ) (taken : List ℕ) (said : List Said) (values : Values) (h : HasRead (jobs.Say speech most) values taken said) → EndsInput {U = Unit {0}} most h.front (Ok tt) → (o : ByteState)
+    → Ends (jobs.Say speech most) taken said values h (change o o) (Ok values.well)
+ends_said speech most taken said values h end o =
+    silent_end (jobs.Say speech most) taken said values h end (said_finishes speech h.trees) o values.well refl
 
 -- values that are kept are compared
-pub ends_compared : (most : ℕ) (taken : List ℕ) (said : List Said) (values : Values) (h : HasRead (works.Compare most) taken said values) → EndsInput {U = Unit {0}} most h.front (Ok tt) → (out : Change ByteState)
-    (result : Result Bool Halt) → PutsLast compares h.trees out result → EndsAt (works.Compare most) taken said out result
-ends_compared most taken said values h e out (Ok well) (final, finishes, is, put) =
-    (h.trees, ended (works.Compare most) taken said values h e, final, finishes, is ∙ sym (ap (λ b. b && final.well) (silent declared_types 0 h.trees said h.first.all_say)), put)
-ends_compared most taken said values h e out (Err (halts.Stop stop)) (why, put) = (inr (h.trees, ended (works.Compare most) taken said values h e, why), put)
-ends_compared most taken said values h e out (Err halts.WriteFault) (final, finishes, part) = (h.trees, ended (works.Compare most) taken said values h e, final, finishes, part)
+ends_compared : (most : ℕ) (taken : List ℕ) (said : List Said) (values : Values) (h : HasRead (jobs.Compare most) values taken said) → EndsInput {U = Unit {0}} most h.front (Ok tt) → (out : Change ByteState)
+    (result : Result Bool Halt) → PutsComparison h.trees out result → Ends (jobs.Compare most) taken said values h out result
+ends_compared most taken said values h end out (Ok well) (final, finishes, is, put) = (
+  final,
+  ends_clean (jobs.Compare most) taken said values h end (says final) finishes,
+  is ∙ sym (all_well-snoc said final ∙ ap (λ b. b && final.well) (silent declared_types 0 h.trees said h.first.all_say)),
+  put,
+)
+ends_compared most taken said values h end out (Err (halts.Stop stop)) (inl finishes, none) =
+    (inl (ends_clean (jobs.Compare most) taken said values h end (outcome.stops (stop_of stop)) finishes), none)
+ends_compared most taken said values h end out (Err (halts.Stop stop)) (inr memory, none) = (inr memory, none)
+ends_compared most taken said values h end out (Err halts.WriteFault) (final, finishes, part) =
+    (final, ends_clean (jobs.Compare most) taken said values h end (says final) finishes, part)
 
 -- values that are edited: a line may edit none of them
-pub ends_edited : (e : Edits) (most : ℕ) (taken : List ℕ) (said : List Said) (values : Values) (h : HasRead (works.Edit e most) taken said values) → EndsInput {U = Unit {0}} most h.front (Ok tt) → (o : ByteState)
-    (result : Result Bool Halt) → EndsScript e h.trees values.well result → EndsAt (works.Edit e most) taken said (change o o) result
-ends_edited e most taken said values h end o (Ok well) (finishes, same) =
-    (h.trees, ended (works.Edit e most) taken said values h end, nothing_said, finishes, same ∙ (h.well ∙ sym (and_true (all_well said))), puts_nothing o)
+ends_edited : (e : Edits) (most : ℕ) (taken : List ℕ) (said : List Said) (values : Values) (h : HasRead (jobs.Edit e most) values taken said) → EndsInput {U = Unit {0}} most h.front (Ok tt) → (o : ByteState)
+    (result : Result Bool Halt) → EndsScript e h.trees values.well result → Ends (jobs.Edit e most) taken said values h (change o o) result
+ends_edited e most taken said values h end o (Ok well) (finishes, same) = silent_end (jobs.Edit e most) taken said values h end finishes o well same
 ends_edited e most taken said values h end o (Err (halts.Stop stop)) finishes =
-    (inr (h.trees, ended (works.Edit e most) taken said values h end, inl finishes), puts_nothing o)
+    (inl (ends_clean (jobs.Edit e most) taken said values h end (outcome.stops (stop_of stop)) finishes), puts_nothing o)
 ends_edited e most taken said values h end o (Err halts.WriteFault) never = absurd never
 
 -- the same, where the work is known by an equation
-module _ (w : Work) (taken : List ℕ) (said : List Said) (values : Values) (h : HasRead w taken said values) where
-  pub ends_as_said : (speech : Speech) (most : ℕ) → w ≡ works.Say speech most → EndsInput {U = Unit {0}} (word_limit w) h.front (Ok tt) → (o : ByteState) → EndsAt w taken said (change o o) (Ok values.well)
+module _ (w : Job) (taken : List ℕ) (said : List Said) (values : Values) (h : HasRead w values taken said) where
+  pub ends_as_said : (speech : Speech) (most : ℕ) → w ≡ jobs.Say speech most → EndsInput {U = Unit {0}} (word_limit w) h.front (Ok tt) → (o : ByteState) → Ends w taken said values h (change o o) (Ok values.well)
   ends_as_said speech most is e o =
-      let P : Work → Type 0 = λ w. (h : HasRead w taken said values) → EndsInput {U = Unit {0}} (word_limit w) h.front (Ok tt) → EndsAt w taken said (change o o) (Ok values.well) in
+      let P : Job → Type 0 = λ w. (h : HasRead w values taken said) → EndsInput {U = Unit {0}} (word_limit w) h.front (Ok tt) → Ends w taken said values h (change o o) (Ok values.well) in
       subst P (sym is) (λ h e. ends_said speech most taken said values h e o) h e
 
-  pub ends_as_edited : (e : Edits) (most : ℕ) → w ≡ works.Edit e most → EndsInput {U = Unit {0}} (word_limit w) h.front (Ok tt) → (o : ByteState) (result : Result Bool Halt)
-      → ((trees : List Tree) → values.count ≡ length trees → EndsScript e trees values.well result) → EndsAt w taken said (change o o) result
+  pub ends_as_edited : (e : Edits) (most : ℕ) → w ≡ jobs.Edit e most → EndsInput {U = Unit {0}} (word_limit w) h.front (Ok tt) → (o : ByteState) (result : Result Bool Halt)
+      → ((trees : List Tree) → values.count ≡ length trees → EndsScript e trees values.well result) → Ends w taken said values h (change o o) result
   ends_as_edited e most is end o result ends =
-      let P : Work → Type 0 = λ w. (h : HasRead w taken said values) → EndsInput {U = Unit {0}} (word_limit w) h.front (Ok tt) → EndsAt w taken said (change o o) result in
+      let P : Job → Type 0 = λ w. (h : HasRead w values taken said) → EndsInput {U = Unit {0}} (word_limit w) h.front (Ok tt) → Ends w taken said values h (change o o) result in
       subst P (sym is) (λ h end. ends_edited e most taken said values h end o result (ends h.trees h.counted)) h end
 
-  pub ends_as_compared : (most : ℕ) → w ≡ works.Compare most → EndsInput {U = Unit {0}} (word_limit w) h.front (Ok tt) → (out : Change ByteState) (result : Result Bool Halt) → Compares values.kept.items out result
-      → EndsAt w taken said out result
+  pub ends_as_compared : (most : ℕ) → w ≡ jobs.Compare most → EndsInput {U = Unit {0}} (word_limit w) h.front (Ok tt) → (out : Change ByteState) (result : Result Bool Halt) → Compares values.kept.items out result
+      → Ends w taken said values h out result
   ends_as_compared most is e out result compared =
-      let P : Work → Type 0 = λ w. (h : HasRead w taken said values) → EndsInput {U = Unit {0}} (word_limit w) h.front (Ok tt) → EndsAt w taken said out result in
+      let P : Job → Type 0 = λ w. (h : HasRead w values taken said) → EndsInput {U = Unit {0}} (word_limit w) h.front (Ok tt) → Ends w taken said values h out result in
       subst P (sym is) (λ h e. ends_compared most taken said values h e out result (compared h.trees h.kept.0)) h e
 
-  pub kept_as_values : (most : ℕ) → w ≡ works.Compare most → AreValues values.kept.items
+  pub kept_as_values : (most : ℕ) → w ≡ jobs.Compare most → AreValues values.kept.items
   kept_as_values most is =
-      let P : Work → Type 0 = λ w. HasRead w taken said values → AreValues values.kept.items in
+      let P : Job → Type 0 = λ w. HasRead w values taken said → AreValues values.kept.items in
       subst P (sym is) (λ h. kept_values values.kept.items h.trees h.kept.0) h
 
 -- what is said of a value that was read whole
@@ -234,12 +271,12 @@ edited_read e k value tree answer is it = subst (λ v. AnswersOf e k (objects_of
 
 -- ---- bytes in hand
 
-module _ (w : Work) (taken : List ℕ) (said : List Said) (values : Values) (h : HasRead w taken said values) (rest : List ℕ) (reader : Reader) (fed : Fed) (f : Feeds (word_limit w) h.front rest reader fed) where
+module _ (w : Job) (taken : List ℕ) (said : List Said) (values : Values) (h : HasRead w values taken said) (rest : List ℕ) (reader : Reader) (fed : Fed) (f : Feeds (word_limit w) h.front rest reader fed) where
   abbrev after : Values
   after = record values { reader = reader }
 
   -- they complete the value
-  abbrev pub whole_read : MayTake w (length h.trees) → fed.done ≡ true → IsValueRead w (taken ++ take fed.taken rest) said after
+  abbrev pub whole_read : MayTake w (length h.trees) → fed.done ≡ true → IsValueRead w after (taken ++ take fed.taken rest) said
   whole_read may done = record {
     ready = h.ready;
     trees = h.trees;
@@ -271,11 +308,11 @@ module _ (w : Work) (taken : List ℕ) (said : List Said) (values : Values) (h :
     some (suc n) e = omega arith
 
   -- they are all taken, and do not complete it
-  pub front_read : MayTake w (length h.trees) → fed.done ≡ false → HasRead w (taken ++ take fed.taken rest) (said ++ []) after
+  pub front_read : MayTake w (length h.trees) → fed.done ≡ false → HasRead w after (taken ++ take fed.taken rest) (said ++ [])
   front_read may not_done =
       let more = f.more not_done in
       let all : take fed.taken rest ≡ rest = take_all fed.taken rest (omega (arith, more.0)) in
-      subst (λ s. HasRead w (taken ++ take fed.taken rest) s after) (sym (append-nil said)) (record {
+      subst (λ s. HasRead w after (taken ++ take fed.taken rest) s) (sym (append-nil said)) (record {
         ready = h.ready;
         trees = h.trees;
         front = h.front ++ take fed.taken rest;
@@ -290,16 +327,16 @@ module _ (w : Work) (taken : List ℕ) (said : List Said) (values : Values) (h :
       })
 
 -- a value that was read whole, and what is said of it
-pub value_said : (w : Work) (taken : List ℕ) (said : List Said) (values : Values) (v : IsValueRead w taken said values) (tree : Tree) → SpelledUnder (word_limit w) v.whole tree
+pub value_said : (w : Job) (taken : List ℕ) (said : List Said) (values : Values) (v : IsValueRead w values taken said) (tree : Tree) → SpelledUnder (word_limit w) v.whole tree
     → (next : Said) → Says declared_types (work_of w) (length v.trees) tree next → SayFirst declared_types (task_of w) taken (v.trees ++ tree ∷ []) (said ++ next ∷ []) []
 value_said w taken said values v tree spelled next it_says =
     first_more declared_types (task_of w) taken v.trees said v.whole [] tree next (subst (λ b. SayFirst declared_types (task_of w) taken v.trees said b) (sym (append-nil v.whole)) v.first) spelled it_says
 
 -- the reader waits for the next one
-pub value_put : (w : Work) (taken : List ℕ) (said : List Said) (values : Values) (v : IsValueRead w taken said values) (tree : Tree) → SpelledUnder (word_limit w) v.whole tree
+pub value_put : (w : Job) (taken : List ℕ) (said : List Said) (values : Values) (v : IsValueRead w values taken said) (tree : Tree) → SpelledUnder (word_limit w) v.whole tree
     → (next : Said) → Says declared_types (work_of w) (length v.trees) tree next → (reader : Reader) → Leads (word_limit w) [] reader → (well : Bool) → well ≡ (values.well && next.well)
     → (kept : Vec Value Global) → IsKept w (v.trees ++ tree ∷ []) kept.items
-    → HasRead w taken (said ++ next ∷ []) (record { reader = reader; well = well; count = values.count + 1; kept = kept })
+    → HasRead w (record { reader = reader; well = well; count = values.count + 1; kept = kept }) taken (said ++ next ∷ [])
 value_put w taken said values v tree spelled next it_says reader leads well is_well kept are = record {
   ready = v.ready;
   trees = v.trees ++ tree ∷ [];
@@ -320,26 +357,26 @@ zip_push (v ∷ kept) [] value tree are is = absurd are
 zip_push (v ∷ kept) (t ∷ trees) value tree are is = (are.0, zip_push kept trees value tree are.1 is)
 
 -- it is kept
-pub value_kept : (most : ℕ) (taken : List ℕ) (said : List Said) (values : Values) (v : IsValueRead (works.Compare most) taken said values) (value : Value) (f : Finishes most v.whole value)
+pub value_kept : (most : ℕ) (taken : List ℕ) (said : List Said) (values : Values) (v : IsValueRead (jobs.Compare most) values taken said) (value : Value) (f : Finishes most v.whole value)
     → (kept : Vec Value Global) → kept.items ≡ values.kept.items ++ value ∷ [] → (reader : Reader) → Leads most [] reader
-    → HasRead (works.Compare most) taken (said ++ nothing_said ∷ []) (record { reader = reader; well = values.well; count = values.count + 1; kept = kept })
+    → HasRead (jobs.Compare most) (record { reader = reader; well = values.well; count = values.count + 1; kept = kept }) taken (said ++ nothing_said ∷ [])
 value_kept most taken said values v value f kept same reader leads =
-    value_put (works.Compare most) taken said values v f.tree f.spelled nothing_said (v.may, refl) reader leads values.well (sym (and_true values.well)) kept
+    value_put (jobs.Compare most) taken said values v f.tree f.spelled nothing_said (v.may, refl) reader leads values.well (sym (and_true values.well)) kept
     (let few = v.may in
     let size = length-append v.trees (f.tree ∷ []) in
     (subst (λ k. AllZip IsValueOf k (v.trees ++ f.tree ∷ [])) (sym same) (zip_push values.kept.items v.trees value f.tree v.kept.0 f.is_value), omega (arith, few, size)))
 
 -- where the work is known by an equation
-pub kept_next : (w : Work) (most : ℕ) (taken : List ℕ) (said : List Said) (values : Values) → IsValueRead w taken said values → w ≡ works.Compare most → (new : Values) (o : ByteState)
-    → (IsValueRead (works.Compare most) taken said values → HasRead (works.Compare most) taken (said ++ nothing_said ∷ []) new) → (next : Said) × HasRead w taken (said ++ next ∷ []) new × Puts (change o o) next.text
+pub kept_next : (w : Job) (most : ℕ) (taken : List ℕ) (said : List Said) (values : Values) → IsValueRead w values taken said → w ≡ jobs.Compare most → (new : Values) (o : ByteState)
+    → (IsValueRead (jobs.Compare most) values taken said → HasRead (jobs.Compare most) new taken (said ++ nothing_said ∷ [])) → (next : Said) × HasRead w new taken (said ++ next ∷ []) × Puts (change o o) next.text
 kept_next w most taken said values v is new o kept =
-    let P : Work → Type 0 = λ w. IsValueRead w taken said values → HasRead w taken (said ++ nothing_said ∷ []) new in
+    let P : Job → Type 0 = λ w. IsValueRead w values taken said → HasRead w new taken (said ++ nothing_said ∷ []) in
     (nothing_said, subst P (sym is) kept v, puts_nothing o)
 
-pub next_as : (w known : Work) → w ≡ known → (taken : List ℕ) (said : List Said) (values : Values) (v : IsValueRead w taken said values) (out : Change ByteState) (new : Values) (result : Result (Unit {0}) Halt)
-    → ((v : IsValueRead known taken said values) → PutsNext known taken said v.trees v.whole out new result) → PutsNext w taken said v.trees v.whole out new result
+pub next_as : (w known : Job) → w ≡ known → (taken : List ℕ) (said : List Said) (values : Values) (v : IsValueRead w values taken said) (out : Change ByteState) (new : Values) (result : Result (Unit {0}) Halt)
+    → ((v : IsValueRead known values taken said) → PutsNext known taken said v.trees v.whole out new result) → PutsNext w taken said v.trees v.whole out new result
 next_as w known is taken said values v out new result next =
-    let P : Work → Type 0 = λ w. (v : IsValueRead w taken said values) → PutsNext {U = Unit {0}} w taken said v.trees v.whole out new result in
+    let P : Job → Type 0 = λ w. (v : IsValueRead w values taken said) → PutsNext {U = Unit {0}} w taken said v.trees v.whole out new result in
     subst P (sym is) next v
 
 -- there are no more values than bytes
@@ -350,55 +387,77 @@ spell_count limit bytes rest (tree ∷ trees) (first, more, same, spelled, all) 
     let fewer = spell_count limit more rest trees all in
     let size : length bytes ≡ length first + length more = ap length same ∙ length-append first more in omega (arith, some, fewer, size)
 
-pub room_for_one : (w : Work) (taken : List ℕ) (said : List Said) (values : Values) → IsValueRead w taken said values → length taken < 2 ^ 64 → values.count + 1 < 2 ^ 64
+pub room_for_one : (w : Job) (taken : List ℕ) (said : List Said) (values : Values) → IsValueRead w values taken said → length taken < 2 ^ 64 → values.count + 1 < 2 ^ 64
 room_for_one w taken said values v short =
     let fewer = spell_count (word_limit w) taken v.whole v.trees v.first.spelled in
     let counted = v.counted in
     let some = v.some in omega (arith, fewer, short, counted, some)
 
+-- the run stops at these bytes after the values, or memory ran out
+abbrev StopsIn : Job → List Tree → List ℕ → Stop → Type 0
+StopsIn w trees rest stop = StopsHere declared_types (task_of w) (items_of trees) rest (stop_of stop) ⊎ (stop_of stop ≡ out_of_memory)
+
+may_come : (w : Job) (n : ℕ) → MayTake w n → MayCome declared_types (work_of w) n
+may_come (jobs.Say (speeches.Tell r saying) most) n may = tt
+may_come (jobs.Say speeches.Dump most) n may = tt
+may_come (jobs.Edit e most) n may = tt
+may_come (jobs.Compare most) n may = may
+
 -- what is refused in hand stops the run, or memory ran out
-pub stops_in : (w : Work) (trees : List Tree) (rest : List ℕ) (refusal : ReadRefusal) (stop : Stop) → MayTake w (length trees) → RefusedIn (word_limit w) rest refusal → IsStopOf (length trees) refusal stop
+pub stops_in : (w : Job) (trees : List Tree) (rest : List ℕ) (refusal : ReadRefusal) (stop : Stop) → MayTake w (length trees) → RefusedIn (word_limit w) rest refusal → IsStopOf (length trees) refusal stop
     → StopsIn w trees rest stop
-stops_in w trees rest refusal stop may r (inl (memory, is)) = inl is
+stops_in w trees rest refusal stop may r (inl (memory, is)) = inr is
 stops_in w trees rest refusal stop may r (inr (some, is)) =
-    elim ((unless_memory refusal ((n : ℕ) × (n ≤ length rest) × IsRefused (word_limit w) (take n rest) refusal)).1 r) [ inl e ↦ absurd (some e) | inr p ↦ inr (inl (refusal, p, may, is)) ]
+    elim ((unless_memory refusal ((n : ℕ) × (n ≤ length rest) × IsRefused (word_limit w) (take n rest) refusal)).1 r) [
+      | inl e ↦ absurd (some e)
+      | inr tail ↦ inl (record {
+        trees = trees;
+        are = refl;
+        why = inr (record { may = may_come w (length trees) may; refusal = refusal; tail = tail; is = is });
+      })
+    ]
 
 -- any byte after two values does
-pub full_stops : (w : Work) (trees : List Tree) (front rest : List ℕ) → IsFull w (length trees) → 0 < length rest → StopsIn w trees (front ++ rest) stops.NotTwoValues
-full_stops (works.Say speech most) trees front rest full some = absurd full
-full_stops (works.Edit e most) trees front rest full some = absurd full
-full_stops (works.Compare most) trees front rest full some =
-    inr (inr (full, λ none. let e : length (front ++ rest) ≡ 0 = ap length none in let size = length-append front rest in absurd (omega (arith, e, size, some)), refl))
+pub full_stops : (w : Job) (trees : List Tree) (front rest : List ℕ) → IsFull w (length trees) → 0 < length rest → StopsIn w trees (front ++ rest) stops.NotTwoValues
+full_stops (jobs.Say speech most) trees front rest full some = absurd full
+full_stops (jobs.Edit e most) trees front rest full some = absurd full
+full_stops (jobs.Compare most) trees front rest full some =
+    let any : front ++ rest ≡ [] → ⊥ = λ none. let e : length (front ++ rest) ≡ 0 = ap length none in let size = length-append front rest in omega (arith, e, size, some) in
+    inl (record { trees = trees; are = refl; why = inl (full, any, refl) })
 
--- a halt at the value's line, in what is in hand
-module _ (w : Work) (taken : List ℕ) (said : List Said) (values : Values) (h : HasRead w taken said values) (rest : List ℕ) (n : ℕ) (out : Change ByteState) (new : Values) where
-  next_halt : (halt : Halt) → PutsNext {U = Unit {0}} w (taken ++ take n rest) said h.trees (h.front ++ take n rest) out new (Err halt) → HaltsIn w taken rest said out halt
-  next_halt (halts.Stop stop) (inl memory, none) = (holds w taken said values h, inl memory, none)
-  next_halt (halts.Stop stop) (inr at, none) =
+-- a halt, in what is in hand
+module _ (w : Job) (taken : List ℕ) (said : List Said) (values : Values) (h : HasRead w values taken said) (rest : List ℕ) where
+  abbrev Halts : Change ByteState → Halt → Type 0
+  Halts out halt = HaltsWithin (commands declared_types) (task_of w) taken said rest out halt
+
+  pub stops_now : (stop : Stop) → StopsIn w h.trees (h.front ++ rest) stop → (a b : ByteState) → Puts (change a b) [] → Halts (change a b) (halts.Stop stop)
+  stops_now stop why a b none =
+      halts_at_once (commands declared_types) (task_of w) taken said rest a b (halts.Stop stop) (holds w taken said values h, why, none)
+
+  -- at the line of the value that ends there
+  pub next_halts : (n : ℕ) (a b : ByteState) (new : Values) (halt : Halt) → PutsNext {U = Unit {0}} w (taken ++ take n rest) said h.trees (h.front ++ take n rest) (change a b) new (Err halt)
+      → Halts (change a b) halt
+  next_halts n a b new (halts.Stop stop) (inl memory, none) = stops_now stop (inr memory) a b none
+  next_halts n a b new (halts.Stop stop) (inr at, none) =
       let more = stops_more declared_types (work_of w) (word_limit w) h.trees (h.front ++ take n rest) (drop n rest) (stop_of stop) at in
       let all : (h.front ++ take n rest) ++ drop n rest ≡ h.front ++ rest = append_assoc h.front (take n rest) (drop n rest) ∙ ap (λ r. h.front ++ r) (take-append-drop n rest) in
-      (holds w taken said values h, inr (inr (subst (λ b. StopsAt declared_types (work_of w) (word_limit w) h.trees b (stop_of stop)) all more)), none)
-  next_halt halts.WriteFault (next, (trees, left, first), part) =
-      let all : (taken ++ take n rest) ++ drop n rest ≡ taken ++ rest = append_assoc taken (take n rest) (drop n rest) ∙ ap (λ r. taken ++ r) (take-append-drop n rest) in (
+      let here : StopsAt declared_types (work_of w) (word_limit w) h.trees (h.front ++ rest) (stop_of stop) = subst (λ b. StopsAt declared_types (work_of w) (word_limit w) h.trees b (stop_of stop)) all more in
+      stops_now stop (inl (record { trees = h.trees; are = refl; why = inl here })) a b none
+  next_halts n a b new halts.WriteFault (next, (trees, left, first), part) =
+      let all : (taken ++ take n rest) ++ drop n rest ≡ taken ++ rest = append_assoc taken (take n rest) (drop n rest) ∙ ap (λ r. taken ++ r) (take-append-drop n rest) in
+      let more = first_after declared_types (task_of w) (taken ++ take n rest) trees (said ++ next ∷ []) left (drop n rest) first in
+      let here : SayFirst declared_types (task_of w) (taken ++ rest) trees (said ++ next ∷ []) (left ++ drop n rest) =
+      subst (λ b. SayFirst declared_types (task_of w) b trees (said ++ next ∷ []) (left ++ drop n rest)) all more in
+      halts_at_once (commands declared_types) (task_of w) taken said rest a b halts.WriteFault (
         holds w taken said values h,
         next,
-        (
-          trees,
-          left ++ drop n rest,
-          subst (λ b. SayFirst declared_types (task_of w) b trees (said ++ next ∷ []) (left ++ drop n rest)) all
-              (first_after declared_types (task_of w) (taken ++ take n rest) trees (said ++ next ∷ []) left (drop n rest) first),
-        ),
+        (items_of trees, left ++ drop n rest, says_first declared_types (task_of w) (taken ++ rest) trees (said ++ next ∷ []) (left ++ drop n rest) here),
         part,
       )
 
-  pub some_halt : (halt : Halt) (result : Result ℕ Halt) → IsErrAnd result (λ e. e ≡ halt) → PutsNext {U = Unit {0}} w (taken ++ take n rest) said h.trees (h.front ++ take n rest) out new (Err halt)
-      → ReadsSome w taken said rest out new result
-  some_halt halt (Ok m) is put = absurd is
-  some_halt halt (Err e) is put = subst (λ e. ReadsSome w taken said rest out new (Err e)) (sym is) (next_halt halt put)
-
 -- ---- a value that is edited
 
-module _ (e : Edits) (most : ℕ) (taken : List ℕ) (said : List Said) (values : Values) (v : IsValueRead (works.Edit e most) taken said values) (value : Value) (f : Finishes most v.whole value) where
+module _ (e : Edits) (most : ℕ) (taken : List ℕ) (said : List Said) (values : Values) (v : IsValueRead (jobs.Edit e most) values taken said) (value : Value) (f : Finishes most v.whole value) where
   -- what is answered to it is answered to the tree after the values
   answered : (answer : Result (List ℕ) outcome.Unedited) → AnswersOf e values.count value.heap value.root answer → AnswersOf e (length v.trees) (objects_of f.tree 0) (root f.tree 0) answer
   answered answer it = edited_read e (length v.trees) value f.tree answer f.is_value (subst (λ k. AnswersOf e k value.heap value.root answer) v.counted it)
@@ -409,17 +468,17 @@ module _ (e : Edits) (most : ℕ) (taken : List ℕ) (said : List Said) (values 
   -- its bytes were put, and the reader waits for the next one
   pub edited_put : (out : Change ByteState) (result : Result (Unit {0}) Halt) → result ≡ Ok tt → PutsEdited e values.count value.heap value.root out result
       → (reader : Reader) → Leads most [] reader
-      → (next : Said) × HasRead (works.Edit e most) taken (said ++ next ∷ []) (record { reader = reader; well = values.well; count = values.count + 1; kept = values.kept }) × Puts out next.text
+      → (next : Said) × HasRead (jobs.Edit e most) (record { reader = reader; well = values.well; count = values.count + 1; kept = values.kept }) taken (said ++ next ∷ []) × Puts out next.text
   edited_put out (Err halt) is p reader leads = absurd (cc is)
   edited_put out (Ok unit) is (bytes, it, put) reader leads = (
     edited_said bytes,
-    value_put (works.Edit e most) taken said values v f.tree f.spelled (edited_said bytes) (answered (Ok bytes) it, refl) reader leads values.well (sym (and_true values.well)) values.kept tt,
+    value_put (jobs.Edit e most) taken said values v f.tree f.spelled (edited_said bytes) (answered (Ok bytes) it, refl) reader leads values.well (sym (and_true values.well)) values.kept tt,
     put,
   )
 
   -- or it stops the run, or out failed
   edited_halt : (out : Change ByteState) (halt : Halt) (new : Values) → PutsEdited {U = Unit {0}} e values.count value.heap value.root out (Err halt)
-      → PutsNext {U = Unit {0}} (works.Edit e most) taken said v.trees v.whole out new (Err halt)
+      → PutsNext {U = Unit {0}} (jobs.Edit e most) taken said v.trees v.whole out new (Err halt)
   edited_halt out (halts.Stop stop) new (inl memory, none) = (inl memory, none)
   edited_halt out (halts.Stop stop) new (inr (why, it, is), none) = (
     inr (record {
@@ -434,11 +493,11 @@ module _ (e : Edits) (most : ℕ) (taken : List ℕ) (said : List Said) (values 
   )
   edited_halt out halts.WriteFault new (bytes, it, part) = (
     edited_said bytes,
-    (v.trees ++ f.tree ∷ [], [], value_said (works.Edit e most) taken said values v f.tree f.spelled (edited_said bytes) (answered (Ok bytes) it, refl)),
+    (v.trees ++ f.tree ∷ [], [], value_said (jobs.Edit e most) taken said values v f.tree f.spelled (edited_said bytes) (answered (Ok bytes) it, refl)),
     part,
   )
 
   pub edited_halts : (out : Change ByteState) (halt : Halt) (new : Values) (result : Result (Unit {0}) Halt) → IsErrAnd result (λ h. h ≡ halt) → PutsEdited {U = Unit {0}} e values.count value.heap value.root out (Err halt)
-      → PutsNext {U = Unit {0}} (works.Edit e most) taken said v.trees v.whole out new result
+      → PutsNext {U = Unit {0}} (jobs.Edit e most) taken said v.trees v.whole out new result
   edited_halts out halt new (Ok unit) is p = absurd is
-  edited_halts out halt new (Err h) is p = subst (λ h. PutsNext {U = Unit {0}} (works.Edit e most) taken said v.trees v.whole out new (Err h)) (sym is) (edited_halt out halt new p)
+  edited_halts out halt new (Err h) is p = subst (λ h. PutsNext {U = Unit {0}} (jobs.Edit e most) taken said v.trees v.whole out new (Err h)) (sym is) (edited_halt out halt new p)

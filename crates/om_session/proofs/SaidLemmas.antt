@@ -13,7 +13,7 @@ use Rattle.om_stops.specs.declared.stop.Halt.{Halt}
 use Rattle.om_stops.specs.declared.stop.Halt.TheVariants as halts
 use Rattle.om_stops.specs.declared.stop.Stop.TheVariants as stops
 use Rattle.om_session.specs.declared.values.Values.{Values}
-use Rattle.om_session.specs.declared.values.Work.TheVariants as works
+use Rattle.om_session.specs.declared.values.Job.TheVariants as jobs
 use Rattle.om_session.specs.declared.verdict.Speech.{Speech}
 use Rattle.om_session.specs.SaidOfValue.{PutsSaid}
 use Rattle.om_session.specs.Values.{HasRead, IsValueRead, PutsNext}
@@ -32,17 +32,17 @@ module _ (speech : Speech) (graph : List Obj) (root : Val) (out : Change ByteSta
   said_fault (Ok well) is text fine it part = absurd is
   said_fault (Err halt) is text fine it part = subst (λ h. PutsSaid speech graph root out (Err h)) (sym is) (text, fine, it, part)
 
-module _ (speech : Speech) (most : ℕ) (taken : List ℕ) (said : List Said) (values : Values) (v : IsValueRead (works.Say speech most) taken said values) (value : Value)
+module _ (speech : Speech) (most : ℕ) (taken : List ℕ) (said : List Said) (values : Values) (v : IsValueRead (jobs.Say speech most) values taken said) (value : Value)
     (f : Finishes most v.whole value) where
   -- it was put, and the reader waits for the next value
   pub said_put : (out : Change ByteState) (well : Bool) → PutsSaid speech value.heap value.root out (Ok well) → (reader : Reader) → Leads most [] reader → (all : Bool) → all ≡ (values.well && well)
-      → (next : Said) × HasRead (works.Say speech most) taken (said ++ next ∷ []) (record { reader = reader; well = all; count = values.count + 1; kept = values.kept }) × Puts out next.text
+      → (next : Said) × HasRead (jobs.Say speech most) (record { reader = reader; well = all; count = values.count + 1; kept = values.kept }) taken (said ++ next ∷ []) × Puts out next.text
   said_put out well (text, it, put) reader leads all is =
       let next : Said = record { text = text; well = well } in
-      (next, value_put (works.Say speech most) taken said values v f.tree f.spelled next (says_read speech (length v.trees) value f.tree text well f.is_value it) reader leads all is values.kept tt, put)
+      (next, value_put (jobs.Say speech most) taken said values v f.tree f.spelled next (says_read speech (length v.trees) value f.tree text well f.is_value it) reader leads all is values.kept tt, put)
 
   said_halt : (out : Change ByteState) (halt : Halt) (new : Values) → PutsSaid speech value.heap value.root out (Err halt)
-      → PutsNext {U = Unit {0}} (works.Say speech most) taken said v.trees v.whole out new (Err halt)
+      → PutsNext {U = Unit {0}} (jobs.Say speech most) taken said v.trees v.whole out new (Err halt)
   said_halt out (halts.Stop stop) new (memory, none) = (inl memory, none)
   said_halt out halts.WriteFault new (text, well, it, part) =
       let next : Said = record { text = text; well = well } in (
@@ -50,14 +50,14 @@ module _ (speech : Speech) (most : ℕ) (taken : List ℕ) (said : List Said) (v
         (
           v.trees ++ f.tree ∷ [],
           [],
-          value_said (works.Say speech most) taken said values v f.tree f.spelled next (says_read speech (length v.trees) value f.tree text well f.is_value it),
+          value_said (jobs.Say speech most) taken said values v f.tree f.spelled next (says_read speech (length v.trees) value f.tree text well f.is_value it),
         ),
         part,
       )
 
   -- or it was not
   pub said_halts : (out : Change ByteState) (halt : Halt) (new : Values) (result : Result (Unit {0}) Halt) → IsErrAnd result (λ h. h ≡ halt)
-      → PutsSaid speech value.heap value.root out (Err halt) → PutsNext {U = Unit {0}} (works.Say speech most) taken said v.trees v.whole out new result
+      → PutsSaid speech value.heap value.root out (Err halt) → PutsNext {U = Unit {0}} (jobs.Say speech most) taken said v.trees v.whole out new result
   said_halts out halt new (Ok unit) is p = absurd is
   said_halts out halt new (Err h) is p =
-      subst (λ h. PutsNext {U = Unit {0}} (works.Say speech most) taken said v.trees v.whole out new (Err h)) (sym is) (said_halt out halt new p)
+      subst (λ h. PutsNext {U = Unit {0}} (jobs.Say speech most) taken said v.trees v.whole out new (Err h)) (sym is) (said_halt out halt new p)

@@ -9,7 +9,6 @@ use Rattle.om_types.specs.Accepted.{AreWellFormed, IsSoundType}
 use Rattle.om_types.specs.Reached.{ReachesTooMany}
 use Rattle.om_type_table.specs.declared.table.TypeTable.{TypeTable}
 use Rattle.om_type_table.specs.Made.{types_of, IsTypeTable}
-use Rattle.om_grammar.specs.Grammar.{FileTree}
 use Rattle.om_decl.specs.declared.fault.DeclFault.{DeclFault}
 use Rattle.om_decl.specs.declared.fault.DeclFault.TheVariants as faults
 use Rattle.om_decl.specs.Answer.{Answer, accepted, IsFileAnswer, IsTypeAnswer}
@@ -28,7 +27,7 @@ use Rattle.om_path.specs.declared.edits.Script.{Script}
 use Rattle.om_path.specs.declared.edits.ScriptFault.{ScriptFault}
 use Rattle.om_path.specs.declared.edits.ScriptFault.TheVariants as script_faults
 use Rattle.om_session.specs.Language.{IsRefusal, ReadsPath, ReadsScript}
-use Rattle.om_stops.specs.Stops.{stop_of, declared_text}
+use Rattle.om_stops.specs.Stops.{stop_of}
 use Rattle.om_session.specs.Types.{StopsBy, IsDeclarationsStop, IsTypeStop, IsScriptStop, GivesDeclarations, GivesRequested, GivesType, GivesScript}
 
 -- ---- faults

@@ -1,7 +1,6 @@
 pub mod Verdict
 pub mod Copied
 pub mod Edits
-pub mod Ends
 pub mod Fetch
 pub mod Gathered
 pub mod Language
@@ -9,6 +8,5 @@ pub mod Telling
 pub mod Types
 pub mod Values
 pub mod Asked
-pub mod Halts
 pub mod SaidOfValue
 pub mod Promised

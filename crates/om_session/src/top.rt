@@ -1,21 +1,20 @@
 //! The top call.
 
-ghost use Rattle.std.specs.Prelude.{◌≡◌, List, ℕ};
+ghost use Rattle.std.specs.Prelude.{List, ℕ};
 ghost use Rattle.om_outcome.specs.Outcome.{Asks, get as get_of, edit as edit_of};
 ghost use Rattle.om_edge.specs.State.{FilesState, Change, change};
 ghost use Rattle.om_promises.specs.Call.{call};
 ghost use Rattle.om_session.specs.Copied.{LeavesCanonical};
 ghost use Rattle.om_session.specs.Asked.{AsksToSay, AsksForLines};
-ghost use Rattle.om_session.specs.Ends.{TakesValues};
-ghost use Rattle.om_session.specs.Halts.{ReportsHalt, ending_status};
 ghost use Rattle.om_session.specs.Language.{declared_types};
 ghost use Rattle.om_promises.specs.Account.{Account};
 ghost use Rattle.om_promises.specs.Promises.{Promises};
 ghost use Rattle.om_promises.specs.Run.{Promises as Causes};
 ghost use Rattle.om_commands.specs.Tasks.{commands};
+ghost use Rattle.om_work.specs.Reported.{HasAccount};
 ghost use Rattle.om_session.specs.Telling.{AsksToTell, AsksToEdit};
 ghost use Rattle.om_session.specs.Types.{IsReady};
-ghost use Rattle.om_session.specs.Values.{IsReadyWork};
+ghost use Rattle.om_session.specs.Values.{IsReadyJob, task_of};
 ghost use Rattle.om_session.specs.Verdict.{saying_of};
 ghost use Rattle.om_command_line.specs.Requests.{texts, request_of};
 ghost use Rattle.om_stops.specs.Stops.{stop_of, Reports};
@@ -25,14 +24,15 @@ use crate::commands::{
 };
 use crate::edit::Edits;
 use crate::types::{Requested, find_script, find_type, path_stop};
-use crate::values::{Work, put_values};
+use crate::values::{Job, Progress};
 use crate::verdict::{Saying, Speech};
 use om_command_line::{Request, Unread, read_words};
 use om_edge::{Opener, Sink, Source};
 use om_format::laws::one_judgement;
 use om_outcome::status::Status;
 use om_path::{Script, read_path};
-use om_stops::stop::{Halt, Stop, report_stop};
+use om_stops::stop::{Stop, report_stop};
+use om_work::run_reported;
 use std::alloc::Global;
 
 // Puts the line of a stop on err, and answers the status.
@@ -42,40 +42,21 @@ fn report<E: Sink>(alloc: Global, err: &mut E, stop: Stop<'_>) -> Status
     report_stop(alloc, err, &stop)
 }
 
-// Puts the line of a stop on err; where out failed, nothing is put.
-fn report_halt<E: Sink>(alloc: Global, err: &mut E, halt: Halt) -> Status
-    ensures { ReportsHalt halt (change (E.state err.old) (E.state err.new)) result }
-{
-    match halt {
-        Halt::Stop(stop) => report(alloc, err, stop),
-        Halt::WriteFault => Status::WriteFault,
-    }
-}
-
-// The status of values that were told of to their end.
-fn status_of_all(well: bool) -> Status
-    ensures { result ≡ ending_status well }
-{
-    if well { Status::Well } else { Status::No }
-}
-
-// Does the work with the values of the input.
+// Does the job with the values of the input.
 fn take_values<S: Source, K: Sink, E: Sink>(
     alloc: Global,
-    work: Work<'_>,
+    job: Job<'_>,
     input: &mut S,
     out: &mut K,
     err: &mut E,
 ) -> Status
-    requires { IsReadyWork work }
-    ensures { TakesValues work.entry (change (S.state input.old) (S.state input.new))
+    requires { IsReadyJob job }
+    ensures { HasAccount (commands declared_types) (task_of job.entry)
+        (change (S.state input.old) (S.state input.new))
         (change (K.state out.old) (K.state out.new)) (change (E.state err.old) (E.state err.new))
         result }
 {
-    match put_values(alloc, work, input, out) {
-        Ok(well) => status_of_all(well),
-        Err(halt) => report_halt(alloc, err, halt),
-    }
+    run_reported(alloc, &mut Progress::new(alloc, job), input, out, err)
 }
 
 // Tells something of the values, at the type that a FILE and a TYPE gave.
@@ -96,8 +77,8 @@ fn tell_over<S: Source, K: Sink, E: Sink>(
         (change (K.state out.old) (K.state out.new))
         (change (E.state err.old) (E.state err.new)) result) }
 {
-    let work = Work::Say(Speech::Tell(&requested, saying), limit);
-    take_values(alloc, work, input, out, err)
+    let job = Job::Say(Speech::Tell(&requested, saying), limit);
+    take_values(alloc, job, input, out, err)
 }
 
 // Tells something of the values, at a FILE and a TYPE.
@@ -181,7 +162,7 @@ fn edit_with<S: Source, K: Sink, E: Sink>(
         script: &script,
         compat,
     };
-    take_values(alloc, Work::Edit(edits, limit), input, out, err)
+    take_values(alloc, Job::Edit(edits, limit), input, out, err)
 }
 
 // Reads SCRIPT, and edits the values.
@@ -331,12 +312,12 @@ fn run_request<S: Source, O: Opener, K: Sink, E: Sink>(
         ),
         Request::Dump { limit } => take_values(
             alloc,
-            Work::Say(Speech::Dump, limit),
+            Job::Say(Speech::Dump, limit),
             input,
             out,
             err,
         ),
-        Request::Same { limit } => take_values(alloc, Work::Compare(limit), input, out, err),
+        Request::Same { limit } => take_values(alloc, Job::Compare(limit), input, out, err),
     }
 }
 

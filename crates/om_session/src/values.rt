@@ -1,52 +1,50 @@
 //! The values of the input, one by one, as their bytes come.
 
-ghost use Rattle.std.specs.Prelude.{◌≡◌, ◌<◌, ◌≤◌, ◌+◌, ◌^◌, ◌++◌, ◌∷◌, ℕ, List, [], length, OnOk, MatchBool};
-ghost use Rattle.om_model.specs.Bytes.{AreBytes};
+ghost use Rattle.std.specs.Prelude.{◌≡◌, ◌<◌, ◌+◌, ◌^◌, ◌++◌, ◌∷◌, ℕ, List, [], length, OnOk, MatchBool};
 ghost use Rattle.om_model.specs.Graph.{IsValue};
 ghost use Rattle.om_format.specs.Tree.{Tree};
-ghost use Rattle.om_outcome.specs.Outcome.{Said, comparison};
+ghost use Rattle.om_outcome.specs.Outcome.{Said, Task, comparison};
+ghost use Rattle.om_path.specs.declared.edits.ScriptLine.{ScriptLine};
 ghost use Rattle.om_edge.specs.State.{change};
-ghost use Rattle.om_session.specs.declared.values.Work.{Work as AnyWork};
-ghost use Rattle.om_session.specs.declared.values.Work.TheVariants as works;
+ghost use Rattle.om_commands.specs.Tasks.{commands};
+ghost use Rattle.om_work.specs.Works.{Feeds, EndsAt};
+ghost use Rattle.om_session.specs.declared.values.Job.TheVariants as jobs;
+ghost use Rattle.om_session.specs.Language.{TypeOver, declared_types};
 ghost use Rattle.om_session.specs.Verdict.{IsReadySpeech};
 ghost use Rattle.om_session.specs.SaidOfValue.{PutsSaid};
-ghost use Rattle.om_session.specs.Values.{IsReadyWork, IsStopOf, AreValues, IsFull, MayTake, HasRead, IsValueRead, KeepsNext, PutsNext, ReadsSome, ReadsPiece, Compares, EndsScript, EndsAt, PutsValues, word_limit};
+ghost use Rattle.om_session.specs.Values.{IsReadyJob, IsStopOf, AreValues, IsFull, MayTake, HasRead, IsValueRead, KeepsNext, PutsNext, Compares, EndsScript, task_of, word_limit};
 
 use crate::edit::{Edits, edit_value, line_past};
-use crate::gather::LENGTH_LIMIT;
 use crate::verdict::{Speech, line_of};
-use om_edge::{Sink, Source, put_all};
+use om_edge::{Sink, put_all};
 use om_heap::Heap;
 use om_iso::same;
 use om_model::Memory;
-use om_model::bytes::skip;
 use om_model::refusal::ReadRefusal;
 use om_model::value::Val;
 use om_read::{Reader, Truncated, Value};
 use om_stops::stop::{Halt, Stop};
+use om_work::Work;
 use std::alloc::Global;
 use std::mem;
-
-/// So many bytes a call on the input is asked for.
-const PIECE: usize = 4096;
 
 /// What is done with the values: something is said of each, each is edited, or the two are
 /// compared. The number is the limit of words on 64 bits in a value.
 #[derive(Clone, Copy)]
-pub enum Work<'a> {
+pub enum Job<'a> {
     Say(Speech<'a>, u64),
     Edit(Edits<'a>, u64),
     Compare(u64),
 }
 
-impl Work<'_> {
+impl Job<'_> {
     fn limit(self) -> u64
         ensures { result ≡ word_limit self.entry }
     {
         match self {
-            Work::Say(_, limit) => limit,
-            Work::Edit(_, limit) => limit,
-            Work::Compare(limit) => limit,
+            Job::Say(_, limit) => limit,
+            Job::Edit(_, limit) => limit,
+            Job::Compare(limit) => limit,
         }
     }
 }
@@ -120,12 +118,12 @@ struct Values {
 
 impl Values {
     /// No byte was taken.
-    fn new(alloc: Global, limit: u64) -> Values
-        ensures { (work : AnyWork) → IsReadyWork work → word_limit work ≡ limit
-            → HasRead work [] [] result }
+    fn new(alloc: Global, job: Job<'_>) -> Values
+        requires { IsReadyJob job }
+        ensures { HasRead job.entry result [] [] }
     {
         Values {
-            reader: Reader::new(alloc, limit),
+            reader: Reader::new(alloc, job.limit()),
             well: true,
             count: 0,
             kept: Vec::new(alloc),
@@ -133,14 +131,14 @@ impl Values {
     }
 
     /// Whether any more byte stops the run.
-    fn is_full(&self, work: Work<'_>) -> bool
-        requires { (taken : List ℕ) × (said : List Said) × HasRead work taken said self.now }
-        ensures { MatchBool result (IsFull work.entry self.now.count)
-            (MayTake work.entry self.now.count) }
+    fn is_full(&self, job: Job<'_>) -> bool
+        requires { (taken : List ℕ) × (said : List Said) × HasRead job self.now taken said }
+        ensures { MatchBool result (IsFull job.entry self.now.count)
+            (MayTake job.entry self.now.count) }
     {
-        match work {
-            Work::Say(..) | Work::Edit(..) => false,
-            Work::Compare(_) => self.count == 2,
+        match job {
+            Job::Say(..) | Job::Edit(..) => false,
+            Job::Compare(_) => self.count == 2,
         }
     }
 
@@ -154,10 +152,10 @@ impl Values {
         out: &mut K,
     ) -> Result<(), Halt>
         requires { (taken : List ℕ) × (said : List Said)
-            × IsValueRead (works.Say speech limit) taken said self.old × (length taken < 2 ^ 64) }
+            × IsValueRead (jobs.Say speech limit) self.old taken said × (length taken < 2 ^ 64) }
         ensures { (taken : List ℕ) (said : List Said)
-            (v : IsValueRead (works.Say speech.entry limit) taken said self.old)
-            → PutsNext (works.Say speech.entry limit) taken said v.trees v.whole
+            (v : IsValueRead (jobs.Say speech.entry limit) self.old taken said)
+            → PutsNext (jobs.Say speech.entry limit) taken said v.trees v.whole
             (change (K.state out.old) (K.state out.new)) self.new result }
     {
         let reader = mem::replace(&mut self.reader, Reader::new(alloc, limit));
@@ -179,10 +177,10 @@ impl Values {
         out: &mut K,
     ) -> Result<(), Halt>
         requires { (taken : List ℕ) × (said : List Said)
-            × IsValueRead (works.Edit edits limit) taken said self.old × (length taken < 2 ^ 64) }
+            × IsValueRead (jobs.Edit edits limit) self.old taken said × (length taken < 2 ^ 64) }
         ensures { (taken : List ℕ) (said : List Said)
-            (v : IsValueRead (works.Edit edits.entry limit) taken said self.old)
-            → PutsNext (works.Edit edits.entry limit) taken said v.trees v.whole
+            (v : IsValueRead (jobs.Edit edits.entry limit) self.old taken said)
+            → PutsNext (jobs.Edit edits.entry limit) taken said v.trees v.whole
             (change (K.state out.old) (K.state out.new)) self.new result }
     {
         let reader = mem::replace(&mut self.reader, Reader::new(alloc, limit));
@@ -196,9 +194,9 @@ impl Values {
     /// Keeps the value that the reader has whole. A new reader waits for the next one.
     fn keep_value(&mut self, alloc: Global, limit: u64) -> Result<(), Memory>
         requires { (taken : List ℕ) × (said : List Said)
-            × IsValueRead (works.Compare limit) taken said self.old × (length taken < 2 ^ 64) }
+            × IsValueRead (jobs.Compare limit) self.old taken said × (length taken < 2 ^ 64) }
         ensures { (taken : List ℕ) (said : List Said)
-            → IsValueRead (works.Compare limit) taken said self.old
+            → IsValueRead (jobs.Compare limit) self.old taken said
             → KeepsNext limit taken said self.new result }
     {
         let reader = mem::replace(&mut self.reader, Reader::new(alloc, limit));
@@ -208,18 +206,18 @@ impl Values {
     }
 
     /// Does the work with the value that the reader has whole.
-    fn put_value<K: Sink>(&mut self, alloc: Global, work: Work<'_>, out: &mut K) -> Result<(), Halt>
-        requires { (taken : List ℕ) × (said : List Said) × IsValueRead work taken said self.old
+    fn put_value<K: Sink>(&mut self, alloc: Global, job: Job<'_>, out: &mut K) -> Result<(), Halt>
+        requires { (taken : List ℕ) × (said : List Said) × IsValueRead job self.old taken said
             × (length taken < 2 ^ 64) }
         ensures { (taken : List ℕ) (said : List Said)
-            (v : IsValueRead work.entry taken said self.old)
-            → PutsNext work.entry taken said v.trees v.whole
+            (v : IsValueRead job.entry self.old taken said)
+            → PutsNext job.entry taken said v.trees v.whole
             (change (K.state out.old) (K.state out.new)) self.new result }
     {
-        match work {
-            Work::Say(speech, limit) => self.put_line(alloc, speech, limit, out),
-            Work::Edit(edits, limit) => self.put_edited(alloc, edits, limit, out),
-            Work::Compare(limit) => Ok(self.keep_value(alloc, limit)?),
+        match job {
+            Job::Say(speech, limit) => self.put_line(alloc, speech, limit, out),
+            Job::Edit(edits, limit) => self.put_edited(alloc, edits, limit, out),
+            Job::Compare(limit) => Ok(self.keep_value(alloc, limit)?),
         }
     }
 
@@ -227,54 +225,29 @@ impl Values {
     fn read_some<K: Sink>(
         &mut self,
         alloc: Global,
-        work: Work<'_>,
+        job: Job<'_>,
         rest: &[u8],
         out: &mut K,
     ) -> Result<usize, Halt>
         requires some { 0 < length rest.now }
-        requires reads { (taken : List ℕ) × (said : List Said) × HasRead work taken said self.old
+        requires reads { (taken : List ℕ) × (said : List Said) × HasRead job self.old taken said
             × (length taken + length rest.now < 2 ^ 63) }
-        ensures { (taken : List ℕ) (said : List Said) → HasRead work.entry taken said self.old
-            → ReadsSome work.entry taken said rest.now
-            (change (K.state out.old) (K.state out.new)) self.new result }
+        ensures { Feeds (commands declared_types) (task_of job.entry) (HasRead job.entry self.old)
+            (HasRead job.entry self.new) rest.now
+            (change (K.state out.old) (K.state out.new)) result }
     {
-        if self.is_full(work) {
+        if self.is_full(job) {
             return Err(Halt::Stop(Stop::NotTwoValues));
         }
         match self.reader.feed(rest) {
             Ok(fed) => {
                 if fed.done {
-                    self.put_value(alloc, work, out)?;
+                    self.put_value(alloc, job, out)?;
                 }
                 Ok(fed.taken)
             }
             Err(refusal) => Err(Halt::Stop(refused(self.count, refusal))),
         }
-    }
-
-    /// Takes a piece to its end, and says what is to be said of each value that ends in it.
-    fn read_piece<K: Sink>(
-        &mut self,
-        alloc: Global,
-        work: Work<'_>,
-        piece: &[u8],
-        out: &mut K,
-    ) -> Result<(), Halt>
-        requires short { length piece.now ≤ 4096 }
-        requires reads { (taken : List ℕ) × (said : List Said) × HasRead work taken said self.old
-            × (length taken < 2 ^ 48) }
-        ensures reads { (taken : List ℕ) (said : List Said)
-            → HasRead work.entry taken said self.old
-            → ReadsPiece work.entry taken said piece.now
-            (change (K.state out.old) (K.state out.new)) self.new result }
-        ensures are_bytes { AreBytes piece.now }
-    {
-        let mut rest = piece;
-        while !rest.is_empty() {
-            let taken = self.read_some(alloc, work, rest, out)?;
-            rest = skip(rest, taken);
-        }
-        Ok(())
     }
 
     /// The input ends here with a value: a line that edits no value stops the run.
@@ -290,62 +263,63 @@ impl Values {
 
     /// The input ends here: whether nothing is wrong with any value, or a value is cut. Two values
     /// are compared.
-    fn finish<K: Sink>(&self, alloc: Global, work: Work<'_>, out: &mut K) -> Result<bool, Halt>
-        requires { (taken : List ℕ) × (said : List Said) × HasRead work taken said self.now }
-        ensures { (taken : List ℕ) (said : List Said) → HasRead work.entry taken said self.now →
-            EndsAt work.entry taken said (change (K.state out.old) (K.state out.new)) result }
+    fn finish<K: Sink>(&self, alloc: Global, job: Job<'_>, out: &mut K) -> Result<bool, Halt>
+        requires { (taken : List ℕ) × (said : List Said) × HasRead job self.now taken said }
+        ensures { EndsAt (commands declared_types) (task_of job.entry) (HasRead job.entry self.now)
+            (change (K.state out.old) (K.state out.new)) result }
     {
         match self.reader.at_end() {
-            Ok(()) => match work {
-                Work::Say(..) => Ok(self.well),
-                Work::Edit(edits, _) => self.finish_script(edits),
-                Work::Compare(_) => compare(alloc, self.kept.as_slice(), out),
+            Ok(()) => match job {
+                Job::Say(..) => Ok(self.well),
+                Job::Edit(edits, _) => self.finish_script(edits),
+                Job::Compare(_) => compare(alloc, self.kept.as_slice(), out),
             },
             Err(Truncated { taken }) => Err(Halt::Stop(Stop::Cut(self.count, taken))),
         }
     }
 }
 
-/// Takes the input piece by piece, from no value on, and says what is to be said of each value
-/// before it asks for the next piece. The answer at the input's end is whether nothing is wrong
-/// with any value.
-fn put_pieces<S: Source, K: Sink>(
-    alloc: Global,
-    work: Work<'_>,
-    values: &mut Values,
-    input: &mut S,
-    out: &mut K,
-) -> Result<bool, Halt>
-    requires { HasRead work [] [] values.old }
-    ensures { PutsValues work.entry (change (S.state input.old) (S.state input.new))
-        (change (K.state out.old) (K.state out.new)) result }
-{
-    let mut buffer = [0; PIECE];
-    let mut taken = 0;
-    while taken < LENGTH_LIMIT {
-        let Ok(n) = input.take(&mut buffer) else {
-            return Err(Halt::Stop(Stop::ReadFault));
-        };
-        if n == 0 {
-            return values.finish(alloc, work, out);
-        }
-        values.read_piece(alloc, work, &buffer[..n], out)?;
-        taken += n;
-    }
-    Err(Halt::Stop(Stop::TooLong))
+/// A job, and the values so far.
+#[derive(Drop)]
+pub struct Progress<'a> {
+    job: Job<'a>,
+    values: Values,
 }
 
-/// The same, with the values made here.
-pub fn put_values<S: Source, K: Sink>(
-    alloc: Global,
-    work: Work<'_>,
-    input: &mut S,
-    out: &mut K,
-) -> Result<bool, Halt>
-    requires { IsReadyWork work }
-    ensures { PutsValues work.entry (change (S.state input.old) (S.state input.new))
-        (change (K.state out.old) (K.state out.new)) result }
-{
-    let mut values = Values::new(alloc, work.limit());
-    put_pieces(alloc, work, &mut values, input, out)
+impl<'a> Progress<'a> {
+    /// No byte was taken.
+    pub fn new(alloc: Global, job: Job<'a>) -> Progress<'a>
+        requires { IsReadyJob job }
+        ensures job { result.job ≡ job.entry }
+        ensures has { HasRead result.job result.values [] [] }
+    {
+        Progress {
+            job,
+            values: Values::new(alloc, job),
+        }
+    }
+}
+
+impl Work for Progress<'_> {
+    ghost Act = { Task TypeOver ScriptLine };
+
+    ghost commands = { commands declared_types };
+
+    ghost act = { λ p. task_of p.job };
+
+    ghost has = { λ p bytes said. HasRead p.job p.values bytes said };
+
+    fn reads(&self) -> bool {
+        true
+    }
+
+    fn feed<K: Sink>(&mut self, alloc: Global, in_hand: &[u8], out: &mut K) -> Result<usize, Halt> {
+        self.values.read_some(alloc, self.job, in_hand, out)
+    }
+
+    fn end<K: Sink>(&mut self, alloc: Global, out: &mut K) -> Result<bool, Halt> {
+        self.values.finish(alloc, self.job, out)
+    }
+
+    fn laws(&self) {}
 }

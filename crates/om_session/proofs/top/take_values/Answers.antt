@@ -1,10 +1,13 @@
-use Rattle.om_session.proofs.CloseLemmas.{takes_ended}
-use Rattle.om_session.proofs.HaltLemmas.{takes_halted}
+use Rattle.std.proofs.Common.{subst}
+use Rattle.om_edge.specs.State.{change}
+use Rattle.om_commands.specs.Tasks.{commands}
+use Rattle.om_work.specs.Reported.{HasAccount}
+use Rattle.om_session.specs.Language.{declared_types}
+use Rattle.om_session.specs.Values.{task_of}
 use Rattle.om_session.proofs.top.take_values.Goals as goal
 
-pub returns-in-Ok : goal.returns-in-Ok
-returns-in-Ok g c = takes_ended c.args.work _ _ c.in-Ok.well c.in-Ok.ensures (g.E.Sink.state c.args.err.now) c.status_of_all.result c.status_of_all.ensures
-
-pub returns-in-Err : goal.returns-in-Err
-returns-in-Err g c =
-    takes_halted c.args.work _ _ c.in-Err.halt c.in-Err.ensures (g.E.Sink.state c.args.err.now) (g.E.Sink.state c.report_halt.new.err) c.report_halt.result c.report_halt.ensures
+pub returns : goal.returns
+returns g c =
+    subst (λ job. HasAccount (commands declared_types) (task_of job) (change (g.S.Source.state c.args.input.now) (g.S.Source.state c.run_reported.new.input))
+    (change (g.K.Sink.state c.args.out.now) (g.K.Sink.state c.run_reported.new.out)) (change (g.E.Sink.state c.args.err.now) (g.E.Sink.state c.run_reported.new.err)) c.run_reported.result)
+    c.new.ensures.job c.run_reported.ensures.account

@@ -1,7 +1,7 @@
 use Rattle.std.proofs.Common.{Ok, refl, sym, subst, arith}
 use Rattle.om_edge.specs.State.{change}
 use Rattle.om_read.specs.Reader.{Leads}
-use Rattle.om_session.specs.declared.values.Work.TheVariants.{Edit}
+use Rattle.om_session.specs.declared.values.Job.TheVariants.{Edit}
 use Rattle.om_session.proofs.ReadLemmas.{edited_put, edited_halts, room_for_one}
 use Rattle.om_session.proofs.values.Values.put_edited.Goals as goal
 

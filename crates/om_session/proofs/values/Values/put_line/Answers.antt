@@ -1,7 +1,7 @@
 use Rattle.std.proofs.Common.{refl, sym, subst, arith}
 use Rattle.om_edge.specs.State.{change}
 use Rattle.om_read.specs.Reader.{Leads}
-use Rattle.om_session.specs.declared.values.Work.TheVariants.{Say}
+use Rattle.om_session.specs.declared.values.Job.TheVariants.{Say}
 use Rattle.om_session.proofs.ReadLemmas.{room_for_one}
 use Rattle.om_session.proofs.SaidLemmas.{said_put, said_halts}
 use Rattle.om_session.proofs.values.Values.put_line.Goals as goal
