@@ -21,7 +21,7 @@ use Rattle.om_commands.specs.Tasks.{items_of, IsFirstValue, SaysOf, IsRefused, S
 -- ---- values as items
 
 -- values are known by their items
-items_once : (trees others : List Tree) → items_of trees ≡ items_of others → trees ≡ others
+pub items_once : (trees others : List Tree) → items_of trees ≡ items_of others → trees ≡ others
 items_once [] [] e = refl
 items_once [] (u ∷ others) e = absurd (cc e)
 items_once (t ∷ trees) [] e = absurd (cc e)

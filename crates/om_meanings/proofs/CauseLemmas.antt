@@ -1,0 +1,279 @@
+-- Each status has its cause, and each cause its status, by what is promised of a call.
+use Rattle.std.proofs.Common.{◌≡◌, ◌≢◌, ◌⊎◌, ◌^◌, ℕ, List, take, Option, Some, None, Result, Ok, Err, inl, inr, refl, sym, ap, ◌∙◌, subst}
+use Rattle.std.specs.Prelude.{◌↔◌, IfSome}
+use Rattle.om_model.specs.Bytes.{AreBytes}
+use Rattle.om_outcome.specs.declared.status.Status.{Status}
+use Rattle.om_outcome.specs.declared.status.Status.TheVariants as statuses
+use Rattle.om_outcome.specs.Outcome.{opened, whole, at_end, Stop, usage, bad_path, status_of, ending_of, Replies, stopped, Language, Task}
+use Rattle.om_edge.specs.Files.{File, contents_of}
+use Rattle.om_promises.specs.Account.{MayBe}
+use Rattle.om_promises.specs.Call.{Call}
+use Rattle.om_promises.specs.Causes.{AreAsTold, AreMeant, IfWords, IfFiles, IsDecided, IsExact}
+use Rattle.om_promises.specs.Commands.{Fetches, Given, Prepares, HoldStop, IsLast, SaysAll, Answers, Outcome}
+use Rattle.om_promises.specs.Given.{IsFoundOf, TellsBytes}
+use Rattle.om_promises.specs.Lawful.{AreLawful}
+use Rattle.om_promises.specs.Outside.{IsHonest, IsUnsaid, IsOutside}
+use Rattle.om_promises.specs.Promises.{told_files, HoldEnd, HasOutcome, Headline, StopsBefore, Means, IfStop, IfEnd, IfUsage}
+use Rattle.om_promises.proofs.FileLemmas.{all_of}
+use Rattle.om_promises.proofs.OnceLemmas.{prepares_once}
+use Rattle.om_promises.proofs.SettledLemmas.{Goes, IsStatus, settled, stop_status}
+use Rattle.om_promises.proofs.ToldLemmas.{lawful_at, either, stop_comes, end_comes}
+use Rattle.om_commands.specs.Tasks.{commands}
+use Rattle.om_meanings.specs.Causes.{IsBarred, IsCaused, OnlyCaused, IfBadWords, IfBarred, IsToBeDone, IfShown, IsDue, HasWhatIsDue}
+use Rattle.om_meanings.specs.Stages.{Bar}
+use Rattle.om_meanings.specs.Values.{StopWith, Show}
+use Rattle.om_meanings.proofs.EndLemmas.{end_held, end_with, shows_given, gives_shown}
+use Rattle.om_meanings.proofs.StageLemmas.{bar_of, bar_found, bad_path_found}
+use Rattle.om_meanings.proofs.StopLemmas.{stop_held, stop_with}
+
+-- a file that was read whole is all that there is of its name
+read_whole :
+    (contents : Option (List ℕ)) (text : List ℕ) → IsFoundOf contents (opened (whole text))
+    → contents ≡ Some text
+read_whole None text h = absurd h
+read_whole (Some bytes) text (rest, takes) =
+    ap (λ b. Some b) (all_of bytes (whole text) rest takes refl)
+
+is_memory : (s : Status) → (s ≡ statuses.Memory) ⊎ (s ≢ statuses.Memory)
+is_memory statuses.Memory = inl refl
+is_memory statuses.Well = inr (λ e. cc e)
+is_memory statuses.No = inr (λ e. cc e)
+is_memory statuses.Usage = inr (λ e. cc e)
+is_memory statuses.Types = inr (λ e. cc e)
+is_memory statuses.Value = inr (λ e. cc e)
+is_memory statuses.Script = inr (λ e. cc e)
+is_memory statuses.ReadFault = inr (λ e. cc e)
+is_memory statuses.WriteFault = inr (λ e. cc e)
+is_memory statuses.OpenFault = inr (λ e. cc e)
+is_memory statuses.TooLong = inr (λ e. cc e)
+is_memory statuses.Compat = inr (λ e. cc e)
+
+module _ {D T E : Type 0} (language : Language D T E) (words : List (List ℕ)) (call : Call) where
+  -- ---- a status has its cause
+
+  barred :
+      (status : Status) → AreAsTold (commands language) words call
+      → StopsBefore (commands language) words call status → IsBarred language words call status
+  barred status as_told b = record {
+    found = b.found;
+    fetches = b.files;
+    request = b.request;
+    asks = b.asks;
+    bar = subst (Bar language b.request b.found) b.is (bar_of language b.request b.found b.stop b.finds);
+    told = λ turn name text wants read. told turn name text read call.files.before.map
+        (as_told b.found b.files turn name
+        (record { request = b.request; asks = b.asks; wants = wants }));
+  } where
+    told : (turn : ℕ) (name text : List ℕ) → b.found turn name ≡ opened (whole text)
+        → (map : Option (List File))
+        → IfSome map (λ all. IsFoundOf (contents_of all name) (b.found turn name))
+        → IfSome map (λ all. contents_of all name ≡ Some text)
+    told turn name text read None h = tt
+    told turn name text read (Some all) h =
+        read_whole (contents_of all name) text
+        (subst (IsFoundOf (contents_of all name)) read h)
+
+  pub only :
+      AreMeant (commands language) words call → AreAsTold (commands language) words call
+      → OnlyCaused language words call
+  only meant as_told status not_read not_long not_unsaid e =
+      by (meant status not_read not_long not_unsaid e) where
+        by : Means (commands language) words call status → IsCaused language words call status
+        by (inl none) = inl none
+        by (inr (inl before)) = inr (inl (barred status as_told before))
+        by (inr (inr (found, files, a, prepared, input, is, gives))) =
+            inr (inr (found, files, a, prepared, input, is, shows_given language a input status gives))
+
+  -- ---- a cause has its status
+
+  pub bad_words :
+      IfUsage (commands language) words call → IfWords (commands language) words call
+      → IfBadWords language words call
+  bad_words usage_if words_if (inl none) = usage_if none
+  bad_words usage_if words_if (inr (request, asks, none)) =
+      words_if bad_path
+      (λ files. (Ok request, asks, bad_path_found language request files none))
+
+  pub if_barred : IfFiles (commands language) words call → IfBarred language words call
+  if_barred files_if files request status map short asks bar =
+      let s = bar_found language request (told_files files) status bar in
+      subst (λ s. (call.status ≡ s) ⊎ IsOutside call.status) s.1
+      (files_if files s.0 map short (Ok request, asks, s.2))
+
+  module _ (lawful : AreLawful (commands language)) (p : IsStatus (commands language) words call)
+      (a : Task T E)
+      (any : (files : Fetches) → Prepares (commands language) words files (Ok a)) where
+    -- whatever comes of files, the replies are to the input
+    any_comes :
+        (Holds : Status → Type 0)
+        → ((given : Given) (may_be : MayBe (commands language) words call given) (all : Replies)
+        → SaysAll (commands language) a given.input all → Holds (ending_of all).status)
+        → Holds call.status ⊎ IsUnsaid call.status
+    any_comes Holds comes =
+        settled (commands language) words call p Holds
+        (λ given may_be all outcome. by given may_be all outcome.0
+        (prepares_once (commands language) lawful words given.files (Ok a) outcome.0
+        (any given.files) outcome.1) outcome.2) where
+          answered : (given : Given) → MayBe (commands language) words call given → (all : Replies)
+              → Answers (commands language) a given.input all → Holds (ending_of all).status
+          answered given may_be all (inl (reads, s)) = comes given may_be all s
+          answered given may_be all (inr alone) = absurd (alone.unread tt)
+
+          by : (given : Given) → MayBe (commands language) words call given → (all : Replies)
+              → (found : Result (Task T E) Stop) → Ok a ≡ found
+              → Goes (commands language) given all found → Holds (ending_of all).status
+          by given may_be all (Err stop) e m = absurd (cc e)
+          by given may_be all (Ok b) e m =
+              let same : b ≡ a = cc e in
+              answered given may_be all
+              (subst (λ b. Answers (commands language) b given.input all) same m)
+
+  pub if_shown :
+      AreLawful (commands language) → IsStatus (commands language) words call
+      → TellsBytes call.input → IfStop (commands language) words call
+      → IfEnd (commands language) words call → IfShown language words call
+  if_shown lawful p tells stop_if end_if a bytes status to_do told (inl stopping) = by to_do where
+    s : (stop : Stop) × (status_of stop ≡ status)
+        × HoldStop (commands language) a (take (2 ^ 48) bytes) stop
+    s = stop_held language a (take (2 ^ 48) bytes) status stopping
+
+    comes : (given : Given) (may_be : MayBe (commands language) words call given) (all : Replies)
+        → (found : (files : Fetches) → Prepares (commands language) words files (Ok a))
+        → SaysAll (commands language) a given.input all
+        → ((ending_of all).status ≡ status_of s.0) ⊎ IsOutside (ending_of all).status
+    comes given may_be all found said =
+        stop_comes (commands language) words call lawful tells bytes told given.input may_be.input a
+        (lawful_at (commands language) words call lawful given.files a (found given.files)) all said
+        s.0 s.2
+
+    stopped_so : (call.status ≡ status_of s.0) ⊎ IsOutside call.status
+        → (call.status ≡ status) ⊎ IsOutside call.status
+    stopped_so = subst (λ s. (call.status ≡ s) ⊎ IsOutside call.status) s.1
+
+    by : IsToBeDone language words call a → (call.status ≡ status) ⊎ IsOutside call.status
+    by (inl any) =
+        stopped_so (either (commands language) words call lawful
+        (any_comes lawful p a any
+        (λ s'. (s' ≡ status_of s.0) ⊎ IsOutside s')
+        (λ given may_be all said. comes given may_be all any said)))
+    by (inr (files, map, short, prepared)) =
+        stopped_so (stop_if a bytes s.0 (record {
+          files = files;
+          map = map;
+          short = short;
+          prepared = prepared;
+          reads = tt;
+          input = told;
+        }) s.2)
+  if_shown lawful p tells stop_if end_if a bytes status to_do told (inr (short_bytes, ends)) =
+      by to_do where
+        are_bytes : AreBytes bytes
+        are_bytes = rw told at tells
+
+        e : (all : Replies) × ((ending_of all).status ≡ status)
+            × HoldEnd (commands language) a bytes all.said all.last
+        e = end_held language a bytes status are_bytes ends
+
+        comes : (given : Given) (may_be : MayBe (commands language) words call given) (all : Replies)
+            → (found : (files : Fetches) → Prepares (commands language) words files (Ok a))
+            → SaysAll (commands language) a given.input all
+            → ((ending_of all).status ≡ (ending_of e.0).status) ⊎ IsOutside (ending_of all).status
+        comes given may_be all found said =
+            end_comes (commands language) words call lawful tells bytes told given.input may_be.input a
+            (lawful_at (commands language) words call lawful given.files a (found given.files)) all said
+            e.0 short_bytes e.2
+
+        ended_so : (call.status ≡ (ending_of e.0).status) ⊎ IsOutside call.status
+            → (call.status ≡ status) ⊎ IsOutside call.status
+        ended_so = subst (λ s. (call.status ≡ s) ⊎ IsOutside call.status) e.1
+
+        by : IsToBeDone language words call a → (call.status ≡ status) ⊎ IsOutside call.status
+        by (inl any) =
+            ended_so (either (commands language) words call lawful
+            (any_comes lawful p a any
+            (λ s'. (s' ≡ (ending_of e.0).status) ⊎ IsOutside s')
+            (λ given may_be all said. comes given may_be all any said)))
+        by (inr (files, map, short, prepared)) =
+            ended_so (end_if a bytes e.0 (record {
+              files = files;
+              map = map;
+              short = short;
+              prepared = prepared;
+              reads = tt;
+              input = told;
+            }) short_bytes e.2)
+
+  -- ---- an honest call
+
+  module _ (input : List ℕ) (files : List File) where
+    -- an outcome has a status that is due
+    due_of :
+        (all : Replies) → Outcome (commands language) words (contents_of files) input all
+        → IsDue language words input (told_files files) (ending_of all).status
+    due_of all (Ok a, prepared, inr alone) = absurd (alone.unread tt)
+    due_of all (Ok a, prepared, inl (reads, s)) = inr (inr (a, prepared, by s.last)) where
+      by : IsLast (commands language) a s.items s.rest at_end all.last
+          → Show language a input (ending_of all).status
+      by (inl (stop, at, fine, is)) =
+          inl (subst (StopWith language a input) (sym (stop_status all stop is))
+          (stop_with language a input stop (record {
+            items = s.items;
+            said = all.said;
+            rest = s.rest;
+            first = s.first;
+            at = at;
+          })))
+      by (inr (on, closes)) =
+          inr (end_with language a input all.said all.last (record {
+            items = s.items;
+            rest = s.rest;
+            first = s.first;
+            goes_on = on;
+            ends = closes;
+          }))
+    due_of all (Err stop, (Ok request, asks, finds), m) =
+        inr (inl (
+          request,
+          asks,
+          subst (Bar language request (told_files files)) (sym (ap (λ all. (ending_of all).status) m))
+              (bar_of language request (told_files files) stop finds),
+        ))
+    due_of all (Err other, (Err stop, (none, is), same), m) =
+        let e : other ≡ usage = (let k : other ≡ stop = cc same in k ∙ is) in
+        inl (none, ap (λ all. (ending_of all).status) m ∙ ap status_of e)
+
+    -- and what is due is of an outcome, or is given by the input
+    due_comes :
+        (honest : IsHonest call input files) → TellsBytes call.input
+        → call.status ≢ statuses.Memory → IsDecided (commands language) words call
+        → IsExact (commands language) words call → (status : Status)
+        → IsDue language words input (told_files files) status → call.status ≡ status
+    due_comes honest tells some decided exact status (inl (none, is)) =
+        decided input files honest some (stopped usage) (Err usage, (Err usage, (none, refl), refl), refl)
+        ∙ sym is
+    due_comes honest tells some decided exact status (inr (inl (request, asks, bar))) =
+        let s = bar_found language request (told_files files) status bar in
+        decided input files honest some (stopped s.0) (Err s.0, (Ok request, asks, s.2), refl) ∙ s.1
+    due_comes honest tells some decided exact status (inr (inr (a, prepared, shows))) =
+        let are_bytes : AreBytes input = rw honest.well_read.input_told at tells in
+        exact input files honest some a status prepared
+        (gives_shown language a input status are_bytes shows)
+
+  pub due :
+      TellsBytes call.input → Headline (commands language) words call
+      → IsDecided (commands language) words call → IsExact (commands language) words call
+      → HasWhatIsDue language words call
+  due tells headline decided exact input files honest = by (is_memory call.status) where
+    by : (call.status ≡ statuses.Memory) ⊎ (call.status ≢ statuses.Memory)
+        → (call.status ≡ statuses.Memory)
+        ⊎ ((status : Status) → (call.status ≡ status) ↔ IsDue language words input (told_files files) status)
+    by (inl memory) = inl memory
+    by (inr some) = inr (λ status. (
+      λ e. comes status e (headline input files honest some),
+      due_comes input files honest tells some decided exact status,
+    )) where
+      comes : (status : Status) → call.status ≡ status
+          → HasOutcome (commands language) words call input files
+          → IsDue language words input (told_files files) status
+      comes status e o =
+          subst (IsDue language words input (told_files files)) (sym o.status ∙ e) (due_of input files o.all o.outcome)

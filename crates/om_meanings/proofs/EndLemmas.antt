@@ -1,0 +1,195 @@
+-- Bytes end with a reply of a status exactly where they end with that; so what an input gives is what it shows.
+use Rattle.std.proofs.Common.{◌≡◌, ◌⊎◌, ℕ, List, [], length, inl, inr, refl, sym, ap, ◌∙◌, subst, arith}
+use Rattle.om_model.specs.Bytes.{AreBytes}
+use Rattle.om_model.specs.declared.refusal.ReadRefusal.{ReadRefusal}
+use Rattle.om_format.proofs.JudgementLaws.{one_judgement_lem}
+use Rattle.om_format.specs.Stream.{SpellAll, End, clean, refused, cut, IsTail}
+use Rattle.om_format.specs.Tree.{Tree}
+use Rattle.om_outcome.specs.declared.status.Status.{Status}
+use Rattle.om_outcome.specs.Outcome.{Stop, not_two_values, value, ending_of, Said, Reply, stops, Replies, replies, Language, Work, tells, edits, dumps, compares, Task, StopsAt}
+use Rattle.om_outcome.specs.RefusalText.{truncated_text}
+use Rattle.om_promises.specs.Commands.{GoesOn}
+use Rattle.om_promises.specs.Promises.{HoldEnd, Gives}
+use Rattle.om_promises.proofs.StreamLemmas.{value_or_tail, streams_once, spell_bytes}
+use Rattle.om_commands.specs.Tasks.{items_of, MayCome, IsRefused, StopsHere, EndsBy, commands}
+use Rattle.om_commands.proofs.ItemLemmas.{items_once}
+use Rattle.om_meanings.specs.Causes.{HaveEnds, HaveShown}
+use Rattle.om_meanings.specs.Values.{StopWith, EndWith, Show}
+use Rattle.om_meanings.proofs.ItemLemmas.{AreSaid, says_first, say_first}
+use Rattle.om_meanings.proofs.SaidLemmas.{stop_status, few_compared, pass_of, pass_said, pass_more, finish_of, finish_said}
+use Rattle.om_meanings.proofs.StopLemmas.{stop_with, stop_held}
+
+-- some bytes of a value are not none
+cut_some : (limit n : ℕ) (rest : List ℕ) → IsTail limit rest (cut n) → rest ≡ [] → ⊥
+cut_some limit n rest (some, size, front) none =
+    let zero : length rest ≡ 0 = ap length none in omega (arith, some, size)
+
+module _ {D T E : Type 0} (language : Language D T E) where
+  -- where the command does not stop after values of which something is said, one more may come
+  may_come :
+      (work : Work T E) (limit : ℕ) (trees : List Tree) (said : List Said) (rest : List ℕ)
+      → AreSaid language work 0 trees said → (rest ≡ [] → ⊥)
+      → ((stop : Stop) → StopsAt language work limit trees rest stop → ⊥)
+      → MayCome language work (length trees)
+  may_come (tells saying type) limit trees said rest told some none = tt
+  may_come (edits type script compat) limit trees said rest told some none = tt
+  may_come dumps limit trees said rest told some none = tt
+  may_come compares limit trees said rest told some none =
+      let most = few_compared language trees said told in
+      let not : length trees ≡ 2 → ⊥ = λ two. none not_two_values (two, some, refl) in
+      omega (arith, most, not)
+
+  -- ---- an end is one of the table
+
+  end_row :
+      (a : Task T E) (bytes : List ℕ) (trees : List Tree) (said : List Said) (rest : List ℕ)
+      (last : Reply) → SpellAll a.limit bytes trees rest → AreSaid language a.work 0 trees said
+      → ((stop : Stop) → StopsAt language a.work a.limit trees rest stop → ⊥)
+      → (end : End) → IsTail a.limit rest end → EndsBy language a.work trees end last
+      → EndWith language a bytes (ending_of (replies said last)).status
+  end_row a bytes trees said rest last spelled told none clean tail ends = inl (record {
+    trees = trees;
+    spelled = subst (SpellAll a.limit bytes trees) tail spelled;
+    finishes = finish_of language a.work trees said last told ends;
+  })
+  end_row a bytes trees said rest last spelled told none (refused refusal) tail ends = absurd ends
+  end_row a bytes trees said rest last spelled told none (cut n) tail ends = inr (
+    stop_status said last (value (length trees) (truncated_text n)) ends,
+    record {
+      trees = trees;
+      rest = rest;
+      n = n;
+      spelled = spelled;
+      pass = pass_of language a.work trees said told
+          (may_come a.work a.limit trees said rest told (cut_some a.limit n rest tail) none);
+      tail = tail;
+    },
+  )
+
+  pub end_with :
+      (a : Task T E) (bytes : List ℕ) (said : List Said) (last : Reply)
+      → HoldEnd (commands language) a bytes said last
+      → EndWith language a bytes (ending_of (replies said last)).status
+  end_with a bytes said last h =
+      end_row a bytes h.ends.trees said h.rest last
+      (subst (λ trees. SpellAll a.limit bytes trees h.rest) same values.2)
+      (subst (λ trees. AreSaid language a.work 0 trees said) same values.3) none h.ends.end
+      h.ends.tail h.ends.ends where
+        values : (trees : List Tree) × (h.items ≡ items_of trees)
+            × SpellAll a.limit bytes trees h.rest × AreSaid language a.work 0 trees said
+        values = say_first language a bytes h.items said h.rest h.first
+
+        same : values.0 ≡ h.ends.trees
+        same = items_once values.0 h.ends.trees (sym values.1 ∙ h.ends.are)
+
+        none : (stop : Stop) → StopsAt language a.work a.limit h.ends.trees h.rest stop → ⊥
+        none stop at =
+            h.goes_on.no_stop stop (record { trees = h.ends.trees; are = h.ends.are; why = inl at })
+
+  -- ---- and one of the table is an end
+
+  -- where the bytes end, or cut a value that may come, the command does not stop
+  never_stops :
+      (work : Work T E) (limit : ℕ) (trees : List Tree) (rest : List ℕ) (end : End) → AreBytes rest
+      → IsTail limit rest end → (rest ≡ []) ⊎ MayCome language work (length trees)
+      → (stop : Stop) → StopsAt language work limit trees rest stop → ⊥
+  never_stops (tells saying type) limit trees rest end are_bytes tail may stop at = at
+  never_stops (edits type script compat) limit trees rest end are_bytes tail may stop at =
+      let s = at.spelled in
+      value_or_tail one_judgement_lem limit s.0 s.1 rest at.tree end are_bytes s.3 s.2 tail
+  never_stops dumps limit trees rest end are_bytes tail may stop at = at
+  never_stops compares limit trees rest end are_bytes tail (inl none) stop (two, some, is) =
+      some none
+  never_stops compares limit trees rest end are_bytes tail (inr less) stop (two, some, is) =
+      omega (arith, less, two)
+
+  module _ (a : Task T E) (trees : List Tree) (rest : List ℕ) (are_bytes : AreBytes rest)
+      (end : End) (tail : IsTail a.limit rest end)
+      (fine : (refusal : ReadRefusal) → end ≡ refused refusal → ⊥)
+      (may : (rest ≡ []) ⊎ MayCome language a.work (length trees)) where
+    goes_on : GoesOn (commands language) a (items_of trees) rest
+    goes_on = record {
+      no_stop = λ stop h. no_stop stop h h.why;
+      no_item = λ item more h.
+          let s = h.spelled in
+          value_or_tail one_judgement_lem a.limit s.0 s.1 rest h.tree end are_bytes s.3 s.2 tail;
+    } where
+      no_stop : (stop : Stop) (h : StopsHere language a (items_of trees) rest stop)
+          → StopsAt language a.work a.limit h.trees rest stop
+          ⊎ IsRefused language a (length h.trees) rest stop → ⊥
+      no_stop stop h (inl at) =
+          never_stops a.work a.limit trees rest end are_bytes tail may stop
+          (subst (λ t. StopsAt language a.work a.limit t rest stop)
+          (sym (items_once trees h.trees h.are)) at)
+      no_stop stop h (inr r) =
+          let once = streams_once one_judgement_lem a.limit rest [] [] end (refused r.refusal) are_bytes
+          (rest, refl, tail) (rest, refl, r.tail) in
+          fine r.refusal once.1
+
+    ended :
+        (bytes : List ℕ) (said : List Said) (last : Reply) → SpellAll a.limit bytes trees rest
+        → AreSaid language a.work 0 trees said → EndsBy language a.work trees end last
+        → HoldEnd (commands language) a bytes said last
+    ended bytes said last spelled told ends = record {
+      items = items_of trees;
+      rest = rest;
+      first = says_first language a bytes trees said rest spelled told;
+      goes_on = goes_on;
+      ends = record { trees = trees; are = refl; end = end; tail = tail; ends = ends };
+    }
+
+  -- an end of this status is held
+  abbrev pub HasEnd : Task T E → List ℕ → Status → Type 0
+  HasEnd a bytes status =
+      (all : Replies) × ((ending_of all).status ≡ status)
+      × HoldEnd (commands language) a bytes all.said all.last
+
+  pub end_held :
+      (a : Task T E) (bytes : List ℕ) (status : Status) → AreBytes bytes
+      → EndWith language a bytes status → HasEnd a bytes status
+  end_held a bytes status are_bytes (inl h) =
+      let r = finish_said language a.work h.trees status h.finishes in
+      let rest = spell_bytes a.limit bytes [] h.trees h.spelled are_bytes in (
+        r.0,
+        r.1,
+        ended a h.trees [] rest clean refl (λ r e. cc e) (inl refl) bytes r.0.said r.0.last h.spelled
+            r.2 r.3,
+      )
+  end_held a bytes status are_bytes (inr (is, h)) =
+      let s = pass_said language a.work h.trees h.pass in
+      let last : Reply = stops (value (length h.trees) (truncated_text h.n)) in
+      let rest = spell_bytes a.limit bytes h.rest h.trees h.spelled are_bytes in (
+        replies s.0 last,
+        sym is,
+        ended a h.trees h.rest rest (cut h.n) h.tail (λ r e. cc e)
+            (inr (pass_more language a.work h.trees h.pass)) bytes s.0 last h.spelled s.1 refl,
+      )
+
+  pub have_ends : HaveEnds language
+  have_ends a bytes status are_bytes = (
+    λ h. subst (EndWith language a bytes) h.1 (end_with a bytes h.0.said h.0.last h.2),
+    end_held a bytes status are_bytes,
+  )
+
+  -- ---- an input
+
+  pub shows_given :
+      (a : Task T E) (input : List ℕ) (status : Status)
+      → Gives (commands language) a input status → Show language a input status
+  shows_given a input status (inl (reads, stop, is, h)) =
+      inl (subst (StopWith language a input) is (stop_with language a input stop h))
+  shows_given a input status (inr (all, is, inl (reads, h))) =
+      inr (subst (EndWith language a input) is (end_with a input all.said all.last h))
+  shows_given a input status (inr (all, is, inr alone)) = absurd (alone.unread tt)
+
+  pub gives_shown :
+      (a : Task T E) (input : List ℕ) (status : Status) → AreBytes input
+      → Show language a input status → Gives (commands language) a input status
+  gives_shown a input status are_bytes (inl h) =
+      let s = stop_held language a input status h in inl (tt, s.0, s.1, s.2)
+  gives_shown a input status are_bytes (inr h) =
+      let e = end_held a input status are_bytes h in inr (e.0, e.1, inl (tt, e.2))
+
+  pub have_shown : HaveShown language
+  have_shown a input status are_bytes =
+      (shows_given a input status, gives_shown a input status are_bytes)

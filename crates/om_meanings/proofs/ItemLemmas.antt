@@ -1,0 +1,98 @@
+-- Values at the front of bytes, and what is said of them, are items and what is said of those.
+use Rattle.std.proofs.Common.{◌≡◌, ℕ, suc, ◌+◌, List, [], ◌∷◌, ◌++◌, length, refl, sym, ap, ◌∙◌, subst, length-append, arith}
+use Rattle.om_format.specs.Stream.{SpellAll}
+use Rattle.om_format.specs.Tree.{Tree}
+use Rattle.om_outcome.specs.Outcome.{Said, Says, Language, Work, Task}
+use Rattle.om_promises.specs.Commands.{Item, value, Cut, AllSay, SaysFirst}
+use Rattle.om_commands.specs.Tasks.{items_of, commands}
+
+-- one item more
+one_more : (before : List Item) (item : Item) (k : ℕ)
+    → length before ≡ k → length (before ++ item ∷ []) ≡ suc k
+one_more before item k at =
+    let all : length (before ++ item ∷ []) ≡ length before + length (item ∷ []) =
+    length-append before (item ∷ []) in
+    omega arith
+
+module _ {D T E : Type 0} (language : Language D T E) where
+  -- this is said of the values, the first of which has number k
+  abbrev pub AreSaid : Work T E → ℕ → List Tree → List Said → Type 0
+  AreSaid work k [] [] = Unit {0}
+  AreSaid work k [] (said ∷ more) = ⊥
+  AreSaid work k (tree ∷ trees) [] = ⊥
+  AreSaid work k (tree ∷ trees) (said ∷ more) =
+      Says language work k tree said × AreSaid work (suc k) trees more
+
+  module _ (a : Task T E) where
+    cut_of :
+        (bytes : List ℕ) (trees : List Tree) (rest : List ℕ)
+        → SpellAll a.limit bytes trees rest → Cut (commands language) a bytes (items_of trees) rest
+    cut_of bytes [] rest same = same
+    cut_of bytes (tree ∷ trees) rest (first, more, same, spelled, all) = (
+      more,
+      record { tree = tree; is = refl; spelled = (first, more, same, spelled, refl) },
+      cut_of more trees rest all,
+    )
+
+    spelled_of :
+        (bytes : List ℕ) (items : List Item) (rest : List ℕ)
+        → Cut (commands language) a bytes items rest
+        → (trees : List Tree) × (items ≡ items_of trees) × SpellAll a.limit bytes trees rest
+    spelled_of bytes [] rest same = ([], refl, same)
+    spelled_of bytes (item ∷ items) rest (more, is, cut) =
+        let next = spelled_of more items rest cut in
+        let s = is.spelled in (
+          is.tree ∷ next.0,
+          ap (λ items. item ∷ items) next.1 ∙ ap (λ item. item ∷ items_of next.0) is.is,
+          (s.0, s.1, s.2, s.3, subst (λ m. SpellAll a.limit m next.0 rest) (sym s.4) next.2),
+        )
+
+    say_of :
+        (before : List Item) (k : ℕ) → length before ≡ k → (trees : List Tree) (said : List Said)
+        → AreSaid a.work k trees said → AllSay (commands language) a before (items_of trees) said
+    say_of before k at [] [] h = tt
+    say_of before k at [] (s ∷ said) h = absurd h
+    say_of before k at (t ∷ trees) [] h = absurd h
+    say_of before k at (t ∷ trees) (s ∷ said) (says, more) = (
+      record {
+        tree = t;
+        is = refl;
+        says = subst (λ n. Says language a.work n t s) (sym at) says;
+      },
+      say_of (before ++ value t ∷ []) (suc k) (one_more before (value t) k at) trees said more,
+    )
+
+    told_of :
+        (before : List Item) (k : ℕ) → length before ≡ k → (trees : List Tree) (said : List Said)
+        → AllSay (commands language) a before (items_of trees) said → AreSaid a.work k trees said
+    told_of before k at [] [] h = tt
+    told_of before k at [] (s ∷ said) h = absurd h
+    told_of before k at (t ∷ trees) [] h = absurd h
+    told_of before k at (t ∷ trees) (s ∷ said) (says, more) =
+        let is : value t ≡ value says.tree = says.is in
+        let same : says.tree ≡ t = cc is in (
+          subst (λ n. Says language a.work n t s) at
+              (subst (λ tree. Says language a.work (length before) tree s) same says.says),
+          told_of (before ++ value t ∷ []) (suc k) (one_more before (value t) k at) trees said more,
+        )
+
+    -- the first values, as items
+    pub says_first :
+        (bytes : List ℕ) (trees : List Tree) (said : List Said) (rest : List ℕ)
+        → SpellAll a.limit bytes trees rest → AreSaid a.work 0 trees said
+        → SaysFirst (commands language) a bytes (items_of trees) said rest
+    says_first bytes trees said rest spelled say = record {
+      cut = cut_of bytes trees rest spelled;
+      all_say = say_of [] 0 refl trees said say;
+    }
+
+    -- the first items, as values
+    pub say_first :
+        (bytes : List ℕ) (items : List Item) (said : List Said) (rest : List ℕ)
+        → SaysFirst (commands language) a bytes items said rest
+        → (trees : List Tree) × (items ≡ items_of trees) × SpellAll a.limit bytes trees rest
+        × AreSaid a.work 0 trees said
+    say_first bytes items said rest h =
+        let s = spelled_of bytes items rest h.cut in
+        let say = subst (λ items. AllSay (commands language) a [] items said) s.1 h.all_say in
+        (s.0, s.1, s.2, told_of [] 0 refl s.0 said say)

@@ -1,0 +1,6 @@
+pub mod CauseLemmas
+pub mod EndLemmas
+pub mod ItemLemmas
+pub mod SaidLemmas
+pub mod StageLemmas
+pub mod StopLemmas

@@ -1,0 +1,287 @@
+-- A request and what came of its files stop the run with a status exactly where they bar it so.
+use Rattle.std.proofs.Common.{◌≡◌, ◌⊎◌, ℕ, List, Option, Some, Ok, Err, inl, inr, refl, sym, ap, ◌∙◌, subst}
+use Rattle.om_outcome.specs.declared.status.Status.{Status}
+use Rattle.om_outcome.specs.declared.status.Status.TheVariants.{Usage, Types, Script, ReadFault, OpenFault, TooLong}
+use Rattle.om_outcome.specs.Outcome.{InputEnd, at_end, at_fault, at_length, unasked, Found, opened, missing, failed, unfetched, Request, check, show, get, edit, dump, compare, Stop, bad_path, declarations, requested_type, script_line, read_fault, too_long, status_of, fault_of, ReadsFile, ReadsTypeOf, ReadsScriptOf, Saying, the_verdict, the_text, the_part, TellsAt, FindsWork, Language}
+use Rattle.om_promises.specs.Commands.{Fetches}
+use Rattle.om_commands.specs.Tasks.{by_turns, WantsFile, WantsScript, Wants, Finds}
+use Rattle.om_meanings.specs.Causes.{HaveBars}
+use Rattle.om_meanings.specs.Stages.{HasNoPath, IsRefusedType, RefusesTypes, RefusesScript, IsUnread, Bar}
+
+-- the status of a file that was not read
+abbrev IsOfFile : Status → Type 0
+IsOfFile status = (status ≡ ReadFault) ⊎ ((status ≡ OpenFault) ⊎ (status ≡ TooLong))
+
+end_status : (until : InputEnd) (stop : Stop) → fault_of until ≡ Some stop → IsOfFile (status_of stop)
+end_status at_end stop e = absurd (cc e)
+end_status at_fault stop e = let is : read_fault ≡ stop = cc e in inl (sym (ap status_of is))
+end_status at_length stop e = let is : too_long ≡ stop = cc e in inr (inr (sym (ap status_of is)))
+end_status unasked stop e = absurd (cc e)
+
+file_status :
+    (name : List ℕ) (found : Found) (stop : Stop) → ReadsFile name found (Err stop)
+    → IsOfFile (status_of stop)
+file_status name (opened taken) stop fault = end_status taken.until stop fault
+file_status name missing stop fault = inr (inl (ap status_of fault))
+file_status name failed stop fault = inr (inl (ap status_of fault))
+file_status name unfetched stop fault = absurd fault
+
+module _ {D T E : Type 0} (language : Language D T E) where
+  -- ---- a stop is one of the table
+
+  module _ (request : Request) (files : Fetches) where
+    -- the run is barred with the status of the stop
+    abbrev BarBy : Stop → Type 0
+    BarBy stop = Bar language request files (status_of stop)
+
+    unread :
+        (turn : ℕ) (name : List ℕ) → Wants language request files turn name → (stop : Stop)
+        → ReadsFile name (files turn name) (Err stop) → BarBy stop
+    unread turn name wants stop fault =
+        by (status_of stop) refl (file_status name (files turn name) stop fault) where
+          so : (status : Status) → status_of stop ≡ status → IsUnread language request files status
+          so status is =
+              record { turn = turn; name = name; wants = wants; stop = stop; fault = fault; is = is }
+
+          by : (status : Status) → status_of stop ≡ status → IsOfFile status
+              → Bar language request files status
+          by status is (inl e) =
+              subst (Bar language request files) (sym e) (so ReadFault (is ∙ e))
+          by status is (inr (inl e)) =
+              subst (Bar language request files) (sym e) (so OpenFault (is ∙ e))
+          by status is (inr (inr e)) =
+              subst (Bar language request files) (sym e) (so TooLong (is ∙ e))
+
+    type_bar :
+        (name : List ℕ) (wants : WantsFile language request name) (stop : Stop)
+        → ReadsTypeOf language (files 0) (name, wants.type) (Err stop) → BarBy stop
+    type_bar name wants stop (Err s, fault, is) =
+        let same : s ≡ stop = cc is in
+        subst BarBy same (unread 0 name (inl (refl, wants)) s fault)
+    type_bar name wants stop (Ok text, read, (Err s, (refusal, refuses, e), is)) =
+        let same : stop ≡ s = cc is in
+        subst BarBy (sym (same ∙ e)) (record {
+          name = name;
+          wants = wants;
+          text = text;
+          read = read;
+          refused = inl (refusal, refuses);
+        })
+    type_bar name wants stop (Ok text, read, (Ok d, reads, (refusal, refuses, e))) =
+        subst BarBy (sym e) (record {
+          name = name;
+          wants = wants;
+          text = text;
+          read = read;
+          refused = inr (d, refusal, reads, refuses);
+        })
+
+    tells_bar :
+        (name : List ℕ) (wants : WantsFile language request name) (saying : Saying) (stop : Stop)
+        → TellsAt language (files 0) (name, wants.type) saying (Err stop) → BarBy stop
+    tells_bar name wants saying stop (Ok type, reads, told) = absurd (cc told)
+    tells_bar name wants saying stop (Err s, reads, is) =
+        let same : s ≡ stop = cc is in subst BarBy same (type_bar name wants s reads)
+
+    script_bar :
+        (name : List ℕ) (wants : WantsScript language request files name) (stop : Stop)
+        → ReadsScriptOf language (files 1) name (Err stop) → BarBy stop
+    script_bar name wants stop (Err s, fault, is) =
+        let same : s ≡ stop = cc is in
+        subst BarBy same (unread 1 name (inr (refl, wants)) s fault)
+    script_bar name wants stop (Ok text, read, (refusal, refuses, e)) =
+        subst BarBy (sym e) (record {
+          name = name;
+          wants = wants;
+          text = text;
+          read = read;
+          refusal = refusal;
+          refused = refuses;
+        })
+
+  work_bar :
+      (request : Request) (files : Fetches) (stop : Stop)
+      → FindsWork language (by_turns files) request (Err stop) → BarBy request files stop
+  work_bar (check f t most) files stop h =
+      tells_bar (check f t most) files f (record { has_path = tt; type = t; typed = refl })
+      the_verdict stop h
+  work_bar (show f t most) files stop h =
+      tells_bar (show f t most) files f (record { has_path = tt; type = t; typed = refl })
+      the_text stop h
+  work_bar (get f t text most) files stop (Err s, (none, e), is) =
+      let same : stop ≡ s = cc is in
+      subst (BarBy (get f t text most) files) (sym (same ∙ e)) none
+  work_bar (get f t text most) files stop (Ok path, is_path, h) =
+      tells_bar (get f t text most) files f
+      (record { has_path = (path, is_path); type = t; typed = refl }) (the_part path) stop h
+  work_bar (edit f t script compat most) files stop (Err s, reads, is) =
+      let same : s ≡ stop = cc is in
+      subst (BarBy (edit f t script compat most) files) same
+      (type_bar (edit f t script compat most) files f
+      (record { has_path = tt; type = t; typed = refl }) s reads)
+  work_bar (edit f t script compat most) files stop (Ok type, reads, (Ok lines, read, told)) =
+      absurd (cc told)
+  work_bar (edit f t script compat most) files stop (Ok type, reads, (Err s, read, is)) =
+      let same : s ≡ stop = cc is in
+      let asked : WantsScript language (edit f t script compat most) files script =
+      record { scripted = refl; typed = (f, t); is_typed = refl; type = type; reads = reads } in
+      subst (BarBy (edit f t script compat most) files) same
+      (script_bar (edit f t script compat most) files script asked s read)
+  work_bar (dump most) files stop h = absurd (cc h)
+  work_bar (compare most) files stop h = absurd (cc h)
+
+  pub bar_of :
+      (request : Request) (files : Fetches) (stop : Stop)
+      → Finds language request files (Err stop) → Bar language request files (status_of stop)
+  bar_of request files stop (Ok work, h, told) = absurd (cc told)
+  bar_of request files stop (Err s, h, is) =
+      let same : s ≡ stop = cc is in
+      subst (BarBy request files) same (work_bar request files s h)
+
+  -- ---- and one of the table is a stop
+
+  same_typed :
+      (f t name type : List ℕ) (file : List ℕ → Found) (stop : Stop)
+      → ◌≡◌ {A = Option (List ℕ × List ℕ)} (Some (f, t)) (Some (name, type))
+      → ReadsTypeOf language file (name, type) (Err stop)
+      → ReadsTypeOf language file (f, t) (Err stop)
+  same_typed f t name type file stop e reads =
+      let both : ◌≡◌ {A = List ℕ × List ℕ} (f, t) (name, type) = cc e in
+      subst (λ p. ReadsTypeOf language file p (Err stop)) (sym both) reads
+
+  type_work :
+      (request : Request) (files : Fetches) (name : List ℕ)
+      (wants : WantsFile language request name) (stop : Stop)
+      → ReadsTypeOf language (files 0) (name, wants.type) (Err stop)
+      → FindsWork language (by_turns files) request (Err stop)
+  type_work (check f t most) files name wants stop reads =
+      (Err stop, same_typed f t name wants.type (files 0) stop wants.typed reads, refl)
+  type_work (show f t most) files name wants stop reads =
+      (Err stop, same_typed f t name wants.type (files 0) stop wants.typed reads, refl)
+  type_work (get f t text most) files name wants stop reads = (
+    Ok wants.has_path.0,
+    wants.has_path.1,
+    (Err stop, same_typed f t name wants.type (files 0) stop wants.typed reads, refl),
+  )
+  type_work (edit f t script compat most) files name wants stop reads =
+      (Err stop, same_typed f t name wants.type (files 0) stop wants.typed reads, refl)
+  type_work (dump most) files name wants stop reads = let e = wants.typed in absurd (cc e)
+  type_work (compare most) files name wants stop reads = let e = wants.typed in absurd (cc e)
+
+  script_work :
+      (request : Request) (files : Fetches) (name : List ℕ)
+      (wants : WantsScript language request files name) (stop : Stop)
+      → ReadsScriptOf language (files 1) name (Err stop)
+      → FindsWork language (by_turns files) request (Err stop)
+  script_work (check f t most) files name wants stop read =
+      let e = wants.scripted in absurd (cc e)
+  script_work (show f t most) files name wants stop read =
+      let e = wants.scripted in absurd (cc e)
+  script_work (get f t text most) files name wants stop read =
+      let e = wants.scripted in absurd (cc e)
+  script_work (edit f t script compat most) files name wants stop read =
+      let e : ◌≡◌ {A = Option (List ℕ)} (Some script) (Some name) = wants.scripted in
+      let same : script ≡ name = cc e in
+      let k : ◌≡◌ {A = Option (List ℕ × List ℕ)} (Some (f, t)) (Some wants.typed) = wants.is_typed in
+      let both : ◌≡◌ {A = List ℕ × List ℕ} (f, t) wants.typed = cc k in (
+        Ok wants.type,
+        subst (λ p. ReadsTypeOf language (files 0) p (Ok wants.type)) (sym both) wants.reads,
+        (
+          Err stop,
+          subst (λ n. ReadsScriptOf language (files 1) n (Err stop)) (sym same) read,
+          refl,
+        ),
+      )
+  script_work (dump most) files name wants stop read = let e = wants.scripted in absurd (cc e)
+  script_work (compare most) files name wants stop read = let e = wants.scripted in absurd (cc e)
+
+  path_work :
+      (request : Request) (files : Fetches) → HasNoPath language request
+      → FindsWork language (by_turns files) request (Err bad_path)
+  path_work (check f t most) files none = absurd none
+  path_work (show f t most) files none = absurd none
+  path_work (get f t text most) files none = (Err bad_path, (none, refl), refl)
+  path_work (edit f t script compat most) files none = absurd none
+  path_work (dump most) files none = absurd none
+  path_work (compare most) files none = absurd none
+
+  -- a stop of this status is found
+  abbrev pub HasStopBefore : Request → Fetches → Status → Type 0
+  HasStopBefore request files status =
+      (stop : Stop) × (status_of stop ≡ status) × Finds language request files (Err stop)
+
+  types_found :
+      (request : Request) (files : Fetches) → RefusesTypes language request files
+      → HasStopBefore request files Types
+  types_found request files r = by r.refused where
+    by : IsRefusedType language r.text r.wants.type → HasStopBefore request files Types
+    by (inl (refusal, refuses)) = (
+      declarations refusal,
+      refl,
+      (
+        Err (declarations refusal),
+        type_work request files r.name r.wants (declarations refusal)
+            (Ok r.text, r.read, (Err (declarations refusal), (refusal, refuses, refl), refl)),
+        refl,
+      ),
+    )
+    by (inr (d, refusal, reads, refuses)) = (
+      requested_type refusal,
+      refl,
+      (
+        Err (requested_type refusal),
+        type_work request files r.name r.wants (requested_type refusal)
+            (Ok r.text, r.read, (Ok d, reads, (refusal, refuses, refl))),
+        refl,
+      ),
+    )
+
+  script_found :
+      (request : Request) (files : Fetches) → RefusesScript language request files
+      → HasStopBefore request files Script
+  script_found request files r =
+      let stop : Stop = script_line r.refusal.0 r.refusal.1 in (
+        stop,
+        refl,
+        (
+          Err stop,
+          script_work request files r.name r.wants stop
+              (Ok r.text, r.read, (r.refusal, r.refused, refl)),
+          refl,
+        ),
+      )
+
+  unread_found :
+      (request : Request) (files : Fetches) (status : Status)
+      → IsUnread language request files status → HasStopBefore request files status
+  unread_found request files status u = (u.stop, u.is, (Err u.stop, by u.wants, refl)) where
+    by : Wants language request files u.turn u.name
+        → FindsWork language (by_turns files) request (Err u.stop)
+    by (inl (now, w)) =
+        type_work request files u.name w u.stop
+        (Err u.stop, subst (λ t. ReadsFile u.name (files t u.name) (Err u.stop)) now u.fault, refl)
+    by (inr (now, w)) =
+        script_work request files u.name w u.stop
+        (Err u.stop, subst (λ t. ReadsFile u.name (files t u.name) (Err u.stop)) now u.fault, refl)
+
+  pub bad_path_found :
+      (request : Request) (files : Fetches) → HasNoPath language request
+      → Finds language request files (Err bad_path)
+  bad_path_found request files none = (Err bad_path, path_work request files none, refl)
+
+  pub bar_found :
+      (request : Request) (files : Fetches) (status : Status) → Bar language request files status
+      → HasStopBefore request files status
+  bar_found request files Usage h = (bad_path, refl, bad_path_found request files h)
+  bar_found request files Types h = types_found request files h
+  bar_found request files Script h = script_found request files h
+  bar_found request files ReadFault h = unread_found request files ReadFault h
+  bar_found request files OpenFault h = unread_found request files OpenFault h
+  bar_found request files TooLong h = unread_found request files TooLong h
+  bar_found request files status h = absurd h
+
+  pub have_bars : HaveBars language
+  have_bars request files status = (
+    λ h. subst (Bar language request files) h.1 (bar_of request files h.0 h.2),
+    bar_found request files status,
+  )

@@ -1,0 +1,56 @@
+-- What each status says of the words and the files, where they stop the run before the input: a
+-- table, with a row for each status.
+use Rattle.std.specs.Prelude.{ℕ, ◌≡◌, ◌⊎◌, List, None, IsSomeAnd, Ok, Err}
+use Rattle.om_outcome.specs.declared.status.Status.{Status}
+use Rattle.om_outcome.specs.declared.status.Status.TheVariants.{Usage, Types, Script, ReadFault, OpenFault, TooLong}
+use Rattle.om_outcome.specs.Outcome.{whole, opened, Request, path_of, Stop, status_of, ReadsFile, Language}
+use Rattle.om_promises.specs.Commands.{Fetches}
+use Rattle.om_commands.specs.Tasks.{WantsFile, WantsScript, Wants}
+
+module _ {D T E : Type 0} (language : Language D T E) where
+  -- PATH is there, and is no path
+  abbrev pub HasNoPath : Request → Type 0
+  HasNoPath request = IsSomeAnd (path_of request) (λ text. language.ReadsPath text None)
+
+  -- the declarations are refused, or the type
+  abbrev pub IsRefusedType : List ℕ → List ℕ → Type 0
+  IsRefusedType text type =
+      ((refusal : List ℕ) × language.ReadsDeclarations text (Err refusal))
+      ⊎ ((d : D) × (refusal : List ℕ) × language.ReadsDeclarations text (Ok d)
+      × language.ReadsType d type (Err refusal))
+
+  -- FILE is read, and what it holds is refused, or TYPE
+  pub record RefusesTypes (request : Request) (files : Fetches) : Type 0 where
+    pub name : List ℕ
+    pub wants : WantsFile language request name
+    pub text : List ℕ
+    pub read : files 0 name ≡ opened (whole text)
+    pub refused : IsRefusedType text wants.type
+
+  -- SCRIPT is read, in its turn, and what it holds is refused
+  pub record RefusesScript (request : Request) (files : Fetches) : Type 0 where
+    pub name : List ℕ
+    pub wants : WantsScript language request files name
+    pub text : List ℕ
+    pub read : files 1 name ≡ opened (whole text)
+    pub refusal : ℕ × List ℕ
+    pub refused : language.ReadsScript text (Err refusal)
+
+  -- FILE, or SCRIPT in its turn, is not read to its end, and the stop has this status
+  pub record IsUnread (request : Request) (files : Fetches) (status : Status) : Type 0 where
+    pub turn : ℕ
+    pub name : List ℕ
+    pub wants : Wants language request files turn name
+    pub stop : Stop
+    pub fault : ReadsFile name (files turn name) (Err stop)
+    pub is : status_of stop ≡ status
+
+  -- the request and what came of its files stop the run before the input, with this status
+  abbrev pub Bar : Request → Fetches → Status → Type 0
+  Bar request files Usage = HasNoPath request
+  Bar request files Types = RefusesTypes request files
+  Bar request files Script = RefusesScript request files
+  Bar request files ReadFault = IsUnread request files ReadFault
+  Bar request files OpenFault = IsUnread request files OpenFault
+  Bar request files TooLong = IsUnread request files TooLong
+  Bar request files status = ⊥
