@@ -4,12 +4,12 @@ use Rattle.std.specs.Prelude.{◌↔◌, IfSome}
 use Rattle.om_model.specs.Bytes.{AreBytes}
 use Rattle.om_outcome.specs.declared.status.Status.{Status}
 use Rattle.om_outcome.specs.declared.status.Status.TheVariants as statuses
-use Rattle.om_outcome.specs.Outcome.{opened, whole, at_end, Stop, usage, bad_path, status_of, ending_of, Replies, stopped, Language, Task}
+use Rattle.om_outcome.specs.Outcome.{InputEnd, at_end, at_fault, at_length, unasked, Taken, read_fault, too_long, stops, opened, whole, Stop, usage, bad_path, status_of, ending_of, Replies, stopped, Language, Task}
 use Rattle.om_edge.specs.Files.{File, contents_of}
 use Rattle.om_promises.specs.Account.{MayBe}
 use Rattle.om_promises.specs.Call.{Call}
 use Rattle.om_promises.specs.Causes.{AreAsTold, AreMeant, IfWords, IfFiles, IsDecided, IsExact}
-use Rattle.om_promises.specs.Commands.{Fetches, Given, Prepares, HoldStop, IsLast, SaysAll, Answers, Outcome}
+use Rattle.om_promises.specs.Commands.{Fetches, Given, GoesOn, Closes, Prepares, HoldStop, IsLast, SaysAll, Answers, RunReplies, Outcome}
 use Rattle.om_promises.specs.Given.{IsFoundOf, TellsBytes}
 use Rattle.om_promises.specs.Lawful.{AreLawful}
 use Rattle.om_promises.specs.Outside.{IsHonest, IsUnsaid, IsOutside}
@@ -18,7 +18,7 @@ use Rattle.om_promises.proofs.FileLemmas.{all_of}
 use Rattle.om_promises.proofs.OnceLemmas.{prepares_once}
 use Rattle.om_promises.proofs.SettledLemmas.{Goes, IsStatus, settled, stop_status}
 use Rattle.om_promises.proofs.ToldLemmas.{lawful_at, either, stop_comes, end_comes}
-use Rattle.om_commands.specs.Tasks.{commands}
+use Rattle.om_commands.specs.Tasks.{StopsHere, EndsHere, commands}
 use Rattle.om_meanings.specs.Causes.{IsBarred, IsCaused, OnlyCaused, IfBadWords, IfBarred, IsToBeDone, IfShown, IsDue, HasWhatIsDue}
 use Rattle.om_meanings.specs.Stages.{Bar}
 use Rattle.om_meanings.specs.Values.{StopWith, Show}
@@ -73,16 +73,119 @@ module _ {D T E : Type 0} (language : Language D T E) (words : List (List ℕ)) 
         read_whole (contents_of all name) text
         (subst (IsFoundOf (contents_of all name)) read h)
 
-  pub only :
-      AreMeant (commands language) words call → AreAsTold (commands language) words call
-      → OnlyCaused language words call
-  only meant as_told status not_read not_long not_unsaid e =
-      by (meant status not_read not_long not_unsaid e) where
-        by : Means (commands language) words call status → IsCaused language words call status
-        by (inl none) = inl none
-        by (inr (inl before)) = inr (inl (barred status as_told before))
-        by (inr (inr (found, files, a, prepared, input, is, gives))) =
-            inr (inr (found, files, a, prepared, input, is, shows_given language a input status gives))
+  -- what is said of what was taken shows its status
+  module _ (a : Task T E) (taken : Taken) (all : Replies) (s : SaysAll (commands language) a taken all)
+    where
+      stop_shown :
+          (stop : Stop) → StopsHere language a s.items s.rest stop → all.last ≡ stops stop
+          → Show language a taken.bytes (ending_of all).status
+      stop_shown stop at is =
+          inl (subst (StopWith language a taken.bytes) (sym (stop_status all stop is))
+          (stop_with language a taken.bytes stop (record {
+            items = s.items;
+            said = all.said;
+            rest = s.rest;
+            first = s.first;
+            at = at;
+          })))
+
+      end_shown :
+          GoesOn (commands language) a s.items s.rest → EndsHere language a s.items s.rest all.last
+          → Show language a taken.bytes (ending_of all).status
+      end_shown on closes =
+          inr (end_with language a taken.bytes all.said all.last (record {
+            items = s.items;
+            rest = s.rest;
+            first = s.first;
+            goes_on = on;
+            ends = closes;
+          }))
+
+      shown :
+          (ending_of all).status ≢ statuses.ReadFault → (ending_of all).status ≢ statuses.TooLong
+          → Show language a taken.bytes (ending_of all).status
+      shown not_read not_long = by s.last where
+        closed : (u : InputEnd) → GoesOn (commands language) a s.items s.rest
+            → Closes (commands language) a s.items s.rest u all.last
+            → Show language a taken.bytes (ending_of all).status
+        closed at_end on closes = end_shown on closes
+        closed at_fault on closes = absurd (not_read (stop_status all read_fault closes))
+        closed at_length on closes = absurd (not_long (stop_status all too_long closes))
+        closed unasked on closes = absurd closes
+
+        by : IsLast (commands language) a s.items s.rest taken.until all.last
+            → Show language a taken.bytes (ending_of all).status
+        by (inl (stop, at, fine, is)) = stop_shown stop at is
+        by (inr (on, closes)) = closed taken.until on closes
+
+  module _ (as_told : AreAsTold (commands language) words call) where
+    -- by an outcome, where the input is not told
+    untold :
+        (given : Given) → MayBe (commands language) words call given
+        → IfSome call.input.before.bytes (λ bytes. bytes ≡ given.input.bytes) → (all : Replies)
+        → RunReplies (commands language) words given all
+        → (ending_of all).status ≢ statuses.ReadFault → (ending_of all).status ≢ statuses.TooLong
+        → IsCaused language words call (ending_of all).status
+    untold given may_be known all (Ok a, p, inr alone) not_read not_long = absurd (alone.unread tt)
+    untold given may_be known all (Ok a, p, inl (reads, s)) not_read not_long =
+        inr (inr (
+          given.files,
+          may_be.files,
+          a,
+          p,
+          given.input.bytes,
+          known,
+          (may_be.input.are_bytes, shown a given.input all s not_read not_long),
+        ))
+    untold given may_be known all (Err stop, (Ok request, asks, finds), m) not_read not_long =
+        inr (inl (barred (ending_of all).status as_told (record {
+          found = given.files;
+          files = may_be.files;
+          request = request;
+          asks = asks;
+          stop = stop;
+          finds = finds;
+          is = sym (ap (λ all. (ending_of all).status) m);
+        })))
+    untold given may_be known all (Err other, (Err stop, (none, is), same), m) not_read not_long =
+        let e : other ≡ usage = (let k : other ≡ stop = cc same in k ∙ is) in
+        inl (none, ap (λ all. (ending_of all).status) m ∙ ap status_of e)
+
+    pub only :
+        AreMeant (commands language) words call → TellsBytes call.input
+        → IsStatus (commands language) words call → OnlyCaused language words call
+    only meant tells p status not_read not_long not_unsaid e =
+        by call.input.before.bytes refl where
+          caused : (bytes : List ℕ) → call.input.before.bytes ≡ Some bytes
+              → Means (commands language) words call status → IsCaused language words call status
+          caused bytes known (inl none) = inl none
+          caused bytes known (inr (inl before)) = inr (inl (barred status as_told before))
+          caused bytes known (inr (inr (found, files, a, prepared, input, is, gives))) =
+              let same : bytes ≡ input = rw known at is in
+              let are_bytes : AreBytes bytes = rw known at tells in
+              inr (inr (
+                found,
+                files,
+                a,
+                prepared,
+                input,
+                is,
+                (subst AreBytes same are_bytes, shows_given language a input status gives),
+              ))
+
+          some : IsStatus (commands language) words call → call.input.before.bytes ≡ None
+              → IsCaused language words call status
+          some (inr unsaid) none = absurd (not_unsaid (subst IsUnsaid e unsaid))
+          some (inl o) none =
+              let same : (ending_of o.all).status ≡ status = sym o.is ∙ e in
+              subst (IsCaused language words call) same (untold o.given o.may_be
+              (subst (λ b. IfSome b (λ bytes. bytes ≡ o.given.input.bytes)) (sym none) tt) o.all
+              o.outcome (λ k. not_read (sym same ∙ k)) (λ k. not_long (sym same ∙ k)))
+
+          by : (o : Option (List ℕ)) → call.input.before.bytes ≡ o
+              → IsCaused language words call status
+          by (Some bytes) known = caused bytes known (meant status not_read not_long not_unsaid e)
+          by None none = some p none
 
   -- ---- a cause has its status
 
@@ -214,23 +317,8 @@ module _ {D T E : Type 0} (language : Language D T E) (words : List (List ℕ)) 
     due_of all (Ok a, prepared, inl (reads, s)) = inr (inr (a, prepared, by s.last)) where
       by : IsLast (commands language) a s.items s.rest at_end all.last
           → Show language a input (ending_of all).status
-      by (inl (stop, at, fine, is)) =
-          inl (subst (StopWith language a input) (sym (stop_status all stop is))
-          (stop_with language a input stop (record {
-            items = s.items;
-            said = all.said;
-            rest = s.rest;
-            first = s.first;
-            at = at;
-          })))
-      by (inr (on, closes)) =
-          inr (end_with language a input all.said all.last (record {
-            items = s.items;
-            rest = s.rest;
-            first = s.first;
-            goes_on = on;
-            ends = closes;
-          }))
+      by (inl (stop, at, fine, is)) = stop_shown a (whole input) all s stop at is
+      by (inr (on, closes)) = end_shown a (whole input) all s on closes
     due_of all (Err stop, (Ok request, asks, finds), m) =
         inr (inl (
           request,

@@ -63,7 +63,8 @@ module _ {D T E : Type 0} (language : Language D T E) where
     IsCaused call status =
         (IsUsage words × (status ≡ Usage))
         ⊎ (IsBarred call status
-        ⊎ AtInput (commands language) words call (λ task input. Show language task input status))
+        ⊎ AtInput (commands language) words call
+        (λ task input. AreBytes input × Show language task input status))
 
     -- a status other than 6, 7, 9 and 10 comes only where it is caused so
     abbrev pub OnlyCaused : Call → Type 0

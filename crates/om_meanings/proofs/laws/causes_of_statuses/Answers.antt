@@ -5,7 +5,8 @@ pub returns : goal.returns
 returns g c words call tells p =
     let laws = c.commands_keep_promises.ensures in
     let language = g.L.Speaks.language in record {
-      only = only language words call (laws.meant words call tells p) (laws.as_told words call tells p);
+      only = only language words call (laws.as_told words call tells p)
+          (laws.meant words call tells p) tells p.status;
       bad_words = bad_words language words call (laws.usage words call tells p)
           (laws.words words call tells p);
       barred = if_barred language words call (laws.files words call tells p);
