@@ -1,5 +1,19 @@
--- What each status means at the commands on values, in words of values and texts, and what follows
--- for a call.
+-- What each status means at the commands on values, in words of values and texts:
+--
+--   0   nothing is wrong with the values (`Finish`)
+--   1   something is wrong with them, at the end (`Finish`); or one to be edited has not the type
+--       (`Break`)
+--   2   the words ask for nothing; PATH is no path (`Bar`); or values that are compared are other
+--       than two (`Finish`, `Close`)
+--   3   what FILE holds is refused, or TYPE (`Bar`)
+--   4   a value is refused (`HoldRefusal`) or cut (`AreCut`)
+--   5   what SCRIPT holds is refused (`Bar`), or a line of it at its value (`Break`); or a line
+--       edits no value (`Finish`)
+--   8   FILE could not be opened, or SCRIPT in its turn (`Bar`)
+--   11  an edited value is too large for a reader on 32 bits (`Break`)
+--
+-- What 6, 7, 9 and 10 mean, and the faults of files, is the same for all commands: it stands in
+-- om_promises.
 use Rattle.std.specs.Prelude.{ℕ, ◌^◌, ◌<◌, ◌≡◌, ◌≢◌, ◌↔◌, ◌⊎◌, List, length, take, Some, IfSome, Ok, Err}
 use Rattle.om_model.specs.Bytes.{AreBytes}
 use Rattle.om_outcome.specs.declared.status.Status.{Status}
@@ -125,7 +139,7 @@ module _ {D T E : Type 0} (language : Language D T E) where
     -- ---- all of it
 
     pub record Causes (call : Call) : Type 0 where
-      -- a status other than 6, 7, 9 and 10 is one of the words, the files or the whole input
+      -- 0 to 5, 8 and 11: the status is caused by the words, the files or the whole input
       pub only : OnlyCaused call
       -- 2 comes where the words ask for nothing, or PATH is no path
       pub bad_words : IfBadWords call
@@ -133,5 +147,5 @@ module _ {D T E : Type 0} (language : Language D T E) where
       pub barred : IfBarred call
       -- 0, 1, 2, 4, 5 or 11 comes where an input that is told shows it
       pub shown : IfShown call
-      -- and in an honest call exactly what is due comes
+      -- unless memory ran out, an honest call has a status exactly where it is due
       pub due : HasWhatIsDue call
