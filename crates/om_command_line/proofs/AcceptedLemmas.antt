@@ -1,143 +1,88 @@
 -- Words that clap accepts ask for something.
-use Rattle.std.proofs.Common.{◌≡◌, ◌∙◌, ◌||◌, inl, inr, ℕ, Bool, true, false, not, List, [], ◌∷◌, codes, refl, sym, subst}
+use Rattle.std.proofs.Common.{◌≡◌, ◌∙◌, ◌||◌, ◌&&◌, ℕ, Bool, true, false, not, List, [], ◌∷◌, Some, codes, refl, sym, ap, subst, arith}
+use Rattle.std.specs.Prelude.{if◌then◌else◌}
+use Rattle.std.specs.List.{list_any}
+use Rattle.std.specs.Str.{bytes_eq}
 use Rattle.std.specs.Str.Parse.{digits_value, without_leading_plus}
-use Rattle.std.specs.Prelude.{fold}
-use Rattle.clap.specs.Walk.{Rule, Text, nothing_held, rows_after, settled, walk, with_default}
+use Rattle.std.proofs.lemmas.Slice.Eq.{bytes_eq-Decides}
+use Rattle.clap.specs.Walk.{Row, Rule, Text, arg_by_id, has_row, nothing_held, one_of, rows_after, settled, walk}
 use Rattle.clap.specs.Takes.{is_given}
 use Rattle.clap.specs.Faults.{level_fault}
+use Rattle.clap.specs.ValueTests.{accepts}
 use Rattle.clap.specs.Words.{fault_of}
-use Rattle.om_outcome.specs.CommandLine.{command_set, HasLimit, HasTyped, HasArgument, Request, check, show, get, edit, dump, compare, Asks, AsksBy}
-use Rattle.om_command_line.proofs.LevelLemmas.{flag_read, given_read, limit_read}
-use Rattle.om_command_line.proofs.LevelWalkLemmas.{ArePlaces, flag_there, rows_hold}
-use Rattle.om_command_line.proofs.PlainLemmas.{limit_has}
+use Rattle.clap.specs.declared.builder.value_parser.ValueParser.TheVariants.{Unsigned}
+use Rattle.clap.proofs.ValueTestLemmas.{accepts-Accepts}
+use Rattle.om_outcome.specs.CommandLine.{Argument, flag, option, wanted, number, Asking, Form, HasArguments, HasFlag, HasNumber, Request, Asks, command_set, form_of}
+use Rattle.om_command_line.proofs.LevelLemmas.{AreRead, given_has, row_read}
+use Rattle.om_command_line.proofs.LevelWalkLemmas.{HaveRows, all_defaults, rows_hold}
 use Rattle.om_command_line.proofs.RequestLemmas.{asks_by}
-use Rattle.om_command_line.proofs.SetLemmas.{IsNamed, check_named, show_named, get_named, edit_named, dump_named, same_named, edit_places, get_places, leaf, place, limit_rule, named_fault, named_met, typed_places}
-use Rattle.om_command_line.proofs.TopLemmas.{IsCommand, both_none, words_begin}
+use Rattle.om_command_line.proofs.SetLemmas.{form_fits, leaf_of, named_fault, named_met, rules_of}
+use Rattle.om_command_line.proofs.TableLemmas.{AreFound, all_found, each_own, neither, next_place, no_short, ruled, rules_from}
+use Rattle.om_command_line.proofs.TopLemmas.{both_none, words_begin}
 
-no_places : ArePlaces []
-no_places = record { plain_rules = (inl (refl, refl, (λ e. refl), refl), tt); no_short = λ x. refl; defaults = tt }
+-- a number that clap accepts
+number_there : (rows : List Row) (name : Text) (greatest : ℕ) (text : Text) → one_of name rows ≡ Some text → accepts false (Unsigned 0 greatest) text ≡ true → (n : ℕ) × HasNumber rows name greatest n
+number_there rows name greatest text has accepted =
+    let in_range = accepts-Accepts false (Unsigned 0 greatest) text accepted in
+    (digits_value 10 (without_leading_plus text), (text, has, in_range.0, refl, in_range.3))
 
-typed_are_places : ArePlaces typed_places
-typed_are_places = record {
-  plain_rules = (inl (refl, refl, (λ e. refl), refl), (inl (refl, refl, (λ e. let bad : false ≡ true = e in cc bad), refl), (inl (refl, refl, (λ e. let bad : false ≡ true = e in cc bad), refl), tt)));
-  no_short = λ x. refl;
-  defaults = (inl refl, (inl refl, tt));
-}
+either_word : (text : Text) → (bytes_eq text (codes "true") || bytes_eq text (codes "false")) ≡ true → (used : Bool) × (text ≡ (if used then codes "true" else codes "false"))
+either_word text accepted = go (bytes_eq text (codes "true")) (bytes_eq text (codes "false")) refl refl accepted
+  where
+    go : (a b : Bool) → bytes_eq text (codes "true") ≡ a → bytes_eq text (codes "false") ≡ b → (a || b) ≡ true → (used : Bool) × (text ≡ (if used then codes "true" else codes "false"))
+    go true b is other e = (true, (bytes_eq-Decides text (codes "true")).0 is)
+    go false true other is e = (false, (bytes_eq-Decides text (codes "false")).0 is)
+    go false false other last e = cc e
 
-get_are_places : ArePlaces get_places
-get_are_places = record {
-  plain_rules = (inl (refl, refl, (λ e. refl), refl), (inl (refl, refl, (λ e. let bad : false ≡ true = e in cc bad), refl), (inl (refl, refl, (λ e. let bad : false ≡ true = e in cc bad), refl), (inl (refl, refl, (λ e. let bad : false ≡ true = e in cc bad), refl), tt))));
-  no_short = λ x. refl;
-  defaults = (inl refl, (inl refl, (inl refl, tt)));
-}
+given_true : (b : Bool) → not b ≡ false → b ≡ true
+given_true true e = refl
+given_true false e = cc e
 
-edit_are_places : ArePlaces edit_places
-edit_are_places = record {
-  plain_rules = (inl (refl, refl, (λ e. refl), refl), (inl (refl, refl, (λ e. let bad : false ≡ true = e in cc bad), refl), (inl (refl, refl, (λ e. let bad : false ≡ true = e in cc bad), refl), (inl (refl, refl, (λ e. let bad : false ≡ true = e in cc bad), refl), (inr refl, tt)))));
-  no_short = λ x. refl;
-  defaults = (inl refl, (inl refl, (inl refl, (inr refl, tt))));
-}
+-- clap's rows have each argument
+module _ (c : List Rule) (rows : List Row) (are : AreRead c rows) where
+  flag_there : (i : ℕ) (name : Text) → has_row name rows ≡ true → arg_by_id c name ≡ Some (ruled i (flag name)) → (used : Bool) × HasFlag rows name used
+  flag_there i name has found =
+      let read = row_read c name rows are has (ruled i (flag name)) found in
+      let told = either_word read.0 read.3 in
+      (told.0, read.1 ∙ ap (λ t. Some t) told.1)
 
-two_given : (a b : Bool) → (not a || (not b || false)) ≡ false → (a ≡ true) × (b ≡ true)
-two_given true true none = (refl, refl)
-two_given true false none = cc none
-two_given false b none = cc none
-
-three_given : (a b c : Bool) → (not a || (not b || (not c || false))) ≡ false → (a ≡ true) × (b ≡ true) × (c ≡ true)
-three_given true true true none = (refl, refl, refl)
-three_given true true false none = cc none
-three_given true false c none = cc none
-three_given false b c none = cc none
+  pub arguments_there : (i : ℕ) (arguments : List Argument) (asks : Asking arguments) → AreFound c i arguments → HaveRows arguments rows
+      → list_any (λ a. a.required && not (is_given a.id rows)) (rules_from i arguments) ≡ false → (request : Request) × HasArguments arguments asks rows request
+  arguments_there i [] asked found have given = (asked, refl)
+  arguments_there i (flag name ∷ rest) asks (here, more) (has, have) given =
+      let told = flag_there i name has here.0 in
+      let later = arguments_there (next_place i (flag name)) rest (asks told.0) more have given in
+      (later.0, (told.0, told.1, later.1))
+  arguments_there i (option name greatest usual ∷ rest) asks (here, more) (has, have) given =
+      let read = row_read c name rows are has (ruled i (option name greatest usual)) here.0 in
+      let told = number_there rows name greatest read.0 read.2 read.3 in
+      let later = arguments_there (next_place i (option name greatest usual)) rest (asks told.0) more have given in
+      (later.0, (told.0, told.1, later.1))
+  arguments_there i (wanted name ∷ rest) asks (here, more) have given =
+      let all = neither (not (is_given name rows)) (list_any (λ a. a.required && not (is_given a.id rows)) (rules_from (next_place i (wanted name)) rest)) given in
+      let read = row_read c name rows are (given_has name rows (given_true (is_given name rows) all.0)) (ruled i (wanted name)) here.0 in
+      let later = arguments_there (next_place i (wanted name)) rest (asks read.0) more have all.1 in
+      (later.0, (read.0, read.1, later.1))
+  arguments_there i (number name greatest ∷ rest) asks (here, more) have given =
+      let all = neither (not (is_given name rows)) (list_any (λ a. a.required && not (is_given a.id rows)) (rules_from (next_place i (number name greatest)) rest)) given in
+      let read = row_read c name rows are (given_has name rows (given_true (is_given name rows) all.0)) (ruled i (number name greatest)) here.0 in
+      let told = number_there rows name greatest read.0 read.2 read.3 in
+      let later = arguments_there (next_place i (number name greatest)) rest (asks told.0) more have all.1 in
+      (later.0, (told.0, told.1, later.1))
 
 -- a command's name with words after it, in which clap finds no fault
-module _ (name : Text) (places : List Rule) (named : IsNamed name places) (are_places : ArePlaces places) (rest : List Text) (none : fault_of command_set (name ∷ rest) ≡ []) where
-  level_passes : level_fault (leaf name places) [] nothing_held rest false [] ≡ []
-  level_passes = (both_none (level_fault (leaf name places) [] nothing_held rest false []) [] (sym (named_fault name places named rest) ∙ none)).0
-
-  rows_limit : (limit : ℕ) × HasLimit (rows_after (limit_rule ∷ places) [] rest) limit
-  rows_limit =
-      let hold = rows_hold name places are_places rest level_passes in
-      let read = limit_read (rows_after (limit_rule ∷ places) [] rest) hold.0 hold.1 in
-      let number = digits_value 10 (without_leading_plus read.0) in
-      (number, limit_has (rows_after (limit_rule ∷ places) [] rest) read.0 number read.1 read.2 refl)
-
-  rows_given : (id : Text) → is_given id (rows_after (limit_rule ∷ places) [] rest) ≡ true → (text : Text) × HasArgument (rows_after (limit_rule ∷ places) [] rest) id text
-  rows_given id given = given_read id (rows_after (limit_rule ∷ places) [] rest) (rows_hold name places are_places rest level_passes).0 given
-
-  named_asks : (request : Request) → AsksBy name (rows_after (limit_rule ∷ places) [] rest) request → Asks (name ∷ rest) request
-  named_asks request by = asks_by (name ∷ rest) request name (rows_after (limit_rule ∷ places) [] rest) (none, named_met name places named rest) by
-
-module _ (name : Text) (named : IsNamed name typed_places) (rest : List Text) (none : fault_of command_set (name ∷ rest) ≡ []) where
-  typed_rows : (file : Text) × (type : Text) × (limit : ℕ) × HasTyped (rows_after (limit_rule ∷ typed_places) [] rest) file type limit
-  typed_rows =
-      let hold = rows_hold name typed_places typed_are_places rest (level_passes name typed_places named typed_are_places rest none) in
-      let rows = rows_after (limit_rule ∷ typed_places) [] rest in
-      let given = two_given (is_given (codes "FILE") rows) (is_given (codes "TYPE") rows) hold.2 in
-      let file = rows_given name typed_places named typed_are_places rest none (codes "FILE") given.0 in
-      let type = rows_given name typed_places named typed_are_places rest none (codes "TYPE") given.1 in
-      let limit = rows_limit name typed_places named typed_are_places rest none in
-      (file.0, type.0, limit.0, (file.1, type.1, limit.1))
-
-module _ (rest : List Text) where
-  check_accepted : fault_of command_set (codes "check" ∷ rest) ≡ [] → (request : Request) × Asks (codes "check" ∷ rest) request
-  check_accepted none =
-      let typed = typed_rows (codes "check") check_named rest none in
-      let request = check typed.0 typed.1 typed.2 in
-      (request, named_asks (codes "check") typed_places check_named typed_are_places rest none request (refl, typed.3))
-
-  show_accepted : fault_of command_set (codes "show" ∷ rest) ≡ [] → (request : Request) × Asks (codes "show" ∷ rest) request
-  show_accepted none =
-      let typed = typed_rows (codes "show") show_named rest none in
-      let request = show typed.0 typed.1 typed.2 in
-      (request, named_asks (codes "show") typed_places show_named typed_are_places rest none request (refl, typed.3))
-
-  get_accepted : fault_of command_set (codes "get" ∷ rest) ≡ [] → (request : Request) × Asks (codes "get" ∷ rest) request
-  get_accepted none =
-      let hold = rows_hold (codes "get") get_places get_are_places rest (level_passes (codes "get") get_places get_named get_are_places rest none) in
-      let rows = rows_after (limit_rule ∷ get_places) [] rest in
-      let given = three_given (is_given (codes "FILE") rows) (is_given (codes "TYPE") rows) (is_given (codes "PATH") rows) hold.2 in
-      let file = rows_given (codes "get") get_places get_named get_are_places rest none (codes "FILE") given.0 in
-      let type = rows_given (codes "get") get_places get_named get_are_places rest none (codes "TYPE") given.1 in
-      let path = rows_given (codes "get") get_places get_named get_are_places rest none (codes "PATH") given.2 in
-      let limit = rows_limit (codes "get") get_places get_named get_are_places rest none in
-      let request = get file.0 type.0 path.0 limit.0 in
-      (request, named_asks (codes "get") get_places get_named get_are_places rest none request (refl, (file.1, type.1, limit.1), path.1))
-
-  edit_accepted : fault_of command_set (codes "edit" ∷ rest) ≡ [] → (request : Request) × Asks (codes "edit" ∷ rest) request
-  edit_accepted none =
-      let hold = rows_hold (codes "edit") edit_places edit_are_places rest (level_passes (codes "edit") edit_places edit_named edit_are_places rest none) in
-      let rows = rows_after (limit_rule ∷ edit_places) [] rest in
-      let given = three_given (is_given (codes "FILE") rows) (is_given (codes "TYPE") rows) (is_given (codes "SCRIPT") rows) hold.2 in
-      let file = rows_given (codes "edit") edit_places edit_named edit_are_places rest none (codes "FILE") given.0 in
-      let type = rows_given (codes "edit") edit_places edit_named edit_are_places rest none (codes "TYPE") given.1 in
-      let script = rows_given (codes "edit") edit_places edit_named edit_are_places rest none (codes "SCRIPT") given.2 in
-      let limit = rows_limit (codes "edit") edit_places edit_named edit_are_places rest none in
-      let before = fold with_default (settled (limit_rule ∷ edit_places) (walk (limit_rule ∷ edit_places) [] nothing_held rest).held).rows
-      (limit_rule ∷ place (codes "FILE") 1 ∷ place (codes "TYPE") 2 ∷ place (codes "SCRIPT") 3 ∷ []) in
-      let flag = flag_read rows hold.0 (flag_there before) in
-      let request = edit file.0 type.0 script.0 flag.0 limit.0 in
-      (request, named_asks (codes "edit") edit_places edit_named edit_are_places rest none request (refl, (file.1, type.1, limit.1), script.1, flag.1))
-
-  dump_accepted : fault_of command_set (codes "dump" ∷ rest) ≡ [] → (request : Request) × Asks (codes "dump" ∷ rest) request
-  dump_accepted none =
-      let limit = rows_limit (codes "dump") [] dump_named no_places rest none in
-      (dump limit.0, named_asks (codes "dump") [] dump_named no_places rest none (dump limit.0) (refl, limit.1))
-
-  same_accepted : fault_of command_set (codes "same" ∷ rest) ≡ [] → (request : Request) × Asks (codes "same" ∷ rest) request
-  same_accepted none =
-      let limit = rows_limit (codes "same") [] same_named no_places rest none in
-      (compare limit.0, named_asks (codes "same") [] same_named no_places rest none (compare limit.0) (refl, limit.1))
-
-  command_accepted : (name : Text) → IsCommand name → fault_of command_set (name ∷ rest) ≡ [] → (request : Request) × Asks (name ∷ rest) request
-  command_accepted name (inl is) = subst (λ n. fault_of command_set (n ∷ rest) ≡ [] → (request : Request) × Asks (n ∷ rest) request) (sym is) check_accepted
-  command_accepted name (inr (inl is)) = subst (λ n. fault_of command_set (n ∷ rest) ≡ [] → (request : Request) × Asks (n ∷ rest) request) (sym is) show_accepted
-  command_accepted name (inr (inr (inl is))) = subst (λ n. fault_of command_set (n ∷ rest) ≡ [] → (request : Request) × Asks (n ∷ rest) request) (sym is) get_accepted
-  command_accepted name (inr (inr (inr (inl is)))) = subst (λ n. fault_of command_set (n ∷ rest) ≡ [] → (request : Request) × Asks (n ∷ rest) request) (sym is) edit_accepted
-  command_accepted name (inr (inr (inr (inr (inl is))))) = subst (λ n. fault_of command_set (n ∷ rest) ≡ [] → (request : Request) × Asks (n ∷ rest) request) (sym is) dump_accepted
-  command_accepted name (inr (inr (inr (inr (inr is))))) = subst (λ n. fault_of command_set (n ∷ rest) ≡ [] → (request : Request) × Asks (n ∷ rest) request) (sym is) same_accepted
+command_accepted : (form : Form) → form_of form.name ≡ Some form → (rest : List Text) → fault_of command_set (form.name ∷ rest) ≡ [] → (request : Request) × Asks (form.name ∷ rest) request
+command_accepted form found rest none =
+    let level = (both_none (level_fault (leaf_of form) [] nothing_held rest false []) [] (sym (named_fault form found rest) ∙ none)).0 in
+    let fits = form_fits form.name form found in
+    let are = all_found 1 form.arguments fits.0 (omega (arith, fits.1)) in
+    let hold = rows_hold form.name (rules_of form) (each_own (rules_of form) 1 form.arguments are) (no_short 1 form.arguments) rest level in
+    let last = all_defaults (rules_of form) 1 form.arguments are fits.0 (settled (rules_of form) (walk (rules_of form) [] nothing_held rest).held).rows hold.0 in
+    let there = arguments_there (rules_of form) (rows_after (rules_of form) [] rest) last.0 1 form.arguments form.asks are last.1 hold.1 in
+    (there.0, asks_by (form.name ∷ rest) there.0 form.name (rows_after (rules_of form) [] rest) (none, named_met form found rest) (form, found, there.1))
 
 pub accepted_words_ask : (words : List Text) → fault_of command_set words ≡ [] → (request : Request) × Asks words request
 accepted_words_ask words none =
     let begin = words_begin words none in
-    let asks = command_accepted begin.1 begin.0 begin.3 (subst (λ w. fault_of command_set w ≡ []) begin.2 none) in
+    let asks = command_accepted begin.0 begin.3 begin.1 (subst (λ w. fault_of command_set w ≡ []) begin.2 none) in
     (asks.0, subst (λ w. Asks w asks.0) (sym begin.2) asks.1)

@@ -1,80 +1,540 @@
 -- Plain words are accepted, and ask for what they say.
-use Rattle.std.proofs.Common.{◌≡◌, ◌∙◌, inl, inr, ◌==◌, ◌≤◌, ℕ, suc, Bool, true, false, List, [], ◌∷◌, ◌++◌, append_assoc, drop, cond, Option, Some, None, codes, refl, sym, ap, subst, arith}
-use Rattle.std.specs.Prelude.{if◌then◌else◌, fold, option_map}
-use Rattle.std.specs.List.{All}
+use Rattle.std.proofs.Common.{◌≡◌, ◌∙◌, ◌⊎◌, inl, inr, ◌≤◌, ◌<◌, ◌^◌, ◌||◌, ◌&&◌, ℕ, Bool, true, false, true≢false, not, List, [], ◌∷◌, ◌++◌, append-nil, append_assoc, cond, Option, Some, None, codes, is_some, refl, sym, ap, subst, arith}
+use Rattle.std.specs.Prelude.{if◌then◌else◌, fold, map, option_and_then, slice_get}
+use Rattle.std.specs.List.{find, flat_map, list_any}
+use Rattle.std.specs.Option.{option_map_or}
 use Rattle.std.specs.Str.{bytes_eq}
 use Rattle.std.specs.Str.Parse.{IsNumeral, digits_value, without_leading_plus}
-use Rattle.std.proofs.lemmas.Bool.{ne_eqb}
-use Rattle.std.proofs.lemmas.List.Elements.{All-head, All-tail}
-use Rattle.std.proofs.lemmas.Str.Parse.{digit_from_value}
-use Rattle.clap.specs.Lexer.{long_of, short_of}
-use Rattle.clap.specs.Walk.{Held, Rule, Text, Walk, arg_by_id, arg_by_index, finished, idle, nothing_held, option as waits_for, option_word, reading_by, rows_after, settled, to_positional, value, walk, walk_from, walked}
+use Rattle.std.proofs.lemmas.Slice.Eq.{bytes_eq-Decides}
+use Rattle.clap.specs.Walk.{Held, Row, Rule, Text, Walk, arg_by_id, arg_by_long, finished, has_row, more_values, nothing_held, row_text, rows_after, settled, walk, walk_from, walked, with_default, with_values}
+use Rattle.clap.specs.Facts.{explicit_source}
 use Rattle.clap.specs.Simple.{Shape}
-use Rattle.clap.specs.Faults.{check_fault, defaults_fault, level_fault, settle_fault, step_fault, turn_fault, walk_fault}
+use Rattle.clap.specs.Takes.{is_given}
+use Rattle.clap.specs.Faults.{check_fault, default_fault, defaults_fault, given_default_fault, level_fault, settle_fault, walk_fault}
 use Rattle.clap.specs.Kinds.{Kinds, or_else}
-use Rattle.clap.specs.ValueTests.{accepts}
-use Rattle.clap.specs.Words.{Row, first_of, one_of}
+use Rattle.clap.specs.declared.builder.action.ArgAction.TheVariants.{Set, SetTrue}
+use Rattle.clap.specs.declared.builder.value_parser.Reading.TheVariants.{AsWritten}
 use Rattle.clap.specs.declared.builder.value_parser.ValueParser.TheVariants.{Unsigned}
 use Rattle.clap.specs.declared.error.kind.ErrorKind.TheVariants as kind
-use Rattle.clap.specs.declared.parser.matches.ValueSource.TheVariants.{CommandLine}
-use Rattle.clap.proofs.OnLiterals.{clap_on_literals}
-use Rattle.clap.proofs.ValueTestLemmas.{Accepts-accepts, accepts-Accepts}
-use Rattle.om_outcome.specs.CommandLine.{IsArgument, HasLimit, HasTyped, greatest_limit, Request, check, show, get, edit, dump, compare, ArePlain, ArePlainLimit, ArePlainOptions, Asks, AsksBy}
+use Rattle.clap.specs.declared.parser.matches.ValueSource.TheVariants.{DefaultValue}
+use Rattle.clap.proofs.ValueTestLemmas.{accepts-Accepts}
+use Rattle.om_outcome.specs.CommandLine.{Argument, flag, option, wanted, number, Asking, Form, Request, Use, alone, given, words_of, used_in, IsUse, IsUseAmong, ArePlain, ArePlainUses, ArePlainArguments, Asks, HasArguments, HasFlag, HasNumber, form_of, is_used, text_after}
+use Rattle.om_command_line.proofs.LevelLemmas.{added_last}
+use Rattle.om_command_line.proofs.LevelWalkLemmas.{no_default}
+use Rattle.om_command_line.proofs.PlainWalkLemmas.{Comes, Holds, digits_accepted, digits_are_argument, flag_comes, no_plus, none_comes, number_comes, option_comes, row_at, standing, then_comes, use_row, walk_no_words, wanted_comes}
 use Rattle.om_command_line.proofs.RequestLemmas.{asks_by}
-use Rattle.om_command_line.proofs.SetLemmas.{IsNamed, check_named, show_named, get_named, edit_named, dump_named, same_named, compat_rule, edit_places, get_places, leaf, limit_rule, named_fault, named_met, typed_places}
+use Rattle.om_command_line.proofs.SetLemmas.{form_fits, leaf_of, named_fault, named_met, rules_of}
+use Rattle.om_command_line.proofs.TableLemmas.{AreFound, IsFound, all_found, are_lawful, both, is_lawful, is_named, fresh_name, lawful_rest, name_of, neither, next_place, ruled, rules_from, same_text, small_number, small_option, spells, usual_accepted, usual_as_is}
 
--- ---- what clap sees in an argument
+-- ---- rows by their names
 
-no_dashes : (word : List ℕ) → IsArgument word → bytes_eq word (45 ∷ 45 ∷ []) ≡ false
-no_dashes [] is = absurd is
-no_dashes (first ∷ rest) is = rw (ne_eqb first 45 is) refl
+abbrev row_of : Text → List Row → Option Row
+row_of name rows = find (λ r. bytes_eq r.id name) rows
 
-no_long : (word : List ℕ) → IsArgument word → long_of word ≡ None
-no_long [] is = absurd is
-no_long (first ∷ rest) is = rw (ne_eqb first 45 is) refl
+row_or_none : (name : Text) (rows : List Row) → row_of name rows ≡ None → has_row name rows ≡ false
+row_or_none name [] none = refl
+row_or_none name (r ∷ rs) none = go (bytes_eq r.id name) refl (row_or_none name rs)
+  where
+    go : (b : Bool) → bytes_eq r.id name ≡ b → (row_of name rs ≡ None → has_row name rs ≡ false) → has_row name (r ∷ rs) ≡ false
+    go true e later = let bad : Some r ≡ None = (rw e at none) in cc bad
+    go false e later = rw e (later (rw e at none))
 
-no_short : (word : List ℕ) → IsArgument word → short_of word ≡ None
-no_short [] is = absurd is
-no_short (first ∷ rest) is = rw (ne_eqb first 45 is) refl
+none_of : (name : Text) (rows : List Row) → has_row name rows ≡ false → row_of name rows ≡ None
+none_of name [] absent = refl
+none_of name (r ∷ rs) absent = let apart = neither (bytes_eq r.id name) (has_row name rs) absent in rw apart.0 (none_of name rs apart.1)
 
--- where the walk stands among the arguments of a command
-abbrev standing : Held → ℕ → Walk
-standing h n = record { held = h; waiting = idle; position = n; is_trailing = false; stopped = None }
+row_kept : (name : Text) (r : Row) (rows more : List Row) → row_of name rows ≡ Some r → row_of name (rows ++ more) ≡ Some r
+row_kept name r [] more found = cc found
+row_kept name r (x ∷ xs) more found = go (bytes_eq x.id name) refl (row_kept name r xs more)
+  where
+    go : (b : Bool) → bytes_eq x.id name ≡ b → (row_of name xs ≡ Some r → row_of name (xs ++ more) ≡ Some r) → row_of name (x ∷ (xs ++ more)) ≡ Some r
+    go true e later = rw e (rw e at found)
+    go false e later = rw e (later (rw e at found))
 
--- it goes to the positional whose turn it is
-argument_walked : (c : List Rule) (h : Held) (n : ℕ) (word : List ℕ) → IsArgument word
-    → walked c [] (standing h n) word ≡ to_positional c (arg_by_index c n) word (standing h n) h
-unfolding walked
-argument_walked c h n word is = rw (no_dashes word is, no_long word is, no_short word is) refl
+-- a row of a new name
+row_last : (name : Text) (r : Row) (rows : List Row) → has_row name rows ≡ false → bytes_eq r.id name ≡ true → row_of name (rows ++ r ∷ []) ≡ Some r
+row_last name r [] absent is = rw is refl
+row_last name r (x ∷ xs) absent is = let apart = neither (bytes_eq x.id name) (has_row name xs) absent in rw apart.0 (row_last name r xs apart.1 is)
 
-argument_turn : (s : Shape) (h : Held) (n : ℕ) (word : List ℕ) → IsArgument word → turn_fault s [] (standing h n) word ≡ step_fault s n h value
-argument_turn s h n word is = rw (no_dashes word is, no_long word is, no_short word is) refl
+-- a row of another name
+row_other : (name : Text) (r : Row) (rows : List Row) → bytes_eq r.id name ≡ false → row_of name (rows ++ r ∷ []) ≡ row_of name rows
+row_other name r [] other = rw other refl
+row_other name r (x ∷ xs) other = ap (λ o. cond (bytes_eq x.id name) (Some x) o) (row_other name r xs other)
 
--- or to the option that waits for it
-abbrev waiting_for : Text → Held → ℕ → Walk
-waiting_for id h n = record { held = h; waiting = waits_for id; position = n; is_trailing = false; stopped = None }
+has_other : (name : Text) (r : Row) (rows : List Row) → bytes_eq r.id name ≡ false → has_row name rows ≡ false → has_row name (rows ++ r ∷ []) ≡ false
+has_other name r [] other absent = rw other refl
+has_other name r (x ∷ xs) other absent = let apart = neither (bytes_eq x.id name) (has_row name xs) absent in rw apart.0 (has_other name r xs other apart.1)
 
-option_walked : (c : List Rule) (id : Text) (h : Held) (n : ℕ) (word : List ℕ) → IsArgument word
-    → walked c [] (waiting_for id h n) word
-    ≡ record { held = (option_word (arg_by_id c id) id word h).0; waiting = (option_word (arg_by_id c id) id word h).1; position = n; is_trailing = false; stopped = None }
-unfolding walked
-option_walked c id h n word is = rw (no_dashes word is, no_long word is, no_short word is) refl
+none_before : (name : Text) (rows more : List Row) → has_row name rows ≡ false → row_of name (rows ++ more) ≡ row_of name more
+none_before name [] more absent = refl
+none_before name (x ∷ xs) more absent = let apart = neither (bytes_eq x.id name) (has_row name xs) absent in rw apart.0 (none_before name xs more apart.1)
 
-option_turn : (s : Shape) (id : Text) (h : Held) (n : ℕ) (word : List ℕ) → IsArgument word → turn_fault s [] (waiting_for id h n) word ≡ []
-option_turn s id h n word is = rw (no_dashes word is, no_long word is, no_short word is) refl
+none_after : (name : Text) (rows more : List Row) → has_row name more ≡ false → row_of name (rows ++ more) ≡ row_of name rows
+none_after name [] more absent = none_of name more absent
+none_after name (x ∷ xs) more absent = ap (λ o. cond (bytes_eq x.id name) (Some x) o) (none_after name xs more absent)
 
--- no fault in a first word, and none in the others
-walk_no_fault : (s : Shape) (w next : Walk) (word : List ℕ) (rest : List (List ℕ)) → turn_fault s [] w word ≡ [] → walked s.rules [] w word ≡ next → walk_fault s [] next rest ≡ []
-    → walk_fault s [] w (word ∷ rest) ≡ []
-unfolding walk_fault
-walk_no_fault s w next word rest turn step more = ap (λ k. or_else k (walk_fault s [] (walked s.rules [] w word) rest)) turn ∙ (ap (λ w. walk_fault s [] w rest) step ∙ more)
+-- two texts that differ, in either order
+apart_too : (a b : Text) → bytes_eq a b ≡ false → bytes_eq b a ≡ false
+apart_too a b e = go (bytes_eq b a) refl
+  where
+    go : (t : Bool) → bytes_eq b a ≡ t → bytes_eq b a ≡ false
+    go true is = absurd (true≢false (sym ((bytes_eq-Decides a b).1 (sym ((bytes_eq-Decides b a).0 is))) ∙ e))
+    go false is = is
 
-walk_no_words : (s : Shape) (w : Walk) → walk_fault s [] w [] ≡ []
-unfolding walk_fault
-walk_no_words s w = refl
+-- ---- the uses of options
+
+-- the row of a default
+abbrev default_at : Text → Text → Row
+default_at name text = record { id = name; values = text ∷ []; count = None; source = Some DefaultValue; reading = AsWritten }
+
+module _ (level : Text) (c : List Rule) where
+  -- a use of a flag or an option that clap finds
+  abbrev IsWritten : Use → Type 0
+  IsWritten (alone name) =
+      (spells name ≡ true) × (arg_by_id c name ≡ Some (ruled 1 (flag name))) × (arg_by_long c name ≡ Some (ruled 1 (flag name)))
+  IsWritten (given name text) =
+      (greatest : ℕ) × (usual : Text) × (spells name ≡ true) × (arg_by_id c name ≡ Some (ruled 1 (option name greatest usual)))
+      × (arg_by_long c name ≡ Some (ruled 1 (option name greatest usual))) × IsNumeral 10 text × (digits_value 10 text ≤ greatest) × (greatest < 2 ^ 64)
+
+  abbrev AreWritten : List Use → Type 0
+  AreWritten [] = Unit {0}
+  AreWritten (one ∷ uses) = IsWritten one × (is_used (used_in one) uses ≡ false) × AreWritten uses
+
+  written_one : (i : ℕ) (a : Argument) → IsFound c i a → is_lawful a ≡ true → (one : Use) → IsUse one a → IsWritten one
+  written_one i (flag other) found lawful (alone name) is = subst (λ m. IsWritten (alone m)) (sym is) (lawful, found.0, found.1)
+  written_one i (flag other) found lawful (given name text) is = absurd is
+  written_one i (option other greatest usual) found lawful (alone name) is = absurd is
+  written_one i (option other greatest usual) found lawful (given name text) (is, numeral, least) =
+      subst (λ m. IsWritten (given m text)) (sym is)
+      (greatest, usual, (both (spells other) _ lawful).0, found.0, found.1, numeral, least, small_option other greatest usual lawful)
+  written_one i (wanted other) found lawful (alone name) is = absurd is
+  written_one i (wanted other) found lawful (given name text) is = absurd is
+  written_one i (number other greatest) found lawful (alone name) is = absurd is
+  written_one i (number other greatest) found lawful (given name text) is = absurd is
+
+  written : (i : ℕ) (arguments : List Argument) → AreFound c i arguments → are_lawful arguments ≡ true → (one : Use) → IsUseAmong arguments one → IsWritten one
+  written i [] found lawful one is = absurd is
+  written i (a ∷ rest) (here, more) lawful one (inl is) = written_one i a here (both (is_lawful a) _ lawful).0 one is
+  written i (a ∷ rest) (here, more) lawful one (inr is) = written (next_place i a) rest more (lawful_rest a rest lawful) one is
+
+  all_written : (arguments : List Argument) → AreFound c 1 arguments → are_lawful arguments ≡ true → (uses : List Use) → ArePlainUses arguments uses → AreWritten uses
+  all_written arguments found lawful [] plain = tt
+  all_written arguments found lawful (one ∷ uses) (is, once, more) = (written 1 arguments found lawful one is, once, all_written arguments found lawful uses more)
+
+  -- none of the uses has a row yet
+  abbrev AreFresh : List Row → List Use → Type 0
+  AreFresh rows [] = Unit {0}
+  AreFresh rows (one ∷ uses) = (has_row (used_in one) rows ≡ false) × AreFresh rows uses
+
+  none_fresh : (uses : List Use) → AreFresh [] uses
+  none_fresh [] = tt
+  none_fresh (one ∷ uses) = (refl, none_fresh uses)
+
+  still_fresh : (r : Row) (rows : List Row) (uses : List Use) → is_used r.id uses ≡ false → AreFresh rows uses → AreFresh (rows ++ r ∷ []) uses
+  still_fresh r rows [] once fresh = tt
+  still_fresh r rows (one ∷ uses) once (first, more) =
+      let apart = neither (bytes_eq (used_in one) r.id) (is_used r.id uses) once in
+      (has_other (used_in one) r rows (apart_too (used_in one) r.id apart.0) first, still_fresh r rows uses apart.1 more)
+
+  use_comes : (one : Use) → IsWritten one → (h : Held) (n : ℕ) (rows : List Row) → Holds level c h rows → has_row (used_in one) rows ≡ false
+      → Comes level c h n (words_of one) n (rows ++ use_row one ∷ [])
+  use_comes (alone name) (spelt, by_id, by_long) h n rows holds absent = flag_comes level c h n rows holds name spelt by_id by_long absent
+  use_comes (given name text) (greatest, usual, spelt, by_id, by_long, numeral, least, small) h n rows holds absent =
+      option_comes level c h n rows holds name text greatest usual spelt by_id by_long absent (digits_are_argument text numeral) (digits_accepted text greatest numeral least small)
+
+  use_named : (one : Use) → (use_row one).id ≡ used_in one
+  use_named (alone name) = refl
+  use_named (given name text) = refl
+
+  uses_come : (uses : List Use) → AreWritten uses → (h : Held) (n : ℕ) (rows : List Row) → Holds level c h rows → AreFresh rows uses → Comes level c h n (flat_map words_of uses) n (rows ++ map use_row uses)
+  uses_come [] written h n rows holds fresh = none_comes level c h n (rows ++ []) (subst (Holds level c h) (sym (append-nil rows)) holds)
+  uses_come (one ∷ uses) (is, once, more) h n rows holds (first, fresh) =
+      subst (Comes level c h n (words_of one ++ flat_map words_of uses) n) (append_assoc rows (use_row one ∷ []) (map use_row uses))
+      (then_comes level c h n n n (words_of one) (flat_map words_of uses) (rows ++ use_row one ∷ []) ((rows ++ use_row one ∷ []) ++ map use_row uses) (use_comes one is h n rows holds first)
+      (λ h' holds'. uses_come uses more h' n (rows ++ use_row one ∷ []) holds'
+      (still_fresh (use_row one) rows uses (subst (λ t. is_used t uses ≡ false) (sym (use_named one)) once) fresh)))
+
+  -- ---- the words at their places
+
+  abbrev place_rows : List Argument → List Text → List Row
+  place_rows [] texts = []
+  place_rows (flag name ∷ rest) texts = place_rows rest texts
+  place_rows (option name greatest usual ∷ rest) texts = place_rows rest texts
+  place_rows (wanted name ∷ rest) [] = []
+  place_rows (wanted name ∷ rest) (text ∷ texts) = row_at name text ∷ place_rows rest texts
+  place_rows (number name greatest ∷ rest) [] = []
+  place_rows (number name greatest ∷ rest) (text ∷ texts) = row_at name text ∷ place_rows rest texts
+
+  -- none of them has a row yet
+  abbrev AreFree : List Row → List Argument → Type 0
+  AreFree rows [] = Unit {0}
+  AreFree rows (flag name ∷ rest) = AreFree rows rest
+  AreFree rows (option name greatest usual ∷ rest) = AreFree rows rest
+  AreFree rows (wanted name ∷ rest) = (has_row name rows ≡ false) × AreFree rows rest
+  AreFree rows (number name greatest ∷ rest) = (has_row name rows ≡ false) × AreFree rows rest
+
+  still_free : (r : Row) (rows : List Row) (arguments : List Argument) → is_named r.id arguments ≡ false → AreFree rows arguments → AreFree (rows ++ r ∷ []) arguments
+  still_free r rows [] other free = tt
+  still_free r rows (flag name ∷ rest) other free = still_free r rows rest (neither (bytes_eq r.id name) (is_named r.id rest) other).1 free
+  still_free r rows (option name greatest usual ∷ rest) other free = still_free r rows rest (neither (bytes_eq r.id name) (is_named r.id rest) other).1 free
+  still_free r rows (wanted name ∷ rest) other (first, free) =
+      let apart = neither (bytes_eq r.id name) (is_named r.id rest) other in
+      (has_other name r rows apart.0 first, still_free r rows rest apart.1 free)
+  still_free r rows (number name greatest ∷ rest) other (first, free) =
+      let apart = neither (bytes_eq r.id name) (is_named r.id rest) other in
+      (has_other name r rows apart.0 first, still_free r rows rest apart.1 free)
+
+  -- the place after the last
+  abbrev last_place : ℕ → List Argument → ℕ
+  last_place n [] = n
+  last_place n (a ∷ rest) = last_place (next_place n a) rest
+
+  places_come : (n : ℕ) (arguments : List Argument) (asks : Asking arguments) (uses : List Use) (texts : List Text) (request : Request) → AreFound c n arguments → are_lawful arguments ≡ true
+      → ArePlainArguments arguments asks uses texts request → (h : Held) (rows : List Row) → Holds level c h rows → AreFree rows arguments
+      → Comes level c h n texts (last_place n arguments) (rows ++ place_rows arguments texts)
+  places_come n [] asks uses [] request found lawful plain h rows holds free = none_comes level c h n (rows ++ []) (subst (Holds level c h) (sym (append-nil rows)) holds)
+  places_come n [] asks uses (text ∷ texts) request found lawful plain h rows holds free = absurd plain
+  places_come n (flag name ∷ rest) asks uses texts request (here, more) lawful plain h rows holds free =
+      places_come n rest (asks (is_used name uses)) uses texts request more (lawful_rest (flag name) rest lawful) plain h rows holds free
+  places_come n (option name greatest usual ∷ rest) asks uses texts request (here, more) lawful plain h rows holds free =
+      places_come n rest (asks (digits_value 10 (text_after name usual uses))) uses texts request more (lawful_rest (option name greatest usual) rest lawful) plain h rows holds free
+  places_come n (wanted name ∷ rest) asks uses [] request found lawful plain h rows holds free = absurd plain
+  places_come n (wanted name ∷ rest) asks uses (text ∷ texts) request (here, more) lawful (is, plain) h rows holds (first, free) =
+      subst (Comes level c h n (text ∷ texts) (last_place (next_place n (wanted name)) rest)) (append_assoc rows (row_at name text ∷ []) (place_rows rest texts))
+      (then_comes level c h n (next_place n (wanted name)) (last_place (next_place n (wanted name)) rest) (text ∷ []) texts (rows ++ row_at name text ∷ []) ((rows ++ row_at name text ∷ []) ++ place_rows rest texts)
+      (wanted_comes level c h n rows holds name text here.0 here.1 first is)
+      (λ h' holds'. places_come (next_place n (wanted name)) rest (asks text) uses texts request more (lawful_rest (wanted name) rest lawful) plain h' (rows ++ row_at name text ∷ []) holds'
+      (still_free (row_at name text) rows rest (fresh_name (wanted name) rest lawful) free)))
+  places_come n (number name greatest ∷ rest) asks uses [] request found lawful plain h rows holds free = absurd plain
+  places_come n (number name greatest ∷ rest) asks uses (text ∷ texts) request (here, more) lawful (numeral, least, plain) h rows holds (first, free) =
+      subst (Comes level c h n (text ∷ texts) (last_place (next_place n (number name greatest)) rest)) (append_assoc rows (row_at name text ∷ []) (place_rows rest texts))
+      (then_comes level c h n (next_place n (number name greatest)) (last_place (next_place n (number name greatest)) rest) (text ∷ []) texts (rows ++ row_at name text ∷ [])
+      ((rows ++ row_at name text ∷ []) ++ place_rows rest texts)
+      (number_comes level c h n rows holds name text greatest here.0 here.1 first (digits_are_argument text numeral)
+      (digits_accepted text greatest numeral least (small_number name greatest (both (is_lawful (number name greatest)) _ lawful).0)))
+      (λ h' holds'. places_come (next_place n (number name greatest)) rest (asks (digits_value 10 text)) uses texts request more (lawful_rest (number name greatest) rest lawful) plain h'
+      (rows ++ row_at name text ∷ []) holds' (still_free (row_at name text) rows rest (fresh_name (number name greatest) rest lawful) free)))
+
+  -- each has its row
+  abbrev HavePlaces : List Row → List Argument → List Text → Type 0
+  HavePlaces rows [] texts = Unit {0}
+  HavePlaces rows (flag name ∷ rest) texts = HavePlaces rows rest texts
+  HavePlaces rows (option name greatest usual ∷ rest) texts = HavePlaces rows rest texts
+  HavePlaces rows (wanted name ∷ rest) [] = ⊥
+  HavePlaces rows (wanted name ∷ rest) (text ∷ texts) = (row_of name rows ≡ Some (row_at name text)) × HavePlaces rows rest texts
+  HavePlaces rows (number name greatest ∷ rest) [] = ⊥
+  HavePlaces rows (number name greatest ∷ rest) (text ∷ texts) = (row_of name rows ≡ Some (row_at name text)) × HavePlaces rows rest texts
+
+  have_places : (arguments : List Argument) (asks : Asking arguments) (uses : List Use) (texts : List Text) (request : Request) → are_lawful arguments ≡ true
+      → ArePlainArguments arguments asks uses texts request → (rows : List Row) → AreFree rows arguments → HavePlaces (rows ++ place_rows arguments texts) arguments texts
+  have_places [] asks uses texts request lawful plain rows free = tt
+  have_places (flag name ∷ rest) asks uses texts request lawful plain rows free = have_places rest (asks (is_used name uses)) uses texts request (lawful_rest (flag name) rest lawful) plain rows free
+  have_places (option name greatest usual ∷ rest) asks uses texts request lawful plain rows free =
+      have_places rest (asks (digits_value 10 (text_after name usual uses))) uses texts request (lawful_rest (option name greatest usual) rest lawful) plain rows free
+  have_places (wanted name ∷ rest) asks uses [] request lawful plain rows free = absurd plain
+  have_places (wanted name ∷ rest) asks uses (text ∷ texts) request lawful (is, plain) rows (first, free) = (
+    none_before name rows (place_rows (wanted name ∷ rest) (text ∷ texts)) first ∙ (rw (same_text name) refl),
+    subst (λ rs. HavePlaces rs rest texts) (append_assoc rows (row_at name text ∷ []) (place_rows rest texts))
+        (have_places rest (asks text) uses texts request (lawful_rest (wanted name) rest lawful) plain (rows ++ row_at name text ∷ [])
+        (still_free (row_at name text) rows rest (fresh_name (wanted name) rest lawful) free)),
+  )
+  have_places (number name greatest ∷ rest) asks uses [] request lawful plain rows free = absurd plain
+  have_places (number name greatest ∷ rest) asks uses (text ∷ texts) request lawful (numeral, least, plain) rows (first, free) = (
+    none_before name rows (place_rows (number name greatest ∷ rest) (text ∷ texts)) first ∙ (rw (same_text name) refl),
+    subst (λ rs. HavePlaces rs rest texts) (append_assoc rows (row_at name text ∷ []) (place_rows rest texts))
+        (have_places rest (asks (digits_value 10 text)) uses texts request (lawful_rest (number name greatest) rest lawful) plain (rows ++ row_at name text ∷ [])
+        (still_free (row_at name text) rows rest (fresh_name (number name greatest) rest lawful) free)),
+  )
+
+  -- ---- names that are not one
+
+  apart : (x y : Text) (a b : Rule) → arg_by_id c x ≡ Some a → arg_by_id c y ≡ Some b → (a ≡ b → ⊥) → bytes_eq x y ≡ false
+  apart x y a b first second differ = go (bytes_eq x y) refl
+    where
+      go : (t : Bool) → bytes_eq x y ≡ t → bytes_eq x y ≡ false
+      go true e =
+          let is : Some a ≡ Some b = sym first ∙ (ap (arg_by_id c) ((bytes_eq-Decides x y).0 e) ∙ second) in
+          let same : a ≡ b = cc is in
+          absurd (differ same)
+      go false e = e
+
+  long_apart : (x y : Text) (a b : Rule) → arg_by_id c x ≡ Some a → arg_by_id c y ≡ Some b → is_some a.long ≡ true → is_some b.long ≡ false → bytes_eq x y ≡ false
+  long_apart x y a b first second long short = apart x y a b first second (λ e. true≢false (sym long ∙ (ap (λ (r : Rule). is_some r.long) e ∙ short)))
+
+  short_apart : (x y : Text) (a b : Rule) → arg_by_id c x ≡ Some a → arg_by_id c y ≡ Some b → is_some a.long ≡ false → is_some b.long ≡ true → bytes_eq x y ≡ false
+  short_apart x y a b first second short long = apart x y a b first second (λ e. true≢false (sym long ∙ (ap (λ (r : Rule). is_some r.long) (sym e) ∙ short)))
+
+  use_apart : (one : Use) → IsWritten one → (name : Text) (b : Rule) → arg_by_id c name ≡ Some b → is_some b.long ≡ false → bytes_eq (use_row one).id name ≡ false
+  use_apart (alone other) written name b found short = long_apart other name (ruled 1 (flag other)) b written.1 found refl short
+  use_apart (given other text) written name b found short = long_apart other name (ruled 1 (option other written.0 written.1)) b written.3 found refl short
+
+  uses_apart : (uses : List Use) → AreWritten uses → (name : Text) (b : Rule) → arg_by_id c name ≡ Some b → is_some b.long ≡ false → has_row name (map use_row uses) ≡ false
+  uses_apart [] written name b found short = refl
+  uses_apart (one ∷ uses) (is, once, more) name b found short = rw (use_apart one is name b found short) (uses_apart uses more name b found short)
+
+  uses_free : (i : ℕ) (arguments : List Argument) → AreFound c i arguments → (uses : List Use) → AreWritten uses → AreFree (map use_row uses) arguments
+  uses_free i [] found uses written = tt
+  uses_free i (flag name ∷ rest) (here, more) uses written = uses_free (next_place i (flag name)) rest more uses written
+  uses_free i (option name greatest usual ∷ rest) (here, more) uses written = uses_free (next_place i (option name greatest usual)) rest more uses written
+  uses_free i (wanted name ∷ rest) (here, more) uses written =
+      (uses_apart uses written name (ruled i (wanted name)) here.0 refl, uses_free (next_place i (wanted name)) rest more uses written)
+  uses_free i (number name greatest ∷ rest) (here, more) uses written =
+      (uses_apart uses written name (ruled i (number name greatest)) here.0 refl, uses_free (next_place i (number name greatest)) rest more uses written)
+
+  places_apart : (name : Text) (a : Rule) → arg_by_id c name ≡ Some a → is_some a.long ≡ true → (i : ℕ) (arguments : List Argument) → AreFound c i arguments → (texts : List Text)
+      → has_row name (place_rows arguments texts) ≡ false
+  places_apart name a is long i [] found texts = refl
+  places_apart name a is long i (flag other ∷ rest) (here, more) texts = places_apart name a is long (next_place i (flag other)) rest more texts
+  places_apart name a is long i (option other greatest usual ∷ rest) (here, more) texts = places_apart name a is long (next_place i (option other greatest usual)) rest more texts
+  places_apart name a is long i (wanted other ∷ rest) found [] = refl
+  places_apart name a is long i (wanted other ∷ rest) (here, more) (text ∷ texts) =
+      rw (short_apart other name (ruled i (wanted other)) a here.0 is refl long) (places_apart name a is long (next_place i (wanted other)) rest more texts)
+  places_apart name a is long i (number other greatest ∷ rest) found [] = refl
+  places_apart name a is long i (number other greatest ∷ rest) (here, more) (text ∷ texts) =
+      rw (short_apart other name (ruled i (number other greatest)) a here.0 is refl long) (places_apart name a is long (next_place i (number other greatest)) rest more texts)
+
+  -- ---- the values of options that are not used
+
+  module _ (own text : Text) (rows : List Row) where
+    abbrev with_usual : List Row
+    with_usual = if has_row own rows then rows else with_values own AsWritten DefaultValue (text ∷ []) rows
+
+    usual_added : has_row own rows ≡ false → with_values own AsWritten DefaultValue (text ∷ []) rows ≡ rows ++ default_at own text ∷ []
+    usual_added absent = added_last own (more_values DefaultValue (text ∷ [])) (default_at own text) rows absent
+
+    usual_kept : (name : Text) (r : Row) → row_of name rows ≡ Some r → row_of name with_usual ≡ Some r
+    usual_kept name r found = go (has_row own rows) refl
+      where
+        go : (b : Bool) → has_row own rows ≡ b → row_of name (if b then rows else with_values own AsWritten DefaultValue (text ∷ []) rows) ≡ Some r
+        go true e = found
+        go false absent = ap (row_of name) (usual_added absent) ∙ row_kept name r rows (default_at own text ∷ []) found
+
+    usual_other : (name : Text) → bytes_eq own name ≡ false → row_of name with_usual ≡ row_of name rows
+    usual_other name other = go (has_row own rows) refl
+      where
+        go : (b : Bool) → has_row own rows ≡ b → row_of name (if b then rows else with_values own AsWritten DefaultValue (text ∷ []) rows) ≡ row_of name rows
+        go true e = refl
+        go false absent = ap (row_of name) (usual_added absent) ∙ row_other name (default_at own text) rows other
+
+    usual_new : row_of own rows ≡ None → row_of own with_usual ≡ Some (default_at own text)
+    usual_new none =
+        let absent = row_or_none own rows none in
+        ap (λ b. row_of own (if b then rows else with_values own AsWritten DefaultValue (text ∷ []) rows)) absent
+        ∙ (ap (row_of own) (usual_added absent) ∙ row_last own (default_at own text) rows absent (same_text own))
+
+  one_kept : (i : ℕ) (a : Argument) (name : Text) (r : Row) (rows : List Row) → row_of name rows ≡ Some r → row_of name (with_default rows (ruled i a)) ≡ Some r
+  one_kept i (flag own) name r rows found = usual_kept own (codes "false") rows name r found
+  one_kept i (option own greatest usual) name r rows found = usual_kept own usual rows name r found
+  one_kept i (wanted own) name r rows found = ap (row_of name) (no_default (has_row own rows) rows) ∙ found
+  one_kept i (number own greatest) name r rows found = ap (row_of name) (no_default (has_row own rows) rows) ∙ found
+
+  one_other : (i : ℕ) (a : Argument) (name : Text) (rows : List Row) → bytes_eq (name_of a) name ≡ false → row_of name (with_default rows (ruled i a)) ≡ row_of name rows
+  one_other i (flag own) name rows other = usual_other own (codes "false") rows name other
+  one_other i (option own greatest usual) name rows other = usual_other own usual rows name other
+  one_other i (wanted own) name rows other = ap (row_of name) (no_default (has_row own rows) rows)
+  one_other i (number own greatest) name rows other = ap (row_of name) (no_default (has_row own rows) rows)
+
+  all_kept : (i : ℕ) (arguments : List Argument) (name : Text) (r : Row) (rows : List Row) → row_of name rows ≡ Some r → row_of name (fold with_default rows (rules_from i arguments)) ≡ Some r
+  all_kept i [] name r rows found = found
+  all_kept i (a ∷ rest) name r rows found = all_kept (next_place i a) rest name r (with_default rows (ruled i a)) (one_kept i a name r rows found)
+
+  places_kept : (rows rows' : List Row) → ((name : Text) (r : Row) → row_of name rows ≡ Some r → row_of name rows' ≡ Some r) → (arguments : List Argument) (texts : List Text)
+      → HavePlaces rows arguments texts → HavePlaces rows' arguments texts
+  places_kept rows rows' keeps [] texts have = tt
+  places_kept rows rows' keeps (flag name ∷ rest) texts have = places_kept rows rows' keeps rest texts have
+  places_kept rows rows' keeps (option name greatest usual ∷ rest) texts have = places_kept rows rows' keeps rest texts have
+  places_kept rows rows' keeps (wanted name ∷ rest) [] have = have
+  places_kept rows rows' keeps (wanted name ∷ rest) (text ∷ texts) (first, have) = (keeps name (row_at name text) first, places_kept rows rows' keeps rest texts have)
+  places_kept rows rows' keeps (number name greatest ∷ rest) [] have = have
+  places_kept rows rows' keeps (number name greatest ∷ rest) (text ∷ texts) (first, have) = (keeps name (row_at name text) first, places_kept rows rows' keeps rest texts have)
+
+  given_all : (i : ℕ) (arguments : List Argument) (texts : List Text) (rows : List Row) → HavePlaces rows arguments texts
+      → list_any (λ a. a.required && not (is_given a.id rows)) (rules_from i arguments) ≡ false
+  given_all i [] texts rows have = refl
+  given_all i (flag name ∷ rest) texts rows have = given_all (next_place i (flag name)) rest texts rows have
+  given_all i (option name greatest usual ∷ rest) texts rows have = given_all (next_place i (option name greatest usual)) rest texts rows have
+  given_all i (wanted name ∷ rest) [] rows have = absurd have
+  given_all i (wanted name ∷ rest) (text ∷ texts) rows (first, have) =
+      ap (λ o. not (option_map_or (λ (r : Row). explicit_source r.source) o false) || list_any (λ a. a.required && not (is_given a.id rows)) (rules_from (next_place i (wanted name)) rest)) first
+      ∙ given_all (next_place i (wanted name)) rest texts rows have
+  given_all i (number name greatest ∷ rest) [] rows have = absurd have
+  given_all i (number name greatest ∷ rest) (text ∷ texts) rows (first, have) =
+      ap (λ o. not (option_map_or (λ (r : Row). explicit_source r.source) o false) || list_any (λ a. a.required && not (is_given a.id rows)) (rules_from (next_place i (number name greatest)) rest)) first
+      ∙ given_all (next_place i (number name greatest)) rest texts rows have
+
+  one_default_fault : (i : ℕ) (a : Argument) (rows : List Row) → is_lawful a ≡ true → default_fault rows (ruled i a) ≡ []
+  one_default_fault i (flag name) rows lawful = go (has_row name rows)
+    where
+      go : (b : Bool) → (if b || false then [] else given_default_fault (ruled i (flag name)) (codes "false" ∷ [])) ≡ []
+      go true = refl
+      go false = refl
+  one_default_fault i (option name greatest usual) rows lawful = go (has_row name rows)
+    where
+      go : (b : Bool) → (if b || false then [] else given_default_fault (ruled i (option name greatest usual)) (usual ∷ [])) ≡ []
+      go true = refl
+      go false = rw (usual_accepted name greatest usual lawful) refl
+  one_default_fault i (wanted name) rows lawful = go (has_row name rows)
+    where
+      go : (b : Bool) → (if b || true then [] else given_default_fault (ruled i (wanted name)) []) ≡ []
+      go true = refl
+      go false = refl
+  one_default_fault i (number name greatest) rows lawful = go (has_row name rows)
+    where
+      go : (b : Bool) → (if b || true then [] else given_default_fault (ruled i (number name greatest)) []) ≡ []
+      go true = refl
+      go false = refl
+
+  no_defaults_fault : (i : ℕ) (arguments : List Argument) (rows : List Row) → are_lawful arguments ≡ true → defaults_fault rows (rules_from i arguments) ≡ []
+  unfolding defaults_fault
+  no_defaults_fault i [] rows lawful = refl
+  no_defaults_fault i (a ∷ rest) rows lawful =
+      ap (λ k. or_else k (defaults_fault (with_default rows (ruled i a)) (rules_from (next_place i a) rest))) (one_default_fault i a rows (both (is_lawful a) _ lawful).0)
+      ∙ no_defaults_fault (next_place i a) rest (with_default rows (ruled i a)) (lawful_rest a rest lawful)
+
+  -- ---- the values of uses
+
+  flag_row_is : (name : Text) → arg_by_id c name ≡ Some (ruled 1 (flag name)) → (uses : List Use) → AreWritten uses
+      → row_of name (map use_row uses) ≡ (if is_used name uses then Some (row_at name (codes "true")) else None)
+  flag_row_is name found [] written = refl
+  flag_row_is name found (alone other ∷ uses) (is, once, more) = go (bytes_eq other name) refl (flag_row_is name found uses more)
+    where
+      go : (b : Bool) → bytes_eq other name ≡ b → row_of name (map use_row uses) ≡ (if is_used name uses then Some (row_at name (codes "true")) else None)
+          → row_of name (map use_row (alone other ∷ uses)) ≡ (if is_used name (alone other ∷ uses) then Some (row_at name (codes "true")) else None)
+      go true e later = rw e (ap (λ n. Some (row_at n (codes "true"))) ((bytes_eq-Decides other name).0 e))
+      go false e later = rw e later
+  flag_row_is name found (given other text ∷ uses) (is, once, more) =
+      rw (apart other name (ruled 1 (option other is.0 is.1)) (ruled 1 (flag name)) is.3 found (λ e. let bad : Some Set ≡ Some SetTrue = ap (λ (r : Rule). r.action) e in cc bad))
+      (flag_row_is name found uses more)
+
+  -- the option is not used, or used once
+  abbrev IsShown : Text → ℕ → Text → List Use → Type 0
+  IsShown name greatest usual uses =
+      ((row_of name (map use_row uses) ≡ None) × (text_after name usual uses ≡ usual))
+      ⊎ ((text : Text) × (row_of name (map use_row uses) ≡ Some (row_at name text)) × (text_after name usual uses ≡ text) × IsNumeral 10 text × (digits_value 10 text ≤ greatest))
+
+  option_row_is : (name : Text) (greatest : ℕ) (usual : Text) → arg_by_id c name ≡ Some (ruled 1 (option name greatest usual)) → (uses : List Use) → AreWritten uses → IsShown name greatest usual uses
+  option_row_is name greatest usual found [] written = inl (refl, refl)
+  option_row_is name greatest usual found (alone other ∷ uses) (is, once, more) =
+      rw (apart other name (ruled 1 (flag other)) (ruled 1 (option name greatest usual)) is.1 found (λ e. let bad : Some SetTrue ≡ Some Set = ap (λ (r : Rule). r.action) e in cc bad))
+      (option_row_is name greatest usual found uses more)
+  option_row_is name greatest usual found (given other text ∷ uses) (is, once, more) = go (bytes_eq other name) refl (option_row_is name greatest usual found uses more)
+    where
+      go : (b : Bool) → bytes_eq other name ≡ b → IsShown name greatest usual uses → IsShown name greatest usual (given other text ∷ uses)
+      go true e later =
+          let same : other ≡ name = (bytes_eq-Decides other name).0 e in
+          let rules : Some (ruled 1 (option other is.0 is.1)) ≡ Some (ruled 1 (option name greatest usual)) = sym is.3 ∙ (ap (arg_by_id c) same ∙ found) in
+          let rule : ruled 1 (option other is.0 is.1) ≡ ruled 1 (option name greatest usual) = cc rules in
+          let parsers : Some (Unsigned 0 is.0) ≡ Some (Unsigned 0 greatest) = ap (λ (r : Rule). r.parser) rule in
+          let most : is.0 ≡ greatest = cc parsers in
+          let least = is.6 in
+          inr (text, (rw e (ap (λ n. Some (row_at n text)) same)), (rw e refl), is.5, omega (arith, most, least))
+      go false e later = rw e later
+
+  -- ---- what clap tells of the arguments
+
+  number_shown : (rows : List Row) (name : Text) (greatest : ℕ) (text : Text) → row_of name rows ≡ Some (row_at name text) → IsNumeral 10 text → digits_value 10 text ≤ greatest
+      → HasNumber rows name greatest (digits_value 10 text)
+  number_shown rows name greatest text found numeral least =
+      (text, ap (option_and_then row_text) found, subst (IsNumeral 10) (sym (no_plus text numeral)) numeral, ap (digits_value 10) (no_plus text numeral), least)
+
+  usual_shown : (rows : List Row) (name : Text) (greatest : ℕ) (usual : Text) → is_lawful (option name greatest usual) ≡ true → row_of name rows ≡ Some (default_at name usual)
+      → HasNumber rows name greatest (digits_value 10 usual)
+  usual_shown rows name greatest usual lawful found =
+      let same = usual_as_is name greatest usual lawful in
+      let value_is : digits_value 10 (without_leading_plus usual) ≡ digits_value 10 usual = ap (digits_value 10) same in
+      let in_range = accepts-Accepts false (Unsigned 0 greatest) usual (usual_accepted name greatest usual lawful) in
+      let most = in_range.3 in
+      (usual, ap (option_and_then row_text) found, in_range.0, value_is, omega (arith, value_is, most))
+
+  module _ (uses : List Use) (written : AreWritten uses) (request : Request) where
+    abbrev AreStill : List Row → List Argument → Type 0
+    AreStill rows [] = Unit {0}
+    AreStill rows (flag name ∷ rest) = (row_of name rows ≡ row_of name (map use_row uses)) × AreStill rows rest
+    AreStill rows (option name greatest usual ∷ rest) = (row_of name rows ≡ row_of name (map use_row uses)) × AreStill rows rest
+    AreStill rows (wanted name ∷ rest) = AreStill rows rest
+    AreStill rows (number name greatest ∷ rest) = AreStill rows rest
+
+    still_after : (i : ℕ) (a : Argument) (rows : List Row) (rest : List Argument) → is_named (name_of a) rest ≡ false → AreStill rows rest → AreStill (with_default rows (ruled i a)) rest
+    still_after i a rows [] other still = tt
+    still_after i a rows (flag name ∷ rest) other (first, still) =
+        let differ = neither (bytes_eq (name_of a) name) (is_named (name_of a) rest) other in
+        (one_other i a name rows differ.0 ∙ first, still_after i a rows rest differ.1 still)
+    still_after i a rows (option name greatest usual ∷ rest) other (first, still) =
+        let differ = neither (bytes_eq (name_of a) name) (is_named (name_of a) rest) other in
+        (one_other i a name rows differ.0 ∙ first, still_after i a rows rest differ.1 still)
+    still_after i a rows (wanted name ∷ rest) other still = still_after i a rows rest (neither (bytes_eq (name_of a) name) (is_named (name_of a) rest) other).1 still
+    still_after i a rows (number name greatest ∷ rest) other still = still_after i a rows rest (neither (bytes_eq (name_of a) name) (is_named (name_of a) rest) other).1 still
+
+    still_first : (all : List Argument) → AreFound c 1 all → (texts : List Text) → (i : ℕ) (arguments : List Argument) → AreFound c i arguments → AreStill (map use_row uses ++ place_rows all texts) arguments
+    still_first all found texts i [] here = tt
+    still_first all found texts i (flag name ∷ rest) (here, more) =
+        (none_after name (map use_row uses) (place_rows all texts) (places_apart name (ruled 1 (flag name)) here.0 refl 1 all found texts), still_first all found texts (next_place i (flag name)) rest more)
+    still_first all found texts i (option name greatest usual ∷ rest) (here, more) = (
+      none_after name (map use_row uses) (place_rows all texts) (places_apart name (ruled 1 (option name greatest usual)) here.0 refl 1 all found texts),
+      still_first all found texts (next_place i (option name greatest usual)) rest more,
+    )
+    still_first all found texts i (wanted name ∷ rest) (here, more) = still_first all found texts (next_place i (wanted name)) rest more
+    still_first all found texts i (number name greatest ∷ rest) (here, more) = still_first all found texts (next_place i (number name greatest)) rest more
+
+    flag_shown : (i : ℕ) (name : Text) (rest : List Argument) (rows : List Row) (used : Bool) → row_of name rows ≡ (if used then Some (row_at name (codes "true")) else None)
+        → HasFlag (fold with_default rows (rules_from i (flag name ∷ rest))) name used
+    flag_shown i name rest rows true is =
+        ap (option_and_then (λ (r : Row). slice_get r.values 0)) (all_kept i (flag name ∷ rest) name (row_at name (codes "true")) rows is)
+    flag_shown i name rest rows false is =
+        ap (option_and_then (λ (r : Row). slice_get r.values 0))
+        (all_kept (next_place i (flag name)) rest name (default_at name (codes "false")) (with_default rows (ruled i (flag name))) (usual_new name (codes "false") rows is))
+
+    option_shown : (i : ℕ) (name : Text) (greatest : ℕ) (usual : Text) (rest : List Argument) (rows : List Row) → is_lawful (option name greatest usual) ≡ true
+        → row_of name rows ≡ row_of name (map use_row uses) → IsShown name greatest usual uses
+        → HasNumber (fold with_default rows (rules_from i (option name greatest usual ∷ rest))) name greatest (digits_value 10 (text_after name usual uses))
+    option_shown i name greatest usual rest rows lawful same (inl (none, is)) =
+        subst (λ t. HasNumber (fold with_default rows (rules_from i (option name greatest usual ∷ rest))) name greatest (digits_value 10 t)) (sym is)
+        (usual_shown (fold with_default rows (rules_from i (option name greatest usual ∷ rest))) name greatest usual lawful
+        (all_kept (next_place i (option name greatest usual)) rest name (default_at name usual) (with_default rows (ruled i (option name greatest usual))) (usual_new name usual rows (same ∙ none))))
+    option_shown i name greatest usual rest rows lawful same (inr (text, found, is, numeral, least)) =
+        subst (λ t. HasNumber (fold with_default rows (rules_from i (option name greatest usual ∷ rest))) name greatest (digits_value 10 t)) (sym is)
+        (number_shown (fold with_default rows (rules_from i (option name greatest usual ∷ rest))) name greatest text
+        (all_kept i (option name greatest usual ∷ rest) name (row_at name text) rows (same ∙ found)) numeral least)
+
+    plain_has : (i : ℕ) (arguments : List Argument) (asks : Asking arguments) (texts : List Text) (rows : List Row) → AreFound c i arguments → are_lawful arguments ≡ true → AreStill rows arguments
+        → HavePlaces rows arguments texts → ArePlainArguments arguments asks uses texts request → HasArguments arguments asks (fold with_default rows (rules_from i arguments)) request
+    plain_has i [] asks [] rows found lawful still have plain = plain
+    plain_has i [] asks (text ∷ texts) rows found lawful still have plain = absurd plain
+    plain_has i (flag name ∷ rest) asks texts rows (here, more) lawful (first, still) have plain = (
+      is_used name uses,
+      flag_shown i name rest rows (is_used name uses) (first ∙ flag_row_is name here.0 uses written),
+      plain_has (next_place i (flag name)) rest (asks (is_used name uses)) texts (with_default rows (ruled i (flag name))) more (lawful_rest (flag name) rest lawful)
+          (still_after i (flag name) rows rest (fresh_name (flag name) rest lawful) still)
+          (places_kept rows (with_default rows (ruled i (flag name))) (λ n r e. one_kept i (flag name) n r rows e) rest texts have) plain,
+    )
+    plain_has i (option name greatest usual ∷ rest) asks texts rows (here, more) lawful (first, still) have plain = (
+      digits_value 10 (text_after name usual uses),
+      option_shown i name greatest usual rest rows (both (is_lawful (option name greatest usual)) _ lawful).0 first (option_row_is name greatest usual here.0 uses written),
+      plain_has (next_place i (option name greatest usual)) rest (asks (digits_value 10 (text_after name usual uses))) texts (with_default rows (ruled i (option name greatest usual))) more
+          (lawful_rest (option name greatest usual) rest lawful) (still_after i (option name greatest usual) rows rest (fresh_name (option name greatest usual) rest lawful) still)
+          (places_kept rows (with_default rows (ruled i (option name greatest usual))) (λ n r e. one_kept i (option name greatest usual) n r rows e) rest texts have) plain,
+    )
+    plain_has i (wanted name ∷ rest) asks [] rows found lawful still have plain = absurd plain
+    plain_has i (wanted name ∷ rest) asks (text ∷ texts) rows (here, more) lawful still (first, have) (is, plain) = (
+      text,
+      ap (option_and_then (λ (r : Row). slice_get r.values 0)) (all_kept i (wanted name ∷ rest) name (row_at name text) rows first),
+      plain_has (next_place i (wanted name)) rest (asks text) texts (with_default rows (ruled i (wanted name))) more (lawful_rest (wanted name) rest lawful)
+          (still_after i (wanted name) rows rest (fresh_name (wanted name) rest lawful) still)
+          (places_kept rows (with_default rows (ruled i (wanted name))) (λ n r e. one_kept i (wanted name) n r rows e) rest texts have) plain,
+    )
+    plain_has i (number name greatest ∷ rest) asks [] rows found lawful still have plain = absurd plain
+    plain_has i (number name greatest ∷ rest) asks (text ∷ texts) rows (here, more) lawful still (first, have) (numeral, least, plain) = (
+      digits_value 10 text,
+      number_shown (fold with_default rows (rules_from i (number name greatest ∷ rest))) name greatest text (all_kept i (number name greatest ∷ rest) name (row_at name text) rows first) numeral least,
+      plain_has (next_place i (number name greatest)) rest (asks (digits_value 10 text)) texts (with_default rows (ruled i (number name greatest))) more (lawful_rest (number name greatest) rest lawful)
+          (still_after i (number name greatest) rows rest (fresh_name (number name greatest) rest lawful) still)
+          (places_kept rows (with_default rows (ruled i (number name greatest))) (λ n r e. one_kept i (number name greatest) n r rows e) rest texts have) plain,
+    )
+
+-- ---- a command that is written plainly
 
 -- the faults of a command, by where the walk ends
-level_at : (s : Shape) (words : List (List ℕ)) (w : Walk) → walk s.rules [] nothing_held words ≡ w → walk_fault s [] (walk_from nothing_held) words ≡ []
+level_at : (s : Shape) (words : List Text) (w : Walk) → walk s.rules [] nothing_held words ≡ w → walk_fault s [] (walk_from nothing_held) words ≡ []
     → level_fault s [] nothing_held words false []
     ≡ or_else (settle_fault s.rules s.args_override_self w.held) (or_else (defaults_fault (settled s.rules w.held).rows s.rules) (check_fault s (finished s.rules w.held) false))
 level_at s words w ends none =
@@ -83,406 +543,78 @@ level_at s words w ends none =
     after : Walk → Kinds
     after w = or_else (settle_fault s.rules s.args_override_self w.held) (or_else (defaults_fault (settled s.rules w.held).rows s.rules) (check_fault s (finished s.rules w.held) false))
 
--- ---- the limit
-
-no_plus : (ds : List ℕ) → IsNumeral 10 ds → without_leading_plus ds ≡ ds
-no_plus [] h = refl
-no_plus (d ∷ ds) h =
-    let plus : (d == 43) ≡ false = ne_eqb _ _ (λ e. omega (arith, digit_from_value d h.1.0)) in
-    ap (λ (b : Bool). drop (cond b 1 0) (d ∷ ds)) plus
-
-digits_are_argument : (ds : List ℕ) → IsNumeral 10 ds → IsArgument ds
-digits_are_argument [] h = let some = h.0 in omega (arith, some)
-digits_are_argument (d ∷ ds) h = λ e. omega (arith, digit_from_value d h.1.0)
-
-limit_accepted : (text : List ℕ) (limit : ℕ) → IsNumeral 10 text → digits_value 10 text ≡ limit → limit ≤ greatest_limit → accepts false (Unsigned 0 greatest_limit) text ≡ true
-limit_accepted text limit numeral is least =
-    let same = no_plus text numeral in
-    let number : digits_value 10 (without_leading_plus text) ≡ limit = ap (digits_value 10) same ∙ is in
-    Accepts-accepts false (Unsigned 0 greatest_limit) text (subst (IsNumeral 10) (sym same) numeral, omega (arith, number, least), omega arith, omega (arith, number, least))
-
--- a limit that is read of a text which clap accepts
-pub limit_has : (arguments : List Row) (text : List ℕ) (limit : ℕ) → one_of (codes "limit") arguments ≡ Some text → accepts false (Unsigned 0 greatest_limit) text ≡ true
-    → digits_value 10 (without_leading_plus text) ≡ limit → HasLimit arguments limit
-limit_has arguments text limit has accepted is =
-    let in_range = accepts-Accepts false (Unsigned 0 greatest_limit) text accepted in
-    let most = in_range.3 in (text, has, in_range.0, is, omega (arith, is, most))
-
--- ---- arguments, each at its place
-
--- what is held after one
-abbrev held_after : Shape → Held → ℕ → Text → Held
-held_after s h n word = (to_positional s.rules (arg_by_index s.rules n) word (standing h n) h).held
-
-abbrev held_at_end : Shape → Held → ℕ → List Text → Held
-held_at_end s h n [] = h
-held_at_end s h n (word ∷ rest) = held_at_end s (held_after s h n word) (suc n) rest
-
-abbrev place_at_end : ℕ → List Text → ℕ
-place_at_end n [] = n
-place_at_end n (word ∷ rest) = place_at_end (suc n) rest
-
--- each has its place, and takes it without a fault
-abbrev ArePlaced : Shape → Held → ℕ → List Text → Type 0
-ArePlaced s h n [] = Unit {0}
-ArePlaced s h n (word ∷ rest) =
-    (to_positional s.rules (arg_by_index s.rules n) word (standing h n) h ≡ standing (held_after s h n word) (suc n)) × (step_fault s n h value ≡ [])
-    × ArePlaced s (held_after s h n word) (suc n) rest
-
-arguments_walked : (s : Shape) (h : Held) (n : ℕ) (words : List Text) → All IsArgument words → ArePlaced s h n words
-    → fold (walked s.rules []) (standing h n) words ≡ standing (held_at_end s h n words) (place_at_end n words)
-arguments_walked s h n [] are placed = refl
-arguments_walked s h n (word ∷ rest) are (step, turn, more) =
-    ap (λ w. fold (walked s.rules []) w rest) (argument_walked s.rules h n word (All-head IsArgument word rest are) ∙ step)
-    ∙ arguments_walked s (held_after s h n word) (suc n) rest (All-tail IsArgument word rest are) more
-
-arguments_pass : (s : Shape) (h : Held) (n : ℕ) (words : List Text) → All IsArgument words → ArePlaced s h n words → walk_fault s [] (standing h n) words ≡ []
-arguments_pass s h n [] are placed = walk_no_words s (standing h n)
-arguments_pass s h n (word ∷ rest) are (step, turn, more) =
-    let is = All-head IsArgument word rest are in
-    walk_no_fault s (standing h n) (standing (held_after s h n word) (suc n)) word rest (argument_turn s h n word is ∙ turn) (argument_walked s.rules h n word is ∙ step)
-    (arguments_pass s (held_after s h n word) (suc n) rest (All-tail IsArgument word rest are) more)
-
--- ---- `--limit N`, where it is there
-
-abbrev text_in : List Text → Option Text
-text_in (name ∷ text ∷ []) = Some text
-text_in option = None
-
--- what is held of it, after these rows
-abbrev held_with : List Row → Option Text → Held
-held_with rows text = record { rows = rows; pending = option_map (λ t. (codes "limit", t ∷ [])) text; skip = 0 }
-
-abbrev held_by : Option Text → Held
-held_by text = held_with [] text
-
-abbrev limit_text : Option Text → Text
-limit_text None = codes "134217728"
-limit_text (Some text) = text
-
-abbrev IsAccepted : Option Text → Type 0
-IsAccepted text = accepts false (Unsigned 0 greatest_limit) (limit_text text) ≡ true
-
-option_accepted : (option : List Text) (limit : ℕ) → ArePlainLimit option limit → IsAccepted (text_in option)
-option_accepted [] limit plain = refl
-option_accepted (name ∷ []) limit plain = absurd plain
-option_accepted (name ∷ text ∷ []) limit (is, numeral, writes, least) = limit_accepted text limit numeral writes least
-option_accepted (name ∷ text ∷ more ∷ rest) limit plain = absurd plain
-
-option_writes : (option : List Text) (limit : ℕ) → ArePlainLimit option limit → digits_value 10 (without_leading_plus (limit_text (text_in option))) ≡ limit
-option_writes [] limit plain = sym plain
-option_writes (name ∷ []) limit plain = absurd plain
-option_writes (name ∷ text ∷ []) limit (is, numeral, writes, least) = ap (digits_value 10) (no_plus text numeral) ∙ writes
-option_writes (name ∷ text ∷ more ∷ rest) limit plain = absurd plain
-
-abbrev option_held : List Row → Held
-option_held rows = record { rows = rows; pending = Some (codes "limit", []); skip = 0 }
-
-module _ (name : Text) (places : List Rule) (rows : List Row) where
-  abbrev own : Shape
-  own = leaf name places
-
-  option_met : walked own.rules [] (standing (held_with rows None) 1) (codes "--limit") ≡ waiting_for (codes "limit") (option_held rows) 1
-  unfolding clap_on_literals
-  option_met = refl
-
-  option_passes : turn_fault own [] (standing (held_with rows None) 1) (codes "--limit") ≡ []
-  unfolding clap_on_literals
-  option_passes = refl
-
-  text_walked : (text : Text) → IsArgument text → walked own.rules [] (waiting_for (codes "limit") (option_held rows) 1) text ≡ standing (held_with rows (Some text)) 1
-  text_walked text is = option_walked own.rules (codes "limit") (option_held rows) 1 text is
-
-  options_walked : (option : List Text) (limit : ℕ) → ArePlainLimit option limit → (rest : List Text)
-      → fold (walked own.rules []) (standing (held_with rows None) 1) (option ++ rest) ≡ fold (walked own.rules []) (standing (held_with rows (text_in option)) 1) rest
-  options_walked [] limit plain rest = refl
-  options_walked (first ∷ []) limit plain rest = absurd plain
-  options_walked (first ∷ text ∷ []) limit (is, numeral, writes, least) rest =
-      ap (λ n. fold (walked own.rules []) (walked own.rules [] (walked own.rules [] (standing (held_with rows None) 1) n) text) rest) is
-      ∙ (ap (λ w. fold (walked own.rules []) (walked own.rules [] w text) rest) option_met
-      ∙ ap (λ w. fold (walked own.rules []) w rest) (text_walked text (digits_are_argument text numeral)))
-  options_walked (first ∷ text ∷ more ∷ others) limit plain rest = absurd plain
-
-  options_pass : (option : List Text) (limit : ℕ) → ArePlainLimit option limit → (rest : List Text)
-      → walk_fault own [] (standing (held_with rows (text_in option)) 1) rest ≡ [] → walk_fault own [] (standing (held_with rows None) 1) (option ++ rest) ≡ []
-  options_pass [] limit plain rest pass = pass
-  options_pass (first ∷ []) limit plain rest pass = absurd plain
-  options_pass (first ∷ text ∷ []) limit (is, numeral, writes, least) rest pass =
-      let argument = digits_are_argument text numeral in
-      subst (λ n. walk_fault own [] (standing (held_with rows None) 1) (n ∷ text ∷ rest) ≡ []) (sym is)
-      (walk_no_fault own (standing (held_with rows None) 1) (waiting_for (codes "limit") (option_held rows) 1) (codes "--limit") (text ∷ rest) option_passes option_met
-      (walk_no_fault own (waiting_for (codes "limit") (option_held rows) 1) (standing (held_with rows (Some text)) 1) text rest (option_turn own (codes "limit") (option_held rows) 1 text argument)
-      (text_walked text argument) pass))
-  options_pass (first ∷ text ∷ more ∷ others) limit plain rest pass = absurd plain
-
--- ---- a command that is written plainly
-
--- no fault after the walk
-abbrev EndsWell : Shape → Held → Type 0
-EndsWell s h = or_else (settle_fault s.rules s.args_override_self h) (or_else (defaults_fault (settled s.rules h).rows s.rules) (check_fault s (finished s.rules h) false)) ≡ []
-
-module _ (name : Text) (places : List Rule) (named : IsNamed name places) (options : List Text) (held : Held)
-    (walk_options : (rest : List Text) → fold (walked (limit_rule ∷ places) []) (standing nothing_held 1) (options ++ rest) ≡ fold (walked (limit_rule ∷ places) []) (standing held 1) rest)
-    (pass_options : (rest : List Text) → walk_fault (leaf name places) [] (standing held 1) rest ≡ [] → walk_fault (leaf name places) [] (standing nothing_held 1) (options ++ rest) ≡ [])
-    (arguments : List Text) (are : All IsArgument arguments) where
-  abbrev last_held : Held
-  last_held = held_at_end (leaf name places) held 1 arguments
-
-  written_asks : ArePlaced (leaf name places) held 1 arguments → EndsWell (leaf name places) last_held
-      → (request : Request) → AsksBy name (finished (limit_rule ∷ places) last_held) request → Asks (name ∷ options ++ arguments) request
-  written_asks placed ends request by =
-      let last : Walk = standing last_held (place_at_end 1 arguments) in
-      let walks : walk (limit_rule ∷ places) [] nothing_held (options ++ arguments) ≡ last =
-      walk_options arguments ∙ arguments_walked (leaf name places) held 1 arguments are placed in
-      let passes : walk_fault (leaf name places) [] (walk_from nothing_held) (options ++ arguments) ≡ [] =
-      pass_options arguments (arguments_pass (leaf name places) held 1 arguments are placed) in
-      let level : level_fault (leaf name places) [] nothing_held (options ++ arguments) false [] ≡ [] = level_at (leaf name places) (options ++ arguments) last walks passes ∙ ends in
-      asks_by (name ∷ options ++ arguments) request name (rows_after (limit_rule ∷ places) [] (options ++ arguments))
-      (named_fault name places named (options ++ arguments) ∙ ap (λ k. or_else k []) level, named_met name places named (options ++ arguments))
-      (subst (λ (w : Walk). AsksBy name (finished (limit_rule ∷ places) w.held) request) (sym walks) by)
-
--- the same with a limit alone before the arguments
-limited_asks : (name : Text) (places : List Rule) → IsNamed name places → (option : List Text) (limit : ℕ) → ArePlainLimit option limit → (arguments : List Text) → All IsArgument arguments
-    → ArePlaced (leaf name places) (held_by (text_in option)) 1 arguments → EndsWell (leaf name places) (held_at_end (leaf name places) (held_by (text_in option)) 1 arguments)
-    → (request : Request) → AsksBy name (finished (limit_rule ∷ places) (held_at_end (leaf name places) (held_by (text_in option)) 1 arguments)) request
-    → Asks (name ∷ option ++ arguments) request
-limited_asks name places named option limit plain arguments are placed ends request by =
-    written_asks name places named option (held_by (text_in option)) (options_walked name places [] option limit plain) (options_pass name places [] option limit plain) arguments are placed ends request by
-
--- the limit, where the rows after the walk have it
-has_limit : (option : List Text) (limit : ℕ) → ArePlainLimit option limit → (arguments : List Row) → one_of (codes "limit") arguments ≡ Some (limit_text (text_in option)) → HasLimit arguments limit
-has_limit option limit plain arguments has = limit_has arguments (limit_text (text_in option)) limit has (option_accepted option limit plain) (option_writes option limit plain)
-
-settled_limit : (text : Text) → IsAccepted (Some text) → or_else (if accepts false (Unsigned 0 greatest_limit) text then [] else kind.ValueValidation ∷ []) [] ≡ []
-settled_limit text accepted = ap (λ b. or_else (if b then [] else kind.ValueValidation ∷ []) []) accepted
-
--- ---- no argument
-
-module _ (name : Text) where
-  none_end : (text : Option Text) → IsAccepted text → EndsWell (leaf name []) (held_by text)
-  unfolding defaults_fault
-  none_end None accepted = refl
-  none_end (Some text) accepted = ap (λ b. or_else (or_else (if b then [] else kind.ValueValidation ∷ []) []) []) accepted
-
-  none_limit : (text : Option Text) → one_of (codes "limit") (finished (limit_rule ∷ []) (held_by text)) ≡ Some (limit_text text)
-  none_limit None = refl
-  none_limit (Some text) = refl
-
--- ---- FILE and TYPE
-
-module _ (name file type : Text) where
-  abbrev two_held : Option Text → Held
-  two_held text = held_at_end (leaf name typed_places) (held_by text) 1 (file ∷ type ∷ [])
-
-  two_placed : (text : Option Text) → IsAccepted text → ArePlaced (leaf name typed_places) (held_by text) 1 (file ∷ type ∷ [])
-  two_placed None accepted = (refl, refl, (refl, refl, tt))
-  two_placed (Some text) accepted = (refl, settled_limit text accepted, (refl, refl, tt))
-
-  two_end : (text : Option Text) → EndsWell (leaf name typed_places) (two_held text)
-  unfolding defaults_fault
-  two_end None = refl
-  two_end (Some text) = refl
-
-  two_read : (text : Option Text)
-      → (first_of (codes "FILE") (finished (limit_rule ∷ typed_places) (two_held text)) ≡ Some file)
-      × (first_of (codes "TYPE") (finished (limit_rule ∷ typed_places) (two_held text)) ≡ Some type)
-      × (one_of (codes "limit") (finished (limit_rule ∷ typed_places) (two_held text)) ≡ Some (limit_text text))
-  two_read None = (refl, refl, refl)
-  two_read (Some text) = (refl, refl, refl)
-
--- ---- FILE, TYPE and PATH
-
-module _ (name file type path : Text) where
-  abbrev three_held : Option Text → Held
-  three_held text = held_at_end (leaf name get_places) (held_by text) 1 (file ∷ type ∷ path ∷ [])
-
-  three_placed : (text : Option Text) → IsAccepted text → ArePlaced (leaf name get_places) (held_by text) 1 (file ∷ type ∷ path ∷ [])
-  three_placed None accepted = (refl, refl, (refl, refl, (refl, refl, tt)))
-  three_placed (Some text) accepted = (refl, settled_limit text accepted, (refl, refl, (refl, refl, tt)))
-
-  three_end : (text : Option Text) → EndsWell (leaf name get_places) (three_held text)
-  unfolding defaults_fault
-  three_end None = refl
-  three_end (Some text) = refl
-
-  three_read : (text : Option Text)
-      → (first_of (codes "FILE") (finished (limit_rule ∷ get_places) (three_held text)) ≡ Some file)
-      × (first_of (codes "TYPE") (finished (limit_rule ∷ get_places) (three_held text)) ≡ Some type)
-      × (first_of (codes "PATH") (finished (limit_rule ∷ get_places) (three_held text)) ≡ Some path)
-      × (one_of (codes "limit") (finished (limit_rule ∷ get_places) (three_held text)) ≡ Some (limit_text text))
-  three_read None = (refl, refl, refl, refl)
-  three_read (Some text) = (refl, refl, refl, refl)
-
--- ---- FILE, TYPE and SCRIPT, and the flag
-
-abbrev editing : Shape
-editing = leaf (codes "edit") edit_places
-
--- the row of the flag that is used, and that of a limit
-abbrev flag_row : Row
-flag_row = record { id = codes "compat32"; values = codes "true" ∷ []; count = None; source = Some CommandLine; reading = reading_by compat_rule }
-
-abbrev limit_row : Text → Row
-limit_row text = record { id = codes "limit"; values = text ∷ []; count = None; source = Some CommandLine; reading = reading_by limit_rule }
-
-abbrev flag_rows : Bool → List Row
-flag_rows false = []
-flag_rows true = flag_row ∷ []
-
--- what is held where the flag comes last
-abbrev held_last : Option Text → Held
-held_last None = held_with (flag_row ∷ []) None
-held_last (Some text) = record { rows = limit_row text ∷ flag_row ∷ []; pending = None; skip = 0 }
-
-flag_walked : (text : Option Text) → walked editing.rules [] (standing (held_by text) 1) (codes "--compat32") ≡ standing (held_last text) 1
-unfolding clap_on_literals
-flag_walked None = refl
-flag_walked (Some text) = refl
-
-flag_passes : (text : Option Text) → IsAccepted text → turn_fault editing [] (standing (held_by text) 1) (codes "--compat32") ≡ []
-unfolding clap_on_literals
-flag_passes None accepted = refl
-flag_passes (Some text) accepted = ap (λ b. or_else (or_else (or_else (if b then [] else kind.ValueValidation ∷ []) []) []) []) accepted
-
--- the flag before a limit
-first_walked : (option : List Text) (limit : ℕ) → ArePlainLimit option limit → (rest : List Text)
-    → fold (walked editing.rules []) (standing nothing_held 1) ((codes "--compat32" ∷ option) ++ rest) ≡ fold (walked editing.rules []) (standing (held_with (flag_row ∷ []) (text_in option)) 1) rest
-first_walked option limit plain rest =
-    ap (λ w. fold (walked editing.rules []) w (option ++ rest)) (flag_walked None) ∙ options_walked (codes "edit") edit_places (flag_row ∷ []) option limit plain rest
-
-first_pass : (option : List Text) (limit : ℕ) → ArePlainLimit option limit → (rest : List Text)
-    → walk_fault editing [] (standing (held_with (flag_row ∷ []) (text_in option)) 1) rest ≡ [] → walk_fault editing [] (standing nothing_held 1) ((codes "--compat32" ∷ option) ++ rest) ≡ []
-first_pass option limit plain rest pass =
-    walk_no_fault editing (standing nothing_held 1) (standing (held_last None) 1) (codes "--compat32") (option ++ rest) (flag_passes None refl) (flag_walked None)
-    (options_pass (codes "edit") edit_places (flag_row ∷ []) option limit plain rest pass)
-
--- and after it
-last_walked : (option : List Text) (limit : ℕ) → ArePlainLimit option limit → (rest : List Text)
-    → fold (walked editing.rules []) (standing nothing_held 1) ((option ++ codes "--compat32" ∷ []) ++ rest) ≡ fold (walked editing.rules []) (standing (held_last (text_in option)) 1) rest
-last_walked option limit plain rest =
-    ap (λ words. fold (walked editing.rules []) (standing nothing_held 1) words) (append_assoc option (codes "--compat32" ∷ []) rest)
-    ∙ (options_walked (codes "edit") edit_places [] option limit plain (codes "--compat32" ∷ rest)
-    ∙ ap (λ w. fold (walked editing.rules []) w rest) (flag_walked (text_in option)))
-
-last_pass : (option : List Text) (limit : ℕ) → ArePlainLimit option limit → (rest : List Text)
-    → walk_fault editing [] (standing (held_last (text_in option)) 1) rest ≡ [] → walk_fault editing [] (standing nothing_held 1) ((option ++ codes "--compat32" ∷ []) ++ rest) ≡ []
-last_pass option limit plain rest pass =
-    subst (λ words. walk_fault editing [] (standing nothing_held 1) words ≡ []) (sym (append_assoc option (codes "--compat32" ∷ []) rest))
-    (options_pass (codes "edit") edit_places [] option limit plain (codes "--compat32" ∷ rest)
-    (walk_no_fault editing (standing (held_by (text_in option)) 1) (standing (held_last (text_in option)) 1) (codes "--compat32") rest
-    (flag_passes (text_in option) (option_accepted option limit plain)) (flag_walked (text_in option)) pass))
-
-module _ (file type script : Text) where
-  abbrev edit_held : Held → Held
-  edit_held held = held_at_end editing held 1 (file ∷ type ∷ script ∷ [])
-
-  edit_placed : (compat : Bool) (text : Option Text) → IsAccepted text → ArePlaced editing (held_with (flag_rows compat) text) 1 (file ∷ type ∷ script ∷ [])
-  edit_placed false None accepted = (refl, refl, (refl, refl, (refl, refl, tt)))
-  edit_placed false (Some text) accepted = (refl, settled_limit text accepted, (refl, refl, (refl, refl, tt)))
-  edit_placed true None accepted = (refl, refl, (refl, refl, (refl, refl, tt)))
-  edit_placed true (Some text) accepted = (refl, settled_limit text accepted, (refl, refl, (refl, refl, tt)))
-
-  edit_end : (compat : Bool) (text : Option Text) → EndsWell editing (edit_held (held_with (flag_rows compat) text))
-  unfolding defaults_fault
-  edit_end false None = refl
-  edit_end false (Some text) = refl
-  edit_end true None = refl
-  edit_end true (Some text) = refl
-
-  -- what clap tells of the arguments
-  record IsEditing (held : Held) (compat : Bool) (limit : Text) : Type 0 where
-    has_file : first_of (codes "FILE") (finished editing.rules (edit_held held)) ≡ Some file
-    has_type : first_of (codes "TYPE") (finished editing.rules (edit_held held)) ≡ Some type
-    has_script : first_of (codes "SCRIPT") (finished editing.rules (edit_held held)) ≡ Some script
-    has_compat : first_of (codes "compat32") (finished editing.rules (edit_held held)) ≡ Some (if compat then codes "true" else codes "false")
-    has_limit : one_of (codes "limit") (finished editing.rules (edit_held held)) ≡ Some limit
-
-  edit_read : (compat : Bool) (text : Option Text) → IsEditing (held_with (flag_rows compat) text) compat (limit_text text)
-  edit_read false None = record { has_file = refl; has_type = refl; has_script = refl; has_compat = refl; has_limit = refl }
-  edit_read false (Some text) = record { has_file = refl; has_type = refl; has_script = refl; has_compat = refl; has_limit = refl }
-  edit_read true None = record { has_file = refl; has_type = refl; has_script = refl; has_compat = refl; has_limit = refl }
-  edit_read true (Some text) = record { has_file = refl; has_type = refl; has_script = refl; has_compat = refl; has_limit = refl }
-
-  last_placed : (text : Option Text) → ArePlaced editing (held_last text) 1 (file ∷ type ∷ script ∷ [])
-  last_placed None = (refl, refl, (refl, refl, (refl, refl, tt)))
-  last_placed (Some text) = (refl, refl, (refl, refl, (refl, refl, tt)))
-
-  last_end : (text : Option Text) → EndsWell editing (edit_held (held_last text))
-  unfolding defaults_fault
-  last_end None = refl
-  last_end (Some text) = refl
-
-  last_read : (text : Option Text) → IsEditing (held_last text) true (limit_text text)
-  last_read None = record { has_file = refl; has_type = refl; has_script = refl; has_compat = refl; has_limit = refl }
-  last_read (Some text) = record { has_file = refl; has_type = refl; has_script = refl; has_compat = refl; has_limit = refl }
-
-  module _ (are : All IsArgument (file ∷ type ∷ script ∷ [])) (option : List Text) (limit : ℕ) (plain : ArePlainLimit option limit) where
-    edit_by : (held : Held) (compat : Bool) → IsEditing held compat (limit_text (text_in option)) → AsksBy (codes "edit") (finished editing.rules (edit_held held)) (edit file type script compat limit)
-    edit_by held compat r =
-        (refl, (r.has_file, r.has_type, limit_has (finished editing.rules (edit_held held)) (limit_text (text_in option)) limit r.has_limit (option_accepted option limit plain) (option_writes option limit plain)), r.has_script, r.has_compat)
-
-    edit_limited : Asks (codes "edit" ∷ option ++ file ∷ type ∷ script ∷ []) (edit file type script false limit)
-    edit_limited =
-        limited_asks (codes "edit") edit_places edit_named option limit plain (file ∷ type ∷ script ∷ []) are (edit_placed false (text_in option) (option_accepted option limit plain))
-        (edit_end false (text_in option)) (edit file type script false limit) (edit_by (held_by (text_in option)) false (edit_read false (text_in option)))
-
-    edit_flag_first : Asks (codes "edit" ∷ (codes "--compat32" ∷ option) ++ file ∷ type ∷ script ∷ []) (edit file type script true limit)
-    edit_flag_first =
-        written_asks (codes "edit") edit_places edit_named (codes "--compat32" ∷ option) (held_with (flag_row ∷ []) (text_in option)) (first_walked option limit plain) (first_pass option limit plain)
-        (file ∷ type ∷ script ∷ []) are (edit_placed true (text_in option) (option_accepted option limit plain)) (edit_end true (text_in option)) (edit file type script true limit)
-        (edit_by (held_with (flag_row ∷ []) (text_in option)) true (edit_read true (text_in option)))
-
-    edit_flag_last : Asks (codes "edit" ∷ (option ++ codes "--compat32" ∷ []) ++ file ∷ type ∷ script ∷ []) (edit file type script true limit)
-    edit_flag_last =
-        written_asks (codes "edit") edit_places edit_named (option ++ codes "--compat32" ∷ []) (held_last (text_in option)) (last_walked option limit plain) (last_pass option limit plain)
-        (file ∷ type ∷ script ∷ []) are (last_placed (text_in option)) (last_end (text_in option)) (edit file type script true limit)
-        (edit_by (held_last (text_in option)) true (last_read (text_in option)))
-
-  edit_asks : All IsArgument (file ∷ type ∷ script ∷ []) → (options : List Text) (limit : ℕ) (compat : Bool) → ArePlainOptions options limit compat
-      → Asks (codes "edit" ∷ options ++ file ∷ type ∷ script ∷ []) (edit file type script compat limit)
-  edit_asks are options limit false plain = edit_limited are options limit plain
-  edit_asks are options limit true (option, plain, inl is) =
-      subst (λ o. Asks (codes "edit" ∷ o ++ file ∷ type ∷ script ∷ []) (edit file type script true limit)) (sym is) (edit_flag_first are option limit plain)
-  edit_asks are options limit true (option, plain, inr is) =
-      subst (λ o. Asks (codes "edit" ∷ o ++ file ∷ type ∷ script ∷ []) (edit file type script true limit)) (sym is) (edit_flag_last are option limit plain)
-
--- ---- all of them
-
-module _ (option : List Text) (limit : ℕ) (plain : ArePlainLimit option limit) where
-  module _ (name : Text) (named : IsNamed name []) (are : All IsArgument []) where
-    none_asks : (request : Request) → (HasLimit (finished (limit_rule ∷ []) (held_by (text_in option))) limit → AsksBy name (finished (limit_rule ∷ []) (held_by (text_in option))) request)
-        → Asks (name ∷ option ++ []) request
-    none_asks request by =
-        limited_asks name [] named option limit plain [] are tt (none_end name (text_in option) (option_accepted option limit plain)) request
-        (by (has_limit option limit plain (finished (limit_rule ∷ []) (held_by (text_in option))) (none_limit name (text_in option))))
-
-  module _ (name file type : Text) (named : IsNamed name typed_places) (are : All IsArgument (file ∷ type ∷ [])) where
-    two_ask : (request : Request)
-        → (HasTyped (finished (limit_rule ∷ typed_places) (two_held name file type (text_in option))) file type limit
-        → AsksBy name (finished (limit_rule ∷ typed_places) (two_held name file type (text_in option))) request) → Asks (name ∷ option ++ file ∷ type ∷ []) request
-    two_ask request by =
-        let read = two_read name file type (text_in option) in
-        limited_asks name typed_places named option limit plain (file ∷ type ∷ []) are (two_placed name file type (text_in option) (option_accepted option limit plain))
-        (two_end name file type (text_in option)) request
-        (by (read.0, read.1, has_limit option limit plain (finished (limit_rule ∷ typed_places) (two_held name file type (text_in option))) read.2))
-
-  three_ask : (file type path : Text) → All IsArgument (file ∷ type ∷ path ∷ []) → Asks (codes "get" ∷ option ++ file ∷ type ∷ path ∷ []) (get file type path limit)
-  three_ask file type path are =
-      let read = three_read (codes "get") file type path (text_in option) in
-      limited_asks (codes "get") get_places get_named option limit plain (file ∷ type ∷ path ∷ []) are
-      (three_placed (codes "get") file type path (text_in option) (option_accepted option limit plain)) (three_end (codes "get") file type path (text_in option)) (get file type path limit)
-      (refl, (read.0, read.1, has_limit option limit plain (finished (limit_rule ∷ get_places) (three_held (codes "get") file type path (text_in option))) read.3), read.2)
+module _ (form : Form) (found : form_of form.name ≡ Some form) (uses : List Use) (plain_uses : ArePlainUses form.arguments uses) (texts : List Text) (request : Request)
+    (plain : ArePlainArguments form.arguments form.asks uses texts request) where
+  abbrev c : List Rule
+  c = rules_of form
+
+  abbrev words : List Text
+  words = flat_map words_of uses ++ texts
+
+  abbrev rows : List Row
+  rows = map use_row uses ++ place_rows form.name c form.arguments texts
+
+  lawful : are_lawful form.arguments ≡ true
+  lawful = (form_fits form.name form found).0
+
+  are : AreFound c 1 form.arguments
+  are = let short = (form_fits form.name form found).1 in all_found 1 form.arguments lawful (omega (arith, short))
+
+  uses_written : AreWritten form.name c uses
+  uses_written = all_written form.name c form.arguments are lawful uses plain_uses
+
+  free : AreFree form.name c (map use_row uses) form.arguments
+  free = uses_free form.name c 1 form.arguments are uses uses_written
+
+  comes : Comes form.name c nothing_held 1 words (last_place form.name c 1 form.arguments) rows
+  comes =
+      then_comes form.name c nothing_held 1 1 (last_place form.name c 1 form.arguments) (flat_map words_of uses) texts (map use_row uses) rows
+      (uses_come form.name c uses uses_written nothing_held 1 [] (refl, refl) (none_fresh form.name c uses))
+      (λ h holds. places_come form.name c 1 form.arguments form.asks uses texts request are lawful plain h (map use_row uses) holds free)
+
+  abbrev told : List Row
+  told = fold with_default rows c
+
+  finished_is : finished c comes.0 ≡ told
+  finished_is = ap (λ rs. fold with_default rs c) comes.2.1
+
+  places : HavePlaces form.name c rows form.arguments texts
+  places = have_places form.name c form.arguments form.asks uses texts request lawful plain (map use_row uses) free
+
+  told_has : HasArguments form.arguments form.asks told request
+  told_has =
+      plain_has form.name c uses uses_written request 1 form.arguments form.asks texts rows are lawful (still_first form.name c uses uses_written request form.arguments are texts 1 form.arguments are) places plain
+
+  none_missing : list_any (λ a. a.required && not (is_given a.id told)) c ≡ false
+  none_missing =
+      given_all form.name c 1 form.arguments texts told
+      (places_kept form.name c rows told (λ n r e. all_kept form.name c 1 form.arguments n r rows e) form.arguments texts places)
+
+  ends_well : or_else (settle_fault c false comes.0) (or_else (defaults_fault (settled c comes.0).rows c) (check_fault (leaf_of form) (finished c comes.0) false)) ≡ []
+  ends_well =
+      ap (λ k. or_else k (or_else (defaults_fault (settled c comes.0).rows c) (check_fault (leaf_of form) (finished c comes.0) false))) comes.2.0
+      ∙ (ap (λ k. or_else k (check_fault (leaf_of form) (finished c comes.0) false)) (no_defaults_fault form.name c 1 form.arguments (settled c comes.0).rows lawful)
+      ∙ (ap (λ rs. check_fault (leaf_of form) rs false) finished_is ∙ ap (λ b. if b then kind.MissingRequiredArgument ∷ [] else []) none_missing))
+
+  walks : walk c [] nothing_held words ≡ standing comes.0 (last_place form.name c 1 form.arguments)
+  walks = ap (λ ws. fold (walked c []) (standing nothing_held 1) ws) (sym (append-nil words)) ∙ (comes.1 []).0
+
+  passes : walk_fault (leaf_of form) [] (walk_from nothing_held) words ≡ []
+  passes =
+      subst (λ ws. walk_fault (leaf_of form) [] (standing nothing_held 1) ws ≡ []) (append-nil words)
+      ((comes.1 []).1 (walk_no_words (leaf_of form) (standing comes.0 (last_place form.name c 1 form.arguments))))
+
+  level : level_fault (leaf_of form) [] nothing_held words false [] ≡ []
+  level = level_at (leaf_of form) words (standing comes.0 (last_place form.name c 1 form.arguments)) walks passes ∙ ends_well
+
+  rows_are : rows_after c [] words ≡ told
+  rows_are = ap (λ (w : Walk). finished c w.held) walks ∙ finished_is
+
+  form_asks : Asks (form.name ∷ words) request
+  form_asks =
+      asks_by (form.name ∷ words) request form.name (rows_after c [] words) (named_fault form found words ∙ ap (λ k. or_else k []) level, named_met form found words)
+      (form, found, subst (λ rs. HasArguments form.arguments form.asks rs request) (sym rows_are) told_has)
 
 pub plain_words_ask : (words : List (List ℕ)) (request : Request) → ArePlain words request → Asks words request
-plain_words_ask words (check file type limit) (option, plain, are, is) =
-    subst (λ w. Asks w (check file type limit)) (sym is) (two_ask option limit plain (codes "check") file type check_named are (check file type limit) (λ has. (refl, has)))
-plain_words_ask words (show file type limit) (option, plain, are, is) =
-    subst (λ w. Asks w (show file type limit)) (sym is) (two_ask option limit plain (codes "show") file type show_named are (show file type limit) (λ has. (refl, has)))
-plain_words_ask words (get file type path limit) (option, plain, are, is) =
-    subst (λ w. Asks w (get file type path limit)) (sym is) (three_ask option limit plain file type path are)
-plain_words_ask words (edit file type script compat limit) (options, plain, are, is) =
-    subst (λ w. Asks w (edit file type script compat limit)) (sym is) (edit_asks file type script are options limit compat plain)
-plain_words_ask words (dump limit) (option, plain, are, is) =
-    subst (λ w. Asks w (dump limit)) (sym is) (none_asks option limit plain (codes "dump") dump_named are (dump limit) (λ has. (refl, has)))
-plain_words_ask words (compare limit) (option, plain, are, is) =
-    subst (λ w. Asks w (compare limit)) (sym is) (none_asks option limit plain (codes "same") same_named are (compare limit) (λ has. (refl, has)))
+plain_words_ask words_given request (form, found, uses, plain_uses, texts, plain, is) =
+    subst (λ ws. Asks ws request) (sym is) (form_asks form found uses plain_uses texts request plain)

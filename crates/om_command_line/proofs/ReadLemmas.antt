@@ -1,91 +1,128 @@
--- What is read of a command's arguments.
-use Rattle.std.proofs.Common.{◌≡◌, ◌∙◌, ◌<◌, ◌≤◌, ◌^◌, ℕ, Bool, true, false, List, Option, Some, None, Result, Ok, Err, codes, refl, sym, ap, subst, arith}
-use Rattle.std.specs.Prelude.{option_map}
+-- What is read of the words.
+use Rattle.std.proofs.Common.{◌≡◌, ◌≢◌, ◌∙◌, ◌^◌, ℕ, Bool, true, false, List, [], Option, Some, None, Result, Ok, Err, refl, sym, ap, subst, inl, inr, unwrap_or, arith}
+use Rattle.std.specs.Prelude.{Box, if◌then◌else◌, option_map}
+use Rattle.std.specs.Box.{box_value}
 use Rattle.std.specs.Borrow.{Bor}
-use Rattle.std.specs.Str.Parse.{ParsesUnsigned, IsNumeral, digits_value, without_leading_plus}
-use Rattle.clap.specs.Words.{ReadsOne, Row, first_value, one_of, one_text, rows_of}
+use Rattle.std.specs.Str.Parse.{ParsesUnsigned, digits_value, without_leading_plus}
+use Rattle.clap.specs.ValueTests.{accepts}
+use Rattle.clap.specs.Words.{App, HasKind, HasMatchesOf, IsAmong, ReadsOne, Row, fault_of, first_value, is_simple, is_simple_and_free, kind_of, one_text, rows_of, subcommand_name_of, subcommand_of, subcommand_rows, subcommand_rows_of}
+use Rattle.clap.specs.declared.builder.value_parser.ValueParser.TheVariants.{Unsigned}
+use Rattle.clap.specs.declared.error.Error.{Error}
+use Rattle.clap.specs.declared.error.kind.ErrorKind.TheVariants as kinds
+use Rattle.clap.specs.declared.parser.matches.ArgMatches.{ArgMatches}
+use Rattle.clap.specs.declared.parser.matches.ArgMatches.TheViews.{out-ArgMatches, out-SubCommand}
+use Rattle.clap.specs.declared.parser.matches.SubCommand.{SubCommand}
 use Rattle.clap.specs.declared.parser.matches.Found.{Found}
+use Rattle.clap.proofs.OnLiterals.{clap_on_literals}
+use Rattle.clap.proofs.ValueTestLemmas.{Accepts-accepts, accepts-Accepts}
 use Rattle.clap.proofs.WalkLemmas.{first_value-rows, one_text-rows}
-use Rattle.om_outcome.specs.CommandLine.{HasArgument, HasCompat, HasLimit, HasTyped, greatest_limit, Request, AsksBy}
-use Rattle.om_command_line.proofs.RequestLemmas.{only_request, request_told}
+use Rattle.om_outcome.specs.CommandLine.{command_set, Request, Asks, IsUsage}
+use Rattle.om_command_line.specs.declared.read.Request.{Request as Reading}
+use Rattle.om_command_line.specs.declared.read.Unread.{Unread}
+use Rattle.om_command_line.specs.declared.read.Unread.TheVariants.{Usage, Memory}
+use Rattle.om_command_line.specs.Requests.{ReadsAsked, ReadsBy, ReadsMet, ReadsWords, number_in, number_of, request_of, word_in}
+use Rattle.om_command_line.proofs.AcceptedLemmas.{accepted_words_ask}
+use Rattle.om_command_line.proofs.RequestLemmas.{asked_words, request_told}
 
--- what a getter of a number says, where `parse` gives what `Gives` says
+-- ---- an argument
+
+-- a getter of texts gives the word
+pub word_got : (found : Found) (name : List ℕ) (r : Option (Bor (List ℕ))) (usual text : Bor (List ℕ)) → option_map (λ s. s.now) r ≡ first_value found name → usual.now ≡ []
+    → text ≡ unwrap_or r usual → text.now ≡ word_in (rows_of found) name
+word_got found name r usual text is empty given =
+    ap (λ (s : Bor (List ℕ)). s.now) given ∙ (go r ∙ ap (λ (o : Option (List ℕ)). unwrap_or o []) (is ∙ first_value-rows found name))
+  where
+    go : (r : Option (Bor (List ℕ))) → (unwrap_or r usual).now ≡ unwrap_or (option_map (λ s. s.now) r) []
+    go None = empty
+    go (Some s) = refl
+
+-- a getter of numbers gives the number, where `parse` gives what `Gives` says
 module _ {E : Type 0} (Gives : List ℕ → Result ℕ E → Type 0) (parses : (text : List ℕ) (r : Result ℕ E) → Gives text r → ParsesUnsigned 64 10 text r)
-    (found : Found) (r : Option ℕ) (none : one_text found (codes "limit") ≡ None → r ≡ None)
-    (value : (text : List ℕ) → one_text found (codes "limit") ≡ Some text → ReadsOne Gives text r) where
-  number_read : (limit : ℕ) → r ≡ Some limit → (text : List ℕ) × (one_of (codes "limit") (rows_of found) ≡ Some text) × IsNumeral 10 (without_leading_plus text) × (digits_value 10 (without_leading_plus text) ≡ limit)
-  number_read limit is = go (one_text found (codes "limit")) refl
+    (found : Found) (name : List ℕ) (r : Option ℕ) (none : one_text found name ≡ None → r ≡ None)
+    (value : (text : List ℕ) → one_text found name ≡ Some text → ReadsOne Gives text r) where
+  parsed_is : (text : List ℕ) (r : Option ℕ) → ReadsOne Gives text r → unwrap_or r 0 ≡ number_of (Some text)
+  parsed_is text (Some n) reads =
+      let parsed = parses text (Ok n) reads in
+      let accepted : accepts false (Unsigned 0 (2 ^ 64)) text ≡ true = Accepts-accepts false (Unsigned 0 (2 ^ 64)) text (parsed.0.0, parsed.0.1, omega arith, omega (arith, parsed.0.1)) in
+      parsed.1 ∙ sym (ap (λ b. if b then digits_value 10 (without_leading_plus text) else 0) accepted)
+  parsed_is text None reads = go (accepts false (Unsigned 0 (2 ^ 64)) text) refl
     where
-      go : (o : Option (List ℕ)) → one_text found (codes "limit") ≡ o → (text : List ℕ) × (one_of (codes "limit") (rows_of found) ≡ Some text) × IsNumeral 10 (without_leading_plus text) × (digits_value 10 (without_leading_plus text) ≡ limit)
-      go None e = let bad : Some limit ≡ None = sym is ∙ none e in absurd (cc bad)
-      go (Some text) e =
-          let read : ReadsOne Gives text (Some limit) = subst (ReadsOne Gives text) is (value text e) in
-          let parsed = parses text (Ok limit) read in
-          (text, sym (one_text-rows found (codes "limit")) ∙ e, parsed.0.0, sym parsed.1)
+      go : (b : Bool) → accepts false (Unsigned 0 (2 ^ 64)) text ≡ b → 0 ≡ (if b then digits_value 10 (without_leading_plus text) else 0)
+      go true e = let in_range = accepts-Accepts false (Unsigned 0 (2 ^ 64)) text e in absurd (parses text (Err reads.0) reads.1 (in_range.0, in_range.1))
+      go false e = refl
 
-  pub limit_read : (limit : ℕ) → r ≡ Some limit → limit ≤ greatest_limit → HasLimit (rows_of found) limit
-  limit_read limit is least = let number = number_read limit is in (number.0, number.1, number.2, number.3, least)
+  pub number_got : unwrap_or r 0 ≡ number_in (rows_of found) name
+  number_got = go (one_text found name) refl ∙ ap number_of (one_text-rows found name)
+    where
+      go : (o : Option (List ℕ)) → one_text found name ≡ o → unwrap_or r 0 ≡ number_of (one_text found name)
+      go None e = ap (λ (o : Option ℕ). unwrap_or o 0) (none e) ∙ sym (ap number_of e)
+      go (Some text) e = parsed_is text r (value text e) ∙ sym (ap number_of e)
 
-  pub limit_large : (limit : ℕ) → r ≡ Some limit → greatest_limit < limit → (other : ℕ) → HasLimit (rows_of found) other → ⊥
-  limit_large limit is large other (text, has, numeral, writes, least) =
-      let number = number_read limit is in
-      let e : Some number.0 ≡ Some text = sym number.1 ∙ has in
-      let same : number.0 ≡ text = cc e in
-      let equal : limit ≡ other = sym number.3 ∙ (ap (λ t. digits_value 10 (without_leading_plus t)) same ∙ writes) in
-      omega (arith, equal, large, least)
+-- ---- the command that was met
 
-  pub limit_missing : r ≡ None → (other : ℕ) → HasLimit (rows_of found) other → ⊥
-  limit_missing is other (text, has, numeral, writes, least) =
-      let read : ReadsOne Gives text None = subst (ReadsOne Gives text) is (value text (one_text-rows found (codes "limit") ∙ has)) in
-      let number : digits_value 10 (without_leading_plus text) < 2 ^ 64 = omega (arith, writes, least) in
-      parses text (Err read.0) read.1 (numeral, number)
+module _ {Z : Type 0} where
+  name_in : (o : Option (Box SubCommand Z)) → option_map (λ b. (out-SubCommand (box_value b)).name.now) o ≡ option_map (λ (p : List ℕ × List Row). p.0) (subcommand_rows o)
+  name_in None = refl
+  name_in (Some b) = refl
 
--- what a getter of texts says
-module _ (found : Found) (name : List ℕ) (r : Option (Bor (List ℕ))) (is : option_map (λ s. s.now) r ≡ first_value found name) where
-  pub argument_read : (text : Bor (List ℕ)) → r ≡ Some text → HasArgument (rows_of found) name text.now
-  argument_read text some = sym (first_value-rows found name) ∙ (sym is ∙ ap (option_map (λ (s : Bor (List ℕ)). s.now)) some)
+name_met : (matches : ArgMatches) → subcommand_name_of matches ≡ option_map (λ (p : List ℕ × List Row). p.0) (subcommand_rows_of matches)
+name_met matches = name_in (out-ArgMatches matches).subcommand
 
-  pub argument_missing : r ≡ None → (text : List ℕ) → HasArgument (rows_of found) name text → ⊥
-  argument_missing none text has =
-      let e : None ≡ Some text = sym (ap (option_map (λ (s : Bor (List ℕ)). s.now)) none) ∙ (is ∙ (first_value-rows found name ∙ has)) in
-      cc e
+pub met_read : (matches : ArgMatches) (name : List ℕ) (arguments : List Row) (result : Option Reading) → Some name ≡ subcommand_name_of matches
+    → Some arguments ≡ option_map (λ (p : List ℕ × List Row). p.1) (subcommand_rows_of matches) → ReadsBy name arguments result → ReadsMet matches result
+met_read matches name arguments result is_name are_arguments reads command rows is =
+    let names : Some name ≡ Some command = is_name ∙ (name_met matches ∙ ap (option_map (λ (p : List ℕ × List Row). p.0)) is) in
+    let lists : Some arguments ≡ Some rows = are_arguments ∙ ap (option_map (λ (p : List ℕ × List Row). p.1)) is in
+    let same : name ≡ command = cc names in
+    let both : arguments ≡ rows = cc lists in
+    subst (λ n. ReadsBy n rows result) same (subst (λ l. ReadsBy name l result) both reads)
 
--- the flag's argument is another word
-pub flag_missing : (arguments : List Row) (text : List ℕ) → HasArgument arguments (codes "compat32") text → (text ≡ codes "true" → ⊥) → (text ≡ codes "false" → ⊥)
-    → (compat : Bool) → HasCompat arguments compat → ⊥
-flag_missing arguments text has used unused true is = let e : Some text ≡ Some (codes "true") = sym has ∙ is in used (cc e)
-flag_missing arguments text has used unused false is = let e : Some text ≡ Some (codes "false") = sym has ∙ is in unused (cc e)
+-- ---- what clap answers of the command set
 
--- where what a command wants is missing, it asks for nothing
-module _ (arguments : List Row) where
-  asks_told : (command : List ℕ) (request : Request) → AsksBy command arguments request → AsksBy command arguments (only_request command arguments)
-  asks_told command request by = subst (AsksBy command arguments) (request_told command arguments request by) by
+set_is_simple : is_simple command_set ≡ true
+unfolding clap_on_literals
+set_is_simple = refl
 
-  module _ (none : (file type : List ℕ) (limit : ℕ) → HasTyped arguments file type limit → ⊥) where
-    pub nothing_checked : (request : Request) → AsksBy (codes "check") arguments request → ⊥
-    nothing_checked request by = none _ _ _ (asks_told (codes "check") request by).1
+set_is_free : is_simple_and_free command_set ≡ true
+unfolding clap_on_literals
+set_is_free = refl
 
-    pub nothing_shown : (request : Request) → AsksBy (codes "show") arguments request → ⊥
-    nothing_shown request by = none _ _ _ (asks_told (codes "show") request by).1
+module _ (app : App) (set : app ≡ command_set) (words : List (List ℕ)) where
+  met : (matches : ArgMatches) → HasMatchesOf app words matches → subcommand_rows_of matches ≡ subcommand_of command_set words
+  met matches found = (found (ap is_simple set ∙ set_is_simple)).1 ∙ ap (λ a. subcommand_of a words) set
 
-    pub nothing_got : (request : Request) → AsksBy (codes "get") arguments request → ⊥
-    nothing_got request by = none _ _ _ (asks_told (codes "get") request by).1
+  -- where it accepts the words
+  accepted_asks : (matches : ArgMatches) → (is_simple_and_free app ≡ true → fault_of app words ≡ []) → HasMatchesOf app words matches → (result : Option Reading) → ReadsMet matches result
+      → (request : Request) × (option_map request_of result ≡ Some request) × Asks words request
+  accepted_asks matches accepts found result reads =
+      let asks = accepted_words_ask words (sym (ap (λ a. fault_of a words) set) ∙ accepts (ap is_simple_and_free set ∙ set_is_free)) in
+      let by = asked_words words asks.0 asks.1 in
+      (asks.0, sym (reads by.0 by.1 (met matches found ∙ by.2.1)) ∙ request_told by.0 by.1 asks.0 by.3, asks.1)
 
-    pub nothing_edited : (request : Request) → AsksBy (codes "edit") arguments request → ⊥
-    nothing_edited request by = none _ _ _ (asks_told (codes "edit") request by).1
+  pub asked_read : (matches : ArgMatches) → (is_simple_and_free app ≡ true → fault_of app words ≡ []) → HasMatchesOf app words matches → (result : Result Reading Unread)
+      → ReadsAsked matches result → ReadsWords words result
+  asked_read matches accepts found (Ok reading) asks =
+      let one = accepted_asks matches accepts found (Some reading) asks in
+      let is : Some (request_of reading) ≡ Some one.0 = one.1 in
+      let same : request_of reading ≡ one.0 = cc is in
+      subst (Asks words) (sym same) one.2
+  asked_read matches accepts found (Err Usage) nothing =
+      let one = accepted_asks matches accepts found None nothing in
+      let bad : None ≡ Some one.0 = one.1 in
+      cc bad
+  asked_read matches accepts found (Err Memory) never = absurd never
 
-  pub nothing_by_script : ((script : List ℕ) → HasArgument arguments (codes "SCRIPT") script → ⊥) → (request : Request) → AsksBy (codes "edit") arguments request → ⊥
-  nothing_by_script none request by = none _ (asks_told (codes "edit") request by).2
+  -- where it refuses them
+  pub refused_words : (error : Error) → (is_simple_and_free app ≡ true → HasKind (fault_of app words) error) → kind_of error ≢ kinds.OutOfMemory → IsUsage words
+  refused_words error refuses not_memory request asks = go (refuses (ap is_simple_and_free set ∙ set_is_free)) where
+    none : fault_of app words ≡ []
+    none = ap (λ a. fault_of a words) set ∙ (asked_words words request asks).2.0
 
-  pub nothing_for_flag : ((compat : Bool) → HasCompat arguments compat → ⊥) → (request : Request) → AsksBy (codes "edit") arguments request → ⊥
-  nothing_for_flag none request by = none _ (asks_told (codes "edit") request by).3
+    go : HasKind (fault_of app words) error → ⊥
+    go (inl memory) = not_memory memory
+    go (inr among) = subst (IsAmong (kind_of error)) none among
 
-  pub nothing_at_path : ((path : List ℕ) → HasArgument arguments (codes "PATH") path → ⊥) → (request : Request) → AsksBy (codes "get") arguments request → ⊥
-  nothing_at_path none request by = none _ (asks_told (codes "get") request by).2
-
-  module _ (none : (limit : ℕ) → HasLimit arguments limit → ⊥) where
-    pub nothing_dumped : (request : Request) → AsksBy (codes "dump") arguments request → ⊥
-    nothing_dumped request by = none _ (asks_told (codes "dump") request by).1
-
-    pub nothing_compared : (request : Request) → AsksBy (codes "same") arguments request → ⊥
-    nothing_compared request by = none _ (asks_told (codes "same") request by).1
+  pub refusal_read : (error : Error) → (is_simple_and_free app ≡ true → HasKind (fault_of app words) error) → (unread : Unread) → (unread ≡ Usage → kind_of error ≢ kinds.OutOfMemory)
+      → ReadsWords words (Err unread)
+  refusal_read error refuses Usage is = refused_words error refuses (is refl)
+  refusal_read error refuses Memory is = tt

@@ -1,6 +1,6 @@
 -- Words in which clap finds no fault begin with a command's name.
 use Rattle.std.proofs.Common.{◌≡◌, ◌∙◌, ◌⊎◌, inl, inr, ℕ, Bool, true, false, List, [], ◌∷◌, Option, Some, None, codes, length, refl, sym, ap, subst, true≢false}
-use Rattle.std.specs.Prelude.{if◌then◌else◌, slice_get}
+use Rattle.std.specs.Prelude.{if◌then◌else◌, option_map, slice_get}
 use Rattle.std.specs.Option.{option_map_or}
 use Rattle.std.specs.Str.{bytes_eq, chars}
 use Rattle.std.proofs.lemmas.Slice.Eq.{bytes_eq-Decides}
@@ -11,8 +11,9 @@ use Rattle.clap.specs.Kinds.{Kinds, or_else}
 use Rattle.clap.specs.Words.{fault_of}
 use Rattle.clap.specs.declared.error.kind.ErrorKind.TheVariants as kind
 use Rattle.clap.proofs.OnLiterals.{clap_on_literals}
-use Rattle.om_outcome.specs.CommandLine.{command_set}
-use Rattle.om_command_line.proofs.SetLemmas.{command_names, commands, fault_is, top}
+use Rattle.om_outcome.specs.CommandLine.{Form, command_set, form_of}
+use Rattle.om_command_line.proofs.SetLemmas.{command_names, commands, fault_is, found_name, met_by, top}
+use Rattle.om_command_line.proofs.TableLemmas.{is_text}
 
 -- no fault in two steps, none in either
 pub both_none : (a b : Kinds) → or_else a b ≡ [] → (a ≡ []) × (b ≡ [])
@@ -21,50 +22,13 @@ both_none (k ∷ ks) b none = cc none
 
 -- ---- a first word
 
-abbrev pub IsCommand : Text → Type 0
-IsCommand word = (word ≡ codes "check") ⊎ ((word ≡ codes "show") ⊎ ((word ≡ codes "get") ⊎ ((word ≡ codes "edit") ⊎ ((word ≡ codes "dump") ⊎ (word ≡ codes "same")))))
-
-is_text : (name word : Text) → (word ≡ name) ⊎ (bytes_eq name word ≡ false)
-is_text name word = go (bytes_eq name word) refl
+-- it is a command's name, or clap meets no command
+command_or_none : (word : Text) → ((form : Form) × (form_of word ≡ Some form)) ⊎ (subcommand_met command_names idle word ≡ None)
+command_or_none word = go (form_of word) refl
   where
-    go : (b : Bool) → bytes_eq name word ≡ b → (word ≡ name) ⊎ (bytes_eq name word ≡ false)
-    go true e = inl (sym ((bytes_eq-Decides name word).0 e))
-    go false e = inr e
-
-none_met : (word : Text) → bytes_eq (codes "check") word ≡ false → bytes_eq (codes "show") word ≡ false → bytes_eq (codes "get") word ≡ false → bytes_eq (codes "edit") word ≡ false
-    → bytes_eq (codes "dump") word ≡ false → bytes_eq (codes "same") word ≡ false → subcommand_met command_names idle word ≡ None
-none_met word a b c d e f = rw (a, b, c, d, e, f) refl
-
-command_or_none : (word : Text) → IsCommand word ⊎ (subcommand_met command_names idle word ≡ None)
-command_or_none word = at_check (is_text (codes "check") word)
-  where
-    at_same : bytes_eq (codes "check") word ≡ false → bytes_eq (codes "show") word ≡ false → bytes_eq (codes "get") word ≡ false → bytes_eq (codes "edit") word ≡ false
-        → bytes_eq (codes "dump") word ≡ false → (word ≡ codes "same") ⊎ (bytes_eq (codes "same") word ≡ false) → IsCommand word ⊎ (subcommand_met command_names idle word ≡ None)
-    at_same a b c d e (inl is) = inl (inr (inr (inr (inr (inr is)))))
-    at_same a b c d e (inr f) = inr (none_met word a b c d e f)
-
-    at_dump : bytes_eq (codes "check") word ≡ false → bytes_eq (codes "show") word ≡ false → bytes_eq (codes "get") word ≡ false → bytes_eq (codes "edit") word ≡ false
-        → (word ≡ codes "dump") ⊎ (bytes_eq (codes "dump") word ≡ false) → IsCommand word ⊎ (subcommand_met command_names idle word ≡ None)
-    at_dump a b c d (inl is) = inl (inr (inr (inr (inr (inl is)))))
-    at_dump a b c d (inr e) = at_same a b c d e (is_text (codes "same") word)
-
-    at_edit : bytes_eq (codes "check") word ≡ false → bytes_eq (codes "show") word ≡ false → bytes_eq (codes "get") word ≡ false
-        → (word ≡ codes "edit") ⊎ (bytes_eq (codes "edit") word ≡ false) → IsCommand word ⊎ (subcommand_met command_names idle word ≡ None)
-    at_edit a b c (inl is) = inl (inr (inr (inr (inl is))))
-    at_edit a b c (inr d) = at_dump a b c d (is_text (codes "dump") word)
-
-    at_get : bytes_eq (codes "check") word ≡ false → bytes_eq (codes "show") word ≡ false → (word ≡ codes "get") ⊎ (bytes_eq (codes "get") word ≡ false)
-        → IsCommand word ⊎ (subcommand_met command_names idle word ≡ None)
-    at_get a b (inl is) = inl (inr (inr (inl is)))
-    at_get a b (inr c) = at_edit a b c (is_text (codes "edit") word)
-
-    at_show : bytes_eq (codes "check") word ≡ false → (word ≡ codes "show") ⊎ (bytes_eq (codes "show") word ≡ false) → IsCommand word ⊎ (subcommand_met command_names idle word ≡ None)
-    at_show a (inl is) = inl (inr (inl is))
-    at_show a (inr b) = at_get a b (is_text (codes "get") word)
-
-    at_check : (word ≡ codes "check") ⊎ (bytes_eq (codes "check") word ≡ false) → IsCommand word ⊎ (subcommand_met command_names idle word ≡ None)
-    at_check (inl is) = inl (inl is)
-    at_check (inr a) = at_show a (is_text (codes "show") word)
+    go : (o : Option Form) → form_of word ≡ o → ((form : Form) × (form_of word ≡ Some form)) ⊎ (subcommand_met command_names idle word ≡ None)
+    go None e = inr (met_by word ∙ ap (option_map (λ (f : Form). f.name)) e)
+    go (Some form) e = inl (form, e)
 
 -- ---- one that names no command
 
@@ -131,13 +95,13 @@ unnamed_refused word rest unnamed none = go (is_text (codes "--") word)
         flipped false e = e
 
 -- the words begin with a command's name
-pub words_begin : (words : List Text) → fault_of command_set words ≡ [] → (name : Text) × (rest : List Text) × (words ≡ name ∷ rest) × IsCommand name
+pub words_begin : (words : List Text) → fault_of command_set words ≡ [] → (form : Form) × (rest : List Text) × (words ≡ form.name ∷ rest) × (form_of form.name ≡ Some form)
 words_begin words none = go words (sym (fault_is words) ∙ none)
   where
-    go : (words : List Text) → built_fault commands nothing_held words ≡ [] → (name : Text) × (rest : List Text) × (words ≡ name ∷ rest) × IsCommand name
+    go : (words : List Text) → built_fault commands nothing_held words ≡ [] → (form : Form) × (rest : List Text) × (words ≡ form.name ∷ rest) × (form_of form.name ≡ Some form)
     go [] none = absurd (no_words_refused none)
     go (word ∷ rest) none = at (command_or_none word)
       where
-        at : IsCommand word ⊎ (subcommand_met command_names idle word ≡ None) → (name : Text) × (rest' : List Text) × (word ∷ rest ≡ name ∷ rest') × IsCommand name
-        at (inl is) = (word, rest, refl, is)
+        at : ((form : Form) × (form_of word ≡ Some form)) ⊎ (subcommand_met command_names idle word ≡ None) → (form : Form) × (rest' : List Text) × (word ∷ rest ≡ form.name ∷ rest') × (form_of form.name ≡ Some form)
+        at (inl (form, found)) = let is = found_name word form found in (form, rest, ap (λ w. w ∷ rest) is, subst (λ w. form_of w ≡ Some form) is found)
         at (inr unnamed) = absurd (unnamed_refused word rest unnamed none)

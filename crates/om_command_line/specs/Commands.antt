@@ -1,28 +1,41 @@
 -- What a command tells clap.
-use Rattle.std.specs.Prelude.{◌≡◌, false, codes, Result, Ok, Err}
-use Rattle.clap.specs.Words.{AddsSubcommand, App, app_of, with_rule, with_subcommand}
+use Rattle.std.specs.Prelude.{ℕ, ◌≡◌, true, false, List, [], map, fold, Result, Ok, Err}
+use Rattle.std.specs.Borrow.{Bor}
 use Rattle.std.specs.declared.alloc.AllocError.{AllocError}
+use Rattle.clap.specs.Words.{AddsSubcommand, App, app_of, with_subcommand}
 use Rattle.clap.specs.declared.builder.command.Command.{Command}
 use Rattle.clap.specs.declared.builder.command.Command.TheViews.{out-Command}
-use Rattle.om_outcome.specs.CommandLine.{check_command, compat_flag, edit_command, get_command, program, show_command, typed, wanted}
+use Rattle.om_outcome.specs.CommandLine as outcome
+use Rattle.om_outcome.specs.CommandLine.{command_set, shape_for}
+use Rattle.om_command_line.specs.declared.command_set.Argument.{Argument}
+use Rattle.om_command_line.specs.declared.command_set.Argument.TheVariants as arguments
+
+-- a command: its name and its arguments
+abbrev pub Form : Type 0
+Form = Bor (List ℕ) × Bor (List Argument)
+
+-- the argument, as the definitions know it
+abbrev pub argument_of : Argument → outcome.Argument
+argument_of (arguments.Flag name) = outcome.flag name.now
+argument_of (arguments.Option name greatest usual) = outcome.option name.now greatest usual.now
+argument_of (arguments.Word name) = outcome.wanted name.now
+argument_of (arguments.Number name greatest) = outcome.number name.now greatest
+
+-- a command of this name with these arguments, and no other command
+abbrev pub app_with : List ℕ → List Argument → App
+app_with name more = record { top = shape_for name (map argument_of more); subs = [] }
 
 -- it has these arguments, none of which holds for its subcommands too
 abbrev pub Tells : Command → App → Type 0
 Tells command app = (app_of command ≡ app) × ((out-Command command).has_globals ≡ false)
 
-abbrev pub get_app : App
-get_app = with_rule (typed (codes "get")) (wanted (codes "PATH"))
+-- the commands, before the first is added and with some of them
+abbrev pub program : App
+program = record { top = record command_set.top { is_leaf = true }; subs = [] }
 
-abbrev pub edit_app : App
-edit_app = with_rule (with_rule (typed (codes "edit")) (wanted (codes "SCRIPT"))) compat_flag
-
--- the commands that read values at a type
-abbrev pub typed_commands : App
-typed_commands =
-    with_subcommand
-    (with_subcommand (with_subcommand (with_subcommand program check_command) show_command)
-    get_command)
-    edit_command
+abbrev pub program_with : List Form → App
+program_with forms =
+    fold with_subcommand program (map (λ form. (app_with form.0.now form.1.now).top) forms)
 
 -- the command was made, and was added
 abbrev pub AddsMade : Command → Result Command AllocError → Command → Type 0

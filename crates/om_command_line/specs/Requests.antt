@@ -1,13 +1,16 @@
 -- The words as texts, and what is asked for.
-use Rattle.std.specs.Prelude.{ℕ, ◌≡◌, Bool, List, map, Option, Some, None, Result, Ok, Err, String, string_bytes}
+use Rattle.std.specs.Prelude.{ℕ, ◌^◌, ◌≡◌, Bool, false, if◌then◌else◌, List, [], ◌∷◌, map, Option, Some, None, option_map, unwrap_or, codes, Result, Ok, Err, String, string_bytes}
+use Rattle.std.specs.Str.{bytes_eq}
+use Rattle.std.specs.Str.Parse.{digits_value, without_leading_plus}
 use Rattle.std.specs.declared.alloc.Global.{Global}
-use Rattle.clap.specs.Words.{Row, found_of, rows_of, subcommand_rows_of}
+use Rattle.clap.specs.ValueTests.{accepts}
+use Rattle.clap.specs.Words.{Row, first_of, found_of, one_of, rows_of, subcommand_rows_of}
+use Rattle.clap.specs.declared.builder.value_parser.ValueParser.TheVariants.{Unsigned}
 use Rattle.clap.specs.declared.parser.matches.ArgMatches.{ArgMatches}
-use Rattle.om_outcome.specs.CommandLine.{HasCompat, HasLimit, HasTyped}
+use Rattle.om_outcome.specs.CommandLine.{Argument, flag, option, wanted, number, Asking, form_of}
 use Rattle.om_outcome.specs.CommandLine as outcome
 use Rattle.om_command_line.specs.declared.read.Request.{Request}
 use Rattle.om_command_line.specs.declared.read.Request.TheVariants as requests
-use Rattle.om_command_line.specs.declared.read.Typed.{Typed}
 use Rattle.om_command_line.specs.declared.read.Unread.{Unread}
 use Rattle.om_command_line.specs.declared.read.Unread.TheVariants.{Usage, Memory}
 
@@ -27,39 +30,46 @@ request_of (requests.Same limit) = outcome.compare limit
 abbrev pub arguments_of : ArgMatches → List Row
 arguments_of matches = rows_of (found_of matches)
 
--- the limit is read, if there is one
-abbrev pub ReadsLimit : List Row → Option ℕ → Type 0
-ReadsLimit arguments (Some limit) = HasLimit arguments limit
-ReadsLimit arguments None = (limit : ℕ) → HasLimit arguments limit → ⊥
+-- the word of this name, or the empty one
+abbrev pub word_in : List Row → List ℕ → List ℕ
+word_in rows name = unwrap_or (first_of name rows) []
 
--- FILE, TYPE and the limit are read, if they are there
-abbrev pub ReadsTyped : List Row → Option Typed → Type 0
-ReadsTyped arguments (Some typed) =
-    HasTyped arguments typed.file.now typed.type_text.now typed.limit
-ReadsTyped arguments None =
-    (file type : List ℕ) (limit : ℕ) → HasTyped arguments file type limit → ⊥
+-- whether the flag of this name is used
+abbrev pub flag_in : List Row → List ℕ → Bool
+flag_in rows name = bytes_eq (word_in rows name) (codes "true")
 
--- whether the flag is used is read, if that is told
-abbrev pub ReadsCompat : List Row → Option Bool → Type 0
-ReadsCompat arguments (Some compat) = HasCompat arguments compat
-ReadsCompat arguments None = (compat : Bool) → HasCompat arguments compat → ⊥
+-- the number of 64 bits in a text, or 0
+abbrev pub number_of : Option (List ℕ) → ℕ
+number_of None = 0
+number_of (Some text) =
+    if accepts false (Unsigned 0 (2 ^ 64)) text then digits_value 10 (without_leading_plus text)
+    else 0
 
--- what a command with these arguments asks for is read, if it is anything
+-- the number of this name
+abbrev pub number_in : List Row → List ℕ → ℕ
+number_in rows name = number_of (one_of name rows)
+
+-- what is asked for, where all arguments are there
+abbrev pub asked : (arguments : List Argument) → Asking arguments → List Row → outcome.Request
+asked [] asks rows = asks
+asked (flag name ∷ rest) asks rows = asked rest (asks (flag_in rows name)) rows
+asked (option name greatest usual ∷ rest) asks rows = asked rest (asks (number_in rows name)) rows
+asked (wanted name ∷ rest) asks rows = asked rest (asks (word_in rows name)) rows
+asked (number name greatest ∷ rest) asks rows = asked rest (asks (number_in rows name)) rows
+
+-- the same by a command's name
+abbrev pub asked_by : List ℕ → List Row → Option outcome.Request
+asked_by command rows = option_map (λ form. asked form.arguments form.asks rows) (form_of command)
+
+-- what a command with these arguments asks for is read
 abbrev pub ReadsBy : List ℕ → List Row → Option Request → Type 0
-ReadsBy command arguments (Some request) = outcome.AsksBy command arguments (request_of request)
-ReadsBy command arguments None =
-    (request : outcome.Request) → outcome.AsksBy command arguments request → ⊥
+ReadsBy command rows result = asked_by command rows ≡ option_map request_of result
 
 -- the same of the command that was met
 abbrev pub ReadsMet : ArgMatches → Option Request → Type 0
-ReadsMet matches (Some request) =
-    (command : List ℕ) × (arguments : List Row)
-    × (subcommand_rows_of matches ≡ Some (command, arguments))
-    × outcome.AsksBy command arguments (request_of request)
-ReadsMet matches None =
-    (command : List ℕ) (arguments : List Row)
-    → subcommand_rows_of matches ≡ Some (command, arguments)
-    → (request : outcome.Request) → outcome.AsksBy command arguments request → ⊥
+ReadsMet matches result =
+    (command : List ℕ) (rows : List Row) → subcommand_rows_of matches ≡ Some (command, rows)
+    → ReadsBy command rows result
 
 -- the same, where it is a refusal that it asks for nothing
 abbrev pub ReadsAsked : ArgMatches → Result Request Unread → Type 0

@@ -1,75 +1,85 @@
-//! What `clap` is told of the command line.
+//! The commands, and what `clap` is told of them.
 
 ghost use Rattle.std.specs.Prelude.{◌≡◌, IfOk, false};
 ghost use Rattle.clap.specs.Words.{app_of, rule_of};
-ghost use Rattle.om_outcome.specs.CommandLine.{limit_option, compat_flag, wanted as rule_wanted, limited as limited_app, typed as typed_app, program as the_program, command_set as the_command_set};
-ghost use Rattle.om_command_line.specs.Commands.{AddsMade, Tells, get_app, edit_app, typed_commands};
+ghost use Rattle.om_outcome.specs.CommandLine.{rule_for, command_set as the_command_set};
+ghost use Rattle.om_command_line.specs.Commands.{AddsMade, Tells, app_with, argument_of, program as the_program, program_with};
 
-use clap::{Arg, ArgAction, Command, value_parser};
+use clap::builder::ValueParser;
+use clap::{Arg, ArgAction, Command};
 use std::alloc::{AllocError, Global};
 
-/// The greatest limit of words on 64 bits in a value.
-pub const GREATEST_LIMIT: u64 = 1 << 40;
+/// An argument of a command.
+#[derive(Clone, Copy)]
+enum Argument<'a> {
+    /// `--NAME`, which is used or not.
+    Flag(&'a str),
+    /// `--NAME N`: a number up to the greatest, or the usual one where it is not used.
+    Option(&'a str, u64, &'a str),
+    /// A word that is known by its place.
+    Word(&'a str),
+    /// A number up to the greatest, known by its place.
+    Number(&'a str, u64),
+}
 
-// `--limit N`.
-fn limit<'a>(alloc: Global) -> Arg<'a>
-    ensures rule { rule_of result ≡ limit_option }
+/// A command: its name and its arguments.
+type Form<'a> = (&'a str, &'a [Argument<'a>]);
+
+// The greatest limit of words on 64 bits in a value.
+const GREATEST_LIMIT: u64 = 1 << 40;
+
+const LIMIT: Argument<'static> = Argument::Option("limit", GREATEST_LIMIT, "134217728");
+
+const COMPAT: Argument<'static> = Argument::Flag("compat32");
+
+const FILE: Argument<'static> = Argument::Word("FILE");
+
+const TYPE: Argument<'static> = Argument::Word("TYPE");
+
+const PATH: Argument<'static> = Argument::Word("PATH");
+
+const SCRIPT: Argument<'static> = Argument::Word("SCRIPT");
+
+static FORMS: [Form<'static>; 6] = [
+    ("check", &[LIMIT, FILE, TYPE]),
+    ("show", &[LIMIT, FILE, TYPE]),
+    ("get", &[LIMIT, FILE, TYPE, PATH]),
+    ("edit", &[LIMIT, FILE, TYPE, SCRIPT, COMPAT]),
+    ("dump", &[LIMIT]),
+    ("same", &[LIMIT]),
+];
+
+// What clap is told of an argument.
+fn rule<'a>(alloc: Global, argument: Argument<'a>) -> Arg<'a>
+    ensures rule { rule_of result ≡ rule_for (argument_of argument.entry) }
     ensures local { result.global ≡ false }
 {
-    Arg::new(alloc, "limit")
-        .long("limit")
-        .value_parser(value_parser!(u64).range(..=1 << 40))
-        .default_value("134217728")
+    match argument {
+        Argument::Flag(name) => Arg::new(alloc, name).long(name).action(ArgAction::SetTrue),
+        Argument::Option(name, greatest, usual) => Arg::new(alloc, name)
+            .long(name)
+            .value_parser(ValueParser::unsigned(0, greatest))
+            .default_value(usual),
+        Argument::Word(name) => Arg::new(alloc, name).required(true),
+        Argument::Number(name, greatest) => Arg::new(alloc, name)
+            .value_parser(ValueParser::unsigned(0, greatest))
+            .required(true),
+    }
 }
 
-// `--compat32`.
-fn compat<'a>(alloc: Global) -> Arg<'a>
-    ensures rule { rule_of result ≡ compat_flag }
-    ensures local { result.global ≡ false }
+// A command of this name with these arguments.
+fn made<'a>(
+    alloc: Global,
+    name: &'a str,
+    arguments: &'a [Argument<'a>],
+) -> Result<Command<'a>, AllocError>
+    ensures { IfOk result (λ command. Tells command (app_with name.entry.now arguments.entry.now)) }
 {
-    Arg::new(alloc, "compat32")
-        .long("compat32")
-        .action(ArgAction::SetTrue)
-}
-
-// An argument that must be there.
-fn wanted<'a>(alloc: Global, name: &'a str) -> Arg<'a>
-    ensures rule { rule_of result ≡ rule_wanted name.entry.now }
-    ensures local { result.global ≡ false }
-{
-    Arg::new(alloc, name).required(true)
-}
-
-// `NAME [--limit N]`.
-fn limited<'a>(alloc: Global, name: &'a str) -> Result<Command<'a>, AllocError>
-    ensures { IfOk result (λ command. Tells command (limited_app name.entry.now)) }
-{
-    Command::new(alloc, name).arg(limit(alloc))
-}
-
-// `NAME [--limit N] FILE TYPE`.
-fn typed<'a>(alloc: Global, name: &'a str) -> Result<Command<'a>, AllocError>
-    ensures { IfOk result (λ command. Tells command (typed_app name.entry.now)) }
-{
-    limited(alloc, name)?
-        .arg(wanted(alloc, "FILE"))?
-        .arg(wanted(alloc, "TYPE"))
-}
-
-// `get [--limit N] FILE TYPE PATH`.
-fn get<'a>(alloc: Global) -> Result<Command<'a>, AllocError>
-    ensures { IfOk result (λ command. Tells command get_app) }
-{
-    typed(alloc, "get")?.arg(wanted(alloc, "PATH"))
-}
-
-// `edit [--limit N] [--compat32] FILE TYPE SCRIPT`.
-fn edit<'a>(alloc: Global) -> Result<Command<'a>, AllocError>
-    ensures { IfOk result (λ command. Tells command edit_app) }
-{
-    typed(alloc, "edit")?
-        .arg(wanted(alloc, "SCRIPT"))?
-        .arg(compat(alloc))
+    let mut command = Command::new(alloc, name);
+    for argument in arguments {
+        command = command.arg(rule(alloc, *argument))?;
+    }
+    Ok(command)
 }
 
 // A command is wanted, and none asks for help.
@@ -93,22 +103,20 @@ fn with<'a>(
     all.subcommand(made?)
 }
 
-// `check`, `show`, `get` and `edit`.
-fn typed_set<'a>(alloc: Global) -> Result<Command<'a>, AllocError>
-    ensures { IfOk result (λ command. app_of command ≡ typed_commands) }
+// The commands of a table.
+fn made_of<'a>(alloc: Global, forms: &'a [Form<'a>]) -> Result<Command<'a>, AllocError>
+    ensures { IfOk result (λ command. app_of command ≡ program_with forms.entry.now) }
 {
     let mut all = program(alloc);
-    all = with(all, typed(alloc, "check"))?;
-    all = with(all, typed(alloc, "show"))?;
-    all = with(all, get(alloc))?;
-    with(all, edit(alloc))
+    for (name, arguments) in forms {
+        all = with(all, made(alloc, name, arguments))?;
+    }
+    Ok(all)
 }
 
 /// The commands, with their arguments.
 pub fn command_set<'a>(alloc: Global) -> Result<Command<'a>, AllocError>
     ensures { IfOk result (λ command. app_of command ≡ the_command_set) }
 {
-    let mut all = typed_set(alloc)?;
-    all = with(all, limited(alloc, "dump"))?;
-    with(all, limited(alloc, "same"))
+    made_of(alloc, &FORMS)
 }

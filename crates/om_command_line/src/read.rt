@@ -1,12 +1,12 @@
 //! What the words ask for.
 
-ghost use Rattle.std.specs.Prelude.{◌≡◌, ◌≢◌, codes};
+ghost use Rattle.std.specs.Prelude.{◌≡◌, ◌≢◌};
 ghost use Rattle.clap.specs.Words.{kind_of};
 ghost use Rattle.clap.specs.declared.error.kind.ErrorKind.TheVariants as kinds;
 ghost use Rattle.om_command_line.specs.declared.read.Unread.TheVariants as unreads;
-ghost use Rattle.om_command_line.specs.Requests.{arguments_of, texts, ReadsBy, ReadsAsked, ReadsCompat, ReadsLimit, ReadsMet, ReadsTyped, ReadsWords};
+ghost use Rattle.om_command_line.specs.Requests.{arguments_of, flag_in, number_in, texts, word_in, ReadsAsked, ReadsBy, ReadsMet, ReadsWords};
 
-use crate::command_set::{GREATEST_LIMIT, command_set};
+use crate::command_set::command_set;
 use clap::error::ErrorKind;
 use clap::{ArgMatches, Error};
 use std::alloc::{AllocError, Global};
@@ -70,161 +70,60 @@ impl From<AllocError> for Unread {
     }
 }
 
-// The number after `--limit`, or the usual one.
-fn limit_of(arguments: &ArgMatches) -> Option<u64>
-    ensures { ReadsLimit (arguments_of arguments.now) result }
+// The word of this name.
+fn word<'a>(arguments: &ArgMatches<'a>, name: &str) -> &'a str
+    ensures { result.now ≡ word_in (arguments_of arguments.now) name.now }
 {
-    let Some(limit) = arguments.get_one::<u64>("limit") else {
-        return None;
-    };
-    if limit <= GREATEST_LIMIT {
-        Some(limit)
-    } else {
-        None
-    }
+    arguments.get_str(name).unwrap_or("")
 }
 
-// FILE and TYPE, with the limit.
-#[derive(Clone, Copy)]
-struct Typed<'a> {
-    file: &'a str,
-    type_text: &'a str,
-    limit: u64,
-}
-
-// What `check`, `show`, `get` and `edit` want.
-fn typed_of<'a>(arguments: &ArgMatches<'a>) -> Option<Typed<'a>>
-    ensures { ReadsTyped (arguments_of arguments.now) result }
+// Whether the flag of this name is used.
+fn flag(arguments: &ArgMatches, name: &str) -> bool
+    ensures { result ≡ flag_in (arguments_of arguments.now) name.now }
 {
-    let Some(file) = arguments.get_str("FILE") else {
-        return None;
-    };
-    let Some(type_text) = arguments.get_str("TYPE") else {
-        return None;
-    };
-    let Some(limit) = limit_of(arguments) else {
-        return None;
-    };
-    Some(Typed {
-        file,
-        type_text,
-        limit,
-    })
+    word(arguments, name) == "true"
 }
 
-// What `check` asks for.
-fn check_of<'a>(arguments: &ArgMatches<'a>) -> Option<Request<'a>>
-    ensures { ReadsBy (codes "check") (arguments_of arguments.now) result }
+// The number of this name.
+fn number(arguments: &ArgMatches, name: &str) -> u64
+    ensures { result ≡ number_in (arguments_of arguments.now) name.now }
 {
-    match typed_of(arguments) {
-        Some(typed) => Some(Request::Check {
-            file: typed.file,
-            type_text: typed.type_text,
-            limit: typed.limit,
-        }),
-        None => None,
-    }
+    arguments.get_one::<u64>(name).unwrap_or(0)
 }
 
-// What `show` asks for.
-fn show_of<'a>(arguments: &ArgMatches<'a>) -> Option<Request<'a>>
-    ensures { ReadsBy (codes "show") (arguments_of arguments.now) result }
-{
-    match typed_of(arguments) {
-        Some(typed) => Some(Request::Show {
-            file: typed.file,
-            type_text: typed.type_text,
-            limit: typed.limit,
-        }),
-        None => None,
-    }
-}
-
-// What `get` asks for.
-fn get_of<'a>(arguments: &ArgMatches<'a>) -> Option<Request<'a>>
-    ensures { ReadsBy (codes "get") (arguments_of arguments.now) result }
-{
-    let Some(typed) = typed_of(arguments) else {
-        return None;
-    };
-    let Some(path_text) = arguments.get_str("PATH") else {
-        return None;
-    };
-    Some(Request::Get {
-        file: typed.file,
-        type_text: typed.type_text,
-        path_text,
-        limit: typed.limit,
-    })
-}
-
-// Whether `--compat32` is used.
-fn compat_of(arguments: &ArgMatches) -> Option<bool>
-    ensures { ReadsCompat (arguments_of arguments.now) result }
-{
-    let Some(flag) = arguments.get_str("compat32") else {
-        return None;
-    };
-    match flag {
-        "true" => Some(true),
-        "false" => Some(false),
-        _ => None,
-    }
-}
-
-// What `edit` asks for.
-fn edit_of<'a>(arguments: &ArgMatches<'a>) -> Option<Request<'a>>
-    ensures { ReadsBy (codes "edit") (arguments_of arguments.now) result }
-{
-    let Some(typed) = typed_of(arguments) else {
-        return None;
-    };
-    let Some(script) = arguments.get_str("SCRIPT") else {
-        return None;
-    };
-    let Some(compat) = compat_of(arguments) else {
-        return None;
-    };
-    Some(Request::Edit {
-        file: typed.file,
-        type_text: typed.type_text,
-        script,
-        compat,
-        limit: typed.limit,
-    })
-}
-
-// What `dump` asks for.
-fn dump_of<'a>(arguments: &ArgMatches<'a>) -> Option<Request<'a>>
-    ensures { ReadsBy (codes "dump") (arguments_of arguments.now) result }
-{
-    match limit_of(arguments) {
-        Some(limit) => Some(Request::Dump { limit }),
-        None => None,
-    }
-}
-
-// What `same` asks for.
-fn same_of<'a>(arguments: &ArgMatches<'a>) -> Option<Request<'a>>
-    ensures { ReadsBy (codes "same") (arguments_of arguments.now) result }
-{
-    match limit_of(arguments) {
-        Some(limit) => Some(Request::Same { limit }),
-        None => None,
-    }
-}
-
-// What a command asks for.
+// What a command asks for. An argument that it has not is empty, or 0, and not looked at.
 fn request_by<'a>(command: &str, arguments: &ArgMatches<'a>) -> Option<Request<'a>>
     ensures { ReadsBy command.now (arguments_of arguments.now) result }
 {
+    let file = word(arguments, "FILE");
+    let type_text = word(arguments, "TYPE");
+    let limit = number(arguments, "limit");
     match command {
-        "check" => check_of(arguments),
-        "show" => show_of(arguments),
-        "get" => get_of(arguments),
-        "edit" => edit_of(arguments),
-        "dump" => dump_of(arguments),
-        "same" => same_of(arguments),
+        "check" => Some(Request::Check {
+            file,
+            type_text,
+            limit,
+        }),
+        "show" => Some(Request::Show {
+            file,
+            type_text,
+            limit,
+        }),
+        "get" => Some(Request::Get {
+            file,
+            type_text,
+            path_text: word(arguments, "PATH"),
+            limit,
+        }),
+        "edit" => Some(Request::Edit {
+            file,
+            type_text,
+            script: word(arguments, "SCRIPT"),
+            compat: flag(arguments, "compat32"),
+            limit,
+        }),
+        "dump" => Some(Request::Dump { limit }),
+        "same" => Some(Request::Same { limit }),
         _ => None,
     }
 }

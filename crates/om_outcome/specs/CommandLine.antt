@@ -1,112 +1,13 @@
--- The command line: what `clap` is told of it, which words are accepted, and what plain words ask
--- for.
-use Rattle.std.specs.Prelude.{ℕ, ◌^◌, ◌≤◌, ◌≡◌, ◌≢◌, ◌⊎◌, Bool, true, false, if◌then◌else◌, List, [], ◌∷◌, ◌++◌, All, Option, None, Some, codes}
+-- The command line as a table: what `clap` is told of it, which words are accepted, and what plain
+-- words ask for.
+use Rattle.std.specs.Prelude.{ℕ, ◌^◌, ◌≤◌, ◌≡◌, ◌≢◌, ◌⊎◌, Bool, true, false, if◌then◌else◌, List, [], ◌∷◌, ◌++◌, map, find, Option, None, Some, codes}
+use Rattle.std.specs.List.{flat_map, list_any}
+use Rattle.std.specs.Str.{bytes_eq}
 use Rattle.std.specs.Str.Parse.{IsNumeral, digits_value, without_leading_plus}
-use Rattle.clap.specs.Words.{App, Row, Rule, Shape, fault_of, first_of, new_app, new_rule, one_of, subcommand_of, with_rule, with_subcommand}
+use Rattle.clap.specs.Words.{App, Row, Rule, Shape, fault_of, first_of, new_rule, one_of, subcommand_of}
+use Rattle.clap.specs.Simple.{new_shape}
 use Rattle.clap.specs.declared.builder.action.ArgAction.TheVariants.{SetTrue}
 use Rattle.clap.specs.declared.builder.value_parser.ValueParser.TheVariants.{Unsigned}
-
--- ---- the command set
-
--- the greatest limit of words on 64 bits in a value, and the limit where none is asked for
-abbrev pub greatest_limit : ℕ
-greatest_limit = 2 ^ 40
-
-abbrev pub usual_limit : ℕ
-usual_limit = 2 ^ 27
-
--- `--limit N`: a number up to the greatest limit, which is 2^27 where the option is not used
-abbrev pub limit_option : Rule
-limit_option = record (new_rule (codes "limit")) {
-  long = Some (codes "limit");
-  parser = Some (Unsigned 0 greatest_limit);
-  defaults = codes "134217728" ∷ [];
-}
-
--- `--compat32`: a flag
-abbrev pub compat_flag : Rule
-compat_flag = record (new_rule (codes "compat32")) {
-  long = Some (codes "compat32");
-  action = Some SetTrue;
-}
-
--- an argument that must be there, known by its place
-abbrev pub wanted : List ℕ → Rule
-wanted name = record (new_rule name) { required = true }
-
--- NAME [--limit N], and the same with FILE and TYPE
-abbrev pub limited : List ℕ → App
-limited name = with_rule (new_app name) limit_option
-
-abbrev pub typed : List ℕ → App
-typed name = with_rule (with_rule (limited name) (wanted (codes "FILE"))) (wanted (codes "TYPE"))
-
--- `check [--limit N] FILE TYPE`
-abbrev pub check_command : Shape
-check_command = (typed (codes "check")).top
-
--- `show [--limit N] FILE TYPE`
-abbrev pub show_command : Shape
-show_command = (typed (codes "show")).top
-
--- `get [--limit N] FILE TYPE PATH`
-abbrev pub get_command : Shape
-get_command = (with_rule (typed (codes "get")) (wanted (codes "PATH"))).top
-
--- `edit [--limit N] [--compat32] FILE TYPE SCRIPT`
-abbrev pub edit_command : Shape
-edit_command =
-    (with_rule (with_rule (typed (codes "edit")) (wanted (codes "SCRIPT"))) compat_flag).top
-
--- `dump [--limit N]`
-abbrev pub dump_command : Shape
-dump_command = (limited (codes "dump")).top
-
--- `same [--limit N]`
-abbrev pub same_command : Shape
-same_command = (limited (codes "same")).top
-
--- a command is wanted; the words do not begin with the program's name, and none asks for help
-abbrev pub program : App
-program = record {
-  top = record ((new_app (codes "omarshal")).top) {
-    no_binary_name = true;
-    subcommand_required = true;
-    disable_help_flag = true;
-    disable_help_subcommand = true;
-  };
-  subs = [];
-}
-
-abbrev pub command_set : App
-command_set =
-    with_subcommand
-    (with_subcommand (with_subcommand (with_subcommand (with_subcommand (with_subcommand program
-    check_command) show_command) get_command) edit_command) dump_command) same_command
-
--- ---- accepted words
-
--- clap finds no fault in the words, and reads a command with these arguments
-abbrev pub Accepted : List (List ℕ) → List ℕ → List Row → Type 0
-Accepted words command arguments =
-    (fault_of command_set words ≡ [])
-    × (subcommand_of command_set words ≡ Some (command, arguments))
-
--- the argument of this name
-abbrev pub HasArgument : List Row → List ℕ → List ℕ → Type 0
-HasArgument arguments name text = first_of name arguments ≡ Some text
-
--- the number after `--limit`, or the usual one: decimal digits, where a plus may stand first
-abbrev pub HasLimit : List Row → ℕ → Type 0
-HasLimit arguments limit =
-    (text : List ℕ) × (one_of (codes "limit") arguments ≡ Some text)
-    × IsNumeral 10 (without_leading_plus text)
-    × (digits_value 10 (without_leading_plus text) ≡ limit) × (limit ≤ greatest_limit)
-
--- whether the flag is used, which clap tells in a word
-abbrev pub HasCompat : List Row → Bool → Type 0
-HasCompat arguments compat =
-    HasArgument arguments (codes "compat32") (if compat then codes "true" else codes "false")
 
 -- ---- what is asked for
 
@@ -118,37 +19,6 @@ pub data Request : Type 0 where
   edit : (file type script : List ℕ) → (compat : Bool) → (limit : ℕ) → Request
   dump : (limit : ℕ) → Request
   compare : (limit : ℕ) → Request
-
--- the arguments of a command that reads values at a type
-abbrev pub HasTyped : List Row → List ℕ → List ℕ → ℕ → Type 0
-HasTyped arguments file type limit =
-    HasArgument arguments (codes "FILE") file × HasArgument arguments (codes "TYPE") type
-    × HasLimit arguments limit
-
--- what a command with these arguments asks for
-abbrev pub AsksBy : List ℕ → List Row → Request → Type 0
-AsksBy command arguments (check file type limit) =
-    (command ≡ codes "check") × HasTyped arguments file type limit
-AsksBy command arguments (show file type limit) =
-    (command ≡ codes "show") × HasTyped arguments file type limit
-AsksBy command arguments (get file type path limit) =
-    (command ≡ codes "get") × HasTyped arguments file type limit
-    × HasArgument arguments (codes "PATH") path
-AsksBy command arguments (edit file type script compat limit) =
-    (command ≡ codes "edit") × HasTyped arguments file type limit
-    × HasArgument arguments (codes "SCRIPT") script × HasCompat arguments compat
-AsksBy command arguments (dump limit) = (command ≡ codes "dump") × HasLimit arguments limit
-AsksBy command arguments (compare limit) = (command ≡ codes "same") × HasLimit arguments limit
-
--- clap accepts the words, and this is what it reads of them
-unfoldable pub Asks : List (List ℕ) → Request → Type 0
-Asks words request =
-    (command : List ℕ) × (arguments : List Row) × Accepted words command arguments
-    × AsksBy command arguments request
-
--- words that ask for nothing
-abbrev pub IsUsage : List (List ℕ) → Type 0
-IsUsage words = (request : Request) → Asks words request → ⊥
 
 -- FILE and TYPE, where the command has them
 abbrev pub typed_by : Request → Option (List ℕ × List ℕ)
@@ -178,6 +48,150 @@ limit_of (edit file type script compat limit) = limit
 limit_of (dump limit) = limit
 limit_of (compare limit) = limit
 
+-- ---- the commands
+
+-- An argument of a command: `--NAME`, which is used or not; `--NAME N`, a number up to the
+-- greatest, or the usual one where it is not used; a word that is known by its place, and has to be
+-- there; or such a number.
+pub data Argument : Type 0 where
+  flag : (name : List ℕ) → Argument
+  option : (name : List ℕ) → (greatest : ℕ) → (usual : List ℕ) → Argument
+  wanted : (name : List ℕ) → Argument
+  number : (name : List ℕ) → (greatest : ℕ) → Argument
+
+-- what is asked for, by the values of the arguments, one after another
+abbrev pub Asking : List Argument → Type 0
+Asking [] = Request
+Asking (flag name ∷ rest) = Bool → Asking rest
+Asking (option name greatest usual ∷ rest) = ℕ → Asking rest
+Asking (wanted name ∷ rest) = List ℕ → Asking rest
+Asking (number name greatest ∷ rest) = ℕ → Asking rest
+
+-- a command: its name, its arguments, and what it asks for
+pub record Form : Type 0 where
+  pub name : List ℕ
+  pub arguments : List Argument
+  pub asks : Asking arguments
+
+abbrev pub row : (name : List ℕ) (arguments : List Argument) → Asking arguments → Form
+row name arguments asks = record { name = name; arguments = arguments; asks = asks }
+
+-- the greatest limit of words on 64 bits in a value, and the limit where none is asked for
+abbrev pub greatest_limit : ℕ
+greatest_limit = 2 ^ 40
+
+abbrev pub usual_limit : List ℕ
+usual_limit = codes "134217728"
+
+-- `--limit N` and `--compat32`
+abbrev pub limit_option : Argument
+limit_option = option (codes "limit") greatest_limit usual_limit
+
+abbrev pub compat_flag : Argument
+compat_flag = flag (codes "compat32")
+
+-- FILE and TYPE, after the limit
+abbrev pub typed : List Argument → List Argument
+typed more = limit_option ∷ wanted (codes "FILE") ∷ wanted (codes "TYPE") ∷ more
+
+-- the commands
+abbrev pub forms : List Form
+forms =
+    row (codes "check") (typed []) (λ n file type. check file type n)
+    ∷ row (codes "show") (typed []) (λ n file type. show file type n)
+    ∷ row (codes "get") (typed (wanted (codes "PATH") ∷ []))
+    (λ n file type path. get file type path n)
+    ∷ row (codes "edit") (typed (wanted (codes "SCRIPT") ∷ compat_flag ∷ []))
+    (λ n file type script compat. edit file type script compat n)
+    ∷ row (codes "dump") (limit_option ∷ []) dump
+    ∷ row (codes "same") (limit_option ∷ []) compare
+    ∷ []
+
+-- the command of this name
+abbrev pub form_of : List ℕ → Option Form
+form_of name = find (λ form. bytes_eq form.name name) forms
+
+-- ---- what clap is told
+
+-- what clap is told of an argument
+abbrev pub rule_for : Argument → Rule
+rule_for (flag name) = record (new_rule name) { long = Some name; action = Some SetTrue }
+rule_for (option name greatest usual) = record (new_rule name) {
+  long = Some name;
+  parser = Some (Unsigned 0 greatest);
+  defaults = usual ∷ [];
+}
+rule_for (wanted name) = record (new_rule name) { required = true }
+rule_for (number name greatest) =
+    record (new_rule name) { parser = Some (Unsigned 0 greatest); required = true }
+
+-- what it is told of a command
+abbrev pub shape_for : List ℕ → List Argument → Shape
+shape_for name arguments = record (new_shape name) { rules = map rule_for arguments }
+
+-- a command is wanted; the words do not begin with the program's name, and none asks for help
+abbrev pub command_set : App
+command_set = record {
+  top = record (new_shape (codes "omarshal")) {
+    is_leaf = false;
+    no_binary_name = true;
+    subcommand_required = true;
+    disable_help_flag = true;
+    disable_help_subcommand = true;
+  };
+  subs = map (λ form. shape_for form.name form.arguments) forms;
+}
+
+-- ---- accepted words
+
+-- clap finds no fault in the words, and reads a command with these arguments
+abbrev pub Accepted : List (List ℕ) → List ℕ → List Row → Type 0
+Accepted words command rows =
+    (fault_of command_set words ≡ []) × (subcommand_of command_set words ≡ Some (command, rows))
+
+-- the word of this name
+abbrev pub HasWord : List Row → List ℕ → List ℕ → Type 0
+HasWord rows name text = first_of name rows ≡ Some text
+
+-- whether the flag of this name is used, which clap tells in a word
+abbrev pub HasFlag : List Row → List ℕ → Bool → Type 0
+HasFlag rows name used = HasWord rows name (if used then codes "true" else codes "false")
+
+-- the number of this name, up to the greatest: decimal digits, where a plus may stand first
+abbrev pub HasNumber : List Row → List ℕ → ℕ → ℕ → Type 0
+HasNumber rows name greatest n =
+    (text : List ℕ) × (one_of name rows ≡ Some text) × IsNumeral 10 (without_leading_plus text)
+    × (digits_value 10 (without_leading_plus text) ≡ n) × (n ≤ greatest)
+
+-- the arguments are there, and this is asked for by their values
+abbrev pub HasArguments : (arguments : List Argument) → Asking arguments → List Row → Request
+    → Type 0
+HasArguments [] asked rows request = asked ≡ request
+HasArguments (flag name ∷ rest) asks rows request =
+    (used : Bool) × HasFlag rows name used × HasArguments rest (asks used) rows request
+HasArguments (option name greatest usual ∷ rest) asks rows request =
+    (n : ℕ) × HasNumber rows name greatest n × HasArguments rest (asks n) rows request
+HasArguments (wanted name ∷ rest) asks rows request =
+    (text : List ℕ) × HasWord rows name text × HasArguments rest (asks text) rows request
+HasArguments (number name greatest ∷ rest) asks rows request =
+    (n : ℕ) × HasNumber rows name greatest n × HasArguments rest (asks n) rows request
+
+-- what a command with these arguments asks for
+abbrev pub AsksBy : List ℕ → List Row → Request → Type 0
+AsksBy command rows request =
+    (form : Form) × (form_of command ≡ Some form)
+    × HasArguments form.arguments form.asks rows request
+
+-- clap accepts the words, and this is what it reads of them
+unfoldable pub Asks : List (List ℕ) → Request → Type 0
+Asks words request =
+    (command : List ℕ) × (rows : List Row) × Accepted words command rows
+    × AsksBy command rows request
+
+-- words that ask for nothing
+abbrev pub IsUsage : List (List ℕ) → Type 0
+IsUsage words = (request : Request) → Asks words request → ⊥
+
 -- ---- plain words
 
 -- an argument that is not empty, and does not begin with `-`
@@ -185,37 +199,72 @@ abbrev pub IsArgument : List ℕ → Type 0
 IsArgument [] = ⊥
 IsArgument (first ∷ rest) = first ≢ 45
 
--- the words for a limit: none for the usual one, or `--limit` and decimal digits
-abbrev pub ArePlainLimit : List (List ℕ) → ℕ → Type 0
-ArePlainLimit [] limit = limit ≡ usual_limit
-ArePlainLimit (option ∷ []) limit = ⊥
-ArePlainLimit (option ∷ text ∷ []) limit =
-    (option ≡ codes "--limit") × IsNumeral 10 text × (digits_value 10 text ≡ limit)
-    × (limit ≤ greatest_limit)
-ArePlainLimit (option ∷ text ∷ more ∷ rest) limit = ⊥
+-- the use of an option: `--NAME`, or `--NAME TEXT`
+pub data Use : Type 0 where
+  alone : (name : List ℕ) → Use
+  given : (name text : List ℕ) → Use
 
--- the words for a limit, and those for the flag before or after them, where it is used
-abbrev pub ArePlainOptions : List (List ℕ) → ℕ → Bool → Type 0
-ArePlainOptions words limit false = ArePlainLimit words limit
-ArePlainOptions words limit true =
-    (option : List (List ℕ)) × ArePlainLimit option limit
-    × ((words ≡ codes "--compat32" ∷ option) ⊎ (words ≡ option ++ codes "--compat32" ∷ []))
+-- the words of a use
+abbrev pub words_of : Use → List (List ℕ)
+words_of (alone name) = (codes "--" ++ name) ∷ []
+words_of (given name text) = (codes "--" ++ name) ∷ text ∷ []
 
--- a command's name, perhaps a limit, and then its arguments
-abbrev pub AreWritten : List (List ℕ) → List ℕ → ℕ → List (List ℕ) → Type 0
-AreWritten words command limit arguments =
-    (option : List (List ℕ)) × ArePlainLimit option limit × All IsArgument arguments
-    × (words ≡ command ∷ option ++ arguments)
+-- the option that is used
+abbrev pub used_in : Use → List ℕ
+used_in (alone name) = name
+used_in (given name text) = name
 
--- the words that are written plainly, with what they ask for
+-- the use is of this argument: of a flag, or of an option with decimal digits
+abbrev pub IsUse : Use → Argument → Type 0
+IsUse (alone name) (flag other) = name ≡ other
+IsUse (given name text) (option other greatest usual) =
+    (name ≡ other) × IsNumeral 10 text × (digits_value 10 text ≤ greatest)
+IsUse one argument = ⊥
+
+-- the use is of one of the arguments
+abbrev pub IsUseAmong : List Argument → Use → Type 0
+IsUseAmong [] one = ⊥
+IsUseAmong (argument ∷ rest) one = IsUse one argument ⊎ IsUseAmong rest one
+
+-- whether the option is used
+abbrev pub is_used : List ℕ → List Use → Bool
+is_used name uses = list_any (λ one. bytes_eq (used_in one) name) uses
+
+-- uses of the arguments, none of them twice
+abbrev pub ArePlainUses : List Argument → List Use → Type 0
+ArePlainUses arguments [] = Unit {0}
+ArePlainUses arguments (one ∷ more) =
+    IsUseAmong arguments one × (is_used (used_in one) more ≡ false) × ArePlainUses arguments more
+
+-- the text after the option, or the usual one
+abbrev pub text_after : List ℕ → List ℕ → List Use → List ℕ
+text_after name usual [] = usual
+text_after name usual (alone other ∷ uses) = text_after name usual uses
+text_after name usual (given other text ∷ uses) =
+    if bytes_eq other name then text else text_after name usual uses
+
+-- this is asked for by the uses of options, and exactly these words after them
+abbrev pub ArePlainArguments : (arguments : List Argument) → Asking arguments → List Use
+    → List (List ℕ) → Request → Type 0
+ArePlainArguments [] asked uses [] request = asked ≡ request
+ArePlainArguments [] asked uses (text ∷ texts) request = ⊥
+ArePlainArguments (flag name ∷ rest) asks uses texts request =
+    ArePlainArguments rest (asks (is_used name uses)) uses texts request
+ArePlainArguments (option name greatest usual ∷ rest) asks uses texts request =
+    ArePlainArguments rest (asks (digits_value 10 (text_after name usual uses))) uses texts request
+ArePlainArguments (wanted name ∷ rest) asks uses [] request = ⊥
+ArePlainArguments (wanted name ∷ rest) asks uses (text ∷ texts) request =
+    IsArgument text × ArePlainArguments rest (asks text) uses texts request
+ArePlainArguments (number name greatest ∷ rest) asks uses [] request = ⊥
+ArePlainArguments (number name greatest ∷ rest) asks uses (text ∷ texts) request =
+    IsNumeral 10 text × (digits_value 10 text ≤ greatest)
+    × ArePlainArguments rest (asks (digits_value 10 text)) uses texts request
+
+-- the words that are written plainly, with what they ask for: a command's name, uses of its
+-- options, and then its other arguments
 abbrev pub ArePlain : List (List ℕ) → Request → Type 0
-ArePlain words (check file type limit) = AreWritten words (codes "check") limit (file ∷ type ∷ [])
-ArePlain words (show file type limit) = AreWritten words (codes "show") limit (file ∷ type ∷ [])
-ArePlain words (get file type path limit) =
-    AreWritten words (codes "get") limit (file ∷ type ∷ path ∷ [])
-ArePlain words (edit file type script compat limit) =
-    (options : List (List ℕ)) × ArePlainOptions options limit compat
-    × All IsArgument (file ∷ type ∷ script ∷ [])
-    × (words ≡ codes "edit" ∷ options ++ file ∷ type ∷ script ∷ [])
-ArePlain words (dump limit) = AreWritten words (codes "dump") limit []
-ArePlain words (compare limit) = AreWritten words (codes "same") limit []
+ArePlain words request =
+    (form : Form) × (form_of form.name ≡ Some form)
+    × (uses : List Use) × ArePlainUses form.arguments uses
+    × (texts : List (List ℕ)) × ArePlainArguments form.arguments form.asks uses texts request
+    × (words ≡ form.name ∷ flat_map words_of uses ++ texts)

@@ -1,6 +1,6 @@
 use Rattle.clap.specs.Words.{app_of}
 use Rattle.om_command_line.specs.Requests.{texts}
-use Rattle.om_command_line.proofs.RequestLemmas.{asked_read, refusal_read}
+use Rattle.om_command_line.proofs.ReadLemmas.{asked_read, refusal_read}
 use Rattle.om_command_line.proofs.read.read_words.Goals as goal
 
 pub returns-in-Ok : goal.returns-in-Ok

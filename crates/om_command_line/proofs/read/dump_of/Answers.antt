@@ -1,6 +1,0 @@
-use Rattle.clap.specs.Words.{found_of, rows_of}
-use Rattle.om_command_line.proofs.ReadLemmas.{nothing_dumped}
-use Rattle.om_command_line.proofs.read.dump_of.Goals as goal
-
-pub returns-in-None : goal.returns-in-None
-returns-in-None c = nothing_dumped (rows_of (found_of c.args.arguments.now)) c.in-None.ensures
