@@ -2,6 +2,7 @@
 #![tactic(auto)]
 
 mod compat;
+mod head;
 pub mod laws;
 mod marks;
 mod measure;
@@ -12,5 +13,6 @@ mod writer;
 mod writer32;
 
 pub use compat::Compat;
+pub use head::head_of;
 pub use writer::write;
 pub use writer32::{Write32Error, write32};
