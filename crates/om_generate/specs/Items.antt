@@ -1,0 +1,14 @@
+-- The items so far.
+use Rattle.std.specs.Prelude.{◌^◌, ◌<◌, length, All}
+use Rattle.om_model.specs.Graph.{IsValue}
+use Rattle.om_generate.specs.Generated.{Made}
+use Rattle.om_generate.specs.declared.made.Items.{Items}
+
+-- as the definitions have them
+abbrev pub made_of : Items → Made
+made_of items = record { all = items.heap; values = items.values.items; state = items.state }
+
+-- the state is one of draws, and the values are those of the objects
+pub record AreSound (items : Items) : Type 0 where
+  pub state : items.state < 2 ^ 31
+  pub values : All (IsValue (length items.heap)) items.values.items

@@ -1,0 +1,108 @@
+//! A sink that counts the bytes that go to it, and keeps their sum.
+
+ghost use Rattle.std.specs.Prelude.{◌≡◌, ◌+◌, ◌<◌, ◌≤◌, [], length, sum};
+ghost use Rattle.om_edge.specs.Sink.{AppendsFront};
+ghost use Rattle.om_generate.specs.Tally.{tally_state};
+
+use crate::seen::Seen;
+use om_edge::{Failed, Sink};
+use std::marker::Model;
+
+/// How many bytes are summed in one call.
+const MOST: usize = 65536;
+
+/// A sink that keeps of its bytes only how many there are, and their sum. A call fails where one of
+/// these has no room in 64 bits.
+#[derive(Drop)]
+pub struct Tally {
+    count: u64,
+    total: u64,
+    faults: u64,
+    seen: Seen,
+}
+
+impl Model for Tally {
+    ghost use Rattle.std.specs.Prelude.{◌≡◌, length, sum};
+    ghost use Rattle.om_generate.specs.Tally.{Told};
+
+    ghost Value = { Told };
+
+    ghost view = { λ t. record { written = t.seen.bytes; faults = t.faults } };
+
+    ghost invariant = { λ t. (t.count ≡ length t.seen.bytes) × (t.total ≡ sum t.seen.bytes) };
+}
+
+impl Tally {
+    /// No byte has come.
+    pub fn new() -> Tally
+        ensures { result ≡ record { written = []; faults = 0 } }
+    {
+        Tally {
+            count: 0,
+            total: 0,
+            faults: 0,
+            seen: Seen::nothing(),
+        }
+    }
+
+    /// How many bytes came.
+    pub fn count(&self) -> u64
+        ensures { result ≡ length self.now.written }
+    {
+        self.count
+    }
+
+    /// Their sum.
+    pub fn sum(&self) -> u64
+        ensures { result ≡ sum self.now.written }
+    {
+        self.total
+    }
+
+    /// How many calls failed.
+    pub fn faults(&self) -> u64
+        ensures { result ≡ self.now.faults }
+    {
+        self.faults
+    }
+}
+
+impl Sink for Tally {
+    ghost use Rattle.om_generate.specs.Tally.{tally_state};
+
+    ghost state = { tally_state };
+
+    fn put(&mut self, piece: &[u8]) -> Result<usize, Failed>
+        ensures appends { AppendsFront (tally_state self.old) (tally_state self.new) result
+            piece.now }
+    {
+        let front = &piece[..piece.len().min(MOST)];
+        match (
+            self.count.checked_add(front.len() as u64),
+            self.total.checked_add(sum_of(front)),
+        ) {
+            (Some(count), Some(total)) => {
+                self.count = count;
+                self.total = total;
+                self.seen.add(front);
+                Ok(front.len())
+            }
+            _ => {
+                self.faults = self.faults.saturating_add(1);
+                Err(Failed)
+            }
+        }
+    }
+}
+
+/// The sum of the bytes.
+fn sum_of(bytes: &[u8]) -> u64
+    requires { length bytes.now ≤ MOST }
+    ensures { result ≡ sum bytes.now }
+{
+    let mut sum = 0;
+    for byte in bytes {
+        sum += u64::from(*byte);
+    }
+    sum
+}
