@@ -1,3 +1,4 @@
 pub mod ItemLemmas
 pub mod LineLemmas
 pub mod ObjectLemmas
+pub mod WorkedLemmas

@@ -1,5 +1,5 @@
 -- A sink that counts.
-use Rattle.std.specs.Prelude.{ℕ, List, Some}
+use Rattle.std.specs.Prelude.{ℕ, ◌+◌, ◌^◌, ◌≤◌, ◌⊎◌, List, length, sum, Some}
 use Rattle.om_edge.specs.State.{ByteState}
 
 -- the bytes that came, and how many calls failed
@@ -9,3 +9,8 @@ pub record Told : Type 0 where
 
 abbrev pub tally_state : Told → ByteState
 tally_state told = record { bytes = Some told.written; faults = told.faults }
+
+-- with these bytes more, their number or their sum does not fit 64 bits
+abbrev pub HasNoRoom : Told → List ℕ → Type 0
+HasNoRoom told bytes =
+    (2 ^ 64 ≤ length told.written + length bytes) ⊎ (2 ^ 64 ≤ sum told.written + sum bytes)

@@ -2,11 +2,13 @@
 use Rattle.std.specs.Prelude.{ℕ, ◌≡◌, [], ◌∷◌, replicate, pos, codes}
 use Rattle.om_model.specs.declared.value.Val.TheVariants as vals
 use Rattle.om_model.specs.declared.value.Obj.TheVariants as objects
+use Rattle.om_format.specs.Iso.{IsTreeOf}
 use Rattle.om_format.specs.Token.{integer, block, leaf}
 use Rattle.om_format.specs.Tree.{Tree, node, none, more}
 use Rattle.om_generate.specs.Generated.{generated}
 use Rattle.om_generate.specs.Line.{generated_text}
 
+-- an integer as a tree, and a cell of a list
 abbrev pub an_int : ℕ → Tree
 an_int n = node (integer (pos n)) none
 
@@ -32,6 +34,9 @@ pub record Worked : Type 0 where
         ∷ objects.Block 0 (vals.Int (pos 0) ∷ vals.Ref 3 ∷ []) ∷ [],
     vals.Ref 4,
   )
+  -- their trees
+  pub empty_tree : IsTreeOf (generated 1 0).0 (generated 1 0).1 (an_int 0)
+  pub three_tree : IsTreeOf (generated 1 3).0 (generated 1 3).1 three
   -- their lines
   pub empty_line : generated_text (an_int 0) (codes "yes")
       ≡ codes "bytes 21 sum 702 objects 0 words 0 yes"

@@ -14,4 +14,3 @@ pub use item::declarations;
 pub use laws::worked_values_are_generated;
 pub use line::generated_line;
 pub use made::{Generated, generate};
-pub use tally::Tally;

@@ -1,8 +1,9 @@
 //! A sink that counts the bytes that go to it, and keeps their sum.
 
-ghost use Rattle.std.specs.Prelude.{◌≡◌, ◌+◌, ◌<◌, ◌≤◌, [], length, sum};
+ghost use Rattle.std.specs.Prelude.{◌≡◌, ◌↔◌, ◌≤◌, [], length, take, min, sum, is_err, IsErr, IfOk};
+ghost use Rattle.om_edge.specs.Faults.{count_after};
 ghost use Rattle.om_edge.specs.Sink.{AppendsFront};
-ghost use Rattle.om_generate.specs.Tally.{tally_state};
+ghost use Rattle.om_generate.specs.Tally.{tally_state, HasNoRoom};
 
 use crate::seen::Seen;
 use om_edge::{Failed, Sink};
@@ -58,13 +59,6 @@ impl Tally {
     {
         self.total
     }
-
-    /// How many calls failed.
-    pub fn faults(&self) -> u64
-        ensures { result ≡ self.now.faults }
-    {
-        self.faults
-    }
 }
 
 impl Sink for Tally {
@@ -75,6 +69,12 @@ impl Sink for Tally {
     fn put(&mut self, piece: &[u8]) -> Result<usize, Failed>
         ensures appends { AppendsFront (tally_state self.old) (tally_state self.new) result
             piece.now }
+
+        // How many bytes it takes, and when it fails.
+        ensures amount { IfOk result (λ n. n ≡ min (length piece.now) MOST) }
+        ensures fails { IsErr result
+            ↔ HasNoRoom self.old (take (min (length piece.now) MOST) piece.now) }
+        ensures counted { self.new.faults ≡ count_after self.old.faults (is_err result) }
     {
         let front = &piece[..piece.len().min(MOST)];
         match (
