@@ -1,5 +1,6 @@
 pub mod BoundLemmas
 pub mod CompatLemmas
+pub mod EndLemmas
 pub mod ForestLemmas
 pub mod FrameLemmas
 pub mod LawLemmas

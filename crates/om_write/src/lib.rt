@@ -6,6 +6,7 @@ mod head;
 pub mod laws;
 mod marks;
 mod measure;
+mod numbers;
 mod spell;
 mod text;
 mod walk;
@@ -14,5 +15,6 @@ mod writer32;
 
 pub use compat::Compat;
 pub use head::head_of;
+pub use numbers::{Numbers, number_objects};
 pub use writer::write;
 pub use writer32::{Write32Error, write32};

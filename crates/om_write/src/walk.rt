@@ -91,6 +91,23 @@ impl<'a> Walk<'a> {
         })
     }
 
+    /// The marks of the objects met.
+    pub fn into_marks(self) -> Marks
+        ensures { result ≡ self.entry.marks }
+    {
+        let Walk {
+            root: _,
+            given: _,
+            count: _,
+            again: _,
+            marks,
+            next: _,
+            last: _,
+            frames: _,
+        } = self;
+        marks
+    }
+
     /// Goes back from the end to the first token.
     pub fn restart(&mut self, heap: &Heap)
         requires walk { IsWalk heap.now self.old }

@@ -1,0 +1,46 @@
+//! The objects that a value reaches, by the order in which they are met.
+
+ghost use Rattle.std.specs.Prelude.{◌≡◌, ◌<◌, length, slice_index, IfOk};
+ghost use Rattle.om_model.specs.Graph.{IsValue};
+ghost use Rattle.om_format.specs.Iso.{IsTreeOf};
+ghost use Rattle.om_format.specs.Tree.{Tree};
+ghost use Rattle.om_write.specs.Marks.{marks_of};
+ghost use Rattle.om_write.specs.Numbers.{AreNumbered};
+
+use crate::marks::Marks;
+use crate::walk::Walk;
+use om_heap::Heap;
+use om_model::Memory;
+use om_model::value::Val;
+use std::alloc::Global;
+
+/// Of each object of a graph its place among those that a value reaches, in the order in which they
+/// are met, depth first and fields from left to right.
+#[derive(Drop)]
+pub struct Numbers {
+    marks: Marks,
+}
+
+impl Numbers {
+    /// The place of object k, counted from 1, or 0 where the value does not reach it.
+    pub fn get(&self, k: u64) -> u64
+        requires { k < length (marks_of self.now.marks) }
+        ensures { result ≡ slice_index (marks_of self.now.marks) k }
+    {
+        self.marks.get(k)
+    }
+}
+
+/// Numbers the objects that a value reaches.
+pub fn number_objects(alloc: Global, heap: &Heap, root: Val) -> Result<Numbers, Memory>
+    requires { IsValue (length heap.now) root }
+    ensures { (tree : Tree) → IsTreeOf heap.now root tree
+        → IfOk result (λ n. AreNumbered heap.now root tree (marks_of n.marks)) }
+{
+    let _graph = heap.count();
+    let mut walk = Walk::new(alloc, heap, root)?;
+    'tokens: while let Some(_step) = walk.next(heap)? {}
+    Ok(Numbers {
+        marks: walk.into_marks(),
+    })
+}
