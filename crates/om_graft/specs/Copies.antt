@@ -1,0 +1,43 @@
+-- A copy of a value behind the objects of a graph.
+use Rattle.std.specs.Prelude.{ℕ, ◌+◌, ◌<◌, ◌≤◌, ◌≡◌, List, ◌++◌, length, All, Some, slice_get}
+use Rattle.om_model.specs.declared.value.Val.{Val}
+use Rattle.om_model.specs.declared.value.Val.TheVariants as vals
+use Rattle.om_model.specs.declared.value.Obj.{Obj}
+use Rattle.om_model.specs.declared.value.Obj.TheVariants as objects
+use Rattle.om_format.specs.Tree.{Tree, root, objects_of}
+use Rattle.om_format.specs.Iso.{Iso, IsTreeOf}
+
+-- The objects that the value reaches, in the order in which they are met, depth first, numbered
+-- from c on; and the value among them.
+pub record IsCopy (graph : List Obj) (v : Val) (c : ℕ) (objects : List Obj) (value : Val)
+    : Type 0 where
+  pub tree : Tree
+  pub is : IsTreeOf graph v tree
+  pub all : objects ≡ objects_of tree c
+  pub top : value ≡ root tree c
+
+-- the objects stand in the graph from place c on
+abbrev pub StandFrom : List Obj → ℕ → List Obj → Type 0
+StandFrom graph c objects =
+    (i : ℕ) (o : Obj) → slice_get objects i ≡ Some o → slice_get graph (c + i) ≡ Some o
+
+-- a value that refers to no object before number c, nor from number n on
+abbrev pub IsWithin : ℕ → ℕ → Val → Type 0
+IsWithin c n (vals.Int z) = Unit {0}
+IsWithin c n (vals.Atom tag) = Unit {0}
+IsWithin c n (vals.Ref k) = (c ≤ k) × (k < n)
+
+-- an object whose fields are such values
+abbrev pub AreWithin : ℕ → ℕ → Obj → Type 0
+AreWithin c n (objects.Block tag values) = All (IsWithin c n) values
+AreWithin c n object = Unit {0}
+
+-- The new graph is the old one and a copy of the value behind it. The copy is the same value, with
+-- its sharing and its cycles, and all that it refers to is new.
+pub record HasCopy (old new : List Obj) (graph : List Obj) (v value : Val) : Type 0 where
+  pub copied : List Obj
+  pub is : IsCopy graph v (length old) copied value
+  pub behind : new ≡ old ++ copied
+  pub same : Iso new value graph v
+  pub top_is_new : IsWithin (length old) (length new) value
+  pub all_are_new : All (AreWithin (length old) (length new)) copied

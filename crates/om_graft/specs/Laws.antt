@@ -1,0 +1,34 @@
+-- What a copy is good for.
+use Rattle.std.specs.Prelude.{ℕ, ◌+◌, ◌≡◌, List, length, All}
+use Rattle.om_model.specs.declared.value.Val.{Val}
+use Rattle.om_model.specs.declared.value.Obj.{Obj}
+use Rattle.om_model.specs.Graph.{IsValue, IsGraph}
+use Rattle.om_format.specs.Iso.{Iso}
+use Rattle.om_graft.specs.Copies.{IsCopy, StandFrom, IsWithin, AreWithin}
+
+-- in each graph where the copy's objects stand it is the same value as the one that was copied
+abbrev pub CopiesAreTheSame : Type 0
+CopiesAreTheSame =
+    (graph : List Obj) (v : Val) (c : ℕ) (objects : List Obj) (value : Val)
+    → IsCopy graph v c objects value
+    → (other : List Obj) → StandFrom other c objects → Iso other value graph v
+
+-- a value of a graph has a copy behind c objects, and no other
+pub record HasOneCopy (graph : List Obj) (v : Val) (c : ℕ) : Type 0 where
+  pub copied : List Obj
+  pub value : Val
+  pub is : IsCopy graph v c copied value
+  pub only : (others : List Obj) (other : Val) → IsCopy graph v c others other
+      → (others ≡ copied) × (other ≡ value)
+
+abbrev pub OneCopyFollows : Type 0
+OneCopyFollows =
+    (graph : List Obj) (v : Val) (c : ℕ) → IsGraph graph → IsValue (length graph) v
+    → HasOneCopy graph v c
+
+-- a copy refers to its own objects alone, none of which is among the c before
+abbrev pub CopiesAreClosed : Type 0
+CopiesAreClosed =
+    (graph : List Obj) (v : Val) (c : ℕ) (copied : List Obj) (value : Val)
+    → IsCopy graph v c copied value
+    → IsWithin c (c + length copied) value × All (AreWithin c (c + length copied)) copied

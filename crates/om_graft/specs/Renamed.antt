@@ -1,0 +1,44 @@
+-- The objects of a value with other numbers, as a copy is made of them.
+use Rattle.std.specs.Prelude.{ℕ, ◌+◌, ◌-◌, ◌<◌, ◌≤◌, List, length, map, replicate, All, pos, slice_index, ⊤}
+use Rattle.om_model.specs.declared.value.Val.{Val}
+use Rattle.om_model.specs.declared.value.Val.TheVariants as vals
+use Rattle.om_model.specs.declared.value.Obj.{Obj}
+use Rattle.om_model.specs.declared.value.Obj.TheVariants as objects
+use Rattle.om_heap.specs.Heap.{object_at, fields_of}
+
+-- object k has its new number by its mark, which is its place counted from 1
+abbrev pub renamed_value : ℕ → List ℕ → Val → Val
+renamed_value base marks (vals.Int z) = vals.Int z
+renamed_value base marks (vals.Atom tag) = vals.Atom tag
+renamed_value base marks (vals.Ref k) = vals.Ref (base + (slice_index marks k - 1))
+
+-- an object with such fields
+abbrev pub renamed_object : ℕ → List ℕ → Obj → Obj
+renamed_object base marks (objects.Block tag values) =
+    objects.Block tag (map (renamed_value base marks) values)
+renamed_object base marks object = object
+
+-- the objects of these numbers
+abbrev pub renamed : ℕ → List ℕ → List Obj → List ℕ → List Obj
+renamed base marks graph ks = map (λ k. renamed_object base marks (object_at graph k)) ks
+
+-- an object before its fields are filled
+abbrev pub blank : Obj → Obj
+blank (objects.Block tag values) =
+    objects.Block tag (replicate (length values) (vals.Int (pos 0)))
+blank object = object
+
+abbrev pub blanks : List Obj → List ℕ → List Obj
+blanks graph ks = map (λ k. blank (object_at graph k)) ks
+
+-- a value whose object, if it refers to one, has a mark, by which its new number is below the end
+abbrev pub IsMet : List ℕ → ℕ → ℕ → Val → Type 0
+IsMet marks base end (vals.Int z) = ⊤
+IsMet marks base end (vals.Atom tag) = ⊤
+IsMet marks base end (vals.Ref k) =
+    (k < length marks) × (0 < slice_index marks k) × (base + slice_index marks k ≤ end)
+
+-- an object whose fields are such values
+abbrev pub IsMetObject : List Obj → List ℕ → ℕ → ℕ → ℕ → Type 0
+IsMetObject graph marks base end k =
+    (k < length graph) × All (IsMet marks base end) (fields_of (object_at graph k))

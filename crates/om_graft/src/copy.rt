@@ -1,0 +1,28 @@
+//! A copy of a part.
+
+ghost use Rattle.std.specs.Prelude.{◌≡◌, length, IfOk, MatchResult};
+ghost use Rattle.om_model.specs.Graph.{IsValue};
+ghost use Rattle.om_graft.specs.Copies.{HasCopy};
+
+use crate::blank::append_blanks;
+use crate::fill::{fill_all, renamed_by};
+use crate::order::Order;
+use om_heap::Heap;
+use om_model::Memory;
+use om_model::value::Val;
+use std::alloc::Global;
+
+/// Appends a copy of all that a part of another heap reaches. Sharing and cycles stay.
+pub fn append_copy(alloc: Global, heap: &mut Heap, from: &Heap, part: Val) -> Result<Val, Memory>
+    requires { IsValue (length from.now) part }
+    ensures copy { MatchResult result (HasCopy heap.old heap.new from.now part)
+        (λ _. heap.new ≡ heap.old) }
+    ensures value { IfOk result (IsValue (length heap.new)) }
+{
+    let base = heap.count();
+    let order = Order::of(alloc, from, part)?;
+    append_blanks(alloc, heap, from, &order.objects)?;
+    fill_all(heap, from, &order.numbers, base, &order.objects);
+    let _count = heap.count();
+    Ok(renamed_by(&order.numbers, base, part))
+}
