@@ -87,7 +87,7 @@ module _ (decls : List Decl) (t : Ty) (table : TypeTable) (is : IsTypeTable decl
   ReasonsAgree (ill_typed fault) (ill_typed other) = fault ≡ other
   ReasonsAgree one other = ⊥
 
-  abbrev AnswersAgree : Answer ℕ → Answer Ty → Type 0
+  abbrev pub AnswersAgree : Answer ℕ → Answer Ty → Type 0
   AnswersAgree (Ok made) (Ok other) = made ≡ other
   AnswersAgree (Err r) (Err s) = ReasonsAgree r s
   AnswersAgree one other = ⊥
@@ -118,7 +118,7 @@ module _ (decls : List Decl) (t : Ty) (table : TypeTable) (is : IsTypeTable decl
   reason_text_same (ill_typed fault) (ill_typed other) same = ap (λ fault. reason_text (text_at table) (ill_typed fault)) same
   reason_text_same r s same = absurd same
 
-  say_the_same : (answer : Answer ℕ) (other : Answer Ty) → AnswersAgree answer other → SayTheSame table answer other
+  pub say_the_same : (answer : Answer ℕ) (other : Answer Ty) → AnswersAgree answer other → SayTheSame table answer other
   say_the_same (Ok made) (Ok other) same = same
   say_the_same (Err r) (Err s) same = reason_text_same r s same
   say_the_same (Ok made) (Err s) same = absurd same
@@ -145,7 +145,7 @@ module _ (decls : List Decl) (t : Ty) (table : TypeTable) (is : IsTypeTable decl
     abbrev SpotsAgree : Place ℕ → Place Ty → Type 0
     SpotsAgree p q = (p.spot ≡ q.spot) × (p.value ≡ q.value) × Is p.ty q.ty
 
-    abbrev PlacesAgree : Result (Place ℕ) ℕ → Result (Place Ty) ℕ → Type 0
+    abbrev pub PlacesAgree : Result (Place ℕ) ℕ → Result (Place Ty) ℕ → Type 0
     PlacesAgree (Ok p) (Ok q) = SpotsAgree p q
     PlacesAgree (Err n) (Err m) = n ≡ m
     PlacesAgree p q = ⊥
@@ -178,7 +178,7 @@ module _ (decls : List Decl) (t : Ty) (table : TypeTable) (is : IsTypeTable decl
     root_is : Is 0 t
     root_is = root_is_first decls t (types_of table) is.reached
 
-    places : (root : Val) (path : List ℕ)
+    pub places : (root : Val) (path : List ℕ)
         → PlacesAgree (place_at (table_shapes (table_of table)) graph root 0 path) (place_at (declared_shapes decls) graph root t path)
     places root path = place_agree path 0 _ _ (refl, refl, root_is)
 
@@ -275,7 +275,7 @@ module _ (decls : List Decl) (t : Ty) (table : TypeTable) (is : IsTypeTable decl
   first_is : Is 0 t
   first_is = root_is_first decls t (types_of table) is.reached
 
-  follows_alike : (made answer : Answer ℕ) (made' : Answer Ty) → FollowsIn made answer → AnswersAgree made made'
+  pub follows_alike : (made answer : Answer ℕ) (made' : Answer Ty) → FollowsIn made answer → AnswersAgree made made'
       → (other : Answer Ty) × FollowsOver made' other × AnswersAgree answer other
   follows_alike (Ok made) (Ok edited) (Ok made') (same, typed) agree = (
     Ok made',

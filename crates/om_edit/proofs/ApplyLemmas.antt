@@ -32,7 +32,7 @@ use Rattle.om_edit.specs.EditedValues.{Answer, put_at, linked, copied, object_of
 use Rattle.om_edit.specs.Tables.{SameClass, IsAnswerIn, IsApplied, IsKept, IsRefusedFor, IsReason, Gives}
 use Rattle.om_edit.proofs.MadeLemmas.{answer_once}
 
-first_of : (old more new : List Obj) (count : ℕ) → count ≡ length old → new ≡ old ++ more → take count new ≡ old
+pub first_of : (old more new : List Obj) (count : ℕ) → count ≡ length old → new ≡ old ++ more → take count new ≡ old
 first_of old more new count many is =
     ap (λ g. take count g) is ∙ ap (λ n. take n (old ++ more)) many
     ∙ take-append-le (length old) old more (omega arith) ∙ take_all (length old) old (omega arith)

@@ -2,3 +2,5 @@ pub mod PutLemmas
 pub mod MadeLemmas
 pub mod AlikeLemmas
 pub mod ApplyLemmas
+pub mod GraftLemmas
+pub mod GraftAnswers

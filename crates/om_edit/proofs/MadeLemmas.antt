@@ -154,7 +154,7 @@ module _ {T : Type 0} (shape : T → ShapeOf T) (names : T → Names) (Equal : T
 
   -- where nothing has both the type and a fault, there is one answer at most
   module _ (never_both : (graph : List Obj) (v : Val) (fault : Fault) → IsFault (shaped shape Equal) graph v t fault → HasType (shaped shape Equal) graph v t → ⊥) where
-    follows_once : (made answer other : Answer T) → Follows made answer → Follows made other → answer ≡ other
+    pub follows_once : (made answer other : Answer T) → Follows made answer → Follows made other → answer ≡ other
     follows_once (Ok made) (Ok edited) (Ok other) one two = ap Ok (sym one.0 ∙ two.0)
     follows_once (Ok made) (Ok edited) (Err reason) one two = absurd (never_both made.0 made.1 two.0 two.2.is_fault one.1)
     follows_once (Ok made) (Err reason) (Ok other) one two = absurd (never_both made.0 made.1 one.0 one.2.is_fault two.1)

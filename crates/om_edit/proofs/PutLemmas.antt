@@ -11,7 +11,7 @@ use Rattle.om_types.specs.Typing.{values_of, field_at}
 use Rattle.om_heap.specs.Heap.{object_at, fields_of, with_field, set_field}
 use Rattle.om_edit.specs.declared.spots.Spot.{Spot}
 use Rattle.om_edit.specs.declared.spots.Spot.TheVariants as spots
-use Rattle.om_edit.specs.Places.{IsThere, StandsAt}
+use Rattle.om_edit.specs.Places.{StandsAt}
 use Rattle.om_edit.specs.EditedValues.{put_at}
 
 abbrev none_there : Obj

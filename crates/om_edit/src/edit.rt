@@ -121,7 +121,7 @@ fn unshare(
 
 /// Puts a value at a place, where the whole then has its type. Else the heap keeps its first
 /// `count` objects, as they were.
-fn put_if_typed(
+pub(crate) fn put_if_typed(
     alloc: Global,
     heap: &mut Heap,
     root: &mut Val,

@@ -1,5 +1,6 @@
 //! Laws over the definitions. The functions do nothing: what each ensures is the law.
 
+ghost use Rattle.om_edit.specs.GraftLaws.{GraftsAreTheSame, GraftsHaveOneAnswer, TablesGraftAlike};
 ghost use Rattle.om_edit.specs.Laws.{EditsHaveOneAnswer, TablesEditAlike};
 ghost use Rattle.om_edit.specs.WorkedEdits.{Rows};
 
@@ -17,4 +18,20 @@ pub fn tables_edit_alike()
 /// be.
 pub fn worked_edits_are_made()
     ensures { Rows }
+{}
+
+/// What a graft puts at its place is the same value as the part, made of new objects alone, and the
+/// whole has its type.
+pub fn grafts_are_the_same()
+    ensures { GraftsAreTheSame }
+{}
+
+/// A graft has one answer at most.
+pub fn grafts_have_one_answer()
+    ensures { GraftsHaveOneAnswer }
+{}
+
+/// What a table of types says of grafts is what its types say.
+pub fn tables_graft_alike()
+    ensures { TablesGraftAlike }
 {}

@@ -2,13 +2,18 @@
 #![tactic(auto)]
 
 mod edit;
+mod grafting;
 mod laws;
 mod refusal;
 mod spots;
 mod text;
 
 pub use edit::apply;
-pub use laws::{edits_have_one_answer, tables_edit_alike, worked_edits_are_made};
+pub use grafting::graft;
+pub use laws::{
+    edits_have_one_answer, grafts_are_the_same, grafts_have_one_answer, tables_edit_alike,
+    tables_graft_alike, worked_edits_are_made,
+};
 pub use refusal::{EditRefusal, Side};
 pub use spots::{Place, Spot};
 pub use text::refusal_text;

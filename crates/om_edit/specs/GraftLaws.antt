@@ -1,0 +1,69 @@
+-- What a graft is good for; that it has one answer; and that what a table of types says of it is
+-- what its types say.
+use Rattle.std.specs.Prelude.{ℕ, ◌≤◌, ◌≡◌, Ok, Some, List, length, slice_get}
+use Rattle.om_model.specs.declared.value.Val.{Val}
+use Rattle.om_model.specs.declared.value.Obj.{Obj}
+use Rattle.om_types.specs.declared.decl.Decl.{Decl}
+use Rattle.om_types.specs.Accepted.{AreWellFormed, IsSoundType}
+use Rattle.om_types.specs.Equal.{Equal, declared_shapes}
+use Rattle.om_types.specs.Reached.{IsReached}
+use Rattle.om_types.specs.Shape.{shape}
+use Rattle.om_types.specs.Shapes.{Shapes}
+use Rattle.om_types.specs.Ty.{Ty}
+use Rattle.om_types.specs.Typing.{HasType}
+use Rattle.om_format.specs.Iso.{Iso}
+use Rattle.om_type_table.specs.declared.table.TypeTable.{TypeTable}
+use Rattle.om_type_table.specs.Made.{table_of, IsLawful, IsTypeTable}
+use Rattle.om_graft.specs.Copies.{IsWithin, AreWithin}
+use Rattle.om_edit.specs.declared.spots.Place.{Place}
+use Rattle.om_edit.specs.EditedValues.{Answer}
+use Rattle.om_edit.specs.Grafts.{Other, IsGraftAnswer, IsGraftAnswerIn}
+use Rattle.om_edit.specs.Laws.{IsAtMostOne, SayTheSame}
+use Rattle.om_edit.specs.Places.{place_at, StandsAt}
+
+-- what is answered to a graft at a declared type
+abbrev pub IsDeclaredGraft : List Decl → Ty → List ℕ → Other → List ℕ → List Obj → Val → Answer Ty
+    → Type 0
+IsDeclaredGraft decls t path other source graph root answer =
+    IsGraftAnswer (shape decls) (Equal decls) t path other source graph root answer
+
+-- What stands at the place is the same value as the part is, with its sharing and its cycles. It
+-- refers to new objects alone, and so do all new objects. The whole has the type.
+pub record HasGraft {T : Type 0} (shapes : Shapes T) (t : T) (p part : Place T) (other : Other)
+    (graph : List Obj) (made : List Obj × Val) : Type 0 where
+  pub value : Val
+  pub stands : StandsAt made.0 made.1 p.spot value
+  pub same : Iso made.0 value other.0 part.value
+  pub is_new : IsWithin (length graph) (length made.0) value
+  pub all_are_new : (k : ℕ) (object : Obj) → length graph ≤ k → slice_get made.0 k ≡ Some object
+      → AreWithin (length graph) (length made.0) object
+  pub typed : HasType shapes made.0 made.1 t
+
+-- so it is wherever the two paths lead
+abbrev pub GraftsAreTheSame : Type 0
+GraftsAreTheSame =
+    (decls : List Decl) (t : Ty) (path : List ℕ) (other : Other) (source : List ℕ)
+    (graph : List Obj) (root : Val) (made : List Obj × Val)
+    → IsDeclaredGraft decls t path other source graph root (Ok made)
+    → (p part : Place Ty) → place_at (declared_shapes decls) graph root t path ≡ Ok p
+    → place_at (declared_shapes decls) other.0 other.1 t source ≡ Ok part
+    → HasGraft (declared_shapes decls) t p part other graph made
+
+-- a graft has one answer at most, by the numbers of a table and by types
+pub record GraftsHaveOneAnswer : Type 0 where
+  pub by_numbers : (table : TypeTable) → IsLawful (table_of table)
+      → (path : List ℕ) (other : Other) (source : List ℕ) (graph : List Obj) (root : Val)
+      → IsAtMostOne (IsGraftAnswerIn table path other source graph root)
+  pub by_types : (decls : List Decl) (t : Ty) (types : List Ty) → AreWellFormed decls
+      → IsSoundType decls t → IsReached decls t types
+      → (path : List ℕ) (other : Other) (source : List ℕ) (graph : List Obj) (root : Val)
+      → IsAtMostOne (IsDeclaredGraft decls t path other source graph root)
+
+-- an answer by the numbers of a table is one by their types
+abbrev pub TablesGraftAlike : Type 0
+TablesGraftAlike =
+    (decls : List Decl) (t : Ty) (table : TypeTable) → IsTypeTable decls t table
+    → (path : List ℕ) (other : Other) (source : List ℕ) (graph : List Obj) (root : Val)
+    (answer : Answer ℕ) → IsGraftAnswerIn table path other source graph root answer
+    → (declared : Answer Ty) × IsDeclaredGraft decls t path other source graph root declared
+    × SayTheSame table answer declared

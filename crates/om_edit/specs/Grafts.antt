@@ -1,0 +1,86 @@
+-- A copy of a part of another value, put at a place of a value, over any shapes. Both values have
+-- one type, and a value is a graph and a root.
+use Rattle.std.specs.Prelude.{ℕ, ◌≡◌, Option, Some, None, Result, Ok, Err, List, ◌++◌, length, ⊤}
+use Rattle.om_model.specs.declared.value.Val.{Val}
+use Rattle.om_model.specs.declared.value.Obj.{Obj}
+use Rattle.om_types.specs.declared.fault.Fault.{Fault}
+use Rattle.om_types.specs.declared.shape.ShapeOf.{ShapeOf}
+use Rattle.om_types.specs.Fitting.{shaped}
+use Rattle.om_types.specs.LeastFault.{IsLeastFault}
+use Rattle.om_types.specs.Typing.{HasType}
+use Rattle.om_type_table.specs.declared.table.TypeTable.{TypeTable}
+use Rattle.om_literal.specs.LiteralAnswers.{shape_in}
+use Rattle.om_graft.specs.Copies.{IsCopy}
+use Rattle.om_edit.specs.declared.spots.Place.{Place}
+use Rattle.om_edit.specs.declared.refusal.EditRefusal.{EditRefusal}
+use Rattle.om_edit.specs.declared.refusal.Side.TheVariants.{Left, Right}
+use Rattle.om_edit.specs.EditedValues.{Answer, put_at}
+use Rattle.om_edit.specs.Places.{place_at}
+use Rattle.om_edit.specs.Reasons.{Reason, no_field, ill_typed, reason_of}
+use Rattle.om_edit.specs.Tables.{SameClass}
+
+-- the value that a part is copied from
+abbrev pub Other : Type 0
+Other = List Obj × Val
+
+module _ {T : Type 0} where
+  -- a copy of what stands at the place of the other value is put at the place of this one
+  abbrev pub IsGraftAt : List Obj → Val → Place T → List Obj → Place T → Answer T → Type 0
+  IsGraftAt graph root p from part (Ok made) =
+      (copied : List Obj) × (value : Val)
+      × IsCopy from part.value (length graph) copied value
+      × (made ≡ put_at p.spot value (graph ++ copied) root)
+  IsGraftAt graph root p from part (Err reason) = ⊥
+
+  -- the left path is looked at first
+  abbrev pub IsGraft : List Obj → Val → Result (Place T) ℕ → List Obj → Result (Place T) ℕ
+      → Answer T → Type 0
+  IsGraft graph root (Err step) from part made = made ≡ Err (no_field Left step)
+  IsGraft graph root (Ok p) from (Err step) made = made ≡ Err (no_field Right step)
+  IsGraft graph root (Ok p) from (Ok part) made = IsGraftAt graph root p from part made
+
+  module _ (shape : T → ShapeOf T) (Equal : T → T → Type 0) (t : T) where
+    -- what a graft makes, whether it has the type or not
+    abbrev pub IsGrafted : List ℕ → Other → List ℕ → List Obj → Val → Answer T → Type 0
+    IsGrafted path other source graph root made =
+        IsGraft graph root (place_at (shaped shape Equal) graph root t path) other.0
+        (place_at (shaped shape Equal) other.0 other.1 t source) made
+
+    -- it has not, and this is its least fault
+    abbrev pub IsIllGrafted : List ℕ → Other → List ℕ → List Obj → Val → Fault → Type 0
+    IsIllGrafted path other source graph root fault =
+        (made : List Obj × Val) × IsGrafted path other source graph root (Ok made)
+        × IsLeastFault (shaped shape Equal) made.0 made.1 t fault
+
+    -- what is answered to a graft
+    abbrev pub IsGraftAnswer : List ℕ → Other → List ℕ → List Obj → Val → Answer T → Type 0
+    IsGraftAnswer path other source graph root (Ok made) =
+        IsGrafted path other source graph root (Ok made)
+        × HasType (shaped shape Equal) made.0 made.1 t
+    IsGraftAnswer path other source graph root (Err (ill_typed fault)) =
+        IsIllGrafted path other source graph root fault
+    IsGraftAnswer path other source graph root (Err reason) =
+        IsGrafted path other source graph root (Err reason)
+
+-- ---- by the numbers of a table: what a call gives
+
+-- what is answered to a graft at the type of number 0
+abbrev pub IsGraftAnswerIn : TypeTable → List ℕ → Other → List ℕ → List Obj → Val → Answer ℕ
+    → Type 0
+IsGraftAnswerIn table path other source graph root answer =
+    IsGraftAnswer (shape_in table) (SameClass table) 0 path other source graph root answer
+
+abbrev pub IsNotGraftedFor : TypeTable → List ℕ → Other → List ℕ → List Obj → Val
+    → Option (Reason ℕ) → Type 0
+IsNotGraftedFor table path other source graph root None = ⊤
+IsNotGraftedFor table path other source graph root (Some reason) =
+    IsGraftAnswerIn table path other source graph root (Err reason)
+
+-- the value is grafted; else it is as it was, and there is a reason, or memory ran out
+abbrev pub IsGraftApplied : TypeTable → List ℕ → Other → List ℕ → List Obj → Val → List Obj → Val
+    → Result (Unit {0}) EditRefusal → Type 0
+IsGraftApplied table path other source old old_root new new_root (Ok unit) =
+    IsGraftAnswerIn table path other source old old_root (Ok (new, new_root))
+IsGraftApplied table path other source old old_root new new_root (Err refusal) =
+    (new ≡ old) × (new_root ≡ old_root)
+    × IsNotGraftedFor table path other source old old_root (reason_of refusal)

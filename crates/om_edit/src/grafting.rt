@@ -1,0 +1,62 @@
+//! A copy of a part of another value, put at a place.
+
+ghost use Rattle.std.specs.Prelude.{ℕ, ◌≡◌, length, Result, Ok, List, OnOk};
+ghost use Rattle.om_model.specs.declared.value.Val.{Val};
+ghost use Rattle.om_model.specs.declared.value.Obj.{Obj};
+ghost use Rattle.om_model.specs.Graph.{IsValue};
+ghost use Rattle.om_types.specs.Table.{table_shapes};
+ghost use Rattle.om_type_table.specs.Made.{table_of, IsLawful};
+ghost use Rattle.om_edit.specs.declared.spots.Place.{Place};
+ghost use Rattle.om_edit.specs.Grafts.{IsGraftAnswerIn, IsGraftApplied};
+ghost use Rattle.om_edit.specs.GraftLaws.{HasGraft};
+ghost use Rattle.om_edit.specs.Places.{place_at};
+ghost use Rattle.om_edit.specs.Reasons.{Reason};
+ghost use Rattle.om_edit.specs.Tables.{Gives};
+
+use crate::edit::put_if_typed;
+use crate::refusal::{EditRefusal, Side};
+use crate::spots::find_place;
+use om_graft::append_copy;
+use om_heap::Heap;
+use om_model::path::Path;
+use om_model::value::Val;
+use om_type_table::TypeTable;
+use std::alloc::Global;
+
+/// Puts at a place of a value a copy of what stands at the second path in another value. Both have
+/// the type that is number 0 of the table. After a refusal the value is as it was.
+pub fn graft(
+    alloc: Global,
+    heap: &mut Heap,
+    root: &mut Val,
+    table: &TypeTable,
+    path: &Path,
+    from: &Heap,
+    other: Val,
+    source: &Path,
+) -> Result<(), EditRefusal>
+    requires value { IsValue (length heap.old) root.old }
+    requires other { IsValue (length from.now) other }
+    requires lawful { IsLawful (table_of table.now) }
+    // the edited value, or the refusal and the value as it was
+    ensures answer { IsGraftApplied table.now path.now (from.now, other) source.now heap.old
+        root.old heap.new root.new result }
+    // the one answer is given, unless memory runs out
+    ensures only { (answer : Result (List Obj × Val) (Reason ℕ))
+        → IsGraftAnswerIn table.now path.now (from.now, other) source.now heap.old root.old answer
+        → Gives answer heap.new root.new result }
+    // what is put is the same value as the part, and is new
+    ensures copy { (p part : Place ℕ)
+        → place_at (table_shapes (table_of table.now)) heap.old root.old 0 path.now ≡ Ok p
+        → place_at (table_shapes (table_of table.now)) from.now other 0 source.now ≡ Ok part
+        → OnOk result
+        (HasGraft (table_shapes (table_of table.now)) 0 p part (from.now, other) heap.old
+        (heap.new, root.new)) }
+    ensures value { IsValue (length heap.new) root.new }
+{
+    let place = find_place(heap, *root, table, Side::Left, path)?;
+    let part = find_place(from, other, table, Side::Right, source)?;
+    let count = heap.count();
+    let value = append_copy(alloc, heap, from, part.value)?;
+    put_if_typed(alloc, heap, root, table, place, value, count)
+}
