@@ -1,6 +1,6 @@
 -- The start of a check, and its answers.
 use Rattle.std.proofs.Common.{ℕ, zero, suc, ◌<◌, ◌≡◌, ◌∙◌, inl, inr, List, [], ◌∷◌, ◌++◌, length, Option, Some, None, refl, sym, ap, subst, arith}
-use Rattle.std.specs.Prelude.{slice_get, option_map}
+use Rattle.std.specs.Prelude.{slice_get, option_map, Contains}
 use Rattle.std.proofs.lemmas.Option.{same_Some, none-some}
 use Rattle.om_model.proofs.Options.{Contains-none}
 use Rattle.om_model.specs.declared.value.Val.{Val}
@@ -17,6 +17,7 @@ use Rattle.om_types.specs.Table.{Table, table_shapes, node_or_none}
 use Rattle.om_types.specs.Typing.{IsListed, IsTyped, HasType}
 use Rattle.om_type_table.specs.Made.{IsLawful}
 use Rattle.om_fits.specs.declared.needs.Needs.{Needs}
+use Rattle.om_scan.specs.Paths.{HasPath}
 use Rattle.om_check.specs.declared.visits.Visit.{Visit}
 use Rattle.om_fits.specs.Needs.{needs_in}
 use Rattle.om_check.specs.Told.{IsPathOf, IsClashOf}
@@ -25,7 +26,7 @@ use Rattle.om_check.specs.Explored.{root_of, ComesBefore, AreExplored, IsExplore
 use Rattle.om_check.specs.Search.{Grows, Searches, pairs_of}
 use Rattle.om_check.specs.Verdict.{IsYes}
 use Rattle.om_check.proofs.VisitLemmas.{root_still}
-use Rattle.om_check.proofs.VerdictLemmas.{clash_found, yes_found}
+use Rattle.om_check.proofs.VerdictLemmas.{clash_found, yes_found, paths_found}
 
 only_first : {X : Type 0} (x y : X) (k : ℕ) → slice_get (x ∷ []) k ≡ Some y → (k ≡ 0) × (x ≡ y)
 only_first x y zero at_k = (refl, same_Some x y at_k)
@@ -154,3 +155,10 @@ module _ (table : Table) (graph : List Obj) where
   yes_verdict old new o is searches none =
       subst (λ r. HasType (table_shapes table) graph (vals.Ref r) 0 × IsYes table graph (vals.Ref r) (pairs_of new)) (root_kept old new o is searches.grows)
       (yes_found table graph new (length new) searches.tested (omega arith) none)
+
+  pub yes_paths :
+      (old new : List Visit) (o : ℕ) → old ≡ start o ∷ [] → Searches table graph old new None
+      → (p t : ℕ) → Contains (pairs_of new) (p, t) → HasPath table graph (vals.Ref o) p t
+  yes_paths old new o is searches p t among =
+      subst (λ r. HasPath table graph (vals.Ref r) p t) (root_kept old new o is searches.grows)
+      (paths_found table graph new (length new) searches.tested (omega arith) p t among)

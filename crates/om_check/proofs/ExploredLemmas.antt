@@ -13,7 +13,8 @@ use Rattle.om_types.specs.Table.{Table, table_shapes, node_or_none}
 use Rattle.om_typing.proofs.PathLemmas.{OneOfThree, value_at-push}
 use Rattle.om_typing.proofs.SearchedLemmas.{before_transitive, never_before_itself}
 use Rattle.om_check.specs.Explored.{ComesBefore, needs_at, IsMetNeed, IsLedTo, AreExplored}
-use Rattle.om_check.proofs.OrderLemmas.{both_pushed, pushed_less, root_before, need_is_named}
+use Rattle.om_check.proofs.OrderLemmas.{both_pushed, pushed_less, root_before}
+use Rattle.om_scan.proofs.PathLemmas.{need_is_named}
 use Rattle.om_scan.proofs.IncreaseLemmas.{numbers_compare, needs_increase}
 use Rattle.om_scan.proofs.PlaceLemmas.{slice_get-append_left, slice_get-push_cases}
 

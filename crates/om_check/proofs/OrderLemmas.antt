@@ -1,16 +1,7 @@
--- The order of paths that grow by a step, and the numbers of needs.
-use Rattle.std.proofs.Common.{ℕ, ◌<◌, ◌≡◌, ◌∙◌, inl, inr, ◌++◌, List, [], ◌∷◌, length, Some, refl, ap, arith}
-use Rattle.std.specs.Prelude.{slice_get}
-use Rattle.om_model.proofs.Options.{slice_get-Contains}
-use Rattle.om_model.specs.declared.value.Val.{Val}
-use Rattle.om_model.specs.declared.value.Obj.{Obj}
-use Rattle.om_types.specs.declared.shape.ShapeOf.{ShapeOf}
-use Rattle.om_types.specs.Fault.{IsLexicallyBefore, IsBefore, type_of_field}
-use Rattle.om_types.specs.Fitting.{or_none, fields_of}
-use Rattle.om_types.proofs.FaultLemmas.{named_is_needed}
-use Rattle.om_typing.proofs.NeedLemmas.{needed_is_named}
+-- The order of paths that grow by a step.
+use Rattle.std.proofs.Common.{ℕ, ◌<◌, ◌≡◌, inl, inr, ◌++◌, List, [], ◌∷◌, length, refl, arith}
+use Rattle.om_types.specs.Fault.{IsLexicallyBefore, IsBefore}
 use Rattle.om_typing.proofs.SearchedLemmas.{length_pushed}
-use Rattle.om_table.proofs.FieldLemmas.{needs_once}
 
 -- ---- paths
 
@@ -36,16 +27,3 @@ pushed_less p i j less = inr (omega (arith, length_pushed p i, length_pushed p j
 
 pub root_before : (p : List ℕ) (i : ℕ) → IsBefore [] (p ++ i ∷ [])
 root_before p i = inl (omega (arith, length_pushed p i))
-
--- ---- the numbers of needs
-
-module _ {T : Type 0} where
-  -- a need's number names its type
-  pub need_is_named : (s : ShapeOf T) (graph : List Obj) (v : Val) (k i : ℕ) (a : T)
-      → slice_get (or_none (fields_of graph v s)) k ≡ Some (i, a) → type_of_field (or_none (fields_of graph v s)) i ≡ Some a
-  need_is_named s graph v k i a at =
-      let needs = or_none (fields_of graph v s) in
-      let among = slice_get-Contains needs k (i, a) at in
-      let named = needed_is_named needs i a among in
-      let same : named.0 ≡ a = needs_once s graph v i named.0 a (named_is_needed needs i named.0 named.1) among in
-      named.1 ∙ ap (λ t. Some t) same

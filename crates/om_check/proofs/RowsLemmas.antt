@@ -1,5 +1,5 @@
 -- What the test of a need answers.
-use Rattle.std.proofs.Common.{ℕ, suc, ◌%◌, ◌≡◌, true, false, List, length, Some, refl, sym, subst, arith}
+use Rattle.std.proofs.Common.{ℕ, suc, ◌≡◌, true, false, List, length, Some, refl, sym, subst}
 use Rattle.std.specs.Prelude.{slice_get}
 use Rattle.om_model.specs.Graph.{IsValue}
 use Rattle.om_model.specs.declared.value.Val.{Val}
@@ -7,7 +7,6 @@ use Rattle.om_model.specs.declared.value.Val.TheVariants as vals
 use Rattle.om_model.specs.declared.value.Obj.{Obj}
 use Rattle.om_types.specs.Fault.{field_of}
 use Rattle.om_types.specs.Table.{Table, table_shapes}
-use Rattle.om_heap.specs.Heap.{word_of}
 use Rattle.om_check.specs.declared.visits.Visit.{Visit}
 use Rattle.om_check.specs.declared.search.Need.{Need}
 use Rattle.om_check.specs.declared.visits.Visits.{Visits}

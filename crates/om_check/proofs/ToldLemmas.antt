@@ -1,8 +1,7 @@
 -- The paths of visits.
 use Rattle.std.proofs.Common.{ℕ, ◌<◌, ◌≤◌, ◌≡◌, ◌∙◌, ◌++◌, List, [], ◌∷◌, length, Some, sym, ap, subst, arith}
 use Rattle.std.specs.Prelude.{slice_get, reverse}
-use Rattle.std.proofs.lemmas.List.{append-nil, append_assoc, reverse-append}
-use Rattle.std.proofs.lemmas.Option.{same_Some}
+use Rattle.std.proofs.lemmas.List.{append_assoc, reverse-append}
 use Rattle.om_model.proofs.Options.{slice_get_there}
 use Rattle.om_check.specs.declared.visits.Visit.{Visit}
 use Rattle.om_check.specs.Told.{AreOrdered, IsPathOf, IsRestOf}

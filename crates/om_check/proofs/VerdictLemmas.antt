@@ -22,6 +22,7 @@ use Rattle.om_check.specs.Told.{IsClashOf}
 use Rattle.om_check.specs.Explored.{needs_at, root_of, IsExplored}
 use Rattle.om_check.specs.Search.{pairs_of}
 use Rattle.om_check.specs.Verdict.{IsYes}
+use Rattle.om_scan.specs.Paths.{HasPath}
 use Rattle.om_scan.proofs.PlaceLemmas.{place_of}
 use Rattle.om_check.proofs.ExploredLemmas.{AreInOrder}
 use Rattle.om_check.proofs.VisitLemmas.{tells_of, visit_fits}
@@ -290,4 +291,14 @@ module _ (table : Table) (graph : List Obj) where
         let typing = typing_found none in (
           record { fits = x.explored.fit 0 at_0 x.explored.rooted; typed = (pairs_of all, typing, pair) },
           record { typing = typing; rooted = (0, pair, refl); apart = pairs_apart table graph all n 0 x },
+        )
+
+    -- ---- paths
+
+    pub paths_found : (o t : ℕ) → Contains (pairs_of all) (o, t) → HasPath table graph (vals.Ref (root_of all)) o t
+    paths_found o t among =
+        let p = pair_is_of o t among in
+        let e = tells_of table graph all x.told p.place p.visit x.are_told p.at in (
+          e.entry.path,
+          x.explored.leads p.place e.entry e.at ∙ ap (λ q. Some (vals.Ref q, e.entry.type)) (e.object ∙ p.object) ∙ ap (λ a. Some (vals.Ref o, a)) (e.type ∙ p.type),
         )

@@ -1,11 +1,12 @@
 -- What a verdict says.
-use Rattle.std.specs.Prelude.{ℕ, List, map}
+use Rattle.std.specs.Prelude.{ℕ, List, map, Contains}
 use Rattle.om_model.specs.declared.value.Val.{Val}
 use Rattle.om_model.specs.declared.value.Obj.{Obj}
 use Rattle.om_types.specs.LeastFault.{IsLeastFault}
 use Rattle.om_types.specs.Table.{Table, table_shapes}
 use Rattle.om_types.specs.Typing.{IsListed, IsTyping, HasType}
 use Rattle.om_typing.specs.StepLaws.{AreApart, key_of}
+use Rattle.om_scan.specs.Paths.{HasPath}
 use Rattle.om_check.specs.declared.verdict.Verdict.{Verdict}
 use Rattle.om_check.specs.declared.verdict.Verdict.TheVariants.{Yes, No}
 
@@ -22,3 +23,9 @@ abbrev pub IsVerdict : Table → List Obj → Val → Verdict → Type 0
 IsVerdict table graph root (Yes typing) =
     HasType (table_shapes table) graph root 0 × IsYes table graph root typing
 IsVerdict table graph root (No fault) = IsLeastFault (table_shapes table) graph root 0 fault
+
+-- some path leads to each object of a Yes at its type
+abbrev pub PairsHavePaths : Table → List Obj → Val → Verdict → Type 0
+PairsHavePaths table graph root (Yes typing) =
+    (o t : ℕ) → Contains typing (o, t) → HasPath table graph root o t
+PairsHavePaths table graph root (No fault) = Unit {0}

@@ -11,7 +11,7 @@ ghost use Rattle.om_scan.specs.Taken.{types_in};
 ghost use Rattle.om_scan.specs.Scanned.{AreTaken, cost_of, left_of};
 ghost use Rattle.om_check.specs.Told.{AreOrdered, IsClashOf};
 ghost use Rattle.om_check.specs.Visits.{listed};
-ghost use Rattle.om_check.specs.Verdict.{IsVerdict};
+ghost use Rattle.om_check.specs.Verdict.{IsVerdict, PairsHavePaths};
 
 use crate::clash::first_clash;
 use crate::path::path_of;
@@ -40,6 +40,7 @@ pub fn check(
     requires value { IsValue (length heap.now) root }
     requires table { IsLawful (table_of table.now) }
     ensures verdict { IfOk result (IsVerdict (table_of table.now) heap.now root) }
+    ensures paths { IfOk result (PairsHavePaths (table_of table.now) heap.now root) }
     ensures steps { steps.new ≤ steps.old + most_steps (table_of table.now) heap.now }
 {
     steps.raise();
@@ -65,6 +66,7 @@ fn check_object(
     requires table { IsLawful (table_of table.now) }
     requires fits { (table_shapes (table_of table.now)).fits heap.now (vals.Ref object) 0 }
     ensures verdict { IfOk result (IsVerdict (table_of table.now) heap.now (vals.Ref object)) }
+    ensures paths { IfOk result (PairsHavePaths (table_of table.now) heap.now (vals.Ref object)) }
     ensures steps { steps.new + 1 ≤ steps.old + most_steps (table_of table.now) heap.now }
 {
     let objects = heap.count();
@@ -100,6 +102,7 @@ fn search_object(
     requires fits { (table_shapes (table_of table.now)).fits heap.now (vals.Ref object) 0 }
     requires taken { AreTaken (table_of table.now) heap.now taken.now }
     ensures verdict { IfOk result (IsVerdict (table_of table.now) heap.now (vals.Ref object)) }
+    ensures paths { IfOk result (PairsHavePaths (table_of table.now) heap.now (vals.Ref object)) }
     ensures steps { steps.new + cost_of heap.now (types_in taken.now) + 1
         ≤ steps.old + left_of heap.now taken.now + most_steps (table_of table.now) heap.now }
 {

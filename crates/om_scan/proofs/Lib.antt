@@ -3,6 +3,7 @@ pub mod IncreaseLemmas
 pub mod RowLemmas
 pub mod FieldLemmas
 pub mod NeedLemmas
+pub mod PathLemmas
 pub mod MarkLemmas
 pub mod ScanLemmas
 pub mod StopLemmas

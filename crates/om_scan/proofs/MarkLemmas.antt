@@ -13,6 +13,7 @@ use Rattle.om_model.specs.Graph.{IsValue, IsGraph}
 use Rattle.om_heap.specs.Heap.{key_of, field_at, word_of, IsFieldWord}
 use Rattle.om_heap.proofs.ReadLemmas.{word_of-inj}
 use Rattle.om_fits.proofs.RowLemmas.{is_reference}
+use Rattle.om_scan.specs.Paths.{HasPath}
 use Rattle.om_scan.specs.Scanned.{object_needs}
 use Rattle.om_scan.specs.Scan.{AreMarks, AreKept, IsMet, IsUnfit, AreMet, IsMeeting, IsTaken}
 
@@ -36,15 +37,26 @@ module _ (table : Table) (graph : List Obj) where
   marks_none n keys = record {
     keyed = λ o inside. subst (λ m. key_of graph o < m) (sym (length-replicate n 0)) (keys o inside);
     small = λ key. let none = zeros_zero n key in omega (arith, none);
+    paths = λ o t inside marked. let none = zeros_zero n (key_of graph o) in absurd (omega (arith, none, marked));
   }
 
-  pub marks_more : (marks : List ℕ) (key t : ℕ) → AreMarks table graph marks → key < length marks → t < length table.nodes → AreMarks table graph (slice_set marks key (suc t))
-  marks_more marks key t are inside less = record {
+  pub marks_more :
+      (marks : List ℕ) (key t : ℕ) → AreMarks table graph marks → key < length marks → t < length table.nodes
+      → ((o : ℕ) → o < length graph → key_of graph o ≡ key → HasPath table graph (vals.Ref 0) o t)
+      → AreMarks table graph (slice_set marks key (suc t))
+  marks_more marks key t are inside less led = record {
     keyed = λ o there. subst (λ m. key_of graph o < m) (sym (length-set marks key (suc t))) (are.keyed o there);
     small = λ other. ⊎_elim
         (λ same. let is = ap (slice_index (slice_set marks key (suc t))) same ∙ get_or-set_same marks key (suc t) 0 inside in omega (arith, is, less))
         (λ apart. let is = get_or-set_other marks key other (suc t) 0 apart in let old = are.small other in omega (arith, is, old))
         (same_or_not other key);
+    paths = λ o u there marked. ⊎_elim
+        (λ same.
+        let is = ap (slice_index (slice_set marks key (suc t))) same ∙ get_or-set_same marks key (suc t) 0 inside in
+        let type : t ≡ u = omega (arith, is, marked) in
+        subst (HasPath table graph (vals.Ref 0) o) type (led o there same))
+        (λ apart. are.paths o u there (sym (get_or-set_other marks key (key_of graph o) (suc t) 0 apart) ∙ marked))
+        (same_or_not (key_of graph o) key);
   }
 
   pub kept_more : (marks : List ℕ) (key t : ℕ) → slice_index marks key ≡ 0 → AreKept marks (slice_set marks key (suc t))

@@ -1,7 +1,6 @@
 -- The rows of types one after another.
 use Rattle.std.proofs.Common.{ℕ, ◌≡◌, ◌∙◌, ⊎_elim, Bool, List, [], ◌∷◌, ◌++◌, length, Option, Some, None, sym, ap, subst}
 use Rattle.std.specs.Prelude.{slice_get, option_map, is_some, IsTrue, IsSome, ◌↔◌}
-use Rattle.std.proofs.lemmas.Option.{none-some}
 use Rattle.om_types.specs.declared.shape.ShapeOf.{ShapeOf}
 use Rattle.om_types.specs.Table.{node_or_none}
 use Rattle.om_fits.specs.declared.row.Row.{Row}

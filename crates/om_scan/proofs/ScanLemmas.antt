@@ -1,7 +1,7 @@
 -- Objects that are taken one after another, and what they make when all are taken.
-use Rattle.std.proofs.Common.{ℕ, zero, suc, ◌+◌, ◌<◌, ◌≤◌, ◌≡◌, ◌∙◌, inl, ⊎_elim, ◌++◌, List, [], ◌∷◌, length, Option, Some, sym, ap, subst, arith}
-use Rattle.std.specs.Prelude.{slice_get, map, sum_by, Contains, IsSomeAnd}
-use Rattle.std.proofs.lemmas.List.{length-append}
+use Rattle.std.proofs.Common.{ℕ, zero, suc, ◌+◌, ◌<◌, ◌≤◌, ◌≡◌, ◌∙◌, inl, ⊎_elim, ◌++◌, List, [], ◌∷◌, length, Option, Some, refl, sym, ap, subst, arith}
+use Rattle.std.specs.Prelude.{slice_get, slice_index, slice_set, replicate, map, sum_by, Contains, IsSomeAnd}
+use Rattle.std.proofs.lemmas.List.{length-append, get_or-set_same}
 use Rattle.std.proofs.lemmas.List.Sums.{sum_by_push}
 use Rattle.std.proofs.lemmas.Option.{same_Some, none-some, slice_get_within}
 use Rattle.om_model.proofs.Options.{slice_get_there, slice_get-Contains}
@@ -17,13 +17,16 @@ use Rattle.om_typing.specs.StepLaws.{key_of, AreEntries}
 use Rattle.om_heap.specs.Heap as heap
 use Rattle.om_heap.specs.Heap.{field_at}
 use Rattle.om_type_table.specs.Made.{IsLawful}
+use Rattle.om_scan.specs.declared.straight.Scanned.TheVariants as answers
+use Rattle.om_scan.specs.Paths.{HasPath, HavePaths}
 use Rattle.om_scan.specs.Taken.{size_of}
 use Rattle.om_scan.specs.Scanned.{object_needs, IsScanned, cost_of}
 use Rattle.om_scan.specs.Scan.{mark_of, AreMarks, AreKept, IsMet, AreMet, IsTaken, IsScanning}
 use Rattle.om_scan.proofs.PlaceLemmas.{place_of, slice_get-push_cases}
 use Rattle.om_scan.proofs.FieldLemmas.{field_there, field_valid}
 use Rattle.om_scan.proofs.NeedLemmas.{need_field, needs_few}
-use Rattle.om_scan.proofs.MarkLemmas.{taken_kept}
+use Rattle.om_scan.proofs.MarkLemmas.{marks_none, marks_more, taken_kept}
+use Rattle.om_scan.proofs.PathLemmas.{same_from_key, root_path}
 use Rattle.om_scan.proofs.SizeLemmas.{sizes_are_few}
 
 -- ---- numbered types
@@ -71,6 +74,23 @@ cost_more graph types t =
     ap (sum_by cost) (numbered-push 0 types t ∙ ap (λ n. numbered_from 0 types ++ (n, t) ∷ []) same) ∙ sum_by_push cost (numbered_from 0 types) (length types, t)
 
 module _ (table : Table) (graph : List Obj) where
+  -- ---- the start
+
+  pub scanning_none :
+      (marks : List ℕ) (n key steps : ℕ) → IsGraph graph → 0 < length graph → 0 < length table.nodes → ((o : ℕ) → o < length graph → heap.key_of graph o < n)
+      → key ≡ heap.key_of graph 0 → marks ≡ slice_set (replicate n 0) key 1 → steps ≡ 0 → IsScanning table graph marks [] 0 steps
+  scanning_none marks n key steps is_graph some rooted keys is made none =
+      let zeros = marks_none table graph n keys in
+      let inside : key < length {A = ℕ} (replicate n 0) = subst (λ k. k < length {A = ℕ} (replicate n 0)) (sym is) (zeros.keyed 0 some) in
+      record {
+        valid = subst (AreMarks table graph) (sym made) (marks_more table graph (replicate n 0) key 0 zeros inside rooted (λ o here same.
+            subst (λ p. HasPath table graph (vals.Ref 0) p 0) (sym (same_from_key graph o 0 is_graph here some (same ∙ is))) (root_path table graph 0)));
+        root = ap (λ ms. mark_of graph ms 0) made ∙ ap (slice_index (slice_set (replicate n 0) key 1)) (sym is) ∙ get_or-set_same (replicate n 0) key 1 0 inside;
+        many = refl;
+        taken = λ o t at_o. absurd (none-some t at_o);
+        few = omega (arith, none);
+      }
+
   -- ---- one object more
 
   pub scanning_more :
@@ -195,3 +215,6 @@ module _ (table : Table) (graph : List Obj) where
         let most = sizes_are_few table graph (numbered_from 0 types) (types_entries types lawful many within_of) in
         let few = scanning.few in
         omega (arith, most, few)
+
+    pub all_paths : HavePaths table graph (answers.Told types)
+    all_paths o t at_o = scanning.valid.paths o t (inside_of o t at_o) (scanning.taken o t at_o).marked

@@ -1,6 +1,6 @@
 //! The types of the objects in the order of their numbers.
 
-ghost use Rattle.std.specs.Prelude.{◌≡◌, ◌≢◌, ◌<◌, ◌≤◌, ◌+◌, ◌%◌, ◌↔◌, length, take, slice_get, IsTrue, IfOk, OnOk, MatchOption};
+ghost use Rattle.std.specs.Prelude.{ℕ, ◌≡◌, ◌≢◌, ◌<◌, ◌≤◌, ◌+◌, ◌%◌, ◌↔◌, length, take, slice_get, IsTrue, IfOk, OnOk, MatchOption};
 ghost use Rattle.std.specs.Bool.{OnTrue, OnFalse};
 ghost use Rattle.om_model.specs.Graph.{IsValue, IsGraph};
 ghost use Rattle.om_model.specs.declared.value.Val.{Val};
@@ -11,6 +11,7 @@ ghost use Rattle.om_fits.specs.Needs.{needs_in};
 ghost use Rattle.om_type_table.specs.Made.{table_of, IsLawful};
 ghost use Rattle.om_scan.specs.FittingRows.{AreRows};
 ghost use Rattle.om_scan.specs.Taken.{types_in};
+ghost use Rattle.om_scan.specs.Paths.{HasPath, HavePaths};
 ghost use Rattle.om_scan.specs.Scanned.{object_needs, Tells, AreTaken, AreCounted, cost_of, left_of};
 ghost use Rattle.om_scan.specs.Scan.{AreMarks, AreKept, IsMet, AreMet, IsUnmet, IsScanning, Stops, IsTurned};
 
@@ -72,6 +73,7 @@ pub fn scan(
     requires some { 0 < length heap.now }
     requires root { (table_shapes (table_of table.now)).fits heap.now (vals.Ref 0) 0 }
     ensures types { IfOk result (Tells (table_of table.now) heap.now) }
+    ensures paths { IfOk result (HavePaths (table_of table.now) heap.now) }
     ensures steps { AreCounted (table_of table.now) heap.now steps.old steps.new result }
 {
     let most = table.classes.len();
@@ -232,6 +234,7 @@ fn meet_all(
     requires node { ty < length table.now.nodes }
     requires needs { object_needs (table_of table.now) heap.now o ty ≡ needs_in needs }
     requires marks { AreMarks (table_of table.now) heap.now marks.old }
+    requires path { HasPath (table_of table.now) heap.now (vals.Ref 0) o ty }
     ensures marks { OnOk result (AreMarks (table_of table.now) heap.now marks.new) }
     ensures kept { OnOk result (AreKept marks.old marks.new) }
     ensures met { IfOk result
@@ -275,6 +278,7 @@ fn meet_each(
     requires node { ty < length table.now.nodes }
     requires needs { object_needs (table_of table.now) heap.now o ty ≡ needs_in needs }
     requires marks { AreMarks (table_of table.now) heap.now marks.old }
+    requires path { HasPath (table_of table.now) heap.now (vals.Ref 0) o ty }
     ensures marks { OnOk result (AreMarks (table_of table.now) heap.now marks.new) }
     ensures kept { OnOk result (AreKept marks.old marks.new) }
     ensures met { IfOk result
@@ -318,6 +322,8 @@ fn meet(
     requires word { IsFieldWord heap.now word }
     requires node { ty < length table.now.nodes }
     requires marks { AreMarks (table_of table.now) heap.now marks.old }
+    requires paths { (o : ℕ) → o < length heap.now → word ≡ word_of heap.now (vals.Ref o)
+        → HasPath (table_of table.now) heap.now (vals.Ref 0) o ty }
     ensures marks { OnOk result (AreMarks (table_of table.now) heap.now marks.new) }
     ensures kept { OnOk result (AreKept marks.old marks.new) }
     ensures met { IfOk result

@@ -1,5 +1,6 @@
 use Rattle.std.proofs.Common.{length, sym, subst, arith}
 use Rattle.std.proofs.lemmas.Option.{slice_get_within}
+use Rattle.std.specs.Prelude.{Contains}
 use Rattle.om_model.specs.declared.value.Val.TheVariants as vals
 use Rattle.om_types.specs.Table.{table_shapes}
 use Rattle.om_types.specs.Typing.{HasType}
@@ -10,7 +11,7 @@ use Rattle.om_check.specs.Search.{Searches}
 use Rattle.om_check.specs.Verdict.{IsYes}
 use Rattle.om_check.specs.Visits.{listed}
 use Rattle.om_check.proofs.VisitLemmas.{all_within, visits_apart}
-use Rattle.om_check.proofs.DecideLemmas.{first_explored, misfit_verdict, clash_verdict, yes_verdict}
+use Rattle.om_check.proofs.DecideLemmas.{first_explored, misfit_verdict, clash_verdict, yes_verdict, yes_paths}
 use Rattle.om_check.proofs.decide.search_object.Goals as goal
 
 pub search-requires-clause-explored : goal.search-requires-clause-explored
@@ -66,3 +67,12 @@ pub returns-in_err-visits-clause-steps : goal.returns-in_err-visits-clause-steps
 returns-in_err-visits-clause-steps c =
     let few = taken_few (table_of c.args.table.now) c.args.heap.now c.args.taken.now c.requires.table c.requires.taken in
     omega (arith, few)
+
+pub returns-in-None-clause-paths : goal.returns-in-None-clause-paths
+returns-in-None-clause-paths c =
+    let table = table_of c.args.table.now in
+    let graph = c.args.heap.now in
+    let searches = subst (Searches table graph (listed c.in_ok-visits.visits) (listed c.search.new.visits)) c.in_default.is c.in_ok-n.ensures.searches in
+    λ o t among.
+    yes_paths table graph (listed c.in_ok-visits.visits) (listed c.search.new.visits) c.args.object c.in_ok-visits.ensures.root searches o t
+    (subst (λ pairs. Contains pairs (o, t)) c.of.ensures among)

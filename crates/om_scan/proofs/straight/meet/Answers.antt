@@ -1,9 +1,13 @@
 use Rattle.std.proofs.Common.{◌-◌, ◌<◌, ◌≡◌, ◌∙◌, suc, length, sym, ap, subst, refl, arith}
-use Rattle.std.specs.Prelude.{slice_get, slice_index}
+use Rattle.std.specs.Prelude.{slice_get, slice_index, slice_set}
 use Rattle.std.proofs.lemmas.List.{get_or-set_same}
+use Rattle.om_model.specs.declared.value.Val.TheVariants as vals
+use Rattle.om_heap.specs.Heap.{word_of}
 use Rattle.om_type_table.specs.Made.{table_of}
 use Rattle.om_fits.proofs.RowLemmas.{is_reference}
-use Rattle.om_scan.proofs.MarkLemmas.{told, marked_met}
+use Rattle.om_scan.proofs.MarkLemmas.{told, marked_met, marks_more}
+use Rattle.om_scan.proofs.PathLemmas.{same_from_key}
+use Rattle.om_scan.specs.Scan.{AreMarks}
 use Rattle.om_scan.proofs.straight.meet.Goals as goal
 
 pub returns-then-mark-eq0-clause-met : goal.returns-then-mark-eq0-clause-met
@@ -21,3 +25,15 @@ returns-then-marked-ty-clause-met c =
     let mark : slice_index c.args.marks.now c.key-key.result ≡ suc (c.get-mark.result - 1) = omega (arith, c.get-mark.ensures, c.if-mark-eq0.false) in
     told _ _ (marked_met (table_of c.args.table.now) c.args.heap.now c.args.marks.now c.args.word c.key-key.result c.args.ty (c.get-mark.result - 1)
     c.requires.graph c.requires.word c.if-word-ne0.false c.key-key.ensures mark (ap (slice_get c.args.table.now.classes) c.if-marked-ty.true))
+
+pub returns-then-mark-eq0-clause-marks : goal.returns-then-mark-eq0-clause-marks
+returns-then-mark-eq0-clause-marks c =
+    let graph = c.args.heap.now in
+    let new : c.in-Some.new ≡ suc c.args.ty = omega (arith, c.in-Some.ensures) in
+    let r = is_reference graph c.args.word c.requires.word c.if-word-ne0.false in
+    let key = c.key-key.ensures r.0 r.1 r.2 in
+    let inside = subst (λ k. k < length c.args.marks.now) (sym key) (c.requires.marks.keyed r.0 r.1) in
+    subst (AreMarks (table_of c.args.table.now) graph) (sym (c.in_ok-set.ensures ∙ ap (slice_set c.args.marks.now c.key-key.result) new))
+    (marks_more (table_of c.args.table.now) graph c.args.marks.now c.key-key.result c.args.ty c.requires.marks inside c.requires.node (λ o here same.
+    let is = same_from_key graph o r.0 c.requires.graph here r.1 (same ∙ key) in
+    c.requires.paths o here (r.2 ∙ ap (λ n. word_of graph (vals.Ref n)) (sym is))))

@@ -1,8 +1,9 @@
-use Rattle.std.proofs.Common.{◌≡◌, ◌≢◌, ◌%◌, ◌∙◌, length, refl, ap, subst, arith}
+use Rattle.std.proofs.Common.{◌≡◌, ◌≢◌, ◌%◌, ◌∙◌, length, refl, sym, ap, subst, arith}
 use Rattle.std.specs.Bool.{OnTrue, OnFalse}
 use Rattle.std.specs.Prelude.{slice_get, slice_index}
 use Rattle.om_model.specs.Graph.{IsValue}
 use Rattle.om_model.specs.declared.value.Val.{Val}
+use Rattle.om_model.specs.declared.value.Val.TheVariants as vals
 use Rattle.om_type_table.specs.Made.{table_of}
 use Rattle.om_types.specs.Table.{table_shapes}
 use Rattle.om_heap.specs.Heap.{field_at, word_of}
@@ -10,6 +11,8 @@ use Rattle.om_fits.specs.Needs.{needs_in}
 use Rattle.om_scan.specs.Scan.{IsMet}
 use Rattle.om_scan.proofs.FieldLemmas.{word_inside, field_word, field_valid}
 use Rattle.om_scan.proofs.NeedLemmas.{need_field, need_node, some_fields}
+use Rattle.om_heap.proofs.ReadLemmas.{word_of-inj}
+use Rattle.om_scan.proofs.PathLemmas.{need_path}
 use Rattle.om_scan.proofs.MarkLemmas.{meeting_more, all_kept, word_unfit}
 use Rattle.om_scan.proofs.straight.meet_each.Goals as goal
 
@@ -48,6 +51,16 @@ pub meet-requires-clause-node : goal.meet-requires-clause-node
 meet-requires-clause-node c =
     let at_k = ap (λ needs. slice_get needs c.loop-k.k) c.requires.needs ∙ c.get-step.ensures in
     need_node (table_of c.args.table.now) c.args.heap.now c.requires.lawful c.args.o c.args.ty c.loop-k.k c.get-step.result.0 c.get-step.result.1 c.requires.node at_k
+
+pub meet-requires-clause-paths : goal.meet-requires-clause-paths
+meet-requires-clause-paths c = λ p inside is.
+    let graph = c.args.heap.now in
+    let at_k = ap (λ needs. slice_get needs c.loop-k.k) c.requires.needs ∙ c.get-step.ensures in
+    let short = need_field (table_of c.args.table.now) graph c.args.o c.args.ty c.loop-k.k c.get-step.result.0 c.get-step.result.1 c.requires.object at_k in
+    let word = field_word graph c.args.o c.get-step.result.0 c.requires.object short c.fields_at-words.result.now _ (c.fields_at-words.ensures.words c.args.o c.requires.object c.requires.word) refl in
+    let valid = field_valid graph c.args.o c.get-step.result.0 c.requires.object short c.requires.graph in
+    let same = word_of-inj graph (field_at graph c.args.o c.get-step.result.0) (vals.Ref p) c.requires.graph valid inside (sym word ∙ is) in
+    need_path (table_of c.args.table.now) graph (vals.Ref 0) c.args.o c.args.ty c.loop-k.k c.get-step.result.0 c.get-step.result.1 p c.requires.object c.requires.path at_k same
 
 pub loop-k-preserved : goal.loop-k-preserved
 loop-k-preserved c =

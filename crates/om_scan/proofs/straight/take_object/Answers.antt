@@ -71,3 +71,9 @@ fits_mark-requires-clause-root c =
     let root = ap (mark_of c.args.heap.now c.args.marks.now) first ∙ c.requires.scanning.root in
     let same : 0 ≡ c.get-mark.result - 1 = omega (arith, mark, root) in
     subst (λ t. (table_shapes (table_of c.args.table.now)).fits c.args.heap.now (vals.Ref 0) t) same c.requires.root
+
+pub meet_all-requires-clause-path : goal.meet_all-requires-clause-path
+meet_all-requires-clause-path c =
+    let mark : mark_of c.args.heap.now c.args.marks.now c.args.o ≡ suc (c.get-mark.result - 1) =
+    ap (slice_index c.args.marks.now) (sym (c.key.ensures c.args.o c.requires.object c.word-word.ensures)) ∙ omega (arith, c.get-mark.ensures, c.if-mark-eq0.false) in
+    c.requires.scanning.valid.paths c.args.o (c.get-mark.result - 1) c.requires.object mark

@@ -1,0 +1,21 @@
+-- Which objects of a value are met at which types.
+use Rattle.std.specs.Prelude.{ℕ, ◌≡◌, List, Some, slice_get}
+use Rattle.om_model.specs.declared.value.Val.{Val}
+use Rattle.om_model.specs.declared.value.Val.TheVariants as vals
+use Rattle.om_model.specs.declared.value.Obj.{Obj}
+use Rattle.om_types.specs.Fault.{value_at}
+use Rattle.om_types.specs.Table.{Table, table_shapes}
+use Rattle.om_scan.specs.declared.straight.Scanned.{Scanned}
+use Rattle.om_scan.specs.declared.straight.Scanned.TheVariants as answers
+
+-- some path from the value, which is at type 0, leads to the object at the type
+abbrev pub HasPath : Table → List Obj → Val → ℕ → ℕ → Type 0
+HasPath table graph root o t =
+    (path : List ℕ)
+    × (value_at (table_shapes table) graph root 0 path ≡ Some (vals.Ref o, t))
+
+-- some path from the first object leads to each object at the type that is told
+abbrev pub HavePaths : Table → List Obj → Scanned → Type 0
+HavePaths table graph (answers.Told types) =
+    (o t : ℕ) → slice_get types o ≡ Some t → HasPath table graph (vals.Ref 0) o t
+HavePaths table graph (answers.Stopped taken) = Unit {0}
