@@ -51,7 +51,7 @@ no_reference graph o fits = by_object (none_or_some (slice_get graph o)) where
   by_object (inl none) = false≢true (subst (λ found. IsSome (option_and_then (object_fields {T = ℕ} shapes.Variable) found)) none fits)
   by_object (inr (x, at)) = no_object x (subst (λ found. IsSome (option_and_then (object_fields {T = ℕ} shapes.Variable) found)) at fits)
 
-table_has : (table : Table) (graph : List Obj) (o t : ℕ) → (table_shapes table).fits graph (vals.Ref o) t → t < length table.nodes
+pub table_has : (table : Table) (graph : List Obj) (o t : ℕ) → (table_shapes table).fits graph (vals.Ref o) t → t < length table.nodes
 table_has table graph o t fits = by_node (none_or_some (slice_get table.nodes t)) where
   by_node : (slice_get table.nodes t ≡ None) ⊎ ((x : ShapeOf ℕ) × (slice_get table.nodes t ≡ Some x)) → t < length table.nodes
   by_node (inl none) = absurd (no_reference graph o (subst (λ found. IsSome (fields_of graph (vals.Ref o) (node_or_none found))) none fits))

@@ -36,6 +36,14 @@ impl Pairs {
         }
     }
 
+    /// Pairs that increase.
+    pub fn of(pairs: Vec<(u64, u64)>) -> Pairs
+        requires { AreIncreasing pairs.items }
+        ensures { result ≡ pairs.items }
+    {
+        Pairs { pairs }
+    }
+
     /// The pairs, lent.
     pub fn as_slice(&self) -> &[(u64, u64)]
         ensures same { result.now ≡ self.now }

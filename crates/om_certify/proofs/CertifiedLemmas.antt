@@ -1,0 +1,131 @@
+-- The pairs of a verdict at least numbers are those that paths reach; and what sections that certify a value are good for.
+use Rattle.std.proofs.Common.{ℕ, ◌<◌, ◌≡◌, ◌∙◌, ⊎_elim, List, length, Some, sym, ap, subst, arith}
+use Rattle.std.specs.Prelude.{slice_index, map, Contains, ◌↔◌}
+use Rattle.om_model.proofs.Options.{Contains-map, map-Contains}
+use Rattle.om_model.specs.declared.value.Val.{Val}
+use Rattle.om_model.specs.declared.value.Val.TheVariants as vals
+use Rattle.om_model.specs.declared.value.Obj.{Obj}
+use Rattle.om_types.specs.declared.fault.Fault.{Fault}
+use Rattle.om_types.specs.declared.fault.Fault.TheVariants as faults
+use Rattle.om_types.specs.Fault.{value_at}
+use Rattle.om_types.specs.Lawful.{AreLawful, Everything}
+use Rattle.om_types.specs.LeastFault.{IsLeastFault}
+use Rattle.om_types.specs.Table.{Table, table_shapes}
+use Rattle.om_types.specs.Typing.{IsListed, HasType}
+use Rattle.om_types.proofs.FaultLemmas.{fault_excludes_type}
+use Rattle.om_typing.proofs.OnceLemmas.{least_once}
+use Rattle.om_type_table.specs.Made.{IsLawful}
+use Rattle.om_scan.specs.Paths.{HasPath}
+use Rattle.om_check.specs.Verdict.{IsYes}
+use Rattle.om_section.specs.declared.section.Section.{Section}
+use Rattle.om_section.specs.declared.section.Section.TheVariants as sections
+use Rattle.om_section.specs.Increasing.{AreIncreasing}
+use Rattle.om_cert.specs.declared.verified.Verified.{Verified}
+use Rattle.om_cert.specs.Accepted.{AreAccepted, IsAccepted}
+use Rattle.om_cert.specs.Normal.{AreReached}
+use Rattle.om_cert.specs.Verified.{IsVerified, fault_section, shown_by}
+use Rattle.om_cert.proofs.AcceptedLemmas.{accepted_hold_paths}
+use Rattle.om_cert.proofs.ReachedLemmas.{reached_pairs, reached_are_one}
+use Rattle.om_cert.proofs.VerifiedLemmas.{never_both, table_has}
+use Rattle.om_certify.specs.Leasts.{IsLeastOf, AreLeasts, at_least}
+use Rattle.om_certify.specs.Certified.{IsCertified}
+
+-- ---- the pairs of a Yes
+
+pub yes_accepted :
+    (table : Table) (graph : List Obj) (root : Val) (typing : List (ℕ × ℕ)) → HasType (table_shapes table) graph root 0
+    → IsYes table graph root typing → AreAccepted (table_shapes table) graph root 0 typing
+yes_accepted table graph root typing has is = record { typing = is.typing; held = record { fits = has.fits; listed = is.rooted } }
+
+-- the types of pairs that are accepted are in the table
+pub accepted_within :
+    (table : Table) (graph : List Obj) (root : Val) (typing : List (ℕ × ℕ)) → IsLawful table
+    → AreAccepted (table_shapes table) graph root 0 typing → (o t : ℕ) → Contains typing (o, t) → t < length table.classes
+accepted_within table graph root typing lawful accepted o t among =
+    let inside = table_has table graph o t (accepted.typing.fits o t among) in
+    let classed = lawful.classed in
+    omega (arith, inside, classed)
+
+module _
+    (table : Table) (graph : List Obj) (root : Val) (leasts : List ℕ) (typing pairs : List (ℕ × ℕ)) (lawful : IsLawful table)
+    (are : AreLeasts table leasts) (accepted : AreAccepted (table_shapes table) graph root 0 typing)
+    (paths : (o t : ℕ) → Contains typing (o, t) → HasPath table graph root o t) (increasing : AreIncreasing pairs)
+    (same : (pair : ℕ × ℕ) → Contains pairs pair ↔ Contains (map (at_least leasts) typing) pair) where
+  own_least : (o t : ℕ) → Contains typing (o, t) → IsLeastOf table t (slice_index leasts t)
+  own_least o t among =
+      let inside = accepted_within table graph root typing lawful accepted o t among in
+      let many = are.many in
+      are.least t (omega (arith, inside, many))
+
+  -- a pair comes from one of the typing
+  record IsFrom (o u : ℕ) : Type 0 where
+    type : ℕ
+    among : Contains typing (o, type)
+    least : IsLeastOf table type u
+
+  from : (o u : ℕ) → Contains pairs (o, u) → IsFrom o u
+  from o u among =
+      let p = map-Contains (at_least leasts) typing (o, u) ((same (o, u)).0 among) in
+      let object : p.0.0 ≡ o = ap (λ (q : ℕ × ℕ). q.0) p.2 in
+      let type : slice_index leasts p.0.1 ≡ u = ap (λ (q : ℕ × ℕ). q.1) p.2 in
+      record {
+        type = p.0.1;
+        among = subst (λ q. Contains typing (q, p.0.1)) object p.1;
+        least = subst (IsLeastOf table p.0.1) type (own_least p.0.0 p.0.1 p.1);
+      }
+
+  there : (path : List ℕ) (o u : ℕ) → value_at (table_shapes table) graph root 0 path ≡ Some (vals.Ref o, u) → IsListed (table_shapes table) pairs (vals.Ref o) u
+  there path o u leads =
+      let held = accepted_hold_paths (table_shapes table) lawful.lawful graph root 0 typing accepted path o u leads in
+      let own = own_least o held.0 held.1 in (
+        slice_index leasts held.0,
+        (same (o, slice_index leasts held.0)).1 (Contains-map (at_least leasts) typing (o, held.0) held.1),
+        own.1 ∙ held.2,
+      )
+
+  pub are_reached : AreReached table graph root pairs
+  are_reached = record {
+    normal = record { increasing = increasing; least = λ o u among. (from o u among).least.0 };
+    led = λ o u among.
+        let f = from o u among in
+        let p = paths o f.type f.among in
+        record { path = p.0; type = f.type; leads = p.1; same = sym f.least.1 };
+    all = there;
+  }
+
+-- ---- laws
+
+module _ (table : Table) (lawful : AreLawful (table_shapes table) Everything) (graph : List Obj) (root : Val) where
+  pub certified_accepted : (section : Section) → IsCertified table graph root section → IsAccepted table graph root section
+  certified_accepted (sections.Pairs pairs) is = reached_pairs table lawful graph root pairs is.0 is.1
+  certified_accepted (sections.Misfit path) is = is.is_fault
+  certified_accepted (sections.Clash first second) is = is.is_fault
+
+  pub certified_shown :
+      (section : Section) (answer : Verified) → IsCertified table graph root section → IsVerified table graph root section answer
+      → answer ≡ shown_by section
+  certified_shown section answer is verified = ⊎_elim
+      (λ shown. shown.1)
+      (λ rejected. absurd (never_both table graph root section rejected.0 rejected.1.is (certified_accepted section is)))
+      verified
+
+  never : (fault : Fault) → HasType (table_shapes table) graph root 0 → IsLeastFault (table_shapes table) graph root 0 fault → ⊥
+  never fault has least = fault_excludes_type (table_shapes table) Everything lawful graph root 0 fault tt least.is_fault has
+
+  of_one_fault :
+      (one other : Fault) → IsLeastFault (table_shapes table) graph root 0 one → IsLeastFault (table_shapes table) graph root 0 other
+      → fault_section one ≡ fault_section other
+  of_one_fault one other is its = ap fault_section (least_once (table_shapes table) graph root 0 one other is its)
+
+  pub certified_one : (one other : Section) → IsCertified table graph root one → IsCertified table graph root other → one ≡ other
+  certified_one (sections.Pairs pairs) (sections.Pairs others) is its =
+      ap (λ (ps : List (ℕ × ℕ)). sections.Pairs ps) (reached_are_one table lawful graph root pairs others is.1 its.1)
+  certified_one (sections.Pairs pairs) (sections.Misfit path) is its = absurd (never (faults.Misfit path) is.0 its)
+  certified_one (sections.Pairs pairs) (sections.Clash first second) is its = absurd (never (faults.Clash first second) is.0 its)
+  certified_one (sections.Misfit path) (sections.Pairs pairs) is its = absurd (never (faults.Misfit path) its.0 is)
+  certified_one (sections.Clash first second) (sections.Pairs pairs) is its = absurd (never (faults.Clash first second) its.0 is)
+  certified_one (sections.Misfit path) (sections.Misfit other) is its = of_one_fault (faults.Misfit path) (faults.Misfit other) is its
+  certified_one (sections.Misfit path) (sections.Clash first second) is its = of_one_fault (faults.Misfit path) (faults.Clash first second) is its
+  certified_one (sections.Clash first second) (sections.Misfit path) is its = of_one_fault (faults.Clash first second) (faults.Misfit path) is its
+  certified_one (sections.Clash first second) (sections.Clash one other) is its =
+      of_one_fault (faults.Clash first second) (faults.Clash one other) is its

@@ -1,0 +1,55 @@
+-- The first types of classes, noted one type after another.
+use Rattle.std.proofs.Common.{ℕ, ◌+◌, ◌≡◌, ◌∙◌, ⊎_elim, Option, Some, None, sym, ap, subst, arith}
+use Rattle.std.specs.Prelude.{slice_get}
+use Rattle.std.proofs.lemmas.Option.{same_Some, none-some}
+use Rattle.om_model.proofs.Options.{same_or_not}
+use Rattle.om_types.specs.Table.{Table}
+use Rattle.om_cert.specs.Normal.{IsLeast}
+use Rattle.om_certify.specs.Leasts.{IsLeastOf, AreNoted}
+
+module _ (table : Table) where
+  pub noted_none : (noted : ℕ → Option ℕ) → ((c : ℕ) → noted c ≡ None) → AreNoted table 0 noted
+  noted_none noted none = record {
+    there = λ c l is. absurd (none-some l (sym (none c) ∙ is));
+    all = λ t c less at_t. absurd (omega (arith, less));
+  }
+
+  -- a type whose class has a noted one
+  pub noted_again :
+      (noted : ℕ → Option ℕ) (t c l : ℕ) → AreNoted table t noted → slice_get table.classes t ≡ Some c → noted c ≡ Some l
+      → AreNoted table (t + 1) noted
+  noted_again noted t c l are at_t is = record {
+    there = are.there;
+    all = λ u d less at_u. ⊎_elim
+        (λ same. (l, ap noted (same_Some d c (sym at_u ∙ ap (slice_get table.classes) same ∙ at_t)) ∙ is))
+        (λ apart. are.all u d (omega (arith, less, apart)) at_u)
+        (same_or_not u t);
+  }
+
+  pub least_again :
+      (noted : ℕ → Option ℕ) (t c l : ℕ) → AreNoted table t noted → slice_get table.classes t ≡ Some c → noted c ≡ Some l
+      → IsLeastOf table t l
+  least_again noted t c l are at_t is = let first = are.there c l is in (first.1, first.0 ∙ sym at_t)
+
+  module _ (old : ℕ → Option ℕ) (t c : ℕ) (are : AreNoted table t old) (at_t : slice_get table.classes t ≡ Some c) (none : old c ≡ None) where
+    -- a type whose class has none is the first of its class
+    pub is_first : IsLeast table t
+    is_first u less equal = let l = are.all u c less (equal ∙ at_t) in none-some l.0 (sym none ∙ l.1)
+
+    pub noted_first :
+        (new : ℕ → Option ℕ) → new c ≡ Some t → ((q : ℕ) → ¬ (q ≡ c) → new q ≡ old q) → AreNoted table (t + 1) new
+    noted_first new here others = record {
+      there = λ d l is. ⊎_elim
+          (λ same.
+          let first : t ≡ l = same_Some t l (sym here ∙ ap new (sym same) ∙ is) in
+          subst (λ k. (slice_get table.classes k ≡ Some d) × IsLeast table k) first (at_t ∙ ap (λ e. Some e) (sym same), is_first))
+          (λ apart. are.there d l (sym (others d apart) ∙ is))
+          (same_or_not d c);
+      all = λ u d less at_u. ⊎_elim
+          (λ same. (t, ap new same ∙ here))
+          (λ apart. ⊎_elim
+          (λ last. absurd (apart (same_Some d c (sym at_u ∙ ap (slice_get table.classes) last ∙ at_t))))
+          (λ before. let l = are.all u d (omega (arith, less, before)) at_u in (l.0, others d apart ∙ l.1))
+          (same_or_not u t))
+          (same_or_not d c);
+    }

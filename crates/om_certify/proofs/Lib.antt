@@ -1,0 +1,3 @@
+pub mod LeastLemmas
+pub mod OrderLemmas
+pub mod CertifiedLemmas
