@@ -1,0 +1,58 @@
+-- Search trees as OCaml's standard library keeps them: finite trees, whose elements increase from
+-- left to right, whose nodes state their heights, and whose parts have nearly one height.
+use Rattle.std.specs.Prelude.{ℕ, suc, ◌≡◌, ◌≤◌, ◌+◌, max, IsTrue, List, [], ◌∷◌, ◌++◌, Contains, pos}
+use Rattle.om_model.specs.declared.value.Val.{Val}
+use Rattle.om_model.specs.declared.value.Val.TheVariants as vals
+use Rattle.om_model.specs.declared.value.Obj.{Obj}
+use Rattle.om_trees.specs.Parts.{empty_value, node_at, is_less}
+
+-- nothing, or an object between two trees
+pub data Tree : Type 0 where
+  empty : Tree
+  node : (left : Tree) → (object : ℕ) → (right : Tree) → Tree
+
+-- the value is this tree
+abbrev pub IsTree : List Obj → Val → Tree → Type 0
+IsTree graph v empty = v ≡ empty_value
+IsTree graph v (node left o right) =
+    (v ≡ vals.Ref o) × IsTree graph (node_at graph o).left left
+    × IsTree graph (node_at graph o).right right
+
+-- from left to right
+abbrev pub elements : List Obj → Tree → List Val
+elements graph empty = []
+elements graph (node left o right) =
+    elements graph left ++ (node_at graph o).element ∷ elements graph right
+
+-- each is less than all behind it
+abbrev pub AreIncreasing : List Obj → List Val → Type 0
+AreIncreasing graph [] = Unit {0}
+AreIncreasing graph (v ∷ more) =
+    ((w : Val) → Contains more w → IsTrue (is_less graph v w)) × AreIncreasing graph more
+
+-- how many nodes there are on the longest way down
+abbrev pub height : Tree → ℕ
+height empty = 0
+height (node left o right) = suc (max (height left) (height right))
+
+-- each node states its height
+abbrev pub StateHeights : List Obj → Tree → Type 0
+StateHeights graph empty = Unit {0}
+StateHeights graph (node left o right) =
+    ((node_at graph o).height ≡ pos (height (node left o right)))
+    × StateHeights graph left × StateHeights graph right
+
+-- of no node is one part more than two higher than the other
+abbrev pub IsBalanced : Tree → Type 0
+IsBalanced empty = Unit {0}
+IsBalanced (node left o right) =
+    (height left ≤ height right + 2) × (height right ≤ height left + 2)
+    × IsBalanced left × IsBalanced right
+
+-- The value is a finite tree that is all this.
+pub record IsSearchTree (graph : List Obj) (v : Val) : Type 0 where
+  pub tree : Tree
+  pub is : IsTree graph v tree
+  pub increasing : AreIncreasing graph (elements graph tree)
+  pub stated : StateHeights graph tree
+  pub balanced : IsBalanced tree

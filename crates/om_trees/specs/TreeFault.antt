@@ -1,0 +1,67 @@
+-- What is wrong with the search trees in a value: heights, balance and order of their nodes
+-- (`set.ml` and `map.ml` of OCaml's standard library).
+use Rattle.std.specs.Prelude.{ℕ, ◌≡◌, ◌⊎◌, IsTrue, List, Some, ℤ, pos, ◌+ℤ◌, ◌<ℤ◌}
+use Rattle.std.specs.Int.{int_max}
+use Rattle.om_model.specs.declared.value.Val.{Val}
+use Rattle.om_model.specs.declared.value.Val.TheVariants as vals
+use Rattle.om_model.specs.declared.value.Obj.{Obj}
+use Rattle.om_types.specs.declared.names.Names.{Names}
+use Rattle.om_types.specs.declared.shape.ShapeOf.{ShapeOf}
+use Rattle.om_types.specs.Fault.{value_at}
+use Rattle.om_types.specs.Fitting.{shaped}
+use Rattle.om_trees.specs.declared.node.TreeKind.{TreeKind}
+use Rattle.om_trees.specs.declared.node.TreeKind.TheVariants as kinds
+use Rattle.om_trees.specs.TreeType.{IsTreeType}
+use Rattle.om_trees.specs.Parts.{node_at, height_of, is_less, IsAtOrBelow}
+
+-- ---- one node
+
+abbrev pub left_height : List Obj → ℕ → ℤ
+left_height graph o = height_of graph (node_at graph o).left
+
+abbrev pub right_height : List Obj → ℕ → ℤ
+right_height graph o = height_of graph (node_at graph o).right
+
+-- its height is not one more than that of the higher part
+abbrev pub IsMiscounted : List Obj → ℕ → Type 0
+IsMiscounted graph o =
+    ¬ ((node_at graph o).height ≡ pos 1 +ℤ int_max (left_height graph o) (right_height graph o))
+
+-- the heights of its parts differ by more than two
+abbrev pub IsUnbalanced : List Obj → ℕ → Type 0
+IsUnbalanced graph o =
+    ((left_height graph o +ℤ pos 2) <ℤ right_height graph o)
+    ⊎ ((right_height graph o +ℤ pos 2) <ℤ left_height graph o)
+
+-- the element of the one node is less than that of the other
+abbrev pub IsElementLess : List Obj → ℕ → ℕ → Type 0
+IsElementLess graph o p = IsTrue (is_less graph (node_at graph o).element (node_at graph p).element)
+
+-- an element on the left is not less, or one on the right is not greater
+abbrev pub IsDisordered : List Obj → ℕ → Type 0
+IsDisordered graph o =
+    ((p : ℕ) × IsAtOrBelow graph (node_at graph o).left p × (¬ IsElementLess graph p o))
+    ⊎ ((p : ℕ) × IsAtOrBelow graph (node_at graph o).right p × (¬ IsElementLess graph o p))
+
+module _ {T : Type 0} (shape : T → ShapeOf T) (names : T → Names) (Equal : T → T → Type 0)
+    (graph : List Obj) (root : Val) (t : T) where
+  -- ---- all nodes
+
+  -- the path leads to an object at the type of a tree
+  pub record IsNode (path : List ℕ) (o : ℕ) (u : T) : Type 0 where
+    pub leads : value_at (shaped shape Equal) graph root t path ≡ Some (vals.Ref o, u)
+    pub tree : IsTreeType shape names Equal u
+
+  abbrev pub IsNodeWith : (List Obj → ℕ → Type 0) → List ℕ → Type 0
+  IsNodeWith Has path = (o : ℕ) × (u : T) × IsNode path o u × Has graph o
+
+  -- Order is looked at where no height is wrong.
+  abbrev pub IsTreeFault : TreeKind → List ℕ → Type 0
+  IsTreeFault kinds.Height path = IsNodeWith IsMiscounted path
+  IsTreeFault kinds.Balance path = IsNodeWith IsUnbalanced path
+  IsTreeFault kinds.Order path =
+      IsNodeWith IsDisordered path × ((other : List ℕ) → ¬ IsNodeWith IsMiscounted other)
+
+  -- no node has a fault
+  abbrev pub HasNoTreeFault : Type 0
+  HasNoTreeFault = (kind : TreeKind) (path : List ℕ) → ¬ IsTreeFault kind path

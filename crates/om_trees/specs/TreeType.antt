@@ -1,0 +1,82 @@
+-- Which types are those of sets and maps: variants as in `set.ml` and `map.ml` of OCaml's standard
+-- library,
+--   type t = Empty | Node of {l: t; v: elt; r: t; h: int}
+--   type t = Empty | Node of {l: t; v: key; d: data; r: t; h: int}
+use Rattle.std.specs.Prelude.{ℕ, ◌≡◌, ◌⊎◌, false, List, [], ◌∷◌, Option, Some, None, slice_get}
+use Rattle.std.specs.Prelude.{codes}
+use Rattle.om_types.specs.declared.names.ConstrNames.{ConstrNames}
+use Rattle.om_types.specs.declared.names.Names.{Names}
+use Rattle.om_types.specs.declared.shape.ShapeOf.{ShapeOf}
+use Rattle.om_types.specs.declared.shape.ShapeOf.TheVariants as shapes
+use Rattle.om_types.specs.Names.{no_names}
+use Rattle.om_types.specs.Table.{node_or_none}
+use Rattle.om_type_table.specs.declared.table.TypeTable.{TypeTable}
+use Rattle.om_trees.specs.declared.types.Layout.{Layout}
+use Rattle.om_trees.specs.declared.types.Layout.TheVariants as layouts
+
+-- a map keeps something with each element
+abbrev pub layout_of : {T : Type 0} → Option T → Layout
+layout_of None = layouts.Set
+layout_of (Some carried) = layouts.Map
+
+-- ---- names
+
+-- the fields of a node
+abbrev pub field_names : Layout → List (List ℕ)
+field_names layouts.Set = codes "l" ∷ codes "v" ∷ codes "r" ∷ codes "h" ∷ []
+field_names layouts.Map = codes "l" ∷ codes "v" ∷ codes "d" ∷ codes "r" ∷ codes "h" ∷ []
+
+abbrev pub node_with : List (List ℕ) → ConstrNames
+node_with fields = record { name = codes "Node"; fields = fields }
+
+-- `Empty`, and `Node` with these fields
+abbrev pub names_with : List (List ℕ) → Names
+names_with fields = record no_names {
+  constants = codes "Empty" ∷ [];
+  constructors = node_with fields ∷ [];
+}
+
+-- ---- shapes
+
+abbrev pub fields_in : {T : Type 0} → T → T → Option T → T → T → List T
+fields_in left element None right height = left ∷ element ∷ right ∷ height ∷ []
+fields_in left element (Some carried) right height = left ∷ element ∷ carried ∷ right ∷ height ∷ []
+
+-- the shape of a tree's type: nothing changes a node
+abbrev pub tree_shape : {T : Type 0} → T → T → Option T → T → T → ShapeOf T
+tree_shape left element kept right height = shapes.Sum 1
+    (record { mutable = false; fields = fields_in left element kept right height } ∷ [])
+
+module _ {T : Type 0} (shape : T → ShapeOf T) (names : T → Names) (Equal : T → T → Type 0) where
+  -- `Empty`, and `Node` with two parts of the type itself, an element, and a number. No type but
+  -- `int` has the shape of all integers, and none but `string` that of bytes which nothing changes.
+  pub record IsTreeType (t : T) : Type 0 where
+    pub left : T
+    pub element : T
+    pub kept : Option T
+    pub right : T
+    pub height : T
+    pub named : names t ≡ names_with (field_names (layout_of kept))
+    pub shaped : shape t ≡ tree_shape left element kept right height
+    pub left_same : Equal left t
+    pub right_same : Equal right t
+    pub ordered : (shape element ≡ shapes.AnyInt) ⊎ (shape element ≡ shapes.Bytes false)
+    pub counted : shape height ≡ shapes.AnyInt
+
+-- ---- the types of a table, by their numbers
+
+abbrev pub shape_in : TypeTable → ℕ → ShapeOf ℕ
+shape_in table i = node_or_none (slice_get table.nodes i)
+
+abbrev pub names_or_none : Option Names → Names
+names_or_none None = no_names
+names_or_none (Some names) = names
+
+abbrev pub names_in : TypeTable → ℕ → Names
+names_in table i = names_or_none (slice_get table.names i)
+
+abbrev pub SameClass : TypeTable → ℕ → ℕ → Type 0
+SameClass table i j = slice_get table.classes i ≡ slice_get table.classes j
+
+abbrev pub IsTreeNumber : TypeTable → ℕ → Type 0
+IsTreeNumber table i = IsTreeType (shape_in table) (names_in table) (SameClass table) i

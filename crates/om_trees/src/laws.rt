@@ -1,0 +1,9 @@
+//! The law, as a contract.
+
+ghost use Rattle.om_trees.specs.Laws.{SoundTreesAreSearchTrees};
+
+/// Where a value has its type, no node in it has a fault exactly where each set and each map in it
+/// is a finite balanced tree whose elements increase and whose nodes state their heights.
+pub fn sound_trees_are_search_trees()
+    ensures { SoundTreesAreSearchTrees }
+{}
