@@ -1,9 +1,9 @@
 -- The order of elements, and lists that increase.
-use Rattle.std.proofs.Common.{ℕ, ◌≡◌, ◌<◌, ◌==◌, ◌∙◌, ◌⊎◌, ⊎_elim, inl, inr, Bool, true, false, List, [], ◌∷◌, ◌++◌, refl, sym, subst, arith}
+use Rattle.std.proofs.Common.{ℕ, ◌≡◌, ◌<◌, ◌==◌, ◌∙◌, ◌⊎◌, ⊎_elim, inl, inr, Bool, true, false, List, [], ◌∷◌, ◌++◌, refl, sym, subst, arith, zero, suc, length, drop, min, ap}
 use Rattle.std.specs.Prelude.{Contains, IsTrue, ℤ, ◌<ℤ◌, ◌≤ℤ◌, int_lt, nat_lt, ◌&&◌}
 use Rattle.std.proofs.lemmas.Int.{ints, by_lt_z}
 use Rattle.std.proofs.lemmas.Bool.{false≢true, or_cases, or_left, or_right, and_parts, ltb-true, lt-ltb, cases_lt}
-use Rattle.std.proofs.lemmas.Bool.Decides.{Decides-eqb}
+use Rattle.std.proofs.lemmas.Bool.Decides.{Decides-eqb, nat_tests}
 use Rattle.std.proofs.lemmas.List.Elements.{Contains-append_cases, Contains-append_right}
 use Rattle.om_model.proofs.Options.{Contains-first, Contains-later, Contains-cases, Contains-none}
 use Rattle.om_model.specs.declared.value.Val.{Val}
@@ -23,7 +23,7 @@ first_before a b bytes others is = ⊎_elim
     (λ same. let parts = and_parts (a == b) (are_before bytes others) same in inr ((Decides-eqb a b).0 parts.0, parts.1))
     (or_cases (nat_lt a b) ((a == b) && are_before bytes others) is)
 
-both_true : (x y : Bool) → x ≡ true → y ≡ true → (x && y) ≡ true
+pub both_true : (x y : Bool) → x ≡ true → y ≡ true → (x && y) ≡ true
 both_true true true one two = refl
 both_true true false one two = two
 both_true false y one two = one
@@ -56,14 +56,47 @@ before_itself (a ∷ bytes) is = ⊎_elim
     (λ rest. before_itself bytes rest.1)
     (first_before a a bytes bytes is)
 
+is_false : (b : Bool) → (IsTrue b → ⊥) → false ≡ b
+is_false true never = absurd (never refl)
+is_false false never = refl
+
+pub same_not_before : (bytes others : List ℕ) → bytes ≡ others → false ≡ are_before bytes others
+same_not_before bytes others same = subst (λ x. false ≡ are_before bytes x) same (is_false (are_before bytes bytes) (before_itself bytes))
+
+-- ---- texts with one front
+
+not_under : (n : ℕ) → nat_lt n 0 ≡ false
+not_under n = sym (is_false (nat_lt n 0) (λ is. let less = ltb-true n 0 is in omega (arith, less)))
+
+is_over : (n : ℕ) → nat_lt 0 (suc n) ≡ true
+is_over n = lt-ltb 0 (suc n) (omega arith)
+
+lengths : (xs ys : List ℕ) (x y : ℕ) → nat_lt (length (x ∷ xs)) (length (y ∷ ys)) ≡ nat_lt (length xs) (length ys)
+lengths xs ys x y = grind (arith, nat_tests)
+
+at_end : (xs ys : List ℕ) (i : ℕ) → i ≡ min (length xs) (length ys) → are_before (drop i xs) (drop i ys) ≡ nat_lt (length xs) (length ys)
+at_end xs [] i end =
+    ap (λ (n : ℕ). are_before (drop n xs) (drop n [])) (let zero_is : i ≡ 0 = omega (arith, end) in zero_is) ∙ sym (not_under (length xs))
+at_end [] (y ∷ ys) i end =
+    ap (λ (n : ℕ). are_before (drop n []) (drop n (y ∷ ys))) (let zero_is : i ≡ 0 = omega (arith, end) in zero_is) ∙ sym (is_over (length ys))
+at_end (x ∷ xs) (y ∷ ys) zero end = absurd (omega (arith, end))
+at_end (x ∷ xs) (y ∷ ys) (suc i) end = at_end xs ys i (omega (arith, end)) ∙ sym (lengths xs ys x y)
+
+-- the rest of two texts decides, as far as they are the same
+abbrev pub DecidesFrom : List ℕ → List ℕ → ℕ → Type 0
+DecidesFrom xs ys i = are_before xs ys ≡ are_before (drop i xs) (drop i ys)
+
+pub decided_by_length : (xs ys : List ℕ) (i : ℕ) → DecidesFrom xs ys i → i ≡ min (length xs) (length ys) → nat_lt (length xs) (length ys) ≡ are_before xs ys
+decided_by_length xs ys i so_far end = sym (so_far ∙ at_end xs ys i end)
+
 data Compared (a b : ℕ) : Type 0 where
   is_under : a < b → Compared a b
   is_same : a ≡ b → Compared a b
-  is_over : b < a → Compared a b
+  is_above : b < a → Compared a b
 
 compare : (a b : ℕ) → Compared a b
 compare a b = ⊎_elim (λ is. is_under is)
-    (λ at_least. ⊎_elim (λ is. is_over is) (λ at_most. is_same (omega (arith, at_least, at_most))) (cases_lt b a)) (cases_lt a b)
+    (λ at_least. ⊎_elim (λ is. is_above is) (λ at_most. is_same (omega (arith, at_least, at_most))) (cases_lt b a)) (cases_lt a b)
 
 before_between :
     (one two three : List ℕ) → IsTrue (are_before one three)
@@ -83,8 +116,8 @@ before_between (a ∷ one) (b ∷ two) (c ∷ three) is =
           (λ before. inl (before_first a b one two (inr (is, before))))
           (λ after. inr (before_first b c two three (inr (sym is ∙ whole.0, after))))
           (rest whole.1)
-      by_first rest (inl whole) (is_over is) = inr (before_first b c two three (inl (omega (arith, whole, is))))
-      by_first rest (inr whole) (is_over is) = let e = whole.0 in inr (before_first b c two three (inl (omega (arith, e, is))))
+      by_first rest (inl whole) (is_above is) = inr (before_first b c two three (inl (omega (arith, whole, is))))
+      by_first rest (inr whole) (is_above is) = let e = whole.0 in inr (before_first b c two three (inl (omega (arith, e, is))))
 
 -- ---- numbers
 

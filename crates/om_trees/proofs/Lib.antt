@@ -5,3 +5,9 @@ pub mod NodeLemmas
 pub mod SearchTreeLemmas
 pub mod SoundLemmas
 pub mod AlikeLemmas
+pub mod SpanLemmas
+pub mod LevelLemmas
+pub mod PutLemmas
+pub mod SettleLemmas
+pub mod JudgeLemmas
+pub mod TypeLemmas

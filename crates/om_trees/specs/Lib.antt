@@ -1,5 +1,10 @@
 pub mod TreeType
+pub mod NodeType
 pub mod Parts
+pub mod Valid
 pub mod TreeFault
 pub mod SearchTree
 pub mod Laws
+pub mod Judgement
+pub mod Span
+pub mod Levels

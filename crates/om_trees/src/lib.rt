@@ -2,10 +2,15 @@
 //! order are right.
 #![tactic(auto)]
 
+mod judging;
 mod laws;
+mod levels;
 mod node;
+mod order;
+mod span;
 mod types;
 
+pub use judging::{Judgement, judge};
 pub use laws::sound_trees_are_search_trees;
 pub use node::{Node, TreeKind};
 pub use types::Layout;

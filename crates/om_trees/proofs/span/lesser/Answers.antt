@@ -1,0 +1,13 @@
+use Rattle.std.proofs.Common.{sym, ◌∙◌}
+use Rattle.std.proofs.lemmas.Bool.{false≢true}
+use Rattle.om_trees.proofs.SpanLemmas.{first_lesser, second_lesser}
+use Rattle.om_trees.proofs.span.lesser.Goals as goal
+
+pub returns-then-is_element_less : goal.returns-then-is_element_less
+returns-then-is_element_less c =
+    second_lesser c.args.heap.now c.args.o c.args.p (c.is_element_less.ensures.0 c.if-is_element_less.true)
+
+pub returns-else-is_element_less : goal.returns-else-is_element_less
+returns-else-is_element_less c =
+    first_lesser c.args.heap.now c.args.o c.args.p
+    (λ is. false≢true (sym c.if-is_element_less.false ∙ c.is_element_less.ensures.1 is))

@@ -1,0 +1,31 @@
+-- The type of a set or of a map, by the constructor of its nodes.
+use Rattle.std.specs.Prelude.{ℕ, ◌≡◌, ◌⊎◌, false, Option}
+use Rattle.om_types.specs.declared.shape.Constr.{Constr}
+use Rattle.om_types.specs.declared.shape.ShapeOf.TheVariants as shapes
+use Rattle.om_type_table.specs.declared.table.TypeTable.{TypeTable}
+use Rattle.om_trees.specs.declared.types.Layout.{Layout}
+use Rattle.om_trees.specs.TreeType.{layout_of, field_names, names_with, fields_in, shape_in, names_in, SameClass}
+
+-- the types of a node's parts: two of the tree itself, an element, and a number
+pub record AreParts (table : TypeTable) (t left element right height : ℕ) : Type 0 where
+  pub left_same : SameClass table left t
+  pub right_same : SameClass table right t
+  pub ordered :
+      (shape_in table element ≡ shapes.AnyInt) ⊎ (shape_in table element ≡ shapes.Bytes false)
+  pub counted : shape_in table height ≡ shapes.AnyInt
+
+-- the type has the names of such a tree
+abbrev pub IsNamed : TypeTable → ℕ → Layout → Type 0
+IsNamed table t layout = names_in table t ≡ names_with (field_names layout)
+
+-- this is the constructor of the nodes of a set or of a map
+pub record IsNodeType (table : TypeTable) (t : ℕ) (constr : Constr ℕ) : Type 0 where
+  pub left : ℕ
+  pub element : ℕ
+  pub kept : Option ℕ
+  pub right : ℕ
+  pub height : ℕ
+  pub named : IsNamed table t (layout_of kept)
+  pub shaped :
+      constr ≡ record { mutable = false; fields = fields_in left element kept right height }
+  pub parts : AreParts table t left element right height

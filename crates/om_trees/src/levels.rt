@@ -1,0 +1,76 @@
+//! Nodes by their heights.
+
+ghost use Rattle.std.specs.Prelude.{ℕ, ◌≡◌, ◌<◌, ◌^◌, length, All, Contains, IfOk, OnOk, vec_len, pos};
+ghost use Rattle.om_trees.specs.Parts as parts;
+ghost use Rattle.om_trees.specs.Levels.{AreLevels, AreRising, HasLevel, HasRooms, IsPut, Has};
+ghost use Rattle.om_trees.specs.Span.{IsSettled};
+
+use crate::node::node_at;
+use crate::span::{Settled, Span, settle};
+use om_heap::Heap;
+use om_model::Memory;
+use std::alloc::Global;
+
+/// The nodes of each height.
+pub fn by_height(alloc: Global, heap: &Heap, nodes: &[usize]) -> Result<Vec<Vec<usize>>, Memory>
+    requires inside { All (λ o. o < length heap.now) nodes.now }
+    requires level { (o : ℕ) → Contains nodes.now o → HasLevel heap.now o }
+    ensures { IfOk result (λ levels. AreLevels heap.now nodes.now levels.items) }
+{
+    let mut levels = Vec::new(alloc);
+    for o in nodes {
+        put(alloc, &mut levels, level_of(heap, *o), *o)?;
+    }
+    Ok(levels)
+}
+
+/// The height of a node, which is not negative.
+fn level_of(heap: &Heap, o: usize) -> usize
+    requires inside { o < length heap.now }
+    requires level { HasLevel heap.now o }
+    ensures level { (parts.node_at heap.now o).height ≡ pos result }
+    ensures small { result < 2 ^ 62 }
+{
+    node_at(heap, o).height.unsigned_abs() as usize
+}
+
+/// Puts a node into a level.
+fn put(alloc: Global, levels: &mut Vec<Vec<usize>>, at: usize, o: usize) -> Result<(), Memory>
+    requires { at < 2 ^ 62 }
+    ensures { OnOk result (IsPut levels.old.items at o levels.new.items) }
+{
+    make_rooms(alloc, levels, at + 1)?;
+    levels[at].push(o)?;
+    Ok(())
+}
+
+/// Adds levels with nothing in them, until there are so many.
+fn make_rooms(alloc: Global, levels: &mut Vec<Vec<usize>>, many: usize) -> Result<(), Memory>
+    ensures { OnOk result (HasRooms levels.old.items many levels.new.items) }
+{
+    for _room in levels.len()..many {
+        levels.push(Vec::new(alloc))?;
+    }
+    Ok(())
+}
+
+/// Settles all nodes, level by level.
+pub fn settle_all(alloc: Global, heap: &Heap, levels: &[Vec<usize>]) -> Result<Vec<Settled>, Memory>
+    requires { AreRising heap.now levels.now }
+    ensures many { IfOk result (λ all. vec_len all ≡ length heap.now) }
+    ensures settled { IfOk result
+        (λ all. (h o : ℕ) → Has levels.now h o → IsSettled heap.now all.items o) }
+{
+    let none = Settled {
+        span: Span {
+            least: 0,
+            greatest: 0,
+        },
+        disordered: false,
+    };
+    let mut all = vec![in alloc; none; heap.count() as usize]?;
+    for level in levels {
+        settle(heap, level.as_slice(), &mut all);
+    }
+    Ok(all)
+}

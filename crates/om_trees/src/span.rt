@@ -1,0 +1,143 @@
+//! The least and the greatest elements at and below nodes.
+
+ghost use Rattle.std.specs.Prelude.{ℕ, ◌≡◌, ◌<◌, ◌↔◌, length, IsTrue, Contains, vec_len};
+ghost use Rattle.om_model.specs.declared.value.Val.TheVariants as vals;
+ghost use Rattle.om_trees.specs.Parts as parts;
+ghost use Rattle.om_trees.specs.Parts.{IsAtOrBelow};
+ghost use Rattle.om_trees.specs.TreeFault.{IsElementLess};
+ghost use Rattle.om_trees.specs.Span.{IsLesser, IsGreater, IsSpread, IsSpan, IsOnLeftOrAt, IsLeftOver, IsRightUnder, IsSettledAs, IsSettled, IsPartSettled, IsReady};
+
+use crate::node::node_at;
+use crate::order::is_element_less;
+use om_heap::Heap;
+use om_model::value::Val;
+
+/// Of some nodes the one with the least element and the one with the greatest.
+#[derive(Clone, Copy)]
+pub struct Span {
+    pub least: usize,
+    pub greatest: usize,
+}
+
+/// The span of what is at and below a node, and whether the node is out of order.
+#[derive(Clone, Copy)]
+pub struct Settled {
+    pub span: Span,
+    pub disordered: bool,
+}
+
+/// The span of two spans, and whether they overlap: the first is not less as a whole.
+fn joined(heap: &Heap, first: Span, second: Span) -> (Span, bool)
+    requires first { IsSpread heap.now first }
+    requires second { IsSpread heap.now second }
+    ensures least { IsLesser heap.now first.least second.least result.0.least }
+    ensures greatest { IsGreater heap.now first.greatest second.greatest result.0.greatest }
+    ensures over { IsTrue result.1 ↔ (¬ IsElementLess heap.now first.greatest second.least) }
+{
+    if is_element_less(heap, first.greatest, second.least) {
+        (apart(first, second), false)
+    } else {
+        (across(heap, first, second), true)
+    }
+}
+
+/// The span from the first to the second.
+fn apart(first: Span, second: Span) -> Span
+    ensures least { result.least ≡ first.least }
+    ensures greatest { result.greatest ≡ second.greatest }
+{
+    Span {
+        least: first.least,
+        greatest: second.greatest,
+    }
+}
+
+/// The span of two spans.
+fn across(heap: &Heap, first: Span, second: Span) -> Span
+    requires first { IsSpread heap.now first }
+    requires second { IsSpread heap.now second }
+    ensures least { IsLesser heap.now first.least second.least result.least }
+    ensures greatest { IsGreater heap.now first.greatest second.greatest result.greatest }
+{
+    Span {
+        least: lesser(heap, first.least, second.least),
+        greatest: greater(heap, first.greatest, second.greatest),
+    }
+}
+
+/// The one of two nodes whose element is not greater.
+fn lesser(heap: &Heap, o: usize, p: usize) -> usize
+    requires first { o < length heap.now }
+    requires second { p < length heap.now }
+    ensures { IsLesser heap.now o p result }
+{
+    if is_element_less(heap, p, o) { p } else { o }
+}
+
+/// The one of two nodes whose element is not less.
+fn greater(heap: &Heap, o: usize, p: usize) -> usize
+    requires first { o < length heap.now }
+    requires second { p < length heap.now }
+    ensures { IsGreater heap.now o p result }
+{
+    if is_element_less(heap, o, p) { p } else { o }
+}
+
+/// The span of a node and what is on its left, and whether something there is not less.
+fn with_left(heap: &Heap, all: &[Settled], o: usize) -> (Span, bool)
+    requires inside { o < length heap.now }
+    requires left { IsPartSettled heap.now all.now (parts.node_at heap.now o).left }
+    ensures span { IsSpan heap.now (IsOnLeftOrAt heap.now o) result.0 }
+    ensures over { IsTrue result.1 ↔ IsLeftOver heap.now o }
+{
+    let own = Span {
+        least: o,
+        greatest: o,
+    };
+    match node_at(heap, o).left {
+        Val::Ref(p) => joined(heap, all[p as usize].span, own),
+        _ => (own, false),
+    }
+}
+
+/// The span of a node and all below it, and whether something on the right is not greater.
+fn with_right(heap: &Heap, all: &[Settled], o: usize, span: Span) -> (Span, bool)
+    requires inside { o < length heap.now }
+    requires right { IsPartSettled heap.now all.now (parts.node_at heap.now o).right }
+    requires span { IsSpan heap.now (IsOnLeftOrAt heap.now o) span }
+    ensures span { IsSpan heap.now (IsAtOrBelow heap.now (vals.Ref o)) result.0 }
+    ensures under { IsTrue result.1 ↔ IsRightUnder heap.now o }
+{
+    match node_at(heap, o).right {
+        Val::Ref(p) => joined(heap, span, all[p as usize].span),
+        _ => (span, false),
+    }
+}
+
+/// What is known of a node, from its parts.
+fn settle_node(heap: &Heap, all: &[Settled], o: usize) -> Settled
+    requires { IsReady heap.now all.now o }
+    ensures { IsSettledAs heap.now o result }
+{
+    let left = with_left(heap, all, o);
+    let whole = with_right(heap, all, o, left.0);
+    Settled {
+        span: whole.0,
+        disordered: left.1 || whole.1,
+    }
+}
+
+/// Settles nodes whose parts are settled.
+pub fn settle(heap: &Heap, nodes: &[usize], all: &mut Vec<Settled>)
+    requires many { vec_len all.old ≡ length heap.now }
+    requires ready { (o : ℕ) → Contains nodes.now o → IsReady heap.now all.old.items o }
+    ensures many { vec_len all.new ≡ length heap.now }
+    ensures settled { (o : ℕ) → Contains nodes.now o → IsSettled heap.now all.new.items o }
+    ensures kept { (o : ℕ) → IsSettled heap.now all.old.items o
+        → IsSettled heap.now all.new.items o }
+{
+    for o in nodes {
+        let known = settle_node(heap, all.as_slice(), *o);
+        all[*o] = known;
+    }
+}
