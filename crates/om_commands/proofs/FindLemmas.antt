@@ -6,10 +6,10 @@ use Rattle.om_outcome.specs.Outcome.{Found, opened, whole, Request, check, show,
 use Rattle.om_promises.specs.Commands.{Fetches}
 use Rattle.om_promises.specs.Lawful.{IsOnce, IsInner, FailsAtFile}
 use Rattle.om_promises.specs.LawfulLanguage.{IsLawful}
-use Rattle.om_promises.proofs.CompleteLemmas.{IsGivenWork, work_given}
 use Rattle.om_promises.proofs.ExampleLemmas.{reads_once}
 use Rattle.om_promises.proofs.OnceLemmas.{Then_once}
 use Rattle.om_commands.specs.Tasks.{by_turns, WantsFile, WantsScript, Wants, Finds, commands}
+use Rattle.om_commands.proofs.GivenLemmas.{IsGivenWork, work_given}
 
 -- what is read of a text, or the stop that tells its refusal, is one
 refusal_once :
@@ -151,7 +151,7 @@ module _ {D T E : Type 0} (language : Language D T E) (lawful : IsLawful languag
   finds_given request files a (Ok work, h, told) =
       let is : a ≡ task work (limit_of request) = cc in
       subst (λ a. IsGivenWork language a.work) (sym is)
-      (work_given language lawful (by_turns files) request work h)
+      (work_given language (by_turns files) request work h)
 
   -- ---- it is by the files that are wanted
 

@@ -11,12 +11,12 @@ use Rattle.om_outcome.specs.RefusalText.{refusal_text, truncated_text}
 use Rattle.om_promises.specs.Commands.{Item, value as value_item}
 use Rattle.om_promises.specs.Lawful.{IsOnce, IsInner, AreLawfulAt}
 use Rattle.om_promises.specs.LawfulLanguage.{IsLawful}
-use Rattle.om_promises.proofs.CompleteLemmas.{IsGivenWork}
-use Rattle.om_promises.proofs.HeadlineLemmas.{tail_after, stops_more}
 use Rattle.om_promises.proofs.LengthLemmas.{spelled_some}
 use Rattle.om_promises.proofs.StreamLemmas.{streams_once, spell_once, value_or_tail}
 use Rattle.om_promises.proofs.ValueLemmas.{spell_after}
 use Rattle.om_commands.specs.Tasks.{items_of, IsFirstValue, SaysOf, IsRefused, StopsHere, EndsBy, EndsHere, commands}
+use Rattle.om_commands.proofs.GivenLemmas.{IsGivenWork}
+use Rattle.om_commands.proofs.StayLemmas.{tail_after, stops_more}
 
 -- ---- values as items
 

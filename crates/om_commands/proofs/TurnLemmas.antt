@@ -4,8 +4,7 @@ use Rattle.om_outcome.specs.Outcome.{Found, opened, whole, Request, check, show,
 use Rattle.om_promises.specs.Commands.{Fetches}
 use Rattle.om_promises.specs.Lawful.{AreInTurns}
 use Rattle.om_promises.specs.LawfulLanguage.{IsLawful}
-use Rattle.om_promises.specs.Run.{HasPath}
-use Rattle.om_commands.specs.Tasks.{WantsFile, WantsScript, Wants, commands}
+use Rattle.om_commands.specs.Tasks.{HasPath, WantsFile, WantsScript, Wants, commands}
 use Rattle.om_commands.proofs.FindLemmas.{type_by, wanted_read}
 
 not_after : (turn later : ℕ) → turn < later → later ≡ 0 → ⊥

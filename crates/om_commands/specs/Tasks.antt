@@ -1,13 +1,12 @@
 -- The commands on the values of the input, in the general form: an item is a value.
-use Rattle.std.specs.Prelude.{ℕ, ◌<◌, ◌≡◌, ◌⊎◌, List, [], ◌∷◌, length, Some, Result, Ok}
+use Rattle.std.specs.Prelude.{ℕ, ◌<◌, ◌≡◌, ◌⊎◌, List, [], ◌∷◌, length, Some, IfSome, Result, Ok}
 use Rattle.om_model.specs.declared.refusal.ReadRefusal.{ReadRefusal}
 use Rattle.om_format.specs.Stream.{SpellAll, End, clean, refused, cut, IsTail}
 use Rattle.om_format.specs.Tree.{Tree}
 use Rattle.om_outcome.specs.Outcome as outcome
-use Rattle.om_outcome.specs.Outcome.{Request, typed_by, script_of, limit_of, Stop, value, Said, Reply, stops, Language, Work, tells, edits, dumps, compares, Task, task, Then, ReadsTypeOf, FindsWork}
+use Rattle.om_outcome.specs.Outcome.{Request, typed_by, path_of, script_of, limit_of, Stop, value, Said, Reply, stops, Language, Work, tells, edits, dumps, compares, Task, task, Then, ReadsTypeOf, FindsWork}
 use Rattle.om_outcome.specs.RefusalText.{refusal_text, truncated_text}
 use Rattle.om_promises.specs.Commands.{Item, value as value_item, Fetches, Commands}
-use Rattle.om_promises.specs.Run.{HasPath}
 
 -- FILE is fetched in the first turn, and SCRIPT in the second one
 abbrev pub by_turns : Fetches → outcome.Fetches
@@ -21,9 +20,14 @@ items_of (tree ∷ trees) = value_item tree ∷ items_of trees
 module _ {D T E : Type 0} (language : Language D T E) where
   -- ---- the files
 
+  -- PATH, where the words have one, is a path
+  abbrev pub HasPath : Request → Type 0
+  HasPath request =
+      IfSome (path_of request) (λ text. (path : List ℕ) × language.ReadsPath text (Some path))
+
   -- FILE is wanted where PATH, if there is one, is a path
   pub record WantsFile (request : Request) (name : List ℕ) : Type 0 where
-    pub has_path : HasPath language request
+    pub has_path : HasPath request
     pub type : List ℕ
     pub typed : typed_by request ≡ Some (name, type)
 

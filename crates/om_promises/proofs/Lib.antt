@@ -3,17 +3,6 @@ pub mod StreamLemmas
 pub mod ValueLemmas
 pub mod PutLemmas
 pub mod TakeLemmas
-pub mod WordLemmas
-pub mod FindingLemmas
-pub mod HeadlineLemmas
-pub mod CompleteLemmas
-pub mod DecidedLemmas
-pub mod CauseLemmas
-pub mod ExactLemmas
-pub mod PaceLemmas
-pub mod FrontLemmas
-pub mod TurnLemmas
-pub mod PromiseLemmas
 pub mod OnceLemmas
 pub mod HoldLemmas
 pub mod ExampleLemmas

@@ -12,6 +12,8 @@ use Rattle.om_format.specs.Judgement.{Judgement, value, Judges}
 use Rattle.om_format.specs.Judgement as j
 use Rattle.om_format.specs.Laws.{HasOneJudgement}
 use Rattle.om_format.specs.Stream.{SpellAll, End, clean, refused, cut, IsTail, Stream}
+use Rattle.om_format.proofs.JudgementLaws.{one_judgement_lem}
+use Rattle.om_promises.specs.StreamLaws.{HasOneStream}
 use Rattle.om_promises.proofs.LengthLemmas.{spelled_some}
 
 -- a list with a last element is not empty
@@ -161,3 +163,17 @@ module _ (law : HasOneJudgement) (limit : ℕ) where
 
   pub stream_of : (bytes : List ℕ) → AreBytes bytes → (trees : List Tree) × (end : End) × Stream bytes limit trees end
   stream_of bytes are_bytes = stream_in (length bytes) bytes (omega arith) are_bytes
+
+-- bytes are one stream
+pub one_stream_lem : HasOneStream
+one_stream_lem limit bytes are_bytes =
+    let some = stream_of one_judgement_lem limit bytes are_bytes in (
+      some.0,
+      some.1,
+      record {
+        holds = some.2;
+        only = λ others other stream.
+            streams_once one_judgement_lem limit bytes others some.0 other some.1 are_bytes stream
+            some.2;
+      },
+    )

@@ -11,7 +11,7 @@ use Rattle.om_promises.specs.Account.{IsWanted, FetchesFor, HoldNoStop, SaysOfFi
 use Rattle.om_promises.specs.Call.{Call}
 use Rattle.om_promises.specs.Commands.{Fetches, Commands, Prepares, SaysAlone, Outcome}
 use Rattle.om_promises.specs.Given.{Gathers, IsFoundOf}
-use Rattle.om_promises.specs.Outside.{PutsPartAfter, IsWellRead, IsHonest, IsUnsaid, IsOutside, AreShort, CannotOpen, TellsFault}
+use Rattle.om_promises.specs.Outside.{PutsPartAfter, IsWellRead, IsHonest, IsUnsaid, IsOutside, AreShort, CannotOpen, TellsFault, OnlyReadFault, OnlyWriteFault}
 use Rattle.om_promises.specs.Promises.{told_files, Gives, OnlyMeant}
 
 module _ {A : Type 0} (c : Commands A) (words : List (List ℕ)) where
@@ -196,3 +196,24 @@ module _ {A : Type 0} (c : Commands A) (words : List (List ℕ)) where
   IsComplete call = (input : List ℕ) (files : List File) → IsHonest call input files
       → (a : A) → Prepares c words (told_files files) (Ok a) → Gives c a input Well
       → (call.status ≡ Well) ⊎ (call.status ≡ Memory)
+
+  -- ---- what the outside causes
+
+  pub record OutsideCauses (call : Call) : Type 0 where
+    -- 6: a call on the input failed, or a read of a file
+    pub read_fault : OnlyReadFault call
+    -- 7: a call on out or err failed
+    pub write_fault : OnlyWriteFault call
+    -- 8: a file that is wanted could not be opened, or is not there
+    pub open_fault : OnlyOpenFault call
+    pub missing : IfMissing call
+    -- 10: the input or such a file has 2^48 bytes or more
+    pub too_long : OnlyTooLong call
+    pub file_too_long : IfFileTooLong call
+    pub input_too_long : IfInputTooLong call
+    -- 6 or 10: by the input, and out has what is said of its items; or by a file, and it has nothing
+    pub input_fails : IfInputFails call
+    -- 9: memory ran out, and out has a front of what the outcome puts
+    pub memory : IfMemory call
+    -- 7: out or err failed, and has a front of what the outcome puts
+    pub write_fails : IfWriteFault call

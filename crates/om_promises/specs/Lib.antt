@@ -2,7 +2,6 @@ pub mod Call
 pub mod Given
 pub mod Outside
 pub mod LawfulLanguage
-pub mod Run
 pub mod StreamLaws
 pub mod Commands
 pub mod Lawful

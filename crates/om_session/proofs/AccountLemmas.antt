@@ -18,7 +18,7 @@ use Rattle.om_session.specs.declared.verdict.Saying.{Saying}
 use Rattle.om_session.specs.declared.verdict.Speech.TheVariants as speeches
 use Rattle.om_promises.specs.Given.{Fetched}
 use Rattle.om_session.specs.Language.{declared_types}
-use Rattle.om_promises.specs.Run.{AsksFor, AsksForScript, PutsLine}
+use Rattle.om_promises.specs.Outside.{PutsLine}
 use Rattle.om_stops.specs.Stops.{stop_of, Reports}
 use Rattle.om_session.specs.Telling.{AsksToTell, AsksToEdit}
 use Rattle.om_session.specs.Types.{type_over, IsPathStop, GivesType, GivesScript}
@@ -27,9 +27,9 @@ use Rattle.om_session.specs.Verdict.{saying_of}
 use Rattle.om_promises.proofs.PutLemmas.{puts_nothing}
 use Rattle.om_promises.proofs.TakeLemmas.{took_nothing}
 use Rattle.om_session.proofs.TypeLemmas.{path_refused}
-use Rattle.om_commands.specs.Tasks.{by_turns, commands}
+use Rattle.om_commands.specs.Tasks.{by_turns, WantsFile, WantsScript, commands}
 use Rattle.om_work.specs.Reported.{HasAccount}
-use Rattle.om_bridge.proofs.FetchLemmas.{wants_file, wants_script, new_fetches}
+use Rattle.om_commands.proofs.FetchLemmas.{wants_file, wants_script, new_fetches}
 
 -- ---- a stop before the values
 
@@ -115,8 +115,8 @@ path_account words name type text limit asks fault refused stop is input out fil
           (Ok (get name type text limit), asks, (Err bad_path, (Err bad_path, (path_refused text fault some refused, refl), refl), refl)))
 
 module _ (words : List (List ℕ)) (name type : List ℕ) (saying : Saying) (limit : ℕ) (asks : AsksToTell words name type (saying_of saying) limit) (files : Change FilesState) (found : Found) (fetched : Fetched files name found) where
-  is_asked : AsksFor declared_types words name type
-  is_asked = record { request = asks.request; asks = asks.asks; has_path = asks.has_path; typed = asks.typed }
+  is_wanted : WantsFile declared_types asks.request name
+  is_wanted = record { has_path = asks.has_path; type = type; typed = asks.typed }
 
   abbrev all_found : Fetches
   all_found = two_found found unfetched
@@ -124,7 +124,7 @@ module _ (words : List (List ℕ)) (name type : List ℕ) (saying : Saying) (lim
   fetches : FetchesFor (commands declared_types) words files all_found
   fetches =
       new_fetches declared_types words all_found files.before files.after files.after
-      (inl (name, wants_file declared_types words all_found name type is_asked, fetched)) (inr (refl, λ script is. refl))
+      (inl (name, wants_file declared_types words all_found asks.request asks.asks name is_wanted, fetched)) (inr (refl, λ script is. refl))
 
   prepared_ok : (t : Bor Requested) → ReadsTypeOf declared_types (λ name. found) (name, type) (Ok (type_over t.now))
       → Prepares (commands declared_types) words all_found (Ok (task_of (jobs.Say (speeches.Tell t saying) limit)))
@@ -158,13 +158,13 @@ module _ (words : List (List ℕ)) (file type script : List ℕ) (compat : Bool)
   abbrev file_found : Fetches
   file_found = two_found found unfetched
 
-  file_asked : AsksFor declared_types words file type
-  file_asked = record { request = edit file type script compat limit; asks = asks; has_path = tt; typed = refl }
+  file_wanted : WantsFile declared_types (edit file type script compat limit) file
+  file_wanted = record { has_path = tt; type = type; typed = refl }
 
   file_fetches : FetchesFor (commands declared_types) words files file_found
   file_fetches =
       new_fetches declared_types words file_found files.before files.after files.after
-      (inl (file, wants_file declared_types words file_found file type file_asked, fetched)) (inr (refl, λ name is. refl))
+      (inl (file, wants_file declared_types words file_found (edit file type script compat limit) asks file file_wanted, fetched)) (inr (refl, λ name is. refl))
 
   file_gives : (stop : codes.Stop) → GivesType file type found (Err stop) → Prepares (commands declared_types) words file_found (Err (stop_of stop)) ⊎ (stop_of stop ≡ out_of_memory)
   file_gives stop (inl reads) = inl (Ok (edit file type script compat limit), asks, (Err (stop_of stop), (Err (stop_of stop), reads, refl), refl))
@@ -183,13 +183,11 @@ module _ (words : List (List ℕ)) (r : Bor Requested) (script : List ℕ) (comp
   abbrev request : Request
   request = edit asks.file asks.type script compat limit
 
-  edit_asked : AsksFor declared_types words asks.file asks.type
-  edit_asked = record { request = request; asks = asks.asks; has_path = tt; typed = refl }
+  edit_wanted : WantsFile declared_types request asks.file
+  edit_wanted = record { has_path = tt; type = asks.type; typed = refl }
 
-  script_asked : AsksForScript declared_types words (λ name. asks.found) script
-  script_asked = record {
-    request = request;
-    asks = asks.asks;
+  script_wanted : WantsScript declared_types request both_found script
+  script_wanted = record {
     scripted = refl;
     typed = (asks.file, asks.type);
     is_typed = refl;
@@ -200,8 +198,8 @@ module _ (words : List (List ℕ)) (r : Bor Requested) (script : List ℕ) (comp
   both_fetched : FetchesFor (commands declared_types) words (change a c) both_found
   both_fetched =
       new_fetches declared_types words both_found a b c
-      (inl (asks.file, wants_file declared_types words both_found asks.file asks.type edit_asked, asks.fetched))
-      (inl (script, wants_script declared_types words both_found script script_asked, fetched))
+      (inl (asks.file, wants_file declared_types words both_found request asks.asks asks.file edit_wanted, asks.fetched))
+      (inl (script, wants_script declared_types words both_found request asks.asks script script_wanted, fetched))
 
   script_gives : (stop : codes.Stop) → GivesScript script found (Err stop) → Prepares (commands declared_types) words both_found (Err (stop_of stop)) ⊎ (stop_of stop ≡ out_of_memory)
   script_gives stop (inl reads) =

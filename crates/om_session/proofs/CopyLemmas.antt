@@ -1,5 +1,5 @@
 -- Canonical values that are edited by no line are put as they came.
-use Rattle.std.proofs.Common.{◌≡◌, ℕ, suc, Bool, true, false, List, [], ◌∷◌, ◌++◌, map, Option, Some, None, Ok, inl, inr, refl, sym, ap, ◌∙◌, subst}
+use Rattle.std.proofs.Common.{◌≡◌, ◌<◌, ◌+◌, ℕ, suc, Bool, true, false, List, [], ◌∷◌, ◌++◌, length, map, Option, Some, None, Ok, inl, inr, refl, sym, ap, ◌∙◌, subst, length-append, arith}
 use Rattle.std.specs.Prelude.{if◌then◌else◌}
 use Rattle.std.specs.List.{concat, AllByRecursion}
 use Rattle.om_outcome.specs.declared.status.Status.TheVariants as statuses
@@ -7,10 +7,9 @@ use Rattle.om_model.specs.Bytes.{AreBytes}
 use Rattle.om_canonical.proofs.TreeGraphs.{own_tree}
 use Rattle.om_format.specs.Canonical.{canon}
 use Rattle.om_format.specs.Compat.{TooLargeFor32, too_large_for_32}
-use Rattle.om_format.specs.Laws.{HasOneJudgement}
 use Rattle.om_format.specs.Stream.{SpellAll, clean}
 use Rattle.om_format.specs.Tree.{Tree, root, objects_of}
-use Rattle.om_outcome.specs.Outcome.{edit, Said, nothing_said, says, Replies, replies, all_well, ending_of, edits, Task, task, AllSay, ValuesReply, whole, Outcome}
+use Rattle.om_outcome.specs.Outcome.{edit, Stop, Said, nothing_said, says, Replies, replies, all_well, ending_of, edits, Task, task, AllSay, StopsAt, whole}
 use Rattle.om_edge.specs.Files.{File, contents_of}
 use Rattle.om_edge.specs.Sink.{Puts}
 use Rattle.om_path.specs.declared.edits.ScriptLine.{ScriptLine}
@@ -18,10 +17,13 @@ use Rattle.om_promises.specs.Call.{Call}
 use Rattle.om_session.specs.Copied.{IsCanonical, IsLeftAlone, LeavesCanonical}
 use Rattle.om_promises.specs.Given.{TellsBytes}
 use Rattle.om_session.specs.Language.{TypeOver, declared_types, bytes_for, IsBytesLine}
-use Rattle.om_promises.specs.Run.{Account}
-use Rattle.om_promises.proofs.CompleteLemmas.{IsLawful}
-use Rattle.om_promises.proofs.DecidedLemmas.{none_at_end, one_outcome}
-use Rattle.om_promises.proofs.HeadlineLemmas.{headline}
+use Rattle.om_promises.specs.CommandLaws.{HaveOneOutcome}
+use Rattle.om_promises.specs.Commands.{Given, Answers, Outcome}
+use Rattle.om_promises.specs.Promises.{Promises, told_files}
+use Rattle.om_promises.proofs.LengthLemmas.{spelled_some}
+use Rattle.om_promises.proofs.StreamLemmas.{spell_bytes}
+use Rattle.om_commands.specs.Tasks.{items_of, commands}
+use Rattle.om_commands.proofs.FirstLemmas.{says_first, goes_on}
 
 -- what is said of a value
 abbrev said_of : Tree → Said
@@ -65,27 +67,58 @@ module _ (t : TypeOver) (compat : Bool) (limit : ℕ) where
   abbrev its_task : Task TypeOver ScriptLine
   its_task = task (edits t [] compat) limit
 
-  reply : (trees : List Tree) → AllByRecursion (IsCanonical t compat limit) trees → ValuesReply declared_types its_task (whole (concat (map canon trees))) (said_all trees)
-  reply trees h = record {
-    trees = trees;
-    rest = [];
-    first = record { spelled = spelled_all trees h; all_say = all_say 0 trees h };
-    last = inr (clean, refl, none_at_end declared_types (edits t [] compat) limit trees, refl);
-  }
+  -- no run stops where no byte comes
+  none_at_end : (trees : List Tree) (stop : Stop)
+      → StopsAt declared_types (edits t [] compat) limit trees [] stop → ⊥
+  none_at_end trees stop at =
+      let s = at.spelled in
+      let some : 0 < length s.0 = spelled_some limit s.0 at.tree s.3 in
+      let size : length {A = ℕ} [] ≡ length s.0 + length s.1 = ap length s.2 ∙ length-append s.0 s.1 in
+      omega (arith, some, size)
 
-module _ (lawful : IsLawful declared_types) (law : HasOneJudgement) (words : List (List ℕ)) (call : Call) (tells : TellsBytes call.input) (a : Account declared_types words call) where
-  its_outcome : (input : List ℕ) (files : List File) → (is : IsLeftAlone words input files) → Outcome declared_types words (contents_of files) input (said_all is.trees)
-  its_outcome input files is = (
+  reply : (trees : List Tree) → AllByRecursion (IsCanonical t compat limit) trees
+      → AreBytes (concat (map canon trees))
+      → Answers (commands declared_types) its_task (whole (concat (map canon trees))) (said_all trees)
+  reply trees h are_bytes =
+      let spelled = spelled_all trees h in
+      let none = spell_bytes limit (concat (map canon trees)) [] trees spelled are_bytes in
+      inl (tt, record {
+        items = items_of trees;
+        rest = [];
+        first = says_first declared_types its_task (concat (map canon trees)) trees (map said_of trees) []
+            (record { spelled = spelled; all_say = all_say 0 trees h });
+        last = inr (
+          goes_on declared_types its_task trees [] none clean refl (λ refusal e. cc e) (none_at_end trees),
+          record { trees = trees; are = refl; end = clean; tail = refl; ends = refl },
+        );
+      })
+
+module _ (once : HaveOneOutcome (commands declared_types)) (words : List (List ℕ)) (call : Call)
+    (tells : TellsBytes call.input) (p : Promises (commands declared_types) words call) where
+  its_outcome : (input : List ℕ) (files : List File) → AreBytes input → (is : IsLeftAlone words input files)
+      → Outcome (commands declared_types) words (contents_of files) input (said_all is.trees)
+  its_outcome input files are_bytes is = (
     Ok (its_task is.type_is is.compat is.limit),
-    (Ok (edit is.file is.type is.script is.compat is.limit), is.asks, (Ok (edits is.type_is [] is.compat), (Ok is.type_is, is.typed, (Ok [], is.no_line, refl)), refl)),
-    subst (λ b. ValuesReply declared_types (its_task is.type_is is.compat is.limit) (whole b) (said_all is.trees)) (sym is.bytes) (reply is.type_is is.compat is.limit is.trees is.canonical),
+    (
+      Ok (edit is.file is.type is.script is.compat is.limit),
+      is.asks,
+      (
+        Ok (edits is.type_is [] is.compat),
+        (Ok is.type_is, is.typed, (Ok [], is.no_line, refl)),
+        refl,
+      ),
+    ),
+    subst (λ b. Answers (commands declared_types) (its_task is.type_is is.compat is.limit) (whole b) (said_all is.trees))
+    (sym is.bytes)
+    (reply is.type_is is.compat is.limit is.trees is.canonical (subst AreBytes is.bytes are_bytes)),
   )
 
   pub leaves_canonical : LeavesCanonical words call
   leaves_canonical input files honest some is =
       let are_bytes : AreBytes input = rw honest.well_read.input_told at tells in
-      let o = headline declared_types words call a tells input files honest some in
-      let same = one_outcome declared_types lawful law words files input are_bytes o.all (said_all is.trees) o.outcome (its_outcome input files is) in
+      let o = p.headline input files honest some in
+      let given : Given = record { files = told_files files; input = whole input } in
+      let same = once words given are_bytes o.all (said_all is.trees) o.outcome (its_outcome input files are_bytes is) in
       record {
         out = subst (λ text. Puts call.out text) (ap (λ all. (ending_of all).out) same ∙ (texts_are is.trees ∙ sym is.bytes)) o.out;
         err = subst (λ all. Puts call.err (ending_of all).err) same o.err;

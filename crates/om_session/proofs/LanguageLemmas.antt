@@ -35,7 +35,7 @@ use Rattle.om_format.specs.Compat.{too_large_for_32}
 use Rattle.om_path.specs.declared.fault.PathFault.{PathFault}
 use Rattle.om_outcome.specs.Outcome.{Saying, Unedited, untyped}
 use Rattle.om_session.specs.Language.{TypeOver, declared_types, ReadsPath, IsRefusal, ReachesFew, IsTooMuch, IsAccepted, IsTypeLine, IsBytesLine, AreBytesOf, AreBytesAfter, bytes_for, ReadsType, ReadsScript, script_refusal}
-use Rattle.om_promises.proofs.CompleteLemmas.{IsGiven, IsLawful}
+use Rattle.om_promises.specs.LawfulLanguage.{IsGiven, IsLawful}
 
 -- ---- answers
 

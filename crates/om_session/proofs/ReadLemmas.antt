@@ -25,11 +25,10 @@ use Rattle.om_format.proofs.JudgementLaws.{one_judgement_lem}
 use Rattle.om_model.specs.Bytes.{AreBytes}
 use Rattle.om_session.specs.declared.edit.Edits.{Edits}
 use Rattle.om_session.specs.Edits.{AnswersOf, PutsEdited}
-use Rattle.om_promises.proofs.HeadlineLemmas.{stops_more}
 use Rattle.om_commands.specs.Tasks.{items_of, MayCome, StopsHere, EndsHere, commands}
+use Rattle.om_commands.proofs.FirstLemmas.{says_first, front_end, goes_on}
 use Rattle.om_commands.proofs.ItemLemmas.{item_stays}
-use Rattle.om_bridge.proofs.ItemLemmas.{says_first}
-use Rattle.om_bridge.proofs.LastLemmas.{front_end, goes_on}
+use Rattle.om_commands.proofs.StayLemmas.{stops_more}
 use Rattle.om_work.specs.Works.{ItemsStay, HaltsWithin, PutsLast}
 use Rattle.om_work.proofs.PieceLemmas.{halts_at_once}
 use Rattle.om_promises.proofs.StreamLemmas.{value_or_tail}
@@ -89,7 +88,7 @@ holds w taken said values h =
       items = items_of h.trees;
       rest = h.front;
       first = says_first declared_types (task_of w) taken h.trees said h.front h.first;
-      goes_on = goes_on declared_types one_judgement_lem (task_of w) h.trees h.front h.leads.bytes e.0 e.1 e.2 h.goes_on;
+      goes_on = goes_on declared_types (task_of w) h.trees h.front h.leads.bytes e.0 e.1 e.2 h.goes_on;
     }
 
 -- a value stays one when bytes follow

@@ -9,4 +9,3 @@ pub mod Types
 pub mod Values
 pub mod Asked
 pub mod SaidOfValue
-pub mod Promised

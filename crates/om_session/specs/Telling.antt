@@ -7,7 +7,7 @@ use Rattle.om_session.specs.Language.{TypeOver, declared_types}
 use Rattle.om_edge.specs.State.{FilesState, Change}
 use Rattle.om_session.specs.declared.types.Requested.{Requested}
 use Rattle.om_promises.specs.Given.{Fetched}
-use Rattle.om_promises.specs.Run.{HasPath}
+use Rattle.om_commands.specs.Tasks.{HasPath}
 use Rattle.om_session.specs.Types.{GivesType}
 
 -- PATH, if there, is a path, and what FILE and TYPE give is what is told

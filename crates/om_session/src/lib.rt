@@ -11,7 +11,7 @@ mod values;
 mod verdict;
 
 pub use commands::{
-    DeclaredTypes, all_is_promised, declared_commands_are_lawful, declared_commands_keep_promises,
-    declared_types_are_lawful,
+    DeclaredTypes, declared_commands_are_lawful, declared_commands_have_one_outcome,
+    declared_commands_keep_promises, declared_statuses_have_causes, declared_types_are_lawful,
 };
 pub use top::run;

@@ -8,9 +8,10 @@ ghost use Rattle.om_session.specs.Copied.{LeavesCanonical};
 ghost use Rattle.om_session.specs.Asked.{AsksToSay, AsksForLines};
 ghost use Rattle.om_session.specs.Language.{declared_types};
 ghost use Rattle.om_promises.specs.Account.{Account};
+ghost use Rattle.om_promises.specs.Causes.{OutsideCauses};
 ghost use Rattle.om_promises.specs.Promises.{Promises};
-ghost use Rattle.om_promises.specs.Run.{Promises as Causes};
 ghost use Rattle.om_commands.specs.Tasks.{commands};
+ghost use Rattle.om_meanings.specs.Causes.{Causes};
 ghost use Rattle.om_work.specs.Reported.{HasAccount};
 ghost use Rattle.om_session.specs.Telling.{AsksToTell, AsksToEdit};
 ghost use Rattle.om_session.specs.Types.{IsReady};
@@ -20,7 +21,8 @@ ghost use Rattle.om_command_line.specs.Requests.{texts, request_of};
 ghost use Rattle.om_stops.specs.Stops.{stop_of, Reports};
 
 use crate::commands::{
-    all_is_promised, declared_commands_keep_promises, declared_types_are_lawful,
+    declared_commands_have_one_outcome, declared_commands_keep_promises,
+    declared_statuses_have_causes,
 };
 use crate::edit::Edits;
 use crate::types::{Requested, find_script, find_type, path_stop};
@@ -28,7 +30,6 @@ use crate::values::{Job, Progress};
 use crate::verdict::{Saying, Speech};
 use om_command_line::{Request, Unread, read_words};
 use om_edge::{Opener, Sink, Source};
-use om_format::laws::one_judgement;
 use om_outcome::status::Status;
 use om_path::{Script, read_path};
 use om_stops::stop::{Stop, report_stop};
@@ -363,6 +364,11 @@ pub fn run<S: Source, O: Opener, K: Sink, E: Sink>(
         (change (O.state files.old) (O.state files.new))
         (change (K.state out.old) (K.state out.new))
         (change (E.state err.old) (E.state err.new)) result) }
+    ensures outside { OutsideCauses (commands declared_types) (texts words.now)
+        (call (change (S.state input.old) (S.state input.new))
+        (change (O.state files.old) (O.state files.new))
+        (change (K.state out.old) (K.state out.new))
+        (change (E.state err.old) (E.state err.new)) result) }
     ensures canonical { LeavesCanonical (texts words.now)
         (call (change (S.state input.old) (S.state input.new))
         (change (O.state files.old) (O.state files.new))
@@ -370,9 +376,8 @@ pub fn run<S: Source, O: Opener, K: Sink, E: Sink>(
         (change (E.state err.old) (E.state err.new)) result) }
 {
     input.tells_bytes();
-    one_judgement();
-    declared_types_are_lawful();
+    declared_commands_have_one_outcome();
     declared_commands_keep_promises();
-    all_is_promised();
+    declared_statuses_have_causes();
     run_command(alloc, words, input, files, out, err)
 }

@@ -1,12 +1,20 @@
-use Rattle.std.proofs.Common.{inl, sym, subst}
+use Rattle.std.proofs.Common.{◌≡◌, List, [], ◌∷◌, length, get_or, inl, sym, subst, arith}
 use Rattle.om_outcome.specs.Outcome.{comparison}
 use Rattle.om_edge.specs.Sink.{Puts, PutsPart}
 use Rattle.om_edge.specs.State.{change}
 use Rattle.om_promises.proofs.PutLemmas.{puts_nothing}
 use Rattle.om_session.proofs.ReadLemmas.{compares_alike, compares_none, last_fault}
 use Rattle.om_promises.proofs.ValueLemmas.{comparison-well}
-use Rattle.om_promises.proofs.WordLemmas.{two}
 use Rattle.om_session.proofs.values.compare.Goals as goal
+
+-- two values are the first and the second
+two :
+    {X : Type 0} (xs : List X) (x y : X) → length xs ≡ 2 → x ≡ get_or xs 0 x → y ≡ get_or xs 1 y
+    → xs ≡ x ∷ y ∷ []
+two [] x y n a b = absurd (cc n)
+two (p ∷ []) x y n a b = absurd (cc n)
+two (p ∷ q ∷ []) x y n a b = cc
+two (p ∷ q ∷ r ∷ rest) x y n a b = absurd (omega arith)
 
 pub returns-then-kept-ne2 : goal.returns-then-kept-ne2
 returns-then-kept-ne2 g c = λ trees are. (inl (compares_none c.args.kept.now trees are c.if-kept-ne2.true), puts_nothing (g.K.Sink.state c.args.out.now))

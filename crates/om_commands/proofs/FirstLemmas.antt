@@ -1,0 +1,96 @@
+-- What is said of the first values is said of the first items, and more has to come after them.
+use Rattle.std.proofs.Common.{◌≡◌, ◌⊎◌, ℕ, suc, ◌+◌, ◌<◌, List, [], ◌∷◌, ◌++◌, length, inl, inr, refl, sym, subst, length-append, arith}
+use Rattle.om_model.specs.Bytes.{AreBytes}
+use Rattle.om_model.specs.declared.refusal.ReadRefusal.{ReadRefusal}
+use Rattle.om_format.proofs.JudgementLaws.{one_judgement_lem}
+use Rattle.om_format.specs.Front.{IsFront}
+use Rattle.om_format.specs.Stream.{SpellAll, End, clean, refused, cut, IsTail}
+use Rattle.om_format.specs.Tree.{Tree}
+use Rattle.om_outcome.specs.Outcome as outcome
+use Rattle.om_outcome.specs.Outcome.{Stop, Said, Language, Task, SayFirst, StopsAt}
+use Rattle.om_promises.specs.Commands.{Item, value, Cut, AllSay, SaysFirst, GoesOn}
+use Rattle.om_promises.proofs.StreamLemmas.{value_or_tail, streams_once}
+use Rattle.om_commands.specs.Tasks.{items_of, IsRefused, StopsHere, commands}
+use Rattle.om_commands.proofs.ItemLemmas.{items_once}
+
+-- one item more
+one_more : (before : List Item) (item : Item) (k : ℕ)
+    → length before ≡ k → length (before ++ item ∷ []) ≡ suc k
+one_more before item k at =
+    let all : length (before ++ item ∷ []) ≡ length before + length (item ∷ []) =
+    length-append before (item ∷ []) in
+    omega arith
+
+-- a front is nothing, or a value that is cut
+pub front_end : (limit : ℕ) (rest : List ℕ) → IsFront limit rest
+    → (end : End) × IsTail limit rest end × ((refusal : ReadRefusal) → end ≡ refused refusal → ⊥)
+front_end limit [] front = (clean, refl, λ refusal e. cc e)
+front_end limit (b ∷ rest) front =
+    (cut (length (b ∷ rest)), (omega arith, refl, front), λ refusal e. cc e)
+
+module _ {D T E : Type 0} (language : Language D T E) where
+  module _ (a : Task T E) where
+    -- values at the front are items at the front
+    cut_of :
+        (bytes : List ℕ) (trees : List Tree) (rest : List ℕ)
+        → SpellAll a.limit bytes trees rest → Cut (commands language) a bytes (items_of trees) rest
+    cut_of bytes [] rest same = same
+    cut_of bytes (tree ∷ trees) rest (first, more, same, spelled, all) = (
+      more,
+      record { tree = tree; is = refl; spelled = (first, more, same, spelled, refl) },
+      cut_of more trees rest all,
+    )
+
+    say_of :
+        (before : List Item) (k : ℕ) → length before ≡ k → (trees : List Tree) (said : List Said)
+        → outcome.AllSay language a.work k trees said
+        → AllSay (commands language) a before (items_of trees) said
+    say_of before k at [] [] h = tt
+    say_of before k at [] (s ∷ said) h = absurd h
+    say_of before k at (t ∷ trees) [] h = absurd h
+    say_of before k at (t ∷ trees) (s ∷ said) (says, more) = (
+      record {
+        tree = t;
+        is = refl;
+        says = subst (λ n. outcome.Says language a.work n t s) (sym at) says;
+      },
+      say_of (before ++ value t ∷ []) (suc k) (one_more before (value t) k at) trees said more,
+    )
+
+    -- the first values, as items
+    pub says_first :
+        (bytes : List ℕ) (trees : List Tree) (said : List Said) (rest : List ℕ)
+        → SayFirst language a bytes trees said rest
+        → SaysFirst (commands language) a bytes (items_of trees) said rest
+    says_first bytes trees said rest h = record {
+      cut = cut_of bytes trees rest h.spelled;
+      all_say = say_of [] 0 refl trees said h.all_say;
+    }
+
+  module _ (a : Task T E) (trees : List Tree) (rest : List ℕ) (are_bytes : AreBytes rest) where
+    -- the command does not stop
+    abbrev Free : Type 0
+    Free = (stop : Stop) → StopsAt language a.work a.limit trees rest stop → ⊥
+
+    -- more has to come after bytes that are no value and are not refused
+    pub goes_on :
+        (end : End) → IsTail a.limit rest end
+        → ((refusal : ReadRefusal) → end ≡ refused refusal → ⊥) → Free
+        → GoesOn (commands language) a (items_of trees) rest
+    goes_on end tail fine free = record {
+      no_stop = λ stop h. stops_not stop h h.why;
+      no_item = λ item more h.
+          let s = h.spelled in
+          value_or_tail one_judgement_lem a.limit s.0 s.1 rest h.tree end are_bytes s.3 s.2 tail;
+    } where
+      stops_not : (stop : Stop) (h : StopsHere language a (items_of trees) rest stop)
+          → StopsAt language a.work a.limit h.trees rest stop
+          ⊎ IsRefused language a (length h.trees) rest stop → ⊥
+      stops_not stop h (inl at) =
+          free stop
+          (subst (λ t. StopsAt language a.work a.limit t rest stop)
+          (sym (items_once trees h.trees h.are)) at)
+      stops_not stop h (inr r) =
+          let once = streams_once one_judgement_lem a.limit rest [] [] end (refused r.refusal) are_bytes
+          (rest, refl, tail) (rest, refl, r.tail) in
+          fine r.refusal once.1
