@@ -1,11 +1,11 @@
 //! One token.
 
-ghost use Rattle.std.specs.Prelude.{◌≡◌, ◌≤◌, ◌<◌, ◌+◌, ◌/◌, ◌%◌, ℕ, List, length, IfOk};
+ghost use Rattle.std.specs.Prelude.{◌≡◌, ◌≤◌, ◌<◌, ◌+◌, ◌/◌, ◌%◌, ℕ, List, length, IfOk, Ok};
 ghost use Rattle.std.specs.Bool.{OnTrue};
 ghost use Rattle.om_model.specs.declared.value.Obj.TheVariants as objects;
 ghost use Rattle.om_model.specs.Bytes.{signed as signed_number};
 ghost use Rattle.om_model.specs.Graph.{IsInteger};
-ghost use Rattle.om_format.specs.Code.{IsKind, custom_of};
+ghost use Rattle.om_format.specs.Code.{IsKind, custom_of, kind_of};
 ghost use Rattle.om_format.specs.Raw.{fixed_bytes, variable_bytes, custom_bytes};
 ghost use Rattle.om_model.specs.declared.code.CodeKind.{CodeKind};
 ghost use Rattle.om_model.specs.declared.code.CodeKind.TheVariants as kinds;
@@ -18,6 +18,7 @@ ghost use Rattle.om_pass.specs.State.{Took, TookPiece, TookFront, IfTook};
 use crate::piece::{custom_at, piece_len};
 use crate::places::Asked;
 use crate::state::State;
+use crate::words::signed_four;
 use om_codes::code_kind;
 use om_model::Memory;
 use om_model::bytes::{big_endian, signed};
@@ -39,7 +40,7 @@ fn take_integer<'a>(
         × Took (table_of table.now) state.old state.new (need_of asked.entry)
         (integer (signed_number piece.now))) }
 {
-    let z = signed(piece);
+    let z = if piece.len() == 4 { signed_four(piece) } else { signed(piece) };
     if z < -(1 << 62) || z >= 1 << 62 {
         return Ok(false);
     }
@@ -162,6 +163,57 @@ fn take_piece<'a>(
     }
 }
 
+/// The token of this kind comes that begins the bytes, if it has what is asked for: how many bytes
+/// it has, or 0.
+#[inline(always)]
+fn take_kind<'a>(
+    table: &'a TypeTable,
+    stated: u64,
+    state: &mut State<'a>,
+    asked: Asked<'a>,
+    kind: CodeKind,
+    rest: &[u8],
+) -> Result<usize, Memory>
+    requires some { 0 < length rest.now }
+    requires kind { kind_of (slice_index rest.now 0) ≡ Ok kind }
+    requires known { IsKind kind }
+    ensures { IfOk result
+        (λ n. 0 < n
+        → TookFront (table_of table.now) stated state.old state.new
+        (need_of asked.entry) rest.now n) }
+{
+    let after = &rest[1..];
+    let Some(len) = piece_len(kind, after) else {
+        return Ok(0);
+    };
+    if take_piece(table, stated, state, asked, kind, &after[..len])? {
+        Ok(1 + len)
+    } else {
+        Ok(0)
+    }
+}
+
+/// The same of a kind that is not common.
+#[inline(never)]
+fn take_rare<'a>(
+    table: &'a TypeTable,
+    stated: u64,
+    state: &mut State<'a>,
+    asked: Asked<'a>,
+    kind: CodeKind,
+    rest: &[u8],
+) -> Result<usize, Memory>
+    requires some { 0 < length rest.now }
+    requires kind { kind_of (slice_index rest.now 0) ≡ Ok kind }
+    requires known { IsKind kind }
+    ensures { IfOk result
+        (λ n. 0 < n
+        → TookFront (table_of table.now) stated state.old state.new
+        (need_of asked.entry) rest.now n) }
+{
+    take_kind(table, stated, state, asked, kind, rest)
+}
+
 /// The first token of the bytes comes, if it has what is asked for: how many bytes it has, or 0.
 #[inline(always)]
 pub fn step<'a>(
@@ -179,16 +231,28 @@ pub fn step<'a>(
     if rest.is_empty() {
         return Ok(0);
     }
-    let Ok(kind) = code_kind(rest[0]) else {
-        return Ok(0);
-    };
-    let after = &rest[1..];
-    let Some(len) = piece_len(kind, after) else {
-        return Ok(0);
-    };
-    if take_piece(table, stated, state, asked, kind, &after[..len])? {
-        Ok(1 + len)
-    } else {
-        Ok(0)
+    // The kinds that are named get code of their own.
+    match code_kind(rest[0]) {
+        Ok(CodeKind::SmallBlock(tag, size)) => {
+            let kind = CodeKind::SmallBlock(tag, size);
+            take_kind(table, stated, state, asked, kind, rest)
+        }
+        Ok(CodeKind::SmallInt(value)) => {
+            take_kind(table, stated, state, asked, CodeKind::SmallInt(value), rest)
+        }
+        Ok(CodeKind::SmallString(len)) => {
+            take_kind(table, stated, state, asked, CodeKind::SmallString(len), rest)
+        }
+        Ok(CodeKind::Int(1)) => take_kind(table, stated, state, asked, CodeKind::Int(1), rest),
+        Ok(CodeKind::Int(2)) => take_kind(table, stated, state, asked, CodeKind::Int(2), rest),
+        Ok(CodeKind::Int(4)) => take_kind(table, stated, state, asked, CodeKind::Int(4), rest),
+        Ok(CodeKind::Shared(1)) => {
+            take_kind(table, stated, state, asked, CodeKind::Shared(1), rest)
+        }
+        Ok(CodeKind::Shared(2)) => {
+            take_kind(table, stated, state, asked, CodeKind::Shared(2), rest)
+        }
+        Ok(kind) => take_rare(table, stated, state, asked, kind, rest),
+        Err(_) => Ok(0),
     }
 }

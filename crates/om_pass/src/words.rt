@@ -1,8 +1,10 @@
-//! The words that a header states, and that objects are still to take.
+//! The words that a header states, and that objects are still to take; and an integer of four
+//! bytes.
 
-ghost use Rattle.std.specs.Prelude.{◌≡◌};
+ghost use Rattle.std.specs.Prelude.{◌≡◌, length};
 ghost use Rattle.std.specs.Bool.{OnTrue};
 ghost use Rattle.om_headers.specs.Counting.{IsCountable};
+ghost use Rattle.om_model.specs.Bytes.{signed};
 ghost use Rattle.om_pass.specs.State.{Spends, stated32};
 
 use om_headers::words_of;
@@ -42,4 +44,14 @@ impl Words {
         self.w64 -= w64;
         true
     }
+}
+
+/// The integer of four bytes, the most significant first, in two's complement. It is one load.
+#[inline(always)]
+pub fn signed_four(bytes: &[u8]) -> i64
+    requires { length bytes.now ≡ 4 }
+    ensures { result ≡ signed bytes.now }
+{
+    let value = u32::from_be_bytes([bytes[0], bytes[1], bytes[2], bytes[3]]);
+    i64::from(value.cast_signed())
 }

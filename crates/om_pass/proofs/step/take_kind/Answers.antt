@@ -5,14 +5,14 @@ use Rattle.om_pass.specs.Places.{need_of}
 use Rattle.om_pass.specs.State.{TookPiece}
 use Rattle.om_pass.proofs.Weaker.{if_true}
 use Rattle.om_pass.proofs.PieceLemmas.{rest_from, with_code}
-use Rattle.om_pass.proofs.step.step.Goals as goal
+use Rattle.om_pass.proofs.step.take_kind.Goals as goal
 
 pub returns-then-branch : goal.returns-then-branch
 returns-then-branch c = λ _.
     let rest = c.args.rest.now in
     let some : 0 < length rest = search rules in
-    let kind : kind_of (get_or rest 0 0) ≡ Ok c.in-Ok.kind = search rules in
+    let kind : kind_of (get_or rest 0 0) ≡ Ok c.args.kind = search rules in
     let within : c.in-Some.len ≤ length (drop 1 rest) = search rules in
     let took = if_true c.in_ok-take_piece.field-0 c.if-branch.true c.in_ok-take_piece.ensures in
-    with_code (table_of c.args.table.now) c.args.stated c.args.state.now c.take_piece.new.state (need_of c.args.asked) rest c.in-Ok.kind c.in-Some.len some kind within
-    (subst (λ xs. TookPiece (table_of c.args.table.now) c.args.stated c.args.state.now c.take_piece.new.state (need_of c.args.asked) c.in-Ok.kind (take c.in-Some.len xs)) (rest_from 1 rest) took)
+    with_code (table_of c.args.table.now) c.args.stated c.args.state.now c.take_piece.new.state (need_of c.args.asked) rest c.args.kind c.in-Some.len some kind within
+    (subst (λ xs. TookPiece (table_of c.args.table.now) c.args.stated c.args.state.now c.take_piece.new.state (need_of c.args.asked) c.args.kind (take c.in-Some.len xs)) (rest_from 1 rest) took)
