@@ -1,4 +1,5 @@
 pub mod PlaceLemmas
+pub mod AgainLemmas
 pub mod Weaker
 pub mod PieceLemmas
 pub mod StateLemmas

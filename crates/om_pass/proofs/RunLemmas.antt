@@ -1,7 +1,9 @@
 -- From the header through the tokens to the end.
-use Rattle.std.proofs.Common.{ℕ, ◌+◌, ◌-◌, ◌^◌, ◌≤◌, ◌≡◌, ◌∙◌, ◌⊎◌, ⊎_elim, Bool, true, false, List, [], ◌∷◌, ◌++◌, length, take, drop, map, refl, sym, ap, subst, subst₂, arith}
-use Rattle.std.specs.Prelude.{if◌then◌else◌, ◌==◌}
-use Rattle.std.proofs.lemmas.List.{length-take-le, length-append, length-drop, map-append}
+use Rattle.std.proofs.Common.{ℕ, ◌+◌, ◌-◌, ◌^◌, ◌≤◌, ◌≡◌, ◌∙◌, ◌⊎◌, ⊎_elim, Bool, true, false, inl, inr, List, [], ◌∷◌, ◌++◌, length, take, drop, map, refl, sym, ap, subst, subst₂, arith, take-add, ◌<◌}
+use Rattle.std.specs.Prelude.{if◌then◌else◌, ◌==◌, Contains}
+use Rattle.std.proofs.lemmas.List.Elements.{Contains-append_left, Contains-append_right, Contains-append_cases}
+use Rattle.om_model.proofs.Options.{Contains-first, Contains-none, Contains-cases}
+use Rattle.std.proofs.lemmas.List.{length-take-le, length-append, length-drop, map-append, append-nil}
 use Rattle.std.specs.List.{concat}
 use Rattle.std.proofs.lemmas.List.Sums.{sum_by_push}
 use Rattle.om_model.specs.declared.header.Head.{Head}
@@ -9,17 +11,21 @@ use Rattle.om_types.specs.Table.{Table, table_shapes}
 use Rattle.om_types.specs.Lawful.{AreLawful, Everything}
 use Rattle.om_format.specs.Words.{of_object, words32, words64, all_words32, all_words64}
 use Rattle.om_format.specs.Header.{magic, small_magic, big_magic, header_length, head_of, big_head, small_head}
-use Rattle.om_format.specs.Token.{Token, measure_of}
+use Rattle.om_format.specs.Token.{Token, shared, measure_of}
 use Rattle.om_format.specs.Spelled.{StatesWords32}
 use Rattle.om_format.proofs.TokenStepLemmas.{magic-take, header_length-take, header_length-from, head_of-take}
-use Rattle.om_pass_law.specs.Asked.{Need, of_type}
+use Rattle.om_pass_law.specs.Asked.{Need, of_type, type_in, IsBack}
+use Rattle.om_pass_law.specs.Noted.{IsFlatNoted}
 use Rattle.om_pass_law.specs.OnePass.{IsPassing, IsTypedFront}
 use Rattle.om_pass_law.proofs.GrowLemmas.{passing_start, passing_further}
-use Rattle.om_pass_law.proofs.LawLemmas.{passes_type_fronts}
-use Rattle.om_pass.proofs.PieceLemmas.{rest_from}
+use Rattle.om_pass_law.proofs.LawLemmas.{noted_passes_type_fronts}
+use Rattle.om_pass_law.proofs.WeakerLemmas.{asks_weaker}
+use Rattle.om_pass_law.proofs.NotedLemmas.{noted_more, passing_more}
+use Rattle.om_pass.proofs.AgainLemmas.{marks_more, marks_push, no_marks}
+use Rattle.om_pass.specs.Again.{AreMarks, IsReference, IsKnown}
 use Rattle.om_pass.specs.declared.words.Words.{Words}
 use Rattle.om_pass.specs.declared.state.State.{State}
-use Rattle.om_pass.specs.State.{types_in, needs_in, stated32, TookFront, BeginsAs, Leads, IsSpent}
+use Rattle.om_pass.specs.State.{types_in, needs_in, stated32, TookFront, TookTurn, BeginsAs, AreNoted, Leads, IsMarked, IsSpent}
 
 words32_push : (tokens : List Token) (token : Token) → all_words32 (map measure_of (tokens ++ token ∷ [])) ≡ all_words32 (map measure_of tokens) + of_object words32 (measure_of token)
 words32_push tokens token = ap all_words32 (map-append measure_of tokens (token ∷ [])) ∙ sum_by_push (of_object words32) (map measure_of tokens) (measure_of token)
@@ -40,7 +46,7 @@ start_is bytes = start_by (magic bytes == big_magic) bytes
 
 pub leads_start :
     (table : Table) (limit : ℕ) (bytes : List ℕ) (head : Head) (start : ℕ) (state : State) → BeginsAs limit bytes head → start ≡ header_length bytes → types_in state ≡ [] → needs_in state ≡ of_type 0 ∷ []
-    → state.words.w32 ≡ stated32 head → state.words.w64 ≡ head.w64 → Leads table limit bytes head start start state
+    → state.words.w32 ≡ stated32 head → state.words.w64 ≡ head.w64 → Leads table limit bytes head start start [] state
 leads_start table limit bytes head start state b start' none root w32 w64 =
     let from = header_length-from bytes in
     let within' : start ≤ length bytes = let whole = b.whole in omega (arith, start', whole) in
@@ -50,35 +56,139 @@ leads_start table limit bytes head start state b start' none root w32 w64 =
     let same_head : head_of (take start bytes) ≡ head = head_of-take start bytes (omega (arith, start')) ∙ sym b.head_is in
     record {
       tokens = [];
+      noted = [];
       passing = subst₂ (IsPassing [] table limit bytes head start start []) (sym none) (sym root)
           (passing_start [] table limit bytes head start within' (record { magic_is = subst (λ m. (m ≡ small_magic) ⊎ (m ≡ big_magic)) (sym same_magic) b.magic_is; whole = long ∙ start' ∙ sym same_length }) same_head long b.words b.small);
       w32 = omega (arith, w32);
       w64 = omega (arith, w64);
+      are_noted = λ o t among. absurd (Contains-none {X = ℕ × ℕ} (o, t) among);
+      are_marks = no_marks (take start bytes) [];
+    }
+
+-- ---- a mark
+
+pub leads_marked :
+    (table : Table) (limit : ℕ) (bytes : List ℕ) (head : Head) (start n : ℕ) (marks after : List ℕ) (state : State) → IsMarked marks n (length (types_in state)) after → Leads table limit bytes head start n marks state
+    → Leads table limit bytes head start n after state
+leads_marked table limit bytes head start n marks after state is l =
+    let p = l.passing in
+    record {
+      tokens = l.tokens;
+      noted = l.noted;
+      passing = l.passing;
+      w32 = l.w32;
+      w64 = l.w64;
+      are_noted = l.are_noted;
+      are_marks = ⊎_elim
+          (λ same. subst (λ ms. AreMarks (take n bytes) ms l.tokens) (sym same) l.are_marks)
+          (λ more. subst (λ ms. AreMarks (take n bytes) ms l.tokens) (sym more.1) (marks_push (take n bytes) marks l.tokens n (sym (length-take-le n bytes p.within)) (p.made ∙ more.0) l.are_marks))
+          is;
     }
 
 -- ---- one token more
 
+noted_further : (table : Table) (types later : List ℕ) (noted : List (ℕ × ℕ)) (tokens more : List Token) → AreNoted table types noted tokens → AreNoted table (types ++ later) noted (tokens ++ more)
+noted_further table types later noted tokens more are o t among =
+    let one = are o t among in
+    let long = length-append types later in
+    (let here = one.0 in omega (arith, here, long), noted_more table noted noted (λ o t kept. kept) types later tokens more o t one.0 one.1)
+
 pub leads_further :
-    (table : Table) (limit : ℕ) (bytes : List ℕ) (head : Head) (start n m : ℕ) (first middle last : State) (need : Need) → Leads table limit bytes head start n first
-    → types_in middle ≡ types_in first → needs_in first ≡ need ∷ needs_in middle → middle.words ≡ first.words → TookFront table head.objects middle last need (take (length bytes - n) (drop n bytes)) m
-    → Leads table limit bytes head start (n + m) last
-leads_further table limit bytes head start n m first middle last need l types needs words front' =
-    let front : TookFront table head.objects middle last need (drop n bytes) m = subst (λ xs. TookFront table head.objects middle last need xs m) (rest_from n bytes) front' in
+    (table : Table) (limit : ℕ) (bytes : List ℕ) (head : Head) (start n m : ℕ) (marks : List ℕ) (first middle last : State) (need : Need) → Leads table limit bytes head start n marks first
+    → types_in middle ≡ types_in first → needs_in first ≡ need ∷ needs_in middle → middle.words ≡ first.words → TookFront table head.objects middle last need (drop n bytes) m
+    → Leads table limit bytes head start (n + m) marks last
+leads_further table limit bytes head start n m marks first middle last need l types needs words front =
     let t = front.took in
     let token = front.token in
-    let p : IsPassing [] table limit bytes head start n l.tokens (types_in middle) (need ∷ needs_in middle) = subst₂ (IsPassing [] table limit bytes head start n l.tokens) (sym types) needs l.passing in
+    let p : IsPassing l.noted table limit bytes head start n l.tokens (types_in middle) (need ∷ needs_in middle) = subst₂ (IsPassing l.noted table limit bytes head start n l.tokens) (sym types) needs l.passing in
     let within' : n + m ≤ length bytes = let here = p.within in let there = front.within in let left = length-drop n bytes in omega (arith, here, there, left) in
-    let further = passing_further [] table limit bytes head start n l.tokens (types_in middle) need (needs_in middle) p token t.next m t.asks within' front.spells front.there.back front.there.unshared in
+    let asks = asks_weaker table [] l.noted (λ o u among. absurd (Contains-none {X = ℕ × ℕ} (o, u) among)) (types_in middle) need token t.next t.asks in
+    let further = passing_further l.noted table limit bytes head start n l.tokens (types_in middle) need (needs_in middle) p token t.next m asks within' front.spells front.there.back front.there.unshared in
     record {
       tokens = l.tokens ++ token ∷ [];
-      passing = subst₂ (IsPassing [] table limit bytes head start (n + m) (l.tokens ++ token ∷ [])) (sym t.types) (sym t.needs) further;
+      noted = l.noted;
+      passing = subst₂ (IsPassing l.noted table limit bytes head start (n + m) (l.tokens ++ token ∷ [])) (sym t.types) (sym t.needs) further;
       w32 = let one = t.w32 in let before = l.w32 in let same = ap (λ (w : Words). w.w32) words in let both = words32_push l.tokens token in omega (arith, one, before, same, both);
       w64 = let one = t.w64 in let before = l.w64 in let same = ap (λ (w : Words). w.w64) words in let both = words64_push l.tokens token in omega (arith, one, before, same, both);
+      are_noted = subst (λ ts. AreNoted table ts l.noted (l.tokens ++ token ∷ [])) (sym t.types)
+          (noted_further table (types_in middle) (type_in need token) l.noted l.tokens (token ∷ []) (subst (λ ts. AreNoted table ts l.noted l.tokens) (sym types) l.are_noted));
+      are_marks = subst (λ front'. AreMarks front' marks (l.tokens ++ token ∷ [])) (sym (take-add n m bytes)) (marks_more (take n bytes) (take m (drop n bytes)) marks l.tokens token front.spells l.are_marks);
     }
 
+-- ---- a reference more
+
+-- with what is noted of the object that it leads to
+leads_noted :
+    (table : Table) (limit : ℕ) (bytes : List ℕ) (head : Head) (start n m : ℕ) (marks : List ℕ) (first middle : State) (t offset : ℕ) → (l : Leads table limit bytes head start n marks first)
+    → types_in middle ≡ types_in first → needs_in first ≡ of_type t ∷ needs_in middle → middle.words ≡ first.words → 0 < head.objects → IsReference (drop n bytes) offset m
+    → (1 ≤ offset) × (offset ≤ length (types_in middle))
+    → (more : List (ℕ × ℕ)) → ((o u : ℕ) → Contains l.noted (o, u) → Contains more (o, u)) → IsBack more table (types_in middle) t offset → AreNoted table (types_in middle) more (l.tokens ++ shared offset ∷ [])
+    → Leads table limit bytes head start (n + m) marks middle
+leads_noted table limit bytes head start n m marks first middle t offset l types needs words some r back more kept is_back are =
+    let token = shared offset in
+    let p : IsPassing l.noted table limit bytes head start n l.tokens (types_in middle) (of_type t ∷ needs_in middle) = subst₂ (IsPassing l.noted table limit bytes head start n l.tokens) (sym types) needs l.passing in
+    let p' = passing_more table l.noted more kept limit bytes head start n l.tokens (types_in middle) (of_type t ∷ needs_in middle) p in
+    let within' : n + m ≤ length bytes = let here = p.within in let there = r.within in let left = length-drop n bytes in omega (arith, here, there, left) in
+    let further = passing_further more table limit bytes head start n l.tokens (types_in middle) (of_type t) (needs_in middle) p' token [] m (is_back, refl) within' r.spells back (λ none. absurd (omega (arith, some, none))) in
+    record {
+      tokens = l.tokens ++ token ∷ [];
+      noted = more;
+      passing = subst (λ ts. IsPassing more table limit bytes head start (n + m) (l.tokens ++ token ∷ []) ts (needs_in middle)) (append-nil (types_in middle)) further;
+      w32 = let before = l.w32 in let same = ap (λ (w : Words). w.w32) words in let both = words32_push l.tokens token in omega (arith, before, same, both);
+      w64 = let before = l.w64 in let same = ap (λ (w : Words). w.w64) words in let both = words64_push l.tokens token in omega (arith, before, same, both);
+      are_noted = are;
+      are_marks = subst (λ front'. AreMarks front' marks (l.tokens ++ token ∷ [])) (sym (take-add n m bytes)) (marks_more (take n bytes) (take m (drop n bytes)) marks l.tokens token r.spells l.are_marks);
+    }
+
+-- what is noted by and by
+noted_also :
+    (table : Table) (types : List ℕ) (noted : List (ℕ × ℕ)) (o t : ℕ) (tokens more : List Token) → o < length types → AreNoted table types noted tokens → IsFlatNoted table types [] tokens o t
+    → AreNoted table types (noted ++ (o, t) ∷ []) (tokens ++ more)
+noted_also table types noted o t tokens more within are flat p u among =
+    let all : types ++ [] ≡ types = append-nil types in
+    ⊎_elim
+    (λ first. let one = are p u first in
+        (one.0, subst (λ ts. IsFlatNoted table ts (noted ++ (o, t) ∷ []) (tokens ++ more) p u) all (noted_more table noted (noted ++ (o, t) ∷ []) (λ q v kept. Contains-append_left noted ((o, t) ∷ []) (q, v) kept) types [] tokens more p u one.0 one.1)))
+    (λ last.
+        let same : ◌≡◌ {A = ℕ × ℕ} (o, t) (p, u) = ⊎_elim (λ is. is) (λ later. absurd (Contains-none {X = ℕ × ℕ} (p, u) later)) (Contains-cases {X = ℕ × ℕ} (o, t) [] (p, u) last) in
+        subst (λ (q : ℕ × ℕ). (q.0 < length types) × IsFlatNoted table types (noted ++ (o, t) ∷ []) (tokens ++ more) q.0 q.1) same
+        (within, subst (λ ts. IsFlatNoted table ts (noted ++ (o, t) ∷ []) (tokens ++ more) o t) all (noted_more table [] (noted ++ (o, t) ∷ []) (λ q v kept. absurd (Contains-none {X = ℕ × ℕ} (q, v) kept)) types [] tokens more o t within flat)))
+    (Contains-append_cases noted ((o, t) ∷ []) (p, u) among)
+
+leads_known :
+    (table : Table) (limit : ℕ) (bytes : List ℕ) (head : Head) (start n m : ℕ) (marks : List ℕ) (first middle : State) (t offset : ℕ) → Leads table limit bytes head start n marks first
+    → types_in middle ≡ types_in first → needs_in first ≡ of_type t ∷ needs_in middle → middle.words ≡ first.words → 0 < head.objects → IsReference (drop n bytes) offset m
+    → IsKnown table (types_in middle) (take n bytes) marks t offset
+    → Leads table limit bytes head start (n + m) marks middle
+leads_known table limit bytes head start n m marks first middle t offset l types needs words some r (inl back) =
+    let none : (o u : ℕ) → Contains [] (o, u) → Contains l.noted (o, u) = λ o u among. absurd (Contains-none {X = ℕ × ℕ} (o, u) among) in
+    let asks = asks_weaker table [] l.noted none (types_in middle) (of_type t) (shared offset) [] (back, refl) in
+    let are = noted_further table (types_in middle) [] l.noted l.tokens (shared offset ∷ []) (subst (λ ts. AreNoted table ts l.noted l.tokens) (sym types) l.are_noted) in
+    leads_noted table limit bytes head start n m marks first middle t offset l types needs words some r (back.some, back.few) l.noted (λ o u kept. kept) asks.0
+    (subst (λ ts. AreNoted table ts l.noted (l.tokens ++ shared offset ∷ [])) (append-nil (types_in middle)) are)
+leads_known table limit bytes head start n m marks first middle t offset l types needs words some r (inr known) =
+    let o : ℕ = length (types_in middle) - offset in
+    let least = known.0 in
+    let few = known.1 in
+    let more = l.noted ++ (o, t) ∷ [] in
+    leads_noted table limit bytes head start n m marks first middle t offset l types needs words some r (least, few) more (λ p u kept. Contains-append_left l.noted ((o, t) ∷ []) (p, u) kept)
+    (record { some = least; few = few; type = t; at = inr (Contains-append_right l.noted ((o, t) ∷ []) (o, t) (Contains-first {X = ℕ × ℕ} (o, t) [])); equal = refl })
+    (noted_also table (types_in middle) l.noted o t l.tokens (shared offset ∷ []) (omega (arith, least, few)) (subst (λ ts. AreNoted table ts l.noted l.tokens) (sym types) l.are_noted) (known.2 l.tokens l.are_marks))
+
+pub leads_turn :
+    (table : Table) (limit : ℕ) (bytes : List ℕ) (head : Head) (start n m : ℕ) (marks : List ℕ) (first middle last : State) (need : Need) → Leads table limit bytes head start n marks first
+    → types_in middle ≡ types_in first → needs_in first ≡ need ∷ needs_in middle → middle.words ≡ first.words → TookTurn table head.objects middle last need bytes marks n m
+    → Leads table limit bytes head start (n + m) marks last
+leads_turn table limit bytes head start n m marks first middle last need l types needs words (inl front) =
+    leads_further table limit bytes head start n m marks first middle last need l types needs words front
+leads_turn table limit bytes head start n m marks first middle last need l types needs words (inr back) =
+    let b = back.1 in
+    subst (Leads table limit bytes head start (n + m) marks) (sym back.0)
+    (leads_known table limit bytes head start n m marks first middle b.type b.offset l types (subst (λ u. needs_in first ≡ u ∷ needs_in middle) b.is_asked needs) words b.some b.reference b.known)
+
 -- the header comes first
-pub leads_from : (table : Table) (limit : ℕ) (bytes : List ℕ) (head : Head) (start n : ℕ) (state : State) → Leads table limit bytes head start n state → start ≤ n
-leads_from table limit bytes head start n state l =
+pub leads_from : (table : Table) (limit : ℕ) (bytes : List ℕ) (head : Head) (start n : ℕ) (marks : List ℕ) (state : State) → Leads table limit bytes head start n marks state → start ≤ n
+leads_from table limit bytes head start n marks state l =
     let p = l.passing in
     let front = length-take-le n bytes p.within in
     let both = length-append p.header (concat p.pieces) in
@@ -103,14 +213,15 @@ words32_stated head tokens left true is sum none = tt
 words32_stated head tokens left false is sum none = let zero' = none refl in omega (arith, sum, zero')
 
 pub leads_end :
-    (table : Table) (limit : ℕ) (bytes : List ℕ) (head : Head) (start n : ℕ) (state last : State) → AreLawful (table_shapes table) Everything → Leads table limit bytes head start n state
+    (table : Table) (limit : ℕ) (bytes : List ℕ) (head : Head) (start n : ℕ) (marks : List ℕ) (state last : State) → AreLawful (table_shapes table) Everything → Leads table limit bytes head start n marks state
     → needs_in state ≡ [] → types_in last ≡ types_in state → last.words ≡ state.words → IsSpent head start n last → IsTypedFront table limit n bytes
-leads_end table limit bytes head start n state last lawful l none types words spent =
-    passes_type_fronts table limit bytes head start n l.tokens (types_in state) lawful
-    (subst (IsPassing [] table limit bytes head start n l.tokens (types_in state)) none l.passing)
+leads_end table limit bytes head start n marks state last lawful l none types words spent =
+    noted_passes_type_fronts l.noted table limit bytes head start n l.tokens (types_in state) lawful
+    (subst (IsPassing l.noted table limit bytes head start n l.tokens (types_in state)) none l.passing)
     (record {
       whole = spent.whole;
       w32 = words32_stated head l.tokens state.words.w32 head.big refl l.w32 (λ big. ap (λ (w : Words). w.w32) (sym words) ∙ spent.w32 big);
       w64 = let sum = l.w64 in let zero' = spent.w64 in let same = ap (λ (w : Words). w.w64) words in omega (arith, sum, zero', same);
       count = subst (λ ts. (head.objects ≡ 0) ⊎ (head.objects ≡ length ts)) types spent.count;
     })
+    (λ o t among. (l.are_noted o t among).1)

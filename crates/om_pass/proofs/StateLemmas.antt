@@ -1,23 +1,18 @@
 -- What each token changes.
-use Rattle.std.proofs.Common.{ℕ, ℤ, ◌+◌, ◌-◌, ◌≤◌, ◌≡◌, ◌∙◌, List, [], ◌∷◌, ◌++◌, length, Some, inl, refl, sym, ap, subst, arith}
-use Rattle.std.specs.Prelude.{IsTrue, IsSome, slice_get}
+use Rattle.std.proofs.Common.{ℕ, ℤ, ◌≤◌, ◌≡◌, ◌∙◌, List, [], ◌∷◌, length, Some, refl, sym, ap, subst, arith}
+use Rattle.std.specs.Prelude.{IsTrue}
 use Rattle.std.proofs.lemmas.List.{append-nil}
-use Rattle.om_model.specs.declared.code.Measure.{Measure}
-use Rattle.om_model.specs.declared.value.Obj.{Obj}
 use Rattle.om_types.specs.declared.shape.PolyTag.{PolyTag}
-use Rattle.om_types.specs.Fitting.{fits_int, fits_atom, tag_with, object_fields}
-use Rattle.om_types.specs.Table.{Table, table_shapes}
-use Rattle.om_format.specs.Words.{of_object, words32, words64}
-use Rattle.om_format.specs.Token.{integer, atom, shared, block, leaf, leaf_measure}
-use Rattle.om_pass_law.specs.Asked.{Need, of_type, hash_of, shape_at, block_needs, IsBack}
+use Rattle.om_types.specs.Fitting.{fits_int, fits_atom, tag_with}
+use Rattle.om_types.specs.Table.{Table}
+use Rattle.om_format.specs.Token.{integer, atom, shared}
+use Rattle.om_pass_law.specs.Asked.{of_type, hash_of, shape_at, IsBack}
 use Rattle.om_pass.specs.declared.state.State.{State}
-use Rattle.om_pass.specs.State.{types_in, needs_in, Took, TookLeaf, Spends}
+use Rattle.om_pass.specs.State.{types_in, needs_in, Took}
 use Rattle.om_pass.specs.declared.words.Words.{Words}
-use Rattle.om_pass.specs.declared.places.Places.{Places}
 use Rattle.om_pass.specs.declared.places.Asked.{Asked}
 use Rattle.om_pass.specs.declared.places.Asked.TheVariants as places
-use Rattle.om_pass.specs.Places.{places_needs, need_of}
-use Rattle.om_model.specs.declared.code.Measure.TheVariants as measures
+use Rattle.om_pass.specs.Places.{need_of}
 
 module _ (table : Table) (state : State) where
   pub took_integer : (t : ℕ) (z : ℤ) → IsTrue (fits_int (shape_at table t) z) → Took table state state (of_type t) (integer z)

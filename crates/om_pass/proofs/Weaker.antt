@@ -1,6 +1,6 @@
 -- Clauses on an answer that may be an error, or no.
 use Rattle.std.proofs.Common.{◌≡◌, Bool, true, false, Result, Ok, Err}
-use Rattle.std.specs.Prelude.{IfOk}
+use Rattle.std.specs.Prelude.{IfOk, IsTrue}
 use Rattle.std.specs.Bool.{OnTrue}
 
 pub on_true_weaker : {P Q : Type 0} (b : Bool) → (P → Q) → OnTrue b P → OnTrue b Q
@@ -15,3 +15,8 @@ taken_weaker (Err e) f h = h
 pub if_true : {P : Type 0} (b : Bool) → b ≡ true → OnTrue b P → P
 if_true true is h = h
 if_true false is h = absurd (cc)
+
+pub not_true : (b c : Bool) → b ≡ c → b ≡ false → IsTrue c → ⊥
+not_true true c same none is = absurd (cc)
+not_true false true same none is = absurd (cc)
+not_true false false same none is = absurd (cc)

@@ -1,6 +1,6 @@
 -- What a pass holds on its way, and what a token changes.
-use Rattle.std.specs.Prelude.{ℕ, ◌+◌, ◌-◌, ◌^◌, ◌<◌, ◌≤◌, ◌≡◌, if◌then◌else◌}
-use Rattle.std.specs.Prelude.{List, [], ◌∷◌, ◌++◌, length, map, take, ◌⊎◌, false}
+use Rattle.std.specs.Prelude.{ℕ, ◌+◌, ◌-◌, ◌*◌, ◌^◌, ◌<◌, ◌≤◌, ◌≡◌, if◌then◌else◌}
+use Rattle.std.specs.Prelude.{List, [], ◌∷◌, ◌++◌, length, map, take, drop, ◌⊎◌, false, Contains}
 use Rattle.std.specs.Prelude.{ℤ, Bool, Result, IfOk}
 use Rattle.std.specs.Bool.{OnTrue}
 use Rattle.om_model.specs.declared.code.CodeKind.{CodeKind}
@@ -16,10 +16,14 @@ use Rattle.om_format.specs.Header.{magic, small_magic, big_magic, header_length,
 use Rattle.om_format.specs.Token.{Token, IsToken, Spells, SpellsAfter, measure_of}
 use Rattle.om_format.specs.Tree.{RefersBack}
 use Rattle.om_format.specs.Spelled.{IsNoReference}
-use Rattle.om_pass_law.specs.Asked.{Need, Asks, type_in}
+use Rattle.om_pass_law.specs.Asked.{Need, of_type, Asks, type_in}
+use Rattle.om_pass_law.specs.Noted.{IsFlatNoted}
 use Rattle.om_pass_law.specs.OnePass.{IsPassing}
 use Rattle.om_pass.specs.declared.words.Words.{Words}
 use Rattle.om_pass.specs.declared.state.State.{State}
+use Rattle.om_pass.specs.declared.step.Answer.{Answer}
+use Rattle.om_pass.specs.declared.step.Answer.TheVariants as answers
+use Rattle.om_pass.specs.Again.{AreMarks, IsReference, IsKnown}
 use Rattle.om_pass.specs.Places.{places_needs}
 
 -- the types of the objects met, by their numbers
@@ -89,6 +93,32 @@ pub record TookFront
   pub there : IsThere token (length (types_in old)) stated
   pub took : Took table old new need token
 
+-- what an answer says of the token that begins the bytes
+abbrev pub IsAnswer : Table → ℕ → State → State → Need → List ℕ → Answer → Type 0
+IsAnswer table stated old new need rest (answers.Took n) =
+    (0 < n) × TookFront table stated old new need rest n
+IsAnswer table stated old new need rest answers.Back = new ≡ old
+IsAnswer table stated old new need rest answers.Unfit = Unit {0}
+
+-- a reference begins the bytes, in a place that asks for a type, and is known at it
+pub record TookBack
+    (table : Table) (stated : ℕ) (types front marks : List ℕ) (need : Need) (rest : List ℕ) (n : ℕ)
+    : Type 0 where
+  pub type : ℕ
+  pub is_asked : need ≡ of_type type
+  pub offset : ℕ
+  pub some : 0 < stated
+  pub reference : IsReference rest offset n
+  pub known : IsKnown table types front marks type offset
+
+-- a token was taken that the n bytes spell from this place on
+abbrev pub TookTurn :
+    Table → ℕ → State → State → Need → List ℕ → List ℕ → ℕ → ℕ → Type 0
+TookTurn table stated old new need bytes marks at n =
+    TookFront table stated old new need (drop at bytes) n
+    ⊎ ((new ≡ old)
+    × TookBack table stated (types_in old) (take at bytes) marks need (drop at bytes) n)
+
 -- a header begins the bytes that states this, no more words than may be
 pub record BeginsAs (limit : ℕ) (bytes : List ℕ) (head : Head) : Type 0 where
   pub magic_is : (magic bytes ≡ small_magic) ⊎ (magic bytes ≡ big_magic)
@@ -97,15 +127,30 @@ pub record BeginsAs (limit : ℕ) (bytes : List ℕ) (head : Head) : Type 0 wher
   pub words : head.w64 ≤ limit
   pub small : head.length < 2 ^ 48
 
--- n bytes lead to here
+-- what is noted of objects is so: each is a flat block, met before
+abbrev pub AreNoted : Table → List ℕ → List (ℕ × ℕ) → List Token → Type 0
+AreNoted table types noted tokens =
+    (o t : ℕ) → Contains noted (o, t)
+    → (o < length types) × IsFlatNoted table types noted tokens o t
+
+-- n bytes lead to here, with these marks on the way
 pub record Leads
-    (table : Table) (limit : ℕ) (bytes : List ℕ) (head : Head) (start n : ℕ) (state : State)
+    (table : Table) (limit : ℕ) (bytes : List ℕ) (head : Head) (start n : ℕ) (marks : List ℕ)
+    (state : State)
     : Type 0 where
   pub tokens : List Token
+  pub noted : List (ℕ × ℕ)
   pub passing :
-      IsPassing [] table limit bytes head start n tokens (types_in state) (needs_in state)
+      IsPassing noted table limit bytes head start n tokens (types_in state) (needs_in state)
   pub w32 : state.words.w32 + all_words32 (map measure_of tokens) ≡ stated32 head
   pub w64 : state.words.w64 + all_words64 (map measure_of tokens) ≡ head.w64
+  pub are_noted : AreNoted table (types_in state) noted tokens
+  pub are_marks : AreMarks (take n bytes) marks tokens
+
+-- the byte was marked where 64 objects more had been made
+abbrev pub IsMarked : List ℕ → ℕ → ℕ → List ℕ → Type 0
+IsMarked old at made new =
+    (new ≡ old) ⊎ ((made ≡ 64 * length old) × (new ≡ old ++ at ∷ []))
 
 -- nothing that the header states is still to come
 pub record IsSpent (head : Head) (start n : ℕ) (state : State) : Type 0 where

@@ -1,6 +1,8 @@
 //! What a shape says of the tokens that come where a value of it is asked for.
 
-ghost use Rattle.std.specs.Prelude.{◌≡◌, IfSome, option_map};
+ghost use Rattle.std.specs.Prelude.{◌≡◌, ◌<◌, List, Some, length, IfSome, option_map};
+ghost use Rattle.om_model.specs.declared.value.Val.{Val};
+ghost use Rattle.om_model.specs.declared.value.Obj.TheVariants as objects;
 ghost use Rattle.om_types.specs.Fitting as fitting;
 ghost use Rattle.om_types.specs.Fitting.{tag_with};
 ghost use Rattle.om_type_table.specs.Made.{table_of};
@@ -134,4 +136,39 @@ fn has_same_class(table: &TypeTable, first: usize, second: usize) -> bool
 {
     let many = table.classes.len();
     first < many && second < many && table.class(first) == table.class(second)
+}
+
+/// Whether a block of this tag may be changed.
+pub fn may_change(shape: &ShapeOf<usize>, tag: u8) -> bool
+    ensures { (values : List Val)
+        → result ≡ fitting.is_mutable shape.now (Some (objects.Block tag values)) }
+{
+    match shape {
+        ShapeOf::Bytes(mutable) => *mutable,
+        ShapeOf::Sum(_, blocks) => is_mutable_at(blocks.as_slice(), tag),
+        ShapeOf::Product(mutable, _) => *mutable,
+        ShapeOf::FlatFloats(mutable, _) => *mutable,
+        ShapeOf::ArrayOf(_) => true,
+        ShapeOf::FloatArray => true,
+        _ => false,
+    }
+}
+
+/// Whether the block of a constructor may be changed.
+fn is_mutable_at(blocks: &[Constr<usize>], tag: u8) -> bool
+    ensures { result ≡ fitting.is_mutable_block (slice_get blocks.now tag) }
+{
+    if tag as usize >= blocks.len() {
+        return false;
+    }
+    blocks[tag as usize].mutable
+}
+
+/// The type of an object.
+#[inline(always)]
+pub fn type_at(types: &[u16], object: usize) -> usize
+    requires { object < length types.now }
+    ensures { slice_get types.now object ≡ Some result }
+{
+    usize::from(types[object])
 }

@@ -2,7 +2,10 @@
 //! nothing is said of it.
 #![tactic(auto)]
 
+mod again;
+mod back;
 mod fits;
+mod flat;
 mod piece;
 mod places;
 mod state;

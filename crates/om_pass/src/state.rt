@@ -5,14 +5,14 @@ ghost use Rattle.std.specs.Prelude.{slice_get, IfOk, ℤ};
 ghost use Rattle.std.specs.Bool.{OnTrue};
 ghost use Rattle.om_model.specs.declared.value.Obj.TheVariants as objects;
 ghost use Rattle.om_type_table.specs.Made.{table_of};
-ghost use Rattle.om_format.specs.Token.{integer, atom, shared, block, leaf, block_or_atom};
+ghost use Rattle.om_format.specs.Token.{integer, atom, block, leaf, block_or_atom};
 ghost use Rattle.om_headers.specs.Counting.{IsCountable};
-ghost use Rattle.om_pass_law.specs.Asked.{hash_of, IsBack};
+ghost use Rattle.om_pass_law.specs.Asked.{hash_of};
 ghost use Rattle.om_pass.specs.Places.{need_of};
 ghost use Rattle.om_pass.specs.State.{Took, TookLeaf, IfTook, custom_leaf};
 
 use crate::fits::{
-    block_places, fits_atom, fits_doubles, fits_int, is_equal, shape_of, tag_of_hash,
+    block_places, fits_atom, fits_doubles, fits_int, shape_of, tag_of_hash,
 };
 use crate::places::{Asked, Open, Places};
 use crate::words::Words;
@@ -43,28 +43,6 @@ fn add_type(types: &mut Vec<u16>, ty: usize) -> Result<bool, Memory>
         types.push(ty as u16)?;
     }
     Ok(true)
-}
-
-/// The type of an object.
-#[inline(always)]
-fn type_at(types: &[u16], object: usize) -> usize
-    requires { object < length types.now }
-    ensures { slice_get types.now object ≡ Some result }
-{
-    usize::from(types[object])
-}
-
-/// Whether so many places back an object stands of an equal type.
-#[inline(always)]
-fn is_back(table: &TypeTable, types: &[u16], ty: usize, offset: u64) -> bool
-    ensures { OnTrue result (IsBack [] (table_of table.now) types.now ty offset) }
-{
-    let made = types.len() as u64;
-    if offset == 0 || made < offset {
-        return false;
-    }
-    let first = type_at(types, (made - offset) as usize);
-    is_equal(table, first, ty)
 }
 
 impl<'a> State<'a> {
@@ -120,19 +98,6 @@ impl<'a> State<'a> {
                 Some(shape) => fits_atom(shape, tag),
                 None => false,
             },
-            Asked::Hash(_) => false,
-        }
-    }
-
-    /// A reference to an earlier object comes.
-    #[inline(always)]
-    pub fn shared(&self, table: &TypeTable, asked: Asked<'_>, offset: u64) -> bool
-        ensures { OnTrue result
-            ((1 ≤ offset) × (offset ≤ length self.now.types.items)
-            × Took (table_of table.now) self.now self.now (need_of asked.entry) (shared offset)) }
-    {
-        match asked {
-            Asked::Type(ty) => is_back(table, self.types.as_slice(), ty, offset),
             Asked::Hash(_) => false,
         }
     }

@@ -10,10 +10,10 @@ ghost use Rattle.om_format.specs.Raw.{fixed_bytes, variable_bytes, custom_bytes}
 ghost use Rattle.om_model.specs.declared.code.CodeKind.{CodeKind};
 ghost use Rattle.om_model.specs.declared.code.CodeKind.TheVariants as kinds;
 ghost use Rattle.std.specs.Prelude.{take, slice_index, Bool};
-ghost use Rattle.om_format.specs.Token.{integer, shared, leaf, word_token};
+ghost use Rattle.om_format.specs.Token.{integer, leaf, word_token};
 ghost use Rattle.om_type_table.specs.Made.{table_of};
 ghost use Rattle.om_pass.specs.Places.{need_of};
-ghost use Rattle.om_pass.specs.State.{Took, TookPiece, TookFront, IfTook};
+ghost use Rattle.om_pass.specs.State.{Took, TookPiece, IfTook, IsAnswer};
 
 use crate::piece::{custom_at, piece_len};
 use crate::places::Asked;
@@ -24,6 +24,17 @@ use om_model::Memory;
 use om_model::bytes::{big_endian, signed};
 use om_model::code::CodeKind;
 use om_type_table::TypeTable;
+
+/// What came of a token.
+#[derive(Clone, Copy)]
+pub enum Answer {
+    /// It was taken, and has so many bytes.
+    Took(usize),
+    /// It is a reference, and nothing has changed.
+    Back,
+    /// It does not have what is asked for, or nothing is said of it.
+    Unfit,
+}
 
 /// An integer of these bytes comes, which has 63 bits.
 #[inline(always)]
@@ -45,25 +56,6 @@ fn take_integer<'a>(
         return Ok(false);
     }
     state.integer(table, asked, z)
-}
-
-/// A reference comes, where the header states objects.
-#[inline(always)]
-fn take_shared(
-    table: &TypeTable,
-    stated: u64,
-    state: &State<'_>,
-    asked: Asked<'_>,
-    offset: u64,
-) -> bool
-    ensures { OnTrue result
-        ((0 < stated) × (1 ≤ offset) × (offset ≤ length state.now.types.items)
-        × Took (table_of table.now) state.now state.now (need_of asked.entry) (shared offset)) }
-{
-    if stated == 0 {
-        return false;
-    }
-    state.shared(table, asked, offset)
 }
 
 /// A block or an atom comes, by its header word.
@@ -148,7 +140,7 @@ fn take_piece<'a>(
         CodeKind::SmallInt(value) => state.integer(table, asked, i64::from(value)),
         CodeKind::SmallString(len) => state.bytes(table, asked, u64::from(len)),
         CodeKind::Int(_) => take_integer(table, state, asked, piece),
-        CodeKind::Shared(_) => Ok(take_shared(table, stated, state, asked, big_endian(piece))),
+        CodeKind::Shared(_) => Ok(false),
         CodeKind::Block(_) => take_word(table, state, asked, big_endian(piece)),
         CodeKind::Str(width) => {
             let len = piece.len() - usize::from(width);
@@ -163,8 +155,7 @@ fn take_piece<'a>(
     }
 }
 
-/// The token of this kind comes that begins the bytes, if it has what is asked for: how many bytes
-/// it has, or 0.
+/// The token of this kind comes that begins the bytes, if it has what is asked for.
 #[inline(always)]
 fn take_kind<'a>(
     table: &'a TypeTable,
@@ -173,23 +164,21 @@ fn take_kind<'a>(
     asked: Asked<'a>,
     kind: CodeKind,
     rest: &[u8],
-) -> Result<usize, Memory>
+) -> Result<Answer, Memory>
     requires some { 0 < length rest.now }
     requires kind { kind_of (slice_index rest.now 0) ≡ Ok kind }
     requires known { IsKind kind }
     ensures { IfOk result
-        (λ n. 0 < n
-        → TookFront (table_of table.now) stated state.old state.new
-        (need_of asked.entry) rest.now n) }
+        (IsAnswer (table_of table.now) stated state.old state.new (need_of asked.entry) rest.now) }
 {
     let after = &rest[1..];
     let Some(len) = piece_len(kind, after) else {
-        return Ok(0);
+        return Ok(Answer::Unfit);
     };
     if take_piece(table, stated, state, asked, kind, &after[..len])? {
-        Ok(1 + len)
+        Ok(Answer::Took(1 + len))
     } else {
-        Ok(0)
+        Ok(Answer::Unfit)
     }
 }
 
@@ -202,19 +191,17 @@ fn take_rare<'a>(
     asked: Asked<'a>,
     kind: CodeKind,
     rest: &[u8],
-) -> Result<usize, Memory>
+) -> Result<Answer, Memory>
     requires some { 0 < length rest.now }
     requires kind { kind_of (slice_index rest.now 0) ≡ Ok kind }
     requires known { IsKind kind }
     ensures { IfOk result
-        (λ n. 0 < n
-        → TookFront (table_of table.now) stated state.old state.new
-        (need_of asked.entry) rest.now n) }
+        (IsAnswer (table_of table.now) stated state.old state.new (need_of asked.entry) rest.now) }
 {
     take_kind(table, stated, state, asked, kind, rest)
 }
 
-/// The first token of the bytes comes, if it has what is asked for: how many bytes it has, or 0.
+/// The first token of the bytes comes, if it has what is asked for and is no reference.
 #[inline(always)]
 pub fn step<'a>(
     table: &'a TypeTable,
@@ -222,14 +209,12 @@ pub fn step<'a>(
     state: &mut State<'a>,
     asked: Asked<'a>,
     rest: &[u8],
-) -> Result<usize, Memory>
+) -> Result<Answer, Memory>
     ensures { IfOk result
-        (λ n. 0 < n
-        → TookFront (table_of table.now) stated state.old state.new
-        (need_of asked.entry) rest.now n) }
+        (IsAnswer (table_of table.now) stated state.old state.new (need_of asked.entry) rest.now) }
 {
     if rest.is_empty() {
-        return Ok(0);
+        return Ok(Answer::Unfit);
     }
     // The kinds that are named get code of their own.
     match code_kind(rest[0]) {
@@ -246,13 +231,8 @@ pub fn step<'a>(
         Ok(CodeKind::Int(1)) => take_kind(table, stated, state, asked, CodeKind::Int(1), rest),
         Ok(CodeKind::Int(2)) => take_kind(table, stated, state, asked, CodeKind::Int(2), rest),
         Ok(CodeKind::Int(4)) => take_kind(table, stated, state, asked, CodeKind::Int(4), rest),
-        Ok(CodeKind::Shared(1)) => {
-            take_kind(table, stated, state, asked, CodeKind::Shared(1), rest)
-        }
-        Ok(CodeKind::Shared(2)) => {
-            take_kind(table, stated, state, asked, CodeKind::Shared(2), rest)
-        }
+        Ok(CodeKind::Shared(_)) => Ok(Answer::Back),
         Ok(kind) => take_rare(table, stated, state, asked, kind, rest),
-        Err(_) => Ok(0),
+        Err(_) => Ok(Answer::Unfit),
     }
 }

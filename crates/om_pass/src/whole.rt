@@ -1,14 +1,14 @@
 //! A whole value.
 
-ghost use Rattle.std.specs.Prelude.{◌≤◌, ◌<◌, length, IfOk, IfSome};
+ghost use Rattle.std.specs.Prelude.{◌≤◌, ◌<◌, [], length, IfOk, IfSome};
 ghost use Rattle.std.specs.Bool.{OnTrue};
 ghost use Rattle.om_type_table.specs.Made.{table_of, IsLawful};
 ghost use Rattle.om_pass_law.specs.OnePass.{IsTypedFront};
 ghost use Rattle.om_pass.specs.State.{Leads, IsSpent, BeginsAs};
 
+use crate::back::{mark, turn};
 use crate::places::Places;
 use crate::state::State;
-use crate::step::step;
 use crate::words::Words;
 use om_headers::{HeaderStep, parse};
 use om_model::Memory;
@@ -49,6 +49,7 @@ fn is_spent(head: &Head, start: usize, at: usize, state: &State<'_>) -> bool
 
 /// Takes token after token to the end of the value: how many bytes there are up to it.
 fn run<'a>(
+    alloc: Global,
     table: &'a TypeTable,
     limit: u64,
     head: &Head,
@@ -57,20 +58,24 @@ fn run<'a>(
     bytes: &[u8],
 ) -> Result<Option<usize>, Memory>
     requires lawful { IsLawful (table_of table.now) }
-    requires leads { Leads (table_of table.now) limit bytes.now head.now start start state.old }
+    requires leads { Leads (table_of table.now) limit bytes.now head.now start start [] state.old }
     ensures { IfOk result
         (λ answer. IfSome answer (λ n. IsTypedFront (table_of table.now) limit n bytes.now)) }
 {
     let mut at = start;
+    let mut marks = Vec::new(alloc);
+    let mut left = bytes.len() as u64;
     // Each turn takes a byte, so this ends long before.
     'tokens: for _turn in 0..u64::MAX {
+        mark(&mut marks, at, state.types.len())?;
         let Some(asked) = state.places.next() else {
             if is_spent(head, start, at, state) {
                 return Ok(Some(at));
             }
             return Ok(None);
         };
-        let n = step(table, head.objects, state, asked, &bytes[at..])?;
+        let objects = head.objects;
+        let n = turn(table, objects, state, asked, marks.as_slice(), &mut left, bytes, at)?;
         if n == 0 {
             return Ok(None);
         }
@@ -102,5 +107,5 @@ pub fn pass(
         types,
         words: Words::stated(&head),
     };
-    run(table, limit, &head, start, &mut state, bytes)
+    run(alloc, table, limit, &head, start, &mut state, bytes)
 }

@@ -7,3 +7,4 @@ pub mod FlatLemmas
 pub mod GrowLemmas
 pub mod LawLemmas
 pub mod WeakerLemmas
+pub mod NotedLemmas

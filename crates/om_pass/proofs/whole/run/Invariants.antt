@@ -4,4 +4,4 @@ use Rattle.om_pass.proofs.whole.run.Given as goal
 
 -- the bytes up to here lead to the state
 abbrev pub invariant-tokens : goal.invariant-tokens
-invariant-tokens l = Leads (table_of l.table) l.limit l.bytes l.head l.start l.at l.state
+invariant-tokens l = Leads (table_of l.table) l.limit l.bytes l.head l.start l.at l.marks.items l.state

@@ -1,0 +1,99 @@
+-- What is read again of the tokens that were passed, and what a reference may lead back to.
+use Rattle.std.specs.Prelude.{ℕ, ◌-◌, ◌*◌, ◌<◌, ◌≤◌, ◌≡◌, ◌⊎◌}
+use Rattle.std.specs.Prelude.{List, [], ◌∷◌, ◌++◌, length, map, drop, take, slice_get, Some}
+use Rattle.om_model.specs.declared.value.Obj.{Obj}
+use Rattle.om_types.specs.Table.{Table}
+use Rattle.om_format.specs.Words.{objects}
+use Rattle.om_format.specs.Token.{Token, integer, atom, shared, block, leaf, IsToken, Spells, measure_of}
+use Rattle.om_pass_law.specs.Asked.{of_type, IsBack}
+use Rattle.om_pass_law.specs.Noted.{AreAt, AreFlat, flat_values, IsFlatNoted}
+use Rattle.om_pass.specs.declared.again.Seen.{Seen}
+use Rattle.om_pass.specs.declared.again.Seen.TheVariants as sights
+
+-- the token is what was seen
+abbrev pub IsSeen : Seen → Token → Type 0
+IsSeen (sights.Integer z) token = token ≡ integer z
+IsSeen (sights.Atom tag) token = token ≡ atom tag
+IsSeen (sights.Shared offset) token = token ≡ shared offset
+IsSeen (sights.Block tag size) token = token ≡ block tag size
+IsSeen sights.Leaf token = (object : Obj) × (token ≡ leaf object)
+
+-- the tokens spell the bytes, one after another
+abbrev pub SpellAll : List Token → List ℕ → Type 0
+SpellAll [] bytes = bytes ≡ []
+SpellAll (token ∷ tokens) bytes =
+    (piece rest : List ℕ) × (bytes ≡ piece ++ rest) × Spells token piece × SpellAll tokens rest
+
+-- the first of tokens that spell the bytes is what was seen, and has so many bytes
+pub record IsFirst (seen : Seen) (len : ℕ) (bytes : List ℕ) (token : Token) (tokens : List Token)
+    : Type 0 where
+  pub is_token : IsToken token
+  pub is_seen : IsSeen seen token
+  pub spells : SpellAll tokens (drop len bytes)
+
+-- the same of any tokens
+pub record Looks (bytes : List ℕ) (seen : Seen) (len : ℕ) : Type 0 where
+  pub some : 0 < len
+  pub within : len ≤ length bytes
+  pub is_first : (token : Token) (tokens : List Token) → SpellAll (token ∷ tokens) bytes
+      → IsFirst seen len bytes token tokens
+
+-- after c objects the last of the tokens begin at this byte
+pub record IsPlace (front : List ℕ) (tokens : List Token) (at c : ℕ) : Type 0 where
+  pub first : List Token
+  pub last : List Token
+  pub whole : tokens ≡ first ++ last
+  pub made : objects (map measure_of first) ≡ c
+  pub within : at ≤ length front
+  pub spells : SpellAll last (drop at front)
+
+-- each mark is the byte where 64 objects more had been made
+abbrev pub AreMarks : List ℕ → List ℕ → List Token → Type 0
+AreMarks front marks tokens =
+    (k at : ℕ) → slice_get marks k ≡ Some at → IsPlace front tokens at (64 * k)
+
+-- the object is a block, and the tokens of its fields begin at this byte
+pub record IsBlockAt (front : List ℕ) (tokens : List Token) (object tag size at : ℕ)
+    : Type 0 where
+  pub first : List Token
+  pub last : List Token
+  pub whole : tokens ≡ first ++ block tag size ∷ last
+  pub made : objects (map measure_of first) ≡ object
+  pub within : at ≤ length front
+  pub spells : SpellAll last (drop at front)
+
+-- the same of any tokens that have the marks
+pub record IsBlockIn (front marks : List ℕ) (object tag size at : ℕ) : Type 0 where
+  pub within : at ≤ length front
+  pub is_block : (tokens : List Token) → AreMarks front marks tokens
+      → IsBlockAt front tokens object tag size at
+
+-- a block was seen, after which is this byte
+pub record IsBlockSeen (seen : Seen) (after tag size at : ℕ) : Type 0 where
+  pub is_block : seen ≡ sights.Block tag size
+  pub is_after : at ≡ after
+
+-- the first of the tokens are flat fields of an object, of these types
+pub record AreFields
+    (table : Table) (types : List ℕ) (object : ℕ) (fields : List ℕ) (tokens : List Token)
+    : Type 0 where
+  pub flat : List Token
+  pub rest : List Token
+  pub whole : tokens ≡ flat ++ rest
+  pub many : length flat ≡ length fields
+  pub are_flat : AreFlat flat
+  pub at : AreAt table types [] (flat_values object flat) (map of_type fields)
+
+-- a reference leads back to an object of an equal type, or to a flat one that has this type too
+abbrev pub IsKnown : Table → List ℕ → List ℕ → List ℕ → ℕ → ℕ → Type 0
+IsKnown table types front marks type offset =
+    IsBack [] table types type offset
+    ⊎ ((1 ≤ offset) × (offset ≤ length types)
+    × ((tokens : List Token) → AreMarks front marks tokens
+    → IsFlatNoted table types [] tokens (length types - offset) type))
+
+-- a reference back by so many begins the bytes, and has n of them
+pub record IsReference (bytes : List ℕ) (offset n : ℕ) : Type 0 where
+  pub some : 0 < n
+  pub within : n ≤ length bytes
+  pub spells : Spells (shared offset) (take n bytes)

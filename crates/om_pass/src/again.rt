@@ -1,0 +1,162 @@
+//! Tokens that were passed are looked at again.
+
+ghost use Rattle.std.specs.Prelude.{◌≡◌, ◌≤◌, ◌<◌, ◌+◌, length, slice_get, Some, IfSome, if◌then◌else◌};
+ghost use Rattle.om_format.specs.Code.{IsKind};
+ghost use Rattle.om_format.specs.Raw.{fixed_bytes, variable_bytes};
+ghost use Rattle.om_format.specs.Token.{Token, IsToken, SpellsAfter, block_or_atom, word_token};
+ghost use Rattle.om_format.specs.Tree.{made_by};
+ghost use Rattle.om_pass.specs.Again.{IsSeen, Looks, IsBlockSeen, IsBlockIn, IsReference};
+
+use crate::piece::piece_len;
+use om_codes::code_kind;
+use om_model::bytes::{big_endian, signed};
+use om_model::code::CodeKind;
+
+/// What a token says.
+#[derive(Clone, Copy)]
+pub enum Seen {
+    Integer(i64),
+    Atom(u8),
+    Shared(u64),
+    /// Its tag and its size.
+    Block(u8, u64),
+    /// An object without fields.
+    Leaf,
+}
+
+/// A block, or an atom where it has no fields.
+fn seen_block(tag: u8, size: u64) -> Seen
+    ensures { IsSeen result (block_or_atom tag size) }
+{
+    if size == 0 {
+        Seen::Atom(tag)
+    } else {
+        Seen::Block(tag, size)
+    }
+}
+
+/// The same by the header word.
+fn seen_word(word: u64) -> Seen
+    ensures { IsSeen result (word_token word) }
+{
+    seen_block((word % 256) as u8, word / 1024)
+}
+
+/// What the token of this kind says, after whose code stands the piece.
+fn seen_of(kind: CodeKind, piece: &[u8]) -> Seen
+    requires known { IsKind kind }
+    requires whole { length piece.now ≡ fixed_bytes kind + variable_bytes kind piece.now }
+    ensures { (token : Token) → SpellsAfter kind piece.now token → IsSeen result token }
+{
+    match kind {
+        CodeKind::SmallBlock(tag, size) => seen_block(tag, u64::from(size)),
+        CodeKind::SmallInt(value) => Seen::Integer(i64::from(value)),
+        CodeKind::Int(_) => Seen::Integer(signed(piece)),
+        CodeKind::Shared(_) => Seen::Shared(big_endian(piece)),
+        CodeKind::Block(_) => seen_word(big_endian(piece)),
+        CodeKind::SmallString(_) => Seen::Leaf,
+        CodeKind::Str(_) => Seen::Leaf,
+        CodeKind::Double(_) => Seen::Leaf,
+        CodeKind::Doubles(_, _) => Seen::Leaf,
+        CodeKind::Custom(_) => Seen::Leaf,
+    }
+}
+
+/// What the first token of the bytes says, and how many bytes it has.
+pub fn look(bytes: &[u8]) -> Option<(Seen, usize)>
+    ensures { IfSome result (λ look. Looks bytes.now look.0 look.1) }
+{
+    if bytes.is_empty() {
+        return None;
+    }
+    let Ok(kind) = code_kind(bytes[0]) else {
+        return None;
+    };
+    let after = &bytes[1..];
+    let Some(len) = piece_len(kind, after) else {
+        return None;
+    };
+    Some((seen_of(kind, &after[..len]), 1 + len))
+}
+
+/// Whether a token makes an object.
+fn makes_object(seen: Seen) -> bool
+    ensures { (token : Token) → IsToken token → IsSeen seen token
+        → made_by token ≡ (if result then 1 else 0) }
+{
+    match seen {
+        Seen::Block(_, _) => true,
+        Seen::Leaf => true,
+        Seen::Integer(_) => false,
+        Seen::Atom(_) => false,
+        Seen::Shared(_) => false,
+    }
+}
+
+/// The tag and the size of a block that was seen, and where its fields begin.
+fn block_seen(seen: Seen, at: usize) -> Option<(u8, u64, usize)>
+    ensures { IfSome result (λ block. IsBlockSeen seen at block.0 block.1 block.2) }
+{
+    match seen {
+        Seen::Block(tag, size) => Some((tag, size, at)),
+        _ => None,
+    }
+}
+
+/// The byte that is marked.
+fn mark_at(marks: &[usize], k: usize) -> usize
+    requires { k < length marks.now }
+    ensures { slice_get marks.now k ≡ Some result }
+{
+    marks[k]
+}
+
+/// The block of an object: its tag, its size, and where its fields begin. So many tokens may be
+/// looked at for it.
+pub fn block_at(
+    front: &[u8],
+    marks: &[usize],
+    left: &mut u64,
+    object: usize,
+) -> Option<(u8, u64, usize)>
+    ensures { IfSome result (λ block. IsBlockIn front.now marks.now object block.0 block.1 block.2) }
+{
+    if object / 64 >= marks.len() {
+        return None;
+    }
+    let mut at = mark_at(marks, object / 64);
+    let mut made = object / 64 * 64;
+    'skip: while *left > 0 && at < front.len() {
+        *left -= 1;
+        let Some((seen, len)) = look(&front[at..]) else {
+            return None;
+        };
+        at += len;
+        if makes_object(seen) {
+            if made == object {
+                return block_seen(seen, at);
+            }
+            made += 1;
+        }
+    }
+    None
+}
+
+/// The reference that begins the bytes, if one does: its offset, and how many bytes it has.
+#[inline(always)]
+pub fn reference_at(bytes: &[u8]) -> Option<(u64, usize)>
+    ensures { IfSome result (λ reference. IsReference bytes.now reference.0 reference.1) }
+{
+    if bytes.is_empty() {
+        return None;
+    }
+    let Ok(CodeKind::Shared(width)) = code_kind(bytes[0]) else {
+        return None;
+    };
+    let width = usize::from(width);
+    let after = &bytes[1..];
+    if after.len() < width {
+        return None;
+    }
+    Some((big_endian(&after[..width]), 1 + width))
+}

@@ -1,0 +1,84 @@
+//! References back, and one token in the place that is open.
+
+ghost use Rattle.std.specs.Prelude.{◌≤◌, ◌<◌, length, take, drop, IfOk, OnOk};
+ghost use Rattle.om_type_table.specs.Made.{table_of};
+ghost use Rattle.om_pass.specs.Places.{need_of};
+ghost use Rattle.om_pass.specs.State.{types_in, IsMarked, TookBack, TookTurn};
+
+use crate::again::reference_at;
+use crate::flat::is_known;
+use crate::places::Asked;
+use crate::state::State;
+use crate::step::{Answer, step};
+use om_model::Memory;
+use om_type_table::TypeTable;
+
+/// Marks the byte, where 64 objects more were made.
+#[inline(always)]
+pub fn mark(marks: &mut Vec<usize>, at: usize, made: usize) -> Result<(), Memory>
+    ensures { OnOk result (IsMarked marks.old.items at made marks.new.items) }
+{
+    if made % 64 == 0 && made / 64 == marks.len() {
+        marks.push(at)?;
+    }
+    Ok(())
+}
+
+/// A reference comes, if it has what is asked for: how many bytes it has, or 0.
+#[inline(always)]
+fn back(
+    table: &TypeTable,
+    stated: u64,
+    state: &State<'_>,
+    asked: Asked<'_>,
+    marks: &[usize],
+    left: &mut u64,
+    bytes: &[u8],
+    at: usize,
+) -> usize
+    requires { at ≤ length bytes.now }
+    ensures { 0 < result
+        → TookBack (table_of table.now) stated (types_in state.now) (take at bytes.now) marks.now
+        (need_of asked.entry) (drop at bytes.now) result }
+{
+    let Asked::Type(ty) = asked else {
+        return 0;
+    };
+    let Some((offset, n)) = reference_at(&bytes[at..]) else {
+        return 0;
+    };
+    if stated == 0 {
+        return 0;
+    }
+    let front = &bytes[..at];
+    if is_known(table, state.types.as_slice(), front, marks, left, ty, offset) {
+        n
+    } else {
+        0
+    }
+}
+
+/// The token at this byte comes, if it has what is asked for: how many bytes it has, or 0.
+#[inline(always)]
+pub fn turn<'a>(
+    table: &'a TypeTable,
+    stated: u64,
+    state: &mut State<'a>,
+    asked: Asked<'a>,
+    marks: &[usize],
+    left: &mut u64,
+    bytes: &[u8],
+    at: usize,
+) -> Result<usize, Memory>
+    requires { at ≤ length bytes.now }
+    ensures { IfOk result
+        (λ n. 0 < n
+        → TookTurn (table_of table.now) stated state.old state.new (need_of asked.entry)
+        bytes.now marks.now at n) }
+{
+    match step(table, stated, state, asked, &bytes[at..])? {
+        Answer::Took(n) => Ok(n),
+        Answer::Back => Ok(back(table, stated, state, asked, marks, left, bytes, at)),
+        Answer::Unfit => Ok(0),
+    }
+}

@@ -1,0 +1,140 @@
+//! An object that is met at a second type: it is known there where its block is flat, that is, where
+//! its fields are integers, atoms and references back.
+
+ghost use Rattle.std.specs.Prelude.{◌≡◌, ◌≤◌, ◌<◌, ◌+◌, ◌-◌, List, [], length, drop};
+ghost use Rattle.std.specs.Bool.{OnTrue};
+ghost use Rattle.om_model.specs.declared.value.Val.TheVariants as vals;
+ghost use Rattle.om_format.specs.Token.{Token};
+ghost use Rattle.om_format.specs.Tree.{value_of};
+ghost use Rattle.om_type_table.specs.Made.{table_of};
+ghost use Rattle.om_pass_law.specs.Noted.{IsAt, IsFlat, IsFlatNoted};
+ghost use Rattle.om_pass.specs.Again.{IsSeen, SpellAll, AreMarks, AreFields, IsKnown};
+
+use crate::again::{Seen, block_at, look};
+use crate::fits::{block_places, fits_atom, fits_int, is_equal, may_change, shape_of, type_at};
+use crate::places::Open;
+use om_type_table::TypeTable;
+
+/// Whether a reference in an object, back by so many, leads to an object of an equal type.
+fn fits_back(table: &TypeTable, types: &[u16], object: usize, ty: usize, offset: u64) -> bool
+    requires { object < length types.now }
+    ensures { OnTrue result
+        (IsAt (table_of table.now) types.now [] (vals.Ref (object + 1 - offset)) ty) }
+{
+    let next = object as u64 + 1;
+    if offset == 0 || next < offset {
+        return false;
+    }
+    let target = type_at(types, (next - offset) as usize);
+    is_equal(table, target, ty)
+}
+
+/// Whether a field of an object is flat and has the type.
+fn is_flat_field(table: &TypeTable, types: &[u16], object: usize, ty: usize, seen: Seen) -> bool
+    requires { object < length types.now }
+    ensures { OnTrue result ((token : Token) → IsSeen seen token
+        → IsFlat token
+        × IsAt (table_of table.now) types.now [] (value_of token (object + 1)) ty) }
+{
+    let Some(shape) = shape_of(table, ty) else {
+        return false;
+    };
+    match seen {
+        Seen::Integer(z) => fits_int(shape, z),
+        Seen::Atom(tag) => fits_atom(shape, tag),
+        Seen::Shared(offset) => fits_back(table, types, object, ty, offset),
+        Seen::Block(_, _) => false,
+        Seen::Leaf => false,
+    }
+}
+
+/// Whether the tokens from this byte on begin with flat fields of these types.
+fn are_fields(
+    table: &TypeTable,
+    types: &[u16],
+    front: &[u8],
+    start: usize,
+    object: usize,
+    fields: &[usize],
+) -> bool
+    requires object { object < length types.now }
+    requires start { start ≤ length front.now }
+    ensures { OnTrue result ((tokens : List Token) → SpellAll tokens (drop start front.now)
+        → AreFields (table_of table.now) types.now object fields.now tokens) }
+{
+    let mut at = start;
+    'fields: for ty in fields {
+        let Some((seen, len)) = look(&front[at..]) else {
+            return false;
+        };
+        if is_flat_field(table, types, object, *ty, seen) {
+            at += len;
+        } else {
+            return false;
+        }
+    }
+    true
+}
+
+/// Whether an object is a flat block that has the type, too, and may not be changed.
+#[inline(never)]
+fn is_flat(
+    table: &TypeTable,
+    types: &[u16],
+    front: &[u8],
+    marks: &[usize],
+    left: &mut u64,
+    object: usize,
+    ty: usize,
+) -> bool
+    requires { object < length types.now }
+    ensures { OnTrue result ((tokens : List Token) → AreMarks front.now marks.now tokens
+        → IsFlatNoted (table_of table.now) types.now [] tokens object ty) }
+{
+    let Some((tag, size, start)) = block_at(front, marks, left, object) else {
+        return false;
+    };
+    if *left < size {
+        return false;
+    }
+    *left -= size;
+    let Some(first) = shape_of(table, type_at(types, object)) else {
+        return false;
+    };
+    let Some(shape) = shape_of(table, ty) else {
+        return false;
+    };
+    if may_change(first, tag) || may_change(shape, tag) {
+        return false;
+    }
+    match block_places(shape, tag, size) {
+        Some(Open::Listed(fields)) => {
+            fields.len() as u64 == size
+                && are_fields(table, types, front, start, object, fields)
+        }
+        _ => false,
+    }
+}
+
+/// Whether so many places back an object stands that has the type.
+#[inline(always)]
+pub fn is_known(
+    table: &TypeTable,
+    types: &[u16],
+    front: &[u8],
+    marks: &[usize],
+    left: &mut u64,
+    ty: usize,
+    offset: u64,
+) -> bool
+    ensures { OnTrue result
+        (IsKnown (table_of table.now) types.now front.now marks.now ty offset) }
+{
+    let made = types.len() as u64;
+    if offset == 0 || made < offset {
+        return false;
+    }
+    let object = (made - offset) as usize;
+    is_equal(table, type_at(types, object), ty)
+        || is_flat(table, types, front, marks, left, object, ty)
+}
