@@ -197,10 +197,12 @@ module _ (table : Table) (types : List ℕ) (o : ℕ) where
       let few = l.within in
       let left = length-drop at front in
       let next : suc i ≡ i + 1 = omega arith in
-      let split : drop i fields ≡ get_or fields i 0 ∷ drop (i + 1) fields = drop-cons fields i 0 short ∙ ap (λ n. get_or fields i 0 ∷ drop n fields) next in
-      (let within = before.0 in omega (arith, within, few, left), λ later.
-          before.1 (subst (λ fs. (ts : List Token) → SpellAll ts (drop at front) → AreFields table types o fs ts) (sym split)
-          (next_field (drop at front) (get_or fields i 0) (drop (i + 1) fields) seen len l is_field (λ ts s. later ts (subst (SpellAll ts) (drop-drop len at front) s)))))
+      let split : drop i fields ≡ get_or fields i 0 ∷ drop (i + 1) fields = drop-cons fields i 0 short ∙ ap (λ n. get_or fields i 0 ∷ drop n fields) next in (
+        let within = before.0 in omega (arith, within, few, left),
+        λ later.
+            before.1 (subst (λ fs. (ts : List Token) → SpellAll ts (drop at front) → AreFields table types o fs ts) (sym split)
+            (next_field (drop at front) (get_or fields i 0) (drop (i + 1) fields) seen len l is_field (λ ts s. later ts (subst (SpellAll ts) (drop-drop len at front) s)))),
+      )
 
 -- a block whose fields are flat and have the types is so noted
 pub flat_block :

@@ -148,11 +148,11 @@ noted_also table types noted o t tokens more within are flat p u among =
     let all : types ++ [] ≡ types = append-nil types in
     ⊎_elim
     (λ first. let one = are p u first in
-        (one.0, subst (λ ts. IsFlatNoted table ts (noted ++ (o, t) ∷ []) (tokens ++ more) p u) all (noted_more table noted (noted ++ (o, t) ∷ []) (λ q v kept. Contains-append_left noted ((o, t) ∷ []) (q, v) kept) types [] tokens more p u one.0 one.1)))
+    (one.0, subst (λ ts. IsFlatNoted table ts (noted ++ (o, t) ∷ []) (tokens ++ more) p u) all (noted_more table noted (noted ++ (o, t) ∷ []) (λ q v kept. Contains-append_left noted ((o, t) ∷ []) (q, v) kept) types [] tokens more p u one.0 one.1)))
     (λ last.
-        let same : ◌≡◌ {A = ℕ × ℕ} (o, t) (p, u) = ⊎_elim (λ is. is) (λ later. absurd (Contains-none {X = ℕ × ℕ} (p, u) later)) (Contains-cases {X = ℕ × ℕ} (o, t) [] (p, u) last) in
-        subst (λ (q : ℕ × ℕ). (q.0 < length types) × IsFlatNoted table types (noted ++ (o, t) ∷ []) (tokens ++ more) q.0 q.1) same
-        (within, subst (λ ts. IsFlatNoted table ts (noted ++ (o, t) ∷ []) (tokens ++ more) o t) all (noted_more table [] (noted ++ (o, t) ∷ []) (λ q v kept. absurd (Contains-none {X = ℕ × ℕ} (q, v) kept)) types [] tokens more o t within flat)))
+    let same : ◌≡◌ {A = ℕ × ℕ} (o, t) (p, u) = ⊎_elim (λ is. is) (λ later. absurd (Contains-none {X = ℕ × ℕ} (p, u) later)) (Contains-cases {X = ℕ × ℕ} (o, t) [] (p, u) last) in
+    subst (λ (q : ℕ × ℕ). (q.0 < length types) × IsFlatNoted table types (noted ++ (o, t) ∷ []) (tokens ++ more) q.0 q.1) same
+    (within, subst (λ ts. IsFlatNoted table ts (noted ++ (o, t) ∷ []) (tokens ++ more) o t) all (noted_more table [] (noted ++ (o, t) ∷ []) (λ q v kept. absurd (Contains-none {X = ℕ × ℕ} (q, v) kept)) types [] tokens more o t within flat)))
     (Contains-append_cases noted ((o, t) ∷ []) (p, u) among)
 
 leads_known :

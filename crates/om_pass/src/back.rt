@@ -51,7 +51,15 @@ fn back(
         return 0;
     }
     let front = &bytes[..at];
-    if is_known(table, state.types.as_slice(), front, marks, left, ty, offset) {
+    if is_known(
+        table,
+        state.types.as_slice(),
+        front,
+        marks,
+        left,
+        ty,
+        offset,
+    ) {
         n
     } else {
         0

@@ -109,8 +109,7 @@ fn is_flat(
     }
     match block_places(shape, tag, size) {
         Some(Open::Listed(fields)) => {
-            fields.len() as u64 == size
-                && are_fields(table, types, front, start, object, fields)
+            fields.len() as u64 == size && are_fields(table, types, front, start, object, fields)
         }
         _ => false,
     }

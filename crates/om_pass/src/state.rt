@@ -11,9 +11,7 @@ ghost use Rattle.om_pass_law.specs.Asked.{hash_of};
 ghost use Rattle.om_pass.specs.Places.{need_of};
 ghost use Rattle.om_pass.specs.State.{Took, TookLeaf, IfTook, custom_leaf};
 
-use crate::fits::{
-    block_places, fits_atom, fits_doubles, fits_int, shape_of, tag_of_hash,
-};
+use crate::fits::{block_places, fits_atom, fits_doubles, fits_int, shape_of, tag_of_hash};
 use crate::places::{Asked, Open, Places};
 use crate::words::Words;
 use om_model::Memory;

@@ -51,7 +51,11 @@ fn take_integer<'a>(
         × Took (table_of table.now) state.old state.new (need_of asked.entry)
         (integer (signed_number piece.now))) }
 {
-    let z = if piece.len() == 4 { signed_four(piece) } else { signed(piece) };
+    let z = if piece.len() == 4 {
+        signed_four(piece)
+    } else {
+        signed(piece)
+    };
     if z < -(1 << 62) || z >= 1 << 62 {
         return Ok(false);
     }
@@ -182,26 +186,28 @@ fn take_kind<'a>(
     }
 }
 
-/// The same of a kind that is not common.
+/// The same of any kind, where it is no reference.
 #[inline(never)]
 fn take_rare<'a>(
     table: &'a TypeTable,
     stated: u64,
     state: &mut State<'a>,
     asked: Asked<'a>,
-    kind: CodeKind,
     rest: &[u8],
 ) -> Result<Answer, Memory>
-    requires some { 0 < length rest.now }
-    requires kind { kind_of (slice_index rest.now 0) ≡ Ok kind }
-    requires known { IsKind kind }
+    requires { 0 < length rest.now }
     ensures { IfOk result
         (IsAnswer (table_of table.now) stated state.old state.new (need_of asked.entry) rest.now) }
 {
-    take_kind(table, stated, state, asked, kind, rest)
+    match code_kind(rest[0]) {
+        Ok(CodeKind::Shared(_)) => Ok(Answer::Back),
+        Ok(kind) => take_kind(table, stated, state, asked, kind, rest),
+        Err(_) => Ok(Answer::Unfit),
+    }
 }
 
 /// The first token of the bytes comes, if it has what is asked for and is no reference.
+#[tactic(auto, unfolding(om_format::specs::Code::kind_of))]
 #[inline(always)]
 pub fn step<'a>(
     table: &'a TypeTable,
@@ -216,23 +222,25 @@ pub fn step<'a>(
     if rest.is_empty() {
         return Ok(Answer::Unfit);
     }
-    // The kinds that are named get code of their own.
-    match code_kind(rest[0]) {
-        Ok(CodeKind::SmallBlock(tag, size)) => {
-            let kind = CodeKind::SmallBlock(tag, size);
+    let code = rest[0];
+    // The common codes get code of their own.
+    match code {
+        0x80.. => {
+            let kind = CodeKind::SmallBlock(code % 16, code / 16 % 8);
             take_kind(table, stated, state, asked, kind, rest)
         }
-        Ok(CodeKind::SmallInt(value)) => {
-            take_kind(table, stated, state, asked, CodeKind::SmallInt(value), rest)
+        0x40.. => {
+            let kind = CodeKind::SmallInt(code % 64);
+            take_kind(table, stated, state, asked, kind, rest)
         }
-        Ok(CodeKind::SmallString(len)) => {
-            take_kind(table, stated, state, asked, CodeKind::SmallString(len), rest)
+        0x20.. => {
+            let kind = CodeKind::SmallString(code % 32);
+            take_kind(table, stated, state, asked, kind, rest)
         }
-        Ok(CodeKind::Int(1)) => take_kind(table, stated, state, asked, CodeKind::Int(1), rest),
-        Ok(CodeKind::Int(2)) => take_kind(table, stated, state, asked, CodeKind::Int(2), rest),
-        Ok(CodeKind::Int(4)) => take_kind(table, stated, state, asked, CodeKind::Int(4), rest),
-        Ok(CodeKind::Shared(_)) => Ok(Answer::Back),
-        Ok(kind) => take_rare(table, stated, state, asked, kind, rest),
-        Err(_) => Ok(Answer::Unfit),
+        0x00 => take_kind(table, stated, state, asked, CodeKind::Int(1), rest),
+        0x01 => take_kind(table, stated, state, asked, CodeKind::Int(2), rest),
+        0x02 => take_kind(table, stated, state, asked, CodeKind::Int(4), rest),
+        0x04..0x07 => Ok(Answer::Back),
+        _ => take_rare(table, stated, state, asked, rest),
     }
 }

@@ -75,7 +75,16 @@ fn run<'a>(
             return Ok(None);
         };
         let objects = head.objects;
-        let n = turn(table, objects, state, asked, marks.as_slice(), &mut left, bytes, at)?;
+        let n = turn(
+            table,
+            objects,
+            state,
+            asked,
+            marks.as_slice(),
+            &mut left,
+            bytes,
+            at,
+        )?;
         if n == 0 {
             return Ok(None);
         }

@@ -16,12 +16,16 @@ returns-then-made-object c =
 pub skip-preserved-then-makes_object : goal.skip-preserved-then-makes_object
 skip-preserved-then-makes_object c =
     let looks = looks_from c.args.front.now c.skip.at c.in-Some.seen c.in-Some.len c.in-Some.ensures in
-    let few : c.skip.made + 1 ≤ c.args.object = search rules in
-    (few, skip_more c.args.front.now c.args.marks.now c.skip.at c.skip.made 1 (c.skip.made + 1) c.in-Some.seen c.in-Some.len c.skip.invariant.1 looks
-    (λ t is seen. c.makes_object.ensures t is seen ∙ ap (λ b. let k : ℕ = (if b then 1 else 0) in k) c.if-makes_object.true) refl)
+    let few : c.skip.made + 1 ≤ c.args.object = search rules in (
+      few,
+      skip_more c.args.front.now c.args.marks.now c.skip.at c.skip.made 1 (c.skip.made + 1) c.in-Some.seen c.in-Some.len c.skip.invariant.1 looks
+          (λ t is seen. c.makes_object.ensures t is seen ∙ ap (λ b. let k : ℕ = (if b then 1 else 0) in k) c.if-makes_object.true) refl,
+    )
 
 pub skip-preserved : goal.skip-preserved
 skip-preserved c =
-    let looks = looks_from c.args.front.now c.skip.at c.in-Some.seen c.in-Some.len c.in-Some.ensures in
-    (c.skip.invariant.0, skip_more c.args.front.now c.args.marks.now c.skip.at c.skip.made 0 c.skip.made c.in-Some.seen c.in-Some.len c.skip.invariant.1 looks
-    (λ t is seen. c.makes_object.ensures t is seen ∙ ap (λ b. let k : ℕ = (if b then 1 else 0) in k) c.if-makes_object.false) (omega arith))
+    let looks = looks_from c.args.front.now c.skip.at c.in-Some.seen c.in-Some.len c.in-Some.ensures in (
+      c.skip.invariant.0,
+      skip_more c.args.front.now c.args.marks.now c.skip.at c.skip.made 0 c.skip.made c.in-Some.seen c.in-Some.len c.skip.invariant.1 looks
+          (λ t is seen. c.makes_object.ensures t is seen ∙ ap (λ b. let k : ℕ = (if b then 1 else 0) in k) c.if-makes_object.false) (omega arith),
+    )

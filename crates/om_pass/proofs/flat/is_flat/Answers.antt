@@ -22,14 +22,14 @@ returns-then-fields-size c =
     let many : length fields ≡ size = search rules in
     on_true_weaker c.are_fields.result
     (λ are tokens marks.
-        flat_block table c.args.types.now c.args.front.now c.args.object c.args.ty tag size c.in-Some.start fields tokens (c.in-Some.ensures.is_block tokens marks) are
-        (ap (λ s. block_needs s tag size) (sym c.in-Some-shape_of-2.ensures) ∙ sym c.block_places.ensures ∙ ap (option_map open_needs) c.in-Some-Listed.is ∙ ap Some listed)
-        many
-        (λ values true'.
-            not_true c.may_change-else-may_change.result (is_mutable shape (Some (objects.Block tag values))) (c.may_change-else-may_change.ensures values) c.if-may_change-2.false
-            (subst (λ s. IsTrue (is_mutable s (Some (objects.Block tag values)))) (sym c.in-Some-shape_of-2.ensures) true'))
-        (λ u at_o values true'.
-            let same : u ≡ c.type_at.result = same_Some u c.type_at.result (sym at_o ∙ c.type_at.ensures) in
-            not_true c.may_change.result (is_mutable first (Some (objects.Block tag values))) (c.may_change.ensures values) c.if-may_change.false
-            (subst (λ s. IsTrue (is_mutable s (Some (objects.Block tag values)))) (ap (shape_at table) same ∙ sym c.in-Some-shape_of.ensures) true')))
+    flat_block table c.args.types.now c.args.front.now c.args.object c.args.ty tag size c.in-Some.start fields tokens (c.in-Some.ensures.is_block tokens marks) are
+    (ap (λ s. block_needs s tag size) (sym c.in-Some-shape_of-2.ensures) ∙ sym c.block_places.ensures ∙ ap (option_map open_needs) c.in-Some-Listed.is ∙ ap Some listed)
+    many
+    (λ values true'.
+    not_true c.may_change-else-may_change.result (is_mutable shape (Some (objects.Block tag values))) (c.may_change-else-may_change.ensures values) c.if-may_change-2.false
+    (subst (λ s. IsTrue (is_mutable s (Some (objects.Block tag values)))) (sym c.in-Some-shape_of-2.ensures) true'))
+    (λ u at_o values true'.
+    let same : u ≡ c.type_at.result = same_Some u c.type_at.result (sym at_o ∙ c.type_at.ensures) in
+    not_true c.may_change.result (is_mutable first (Some (objects.Block tag values))) (c.may_change.ensures values) c.if-may_change.false
+    (subst (λ s. IsTrue (is_mutable s (Some (objects.Block tag values)))) (ap (shape_at table) same ∙ sym c.in-Some-shape_of.ensures) true')))
     c.are_fields.ensures

@@ -13,6 +13,8 @@ returns-then-branch c =
     let some : 0 < length rest = search rules in
     let kind : kind_of (get_or rest 0 0) ≡ Ok c.args.kind = search rules in
     let within : c.in-Some.len ≤ length (drop 1 rest) = search rules in
-    let took = if_true c.in_ok-take_piece.field-0 c.if-branch.true c.in_ok-take_piece.ensures in
-    (omega arith, with_code (table_of c.args.table.now) c.args.stated c.args.state.now c.take_piece.new.state (need_of c.args.asked) rest c.args.kind c.in-Some.len some kind within
-    (subst (λ xs. TookPiece (table_of c.args.table.now) c.args.stated c.args.state.now c.take_piece.new.state (need_of c.args.asked) c.args.kind (take c.in-Some.len xs)) (rest_from 1 rest) took))
+    let took = if_true c.in_ok-take_piece.field-0 c.if-branch.true c.in_ok-take_piece.ensures in (
+      omega arith,
+      with_code (table_of c.args.table.now) c.args.stated c.args.state.now c.take_piece.new.state (need_of c.args.asked) rest c.args.kind c.in-Some.len some kind within
+          (subst (λ xs. TookPiece (table_of c.args.table.now) c.args.stated c.args.state.now c.take_piece.new.state (need_of c.args.asked) c.args.kind (take c.in-Some.len xs)) (rest_from 1 rest) took),
+    )
