@@ -1,0 +1,58 @@
+-- Two sets of commands as one: a request is for one of them.
+use Rattle.std.specs.Prelude.{ℕ, ◌⊎◌, List, Result, Ok, Err}
+use Rattle.std.proofs.Common.{inl, inr}
+use Rattle.om_outcome.specs.Outcome.{Request, Stop, Said, Reply}
+use Rattle.om_promises.specs.Commands.{Item, Fetches, Commands}
+
+module _ {A B : Type 0} (c : Commands A) (d : Commands B) where
+  abbrev pub Wants : Request → Fetches → ℕ → List ℕ → Type 0
+  Wants request files turn name =
+      c.Wants request files turn name ⊎ d.Wants request files turn name
+
+  abbrev pub Finds : Request → Fetches → Result (A ⊎ B) Stop → Type 0
+  Finds request files (Ok (inl a)) = c.Finds request files (Ok a)
+  Finds request files (Ok (inr b)) = d.Finds request files (Ok b)
+  Finds request files (Err stop) =
+      c.Finds request files (Err stop) ⊎ d.Finds request files (Err stop)
+
+  abbrev pub Reads : A ⊎ B → Type 0
+  Reads (inl a) = c.Reads a
+  Reads (inr b) = d.Reads b
+
+  abbrev pub IsFirst : A ⊎ B → List ℕ → Item → List ℕ → Type 0
+  IsFirst (inl a) = c.IsFirst a
+  IsFirst (inr b) = d.IsFirst b
+
+  abbrev pub Says : A ⊎ B → List Item → Item → Said → Type 0
+  Says (inl a) = c.Says a
+  Says (inr b) = d.Says b
+
+  abbrev pub Stops : A ⊎ B → List Item → List ℕ → Stop → Type 0
+  Stops (inl a) = c.Stops a
+  Stops (inr b) = d.Stops b
+
+  abbrev pub Ends : A ⊎ B → List Item → List ℕ → Reply → Type 0
+  Ends (inl a) = c.Ends a
+  Ends (inr b) = d.Ends b
+
+  -- what the one or the other does
+  abbrev pub choice : Commands (A ⊎ B)
+  choice = record {
+    Wants = Wants;
+    Finds = Finds;
+    Reads = Reads;
+    IsFirst = IsFirst;
+    Says = Says;
+    Stops = Stops;
+    Ends = Ends;
+  }
+
+-- nothing is wanted or found for the request
+pub record IsIdleAt {A : Type 0} (c : Commands A) (request : Request) : Type 0 where
+  pub unwanted : (files : Fetches) (turn : ℕ) (name : List ℕ)
+      → c.Wants request files turn name → ⊥
+  pub unfound : (files : Fetches) (result : Result A Stop) → c.Finds request files result → ⊥
+
+-- no request is for both
+abbrev pub AreApart : {A B : Type 0} → Commands A → Commands B → Type 0
+AreApart c d = (request : Request) → IsIdleAt c request ⊎ IsIdleAt d request
