@@ -23,7 +23,7 @@ first_before a b bytes others is = ⊎_elim
     (λ same. let parts = and_parts (a == b) (are_before bytes others) same in inr ((Decides-eqb a b).0 parts.0, parts.1))
     (or_cases (nat_lt a b) ((a == b) && are_before bytes others) is)
 
-pub both_true : (x y : Bool) → x ≡ true → y ≡ true → (x && y) ≡ true
+both_true : (x y : Bool) → x ≡ true → y ≡ true → (x && y) ≡ true
 both_true true true one two = refl
 both_true true false one two = two
 both_true false y one two = one

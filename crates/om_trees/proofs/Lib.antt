@@ -11,3 +11,4 @@ pub mod PutLemmas
 pub mod SettleLemmas
 pub mod JudgeLemmas
 pub mod TypeLemmas
+pub mod NameLemmas

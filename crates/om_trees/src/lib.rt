@@ -13,4 +13,4 @@ mod types;
 pub use judging::{Judgement, judge};
 pub use laws::sound_trees_are_search_trees;
 pub use node::{Node, TreeKind};
-pub use types::Layout;
+pub use types::{Layout, tree_types};
