@@ -59,12 +59,6 @@ name_of (option name greatest usual) = name
 name_of (wanted name) = name
 name_of (number name greatest) = name
 
-pub ruled_id : (i : ℕ) (a : Argument) → (ruled i a).id ≡ name_of a
-ruled_id i (flag name) = refl
-ruled_id i (option name greatest usual) = refl
-ruled_id i (wanted name) = refl
-ruled_id i (number name greatest) = refl
-
 -- ---- arguments that clap can tell from one another
 
 -- clap reads the name after two hyphens as it is
