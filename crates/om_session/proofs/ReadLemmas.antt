@@ -29,8 +29,7 @@ use Rattle.om_commands.specs.Tasks.{items_of, MayCome, StopsHere, EndsHere, comm
 use Rattle.om_commands.proofs.FirstLemmas.{says_first, front_end, goes_on}
 use Rattle.om_commands.proofs.ItemLemmas.{item_stays}
 use Rattle.om_commands.proofs.StayLemmas.{stops_more}
-use Rattle.om_work.specs.Works.{ItemsStay, HaltsWithin, PutsLast}
-use Rattle.om_work.proofs.PieceLemmas.{halts_at_once}
+use Rattle.om_work.specs.Works.{ItemsStay, HaltsIn, PutsLast}
 use Rattle.om_promises.proofs.StreamLemmas.{value_or_tail}
 use Rattle.om_promises.proofs.LengthLemmas.{spelled_some}
 use Rattle.om_outcome.specs.RefusalText.{truncated_text}
@@ -427,11 +426,10 @@ full_stops (jobs.Compare most) trees front rest full some =
 -- a halt, in what is in hand
 module _ (w : Job) (taken : List ℕ) (said : List Said) (values : Values) (h : HasRead w values taken said) (rest : List ℕ) where
   abbrev Halts : Change ByteState → Halt → Type 0
-  Halts out halt = HaltsWithin (commands declared_types) (task_of w) taken said rest out halt
+  Halts out halt = HaltsIn (commands declared_types) (task_of w) taken rest said out halt
 
   pub stops_now : (stop : Stop) → StopsIn w h.trees (h.front ++ rest) stop → (a b : ByteState) → Puts (change a b) [] → Halts (change a b) (halts.Stop stop)
-  stops_now stop why a b none =
-      halts_at_once (commands declared_types) (task_of w) taken said rest a b (halts.Stop stop) (holds w taken said values h, why, none)
+  stops_now stop why a b none = (holds w taken said values h, why, none)
 
   -- at the line of the value that ends there
   pub next_halts : (n : ℕ) (a b : ByteState) (new : Values) (halt : Halt) → PutsNext {U = Unit {0}} w (taken ++ take n rest) said h.trees (h.front ++ take n rest) (change a b) new (Err halt)
@@ -446,8 +444,7 @@ module _ (w : Job) (taken : List ℕ) (said : List Said) (values : Values) (h : 
       let all : (taken ++ take n rest) ++ drop n rest ≡ taken ++ rest = append_assoc taken (take n rest) (drop n rest) ∙ ap (λ r. taken ++ r) (take-append-drop n rest) in
       let more = first_after declared_types (task_of w) (taken ++ take n rest) trees (said ++ next ∷ []) left (drop n rest) first in
       let here : SayFirst declared_types (task_of w) (taken ++ rest) trees (said ++ next ∷ []) (left ++ drop n rest) =
-      subst (λ b. SayFirst declared_types (task_of w) b trees (said ++ next ∷ []) (left ++ drop n rest)) all more in
-      halts_at_once (commands declared_types) (task_of w) taken said rest a b halts.WriteFault (
+      subst (λ b. SayFirst declared_types (task_of w) b trees (said ++ next ∷ []) (left ++ drop n rest)) all more in (
         holds w taken said values h,
         next,
         (items_of trees, left ++ drop n rest, says_first declared_types (task_of w) (taken ++ rest) trees (said ++ next ∷ []) (left ++ drop n rest) here),

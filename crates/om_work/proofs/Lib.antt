@@ -3,3 +3,4 @@ pub mod PieceLemmas
 pub mod RunLemmas
 pub mod AccountLemmas
 pub mod OutsideLemmas
+pub mod GatherLemmas

@@ -9,7 +9,7 @@ use Rattle.om_stops.specs.declared.stop.Halt.{Halt}
 use Rattle.om_promises.specs.Commands.{Commands}
 use Rattle.om_promises.proofs.PutLemmas.{puts_then, puts_nothing}
 use Rattle.om_promises.proofs.ValueLemmas.{texts_of-append}
-use Rattle.om_work.specs.Works.{Has, HaltsIn, HaltsWithin, Feeds, FeedsAll, EndsAt}
+use Rattle.om_work.specs.Works.{Has, HaltsIn, HaltsWithin, Feeds, FeedsSome, FeedsAll, EndsAt}
 
 -- what is before the rest of the piece is taken, and what is said of its items is put
 pub record PieceSoFar (has : Has) (bytes : List ℕ) (said : List Said) (piece rest : List ℕ)
@@ -45,7 +45,7 @@ module _ {A : Type 0} (c : Commands A) (a : A) (has : Has) (bytes : List ℕ) (s
       let all = length-append bytes s.done in omega (arith, size, all, short)
 
   pub piece_more :
-      (q : ByteState) (after : Has) (n : ℕ) → Feeds c a has after rest (change p q) (Ok n)
+      (q : ByteState) (after : Has) (n : ℕ) → FeedsSome c a has after rest (change p q) (Ok n)
       → PieceSoFar after bytes said piece (drop n rest) (change o q)
   piece_more q after n (some, fits, feeds) =
       let (more, there, put) = feeds (bytes ++ s.done) (said ++ s.more) s.there in record {
@@ -91,26 +91,10 @@ module _ {A : Type 0} (c : Commands A) (a : A) (has : Has) (bytes : List ℕ) (s
 
 pub piece_smaller :
     {A : Type 0} (c : Commands A) (a : A) (has after : Has) (rest : List ℕ)
-    (out : Change ByteState) (n : ℕ) → Feeds c a has after rest out (Ok n)
+    (out : Change ByteState) (n : ℕ) → FeedsSome c a has after rest out (Ok n)
     → length (drop n rest) < length rest
 piece_smaller c a has after rest out n (some, fits, feeds) =
     omega (arith, length-drop n rest, some, fits)
-
--- nothing was put before the halt
-pub halts_at_once :
-    {A : Type 0} (c : Commands A) (a : A) (bytes : List ℕ) (said : List Said) (in_hand : List ℕ)
-    (o q : ByteState) (halt : Halt) → HaltsIn c a bytes in_hand said (change o q) halt
-    → HaltsWithin c a bytes said in_hand (change o q) halt
-halts_at_once c a bytes said in_hand o q halt halts = record {
-  done = [];
-  in_hand = in_hand;
-  split = refl;
-  more = [];
-  between = o;
-  put = puts_nothing o;
-  halts = subst (λ b. HaltsIn c a b in_hand (said ++ []) (change o q) halt) (sym (append-nil bytes))
-      (subst (λ s. HaltsIn c a bytes in_hand s (change o q) halt) (sym (append-nil said)) halts);
-}
 
 -- a call ends in a halt
 pub feeds_halt :
@@ -118,7 +102,7 @@ pub feeds_halt :
     (out : Change ByteState) (halt : Halt) (result : Result ℕ Halt)
     → IsErrAnd result (λ e. e ≡ halt)
     → ((bytes : List ℕ) (said : List Said) → before bytes said
-    → HaltsWithin c a bytes said in_hand out halt)
+    → HaltsIn c a bytes in_hand said out halt)
     → Feeds c a before after in_hand out result
 feeds_halt c a before after in_hand out halt (Ok n) is halts = absurd is
 feeds_halt c a before after in_hand out halt (Err e) is halts =
@@ -141,14 +125,14 @@ FedSoFar before has piece rest out =
 module _ {A : Type 0} (c : Commands A) (a : A) (before has : Has) (piece rest : List ℕ)
     (o p : ByteState) (s : FedSoFar before has piece rest (change o p)) where
   pub fed_more :
-      (q : ByteState) (after : Has) (n : ℕ) → Feeds c a has after rest (change p q) (Ok n)
+      (q : ByteState) (after : Has) (n : ℕ) → FeedsSome c a has after rest (change p q) (Ok n)
       → FedSoFar before after piece (drop n rest) (change o q)
   fed_more q after n feeds bytes said there =
       piece_more c a has bytes said piece rest o p (s bytes said there) q after n feeds
 
   pub fed_halts :
       (q : ByteState) (after any : Has) (halt : Halt) (result : Result (Unit {0}) Halt)
-      → IsErrAnd result (λ e. e ≡ halt) → Feeds c a has after rest (change p q) (Err halt)
+      → IsErrAnd result (λ e. e ≡ halt) → FeedsSome c a has after rest (change p q) (Err halt)
       → FeedsAll c a before any piece (change o q) result
   fed_halts q after any halt (Ok done) is feeds = absurd is
   fed_halts q after any halt (Err e) is feeds =

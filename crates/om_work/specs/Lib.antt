@@ -1,3 +1,4 @@
 pub mod Works
 pub mod Runs
 pub mod Reported
+pub mod Gathered

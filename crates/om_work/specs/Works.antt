@@ -37,6 +37,17 @@ module _ {A : Type 0} (c : Commands A) (a : A) where
       HoldNoStop c a earlier said
       × (next : Said) × AreSaid (earlier ++ in_hand) (said ++ next ∷ []) × PutsPart out next.text
 
+  -- Some bytes in hand are taken, one at least, and at most one item ends with them: what is said
+  -- of it is put. Or it comes to a halt.
+  abbrev pub Feeds : Has → Has → List ℕ → Change ByteState → Result ℕ Halt → Type 0
+  Feeds before after in_hand out (Ok n) =
+      (0 < n) × (n ≤ length in_hand)
+      × ((bytes : List ℕ) (said : List Said) → before bytes said
+      → (more : List Said) × (length more ≤ 1)
+      × after (bytes ++ take n in_hand) (said ++ more) × Puts out (texts_of more))
+  Feeds before after in_hand out (Err halt) =
+      (bytes : List ℕ) (said : List Said) → before bytes said → HaltsIn bytes in_hand said out halt
+
   -- it comes to a halt within a piece: before that what is said of the items that end there is put
   pub record HaltsWithin (bytes : List ℕ) (said : List Said) (piece : List ℕ)
       (out : Change ByteState) (halt : Halt) : Type 0 where
@@ -50,13 +61,13 @@ module _ {A : Type 0} (c : Commands A) (a : A) where
 
   -- Some bytes in hand are taken, one at least, and what is said of the items that end in them is
   -- put; or it comes to a halt within those in hand.
-  abbrev pub Feeds : Has → Has → List ℕ → Change ByteState → Result ℕ Halt → Type 0
-  Feeds before after in_hand out (Ok n) =
+  abbrev pub FeedsSome : Has → Has → List ℕ → Change ByteState → Result ℕ Halt → Type 0
+  FeedsSome before after in_hand out (Ok n) =
       (0 < n) × (n ≤ length in_hand)
       × ((bytes : List ℕ) (said : List Said) → before bytes said
       → (more : List Said) × after (bytes ++ take n in_hand) (said ++ more)
       × Puts out (texts_of more))
-  Feeds before after in_hand out (Err halt) =
+  FeedsSome before after in_hand out (Err halt) =
       (bytes : List ℕ) (said : List Said) → before bytes said
       → HaltsWithin bytes said in_hand out halt
 

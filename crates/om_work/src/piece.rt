@@ -7,7 +7,7 @@ ghost use Rattle.om_edge.specs.State.{change};
 ghost use Rattle.om_promises.specs.Given.{piece_limit};
 ghost use Rattle.om_work.specs.Works.{FeedsAll};
 
-use crate::Work;
+use crate::{Work, feed_some};
 use om_edge::Sink;
 use om_model::bytes::skip;
 use om_stops::stop::Halt;
@@ -31,7 +31,7 @@ pub fn feed_piece<W: Work, K: Sink>(
 {
     let mut rest = piece;
     while !rest.is_empty() {
-        let taken = work.feed(alloc, rest, out)?;
+        let taken = feed_some(alloc, work, rest, out)?;
         rest = skip(rest, taken);
     }
     Ok(())

@@ -28,8 +28,9 @@ pub trait Work {
     fn reads(&self) -> bool
         ensures { IsTrue result ↔ commands.Reads (act self.now) };
 
-    /// Takes some of the bytes in hand, one at least, and puts what is to be said of the items that
-    /// end in them. Of a command that reads nothing this says nothing: it is not called.
+    /// Takes some of the bytes in hand, one at least, up to the end of an item at most, and puts
+    /// what is to be said of that item. Of a command that reads nothing this says nothing: it is not
+    /// called.
     fn feed<K: Sink>(&mut self, alloc: Global, in_hand: &[u8], out: &mut K) -> Result<usize, Halt>
         requires some { 0 < length in_hand.now }
         requires has { (bytes : List ℕ) × (said : List Said) × has self.old bytes said

@@ -13,9 +13,8 @@ use Rattle.om_promises.specs.Account.{HoldNoStop}
 use Rattle.om_promises.specs.Commands.{Item, text, Cut, SaysFirst}
 use Rattle.om_promises.proofs.PutLemmas.{puts_nothing}
 use Rattle.om_promises.proofs.ValueLemmas.{all_well-snoc}
-use Rattle.om_work.specs.Works.{ItemsStay, HaltsWithin, Feeds, PutsLast}
+use Rattle.om_work.specs.Works.{ItemsStay, HaltsIn, Feeds, PutsLast}
 use Rattle.om_work.proofs.FirstLemmas.{first_stays, first_next}
-use Rattle.om_work.proofs.PieceLemmas.{halts_at_once}
 use Rattle.om_work_examples.specs.Small.{fine, bytes_but}
 use Rattle.om_work_examples.specs.Taken.{HasBytes}
 
@@ -71,31 +70,29 @@ module _ (refused count : ℕ) (bytes : List ℕ) (said : List Said)
 
   pub byte_refused :
       (in_hand more : List ℕ) (o : ByteState) → in_hand ≡ refused ∷ more
-      → HaltsWithin bytes_but refused bytes said in_hand (change o o)
+      → HaltsIn bytes_but refused bytes in_hand said (change o o)
       (halts.Stop (codes.Refused count Compressed))
-  byte_refused in_hand more o is =
-      halts_at_once bytes_but refused bytes said in_hand o o (halts.Stop (codes.Refused count Compressed)) (
-        bytes_hold,
-        inl (more, is, ap (λ n. outcome.value n (refusal_text Compressed)) h.counted),
-        puts_nothing o,
-      )
+  byte_refused in_hand more o is = (
+    bytes_hold,
+    inl (more, is, ap (λ n. outcome.value n (refusal_text Compressed)) h.counted),
+    puts_nothing o,
+  )
 
   pub byte_fault :
       (in_hand more : List ℕ) (b : ℕ) (o q : ByteState)
       → in_hand ≡ b ∷ more → b ≢ refused → PutsPart (change o q) (b ∷ [])
-      → HaltsWithin bytes_but refused bytes said in_hand (change o q) halts.WriteFault
-  byte_fault in_hand more b o q begins other part =
-      halts_at_once bytes_but refused bytes said in_hand o q halts.WriteFault (
-        bytes_hold,
-        fine (b ∷ []),
-        (
-          h.items ++ text (b ∷ []) ∷ [],
-          more,
-          subst (λ t. SaysFirst bytes_but refused (bytes ++ t) (h.items ++ text (b ∷ []) ∷ [])
-              (said ++ fine (b ∷ []) ∷ []) more) (sym begins) (byte_said b more other),
-        ),
-        part,
-      )
+      → HaltsIn bytes_but refused bytes in_hand said (change o q) halts.WriteFault
+  byte_fault in_hand more b o q begins other part = (
+    bytes_hold,
+    fine (b ∷ []),
+    (
+      h.items ++ text (b ∷ []) ∷ [],
+      more,
+      subst (λ t. SaysFirst bytes_but refused (bytes ++ t) (h.items ++ text (b ∷ []) ∷ [])
+          (said ++ fine (b ∷ []) ∷ []) more) (sym begins) (byte_said b more other),
+    ),
+    part,
+  )
 
   pub bytes_end :
       (o : ByteState)
@@ -128,6 +125,7 @@ byte_feeds refused count in_hand o q some other put = (
   omega (arith, some),
   λ bytes said h. (
     fine (get_or in_hand 0 0 ∷ []) ∷ [],
+    omega arith,
     subst (λ t. HasBytes refused (count + 1) (bytes ++ t)
         (said ++ fine (get_or in_hand 0 0 ∷ []) ∷ [])) (sym (front_byte in_hand some).2)
         (byte_taken refused count bytes said h (get_or in_hand 0 0) other),

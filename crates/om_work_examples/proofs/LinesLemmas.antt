@@ -10,9 +10,8 @@ use Rattle.om_promises.specs.Account.{HoldNoStop}
 use Rattle.om_promises.specs.Commands.{text, SaysFirst}
 use Rattle.om_promises.proofs.PutLemmas.{puts_nothing}
 use Rattle.om_promises.proofs.ValueLemmas.{texts_of-one, all_well-snoc}
-use Rattle.om_work.specs.Works.{ItemsStay, HaltsWithin, Feeds, PutsLast}
+use Rattle.om_work.specs.Works.{ItemsStay, HaltsIn, Feeds, PutsLast}
 use Rattle.om_work.proofs.FirstLemmas.{first_stays, first_next}
-use Rattle.om_work.proofs.PieceLemmas.{halts_at_once}
 use Rattle.om_work_examples.proofs.BytesLemmas.{front_byte}
 use Rattle.om_work_examples.specs.Small.{IsUnbroken, fine, last_line, lines}
 use Rattle.om_work_examples.specs.Taken.{HasLines}
@@ -84,27 +83,25 @@ module _ (rest bytes : List ℕ) (said : List Said) (h : HasLines rest bytes sai
 
   pub lines_memory :
       (in_hand : List ℕ) (o : ByteState)
-      → HaltsWithin lines tt bytes said in_hand (change o o) (halts.Stop codes.Memory)
+      → HaltsIn lines tt bytes in_hand said (change o o) (halts.Stop codes.Memory)
   lines_memory in_hand o =
-      halts_at_once lines tt bytes said in_hand o o (halts.Stop codes.Memory)
       (lines_hold, inr refl, puts_nothing o)
 
   pub line_fault :
       (in_hand more : List ℕ) (o q : ByteState) → in_hand ≡ 10 ∷ more
       → PutsPart (change o q) next.text
-      → HaltsWithin lines tt bytes said in_hand (change o q) halts.WriteFault
-  line_fault in_hand more o q begins part =
-      halts_at_once lines tt bytes said in_hand o q halts.WriteFault (
-        lines_hold,
-        next,
-        (
-          h.items ++ text rest ∷ [],
-          more,
-          subst (λ t. SaysFirst lines tt (bytes ++ t) (h.items ++ text rest ∷ [])
-              (said ++ next ∷ []) more) (sym begins) (line_said more),
-        ),
-        part,
-      )
+      → HaltsIn lines tt bytes in_hand said (change o q) halts.WriteFault
+  line_fault in_hand more o q begins part = (
+    lines_hold,
+    next,
+    (
+      h.items ++ text rest ∷ [],
+      more,
+      subst (λ t. SaysFirst lines tt (bytes ++ t) (h.items ++ text rest ∷ [])
+          (said ++ next ∷ []) more) (sym begins) (line_said more),
+    ),
+    part,
+  )
 
   -- ---- at the end
 
@@ -172,6 +169,7 @@ module _ (rest kept in_hand : List ℕ) (some : 0 < length in_hand)
     omega (arith, some),
     λ bytes said h. (
       [],
+      omega arith,
       subst (λ t. HasLines kept (bytes ++ t) (said ++ [])) (sym (front_byte in_hand some).2)
           (subst (λ k. HasLines k (bytes ++ get_or in_hand 0 0 ∷ []) (said ++ [])) (sym is_kept)
           (line_goes_on rest bytes said h (get_or in_hand 0 0) other)),
@@ -191,6 +189,7 @@ module _ (rest kept in_hand : List ℕ) (some : 0 < length in_hand)
       omega (arith, some),
       λ bytes said h. (
         fine (rest ++ 10 ∷ []) ∷ [],
+        omega arith,
         subst (λ t. HasLines cleared (bytes ++ t) (said ++ fine (rest ++ 10 ∷ []) ∷ []))
             (sym ((front_byte in_hand some).2 ∙ ap (λ b. b ∷ []) is_feed))
             (subst (λ k. HasLines k (bytes ++ 10 ∷ []) (said ++ fine (rest ++ 10 ∷ []) ∷ [])) (sym none)
@@ -202,7 +201,7 @@ module _ (rest kept in_hand : List ℕ) (some : 0 < length in_hand)
     pub line_feeds_fault :
         (o q : ByteState) → PutsPart (change o q) told
         → (bytes : List ℕ) (said : List Said) → HasLines rest bytes said
-        → HaltsWithin lines tt bytes said in_hand (change o q) halts.WriteFault
+        → HaltsIn lines tt bytes in_hand said (change o q) halts.WriteFault
     line_feeds_fault o q part bytes said h =
         let f = front_byte in_hand some in
         line_fault rest bytes said h in_hand f.0 o q (f.1 ∙ ap (λ b. b ∷ f.0) is_feed)

@@ -1,7 +1,7 @@
 use Rattle.std.proofs.Common.{◌<◌, ◌^◌, ◌++◌, ◌∙◌, Ok, Err, refl, length, sym, subst, arith}
 use Rattle.om_edge.specs.State.{change}
 use Rattle.om_promises.proofs.LengthLemmas.{no_bytes}
-use Rattle.om_work.specs.Works.{Feeds}
+use Rattle.om_work.specs.Works.{FeedsSome}
 use Rattle.om_work.proofs.PieceLemmas.{piece_begins, piece_room, piece_smaller, fed_more, fed_halts, fed_all}
 use Rattle.om_work.proofs.piece.feed_piece.Goals as goal
 
@@ -11,8 +11,11 @@ loop-rest-init g c = record {
   fed = λ bytes said there. piece_begins (g.W.Work.has c.args.work.now) bytes said c.args.piece.now (g.K.Sink.state c.args.out.now) there;
 }
 
-pub feed-requires-clause-has : goal.feed-requires-clause-has
-feed-requires-clause-has g c =
+pub feed_some-requires-clause-reads : goal.feed_some-requires-clause-reads
+feed_some-requires-clause-reads g c = subst g.W.Work.commands.Reads (sym c.loop-rest.invariant.kept) c.requires.reads
+
+pub feed_some-requires-clause-has : goal.feed_some-requires-clause-has
+feed_some-requires-clause-has g c =
     let r = c.requires.has in
     let s = c.loop-rest.invariant.fed r.0 r.1 r.2 in
     let few = r.3 in
@@ -24,24 +27,24 @@ returns-in_err-taken-clause-kept g c = c.in_err-taken.ensures.kept ∙ c.loop-re
 
 pub returns-in_err-taken-clause-feeds : goal.returns-in_err-taken-clause-feeds
 returns-in_err-taken-clause-feeds g c =
-    fed_halts g.W.Work.commands (g.W.Work.act c.args.work.now) _ (g.W.Work.has c.loop-rest.work) _ _ _ _ c.loop-rest.invariant.fed (g.K.Sink.state c.feed.new.out)
-    (g.W.Work.has c.feed.new.self) (g.W.Work.has c.feed.new.self) c.in_err-taken.field-0.0 c.from_residual.result c.from_residual.ensures.1
-    (subst (λ a. Feeds g.W.Work.commands a (g.W.Work.has c.loop-rest.work) (g.W.Work.has c.feed.new.self) c.loop-rest.rest.now
-    (change (g.K.Sink.state c.loop-rest.out) (g.K.Sink.state c.feed.new.out)) (Err c.in_err-taken.field-0.0)) c.loop-rest.invariant.kept (c.in_err-taken.ensures.feeds (subst g.W.Work.commands.Reads (sym c.loop-rest.invariant.kept) c.requires.reads)))
+    fed_halts g.W.Work.commands (g.W.Work.act c.args.work.now) _ (g.W.Work.has c.loop-rest.work) _ _ _ _ c.loop-rest.invariant.fed (g.K.Sink.state c.feed_some.new.out)
+    (g.W.Work.has c.feed_some.new.work) (g.W.Work.has c.feed_some.new.work) c.in_err-taken.field-0.0 c.from_residual.result c.from_residual.ensures.1
+    (subst (λ a. FeedsSome g.W.Work.commands a (g.W.Work.has c.loop-rest.work) (g.W.Work.has c.feed_some.new.work) c.loop-rest.rest.now
+    (change (g.K.Sink.state c.loop-rest.out) (g.K.Sink.state c.feed_some.new.out)) (Err c.in_err-taken.field-0.0)) c.loop-rest.invariant.kept c.in_err-taken.ensures.feeds)
 
 pub loop-rest-smaller : goal.loop-rest-smaller
 loop-rest-smaller g c =
     subst (λ rest. length rest < length c.loop-rest.rest.now) (sym c.skip-rest.ensures)
-    (piece_smaller g.W.Work.commands (g.W.Work.act c.loop-rest.work) (g.W.Work.has c.loop-rest.work) (g.W.Work.has c.feed.new.self) c.loop-rest.rest.now
-    (change (g.K.Sink.state c.loop-rest.out) (g.K.Sink.state c.feed.new.out)) c.in_ok-taken.taken (c.in_ok-taken.ensures.feeds (subst g.W.Work.commands.Reads (sym c.loop-rest.invariant.kept) c.requires.reads)))
+    (piece_smaller g.W.Work.commands (g.W.Work.act c.loop-rest.work) (g.W.Work.has c.loop-rest.work) (g.W.Work.has c.feed_some.new.work) c.loop-rest.rest.now
+    (change (g.K.Sink.state c.loop-rest.out) (g.K.Sink.state c.feed_some.new.out)) c.in_ok-taken.taken c.in_ok-taken.ensures.feeds)
 
 pub loop-rest-preserved : goal.loop-rest-preserved
 loop-rest-preserved g c = rw c.skip-rest.ensures record {
   kept = c.in_ok-taken.ensures.kept ∙ c.loop-rest.invariant.kept;
-  fed = fed_more g.W.Work.commands (g.W.Work.act c.args.work.now) _ (g.W.Work.has c.loop-rest.work) _ _ _ _ c.loop-rest.invariant.fed (g.K.Sink.state c.feed.new.out)
-      (g.W.Work.has c.feed.new.self) c.in_ok-taken.taken
-      (subst (λ a. Feeds g.W.Work.commands a (g.W.Work.has c.loop-rest.work) (g.W.Work.has c.feed.new.self) c.loop-rest.rest.now
-      (change (g.K.Sink.state c.loop-rest.out) (g.K.Sink.state c.feed.new.out)) (Ok c.in_ok-taken.taken)) c.loop-rest.invariant.kept (c.in_ok-taken.ensures.feeds (subst g.W.Work.commands.Reads (sym c.loop-rest.invariant.kept) c.requires.reads)));
+  fed = fed_more g.W.Work.commands (g.W.Work.act c.args.work.now) _ (g.W.Work.has c.loop-rest.work) _ _ _ _ c.loop-rest.invariant.fed (g.K.Sink.state c.feed_some.new.out)
+      (g.W.Work.has c.feed_some.new.work) c.in_ok-taken.taken
+      (subst (λ a. FeedsSome g.W.Work.commands a (g.W.Work.has c.loop-rest.work) (g.W.Work.has c.feed_some.new.work) c.loop-rest.rest.now
+      (change (g.K.Sink.state c.loop-rest.out) (g.K.Sink.state c.feed_some.new.out)) (Ok c.in_ok-taken.taken)) c.loop-rest.invariant.kept c.in_ok-taken.ensures.feeds);
 }
 
 pub returns-clause-kept : goal.returns-clause-kept

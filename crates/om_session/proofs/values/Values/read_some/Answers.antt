@@ -1,6 +1,7 @@
 use Rattle.std.proofs.Common.{take, ◌++◌, [], ◌∷◌, ◌<◌, subst, arith}
 use Rattle.om_edge.specs.State.{change}
 use Rattle.om_commands.specs.Tasks.{commands}
+use Rattle.om_stops.specs.declared.stop.Stop.TheVariants.{NotTwoValues}
 use Rattle.om_work.proofs.PieceLemmas.{feeds_halt}
 use Rattle.om_session.specs.Language.{declared_types}
 use Rattle.om_session.specs.Values.{MayTake, IsFull, HasRead, task_of, word_limit}
@@ -12,7 +13,7 @@ use Rattle.om_session.proofs.values.Values.read_some.Goals as goal
 
 pub returns-then-is_full : goal.returns-then-is_full
 returns-then-is_full g c = λ taken said h.
-    stops_now c.args.job taken said c.args.self.now h c.args.rest.now _
+    stops_now c.args.job taken said c.args.self.now h c.args.rest.now NotTwoValues
     (full_stops c.args.job h.trees h.front c.args.rest.now (subst (λ n. IsFull c.args.job n) h.counted c.if-is_full.ensures) c.requires.some)
     (g.K.Sink.state c.args.out.now) (g.K.Sink.state c.args.out.now) (puts_nothing (g.K.Sink.state c.args.out.now))
 
@@ -53,9 +54,10 @@ returns-after-fed g c =
             | then-fed+in_ok-put_value-in-Ok w ↦
                 let whole = whole_read c.args.job taken said c.args.self.now h c.args.rest.now c.feed.new.self c.in-Ok.fed f may w.if-fed.true in
                 let put = w.in_ok-put_value-in-Ok.ensures (taken ++ take c.in-Ok.fed.taken c.args.rest.now) said whole in
-                (put.0 ∷ [], rw (w.self-is) put.1, rw (w.out-is, texts_of-one put.0) put.2)
+                (put.0 ∷ [], omega arith, rw (w.self-is) put.1, rw (w.out-is, texts_of-one put.0) put.2)
             | else-fed w ↦ (
               [],
+              omega arith,
               rw (w.self-is) (front_read c.args.job taken said c.args.self.now h c.args.rest.now c.feed.new.self c.in-Ok.fed f may w.if-fed.false),
               rw (w.out-is) (puts_nothing (g.K.Sink.state c.args.out.now)),
             )

@@ -1,0 +1,374 @@
+-- What is said of items, gathered and put at once: where out fails, it fails in the text of one item.
+use Rattle.std.proofs.Common.{◌≡◌, ◌⊎◌, ℕ, zero, suc, ◌+◌, ◌-◌, ◌<◌, ◌≤◌, List, [], ◌∷◌, ◌++◌, length, take, drop, Option, Some, None, Result, Ok, Err, inl, inr, refl, sym, ap, ◌∙◌, subst, append_assoc, append-nil, length-append, arith}
+use Rattle.std.proofs.Math.Seq.{take-add, take-append-add}
+use Rattle.std.proofs.lemmas.List.{take-append-drop, take-append-le, take_at}
+use Rattle.std.specs.Prelude.{IsErrAnd, true, false, is_some}
+use Rattle.om_outcome.specs.Outcome.{Said, texts_of}
+use Rattle.om_edge.specs.Faults.{HasCause}
+use Rattle.om_edge.specs.Sink.{Puts, PutsPart}
+use Rattle.om_edge.specs.State.{ByteState, Change, change}
+use Rattle.om_stops.specs.declared.stop.Halt.{Halt}
+use Rattle.om_stops.specs.declared.stop.Halt.TheVariants as halts
+use Rattle.om_stops.specs.declared.stop.Stop.{Stop}
+use Rattle.om_promises.specs.Account.{HoldNoStop}
+use Rattle.om_promises.specs.Commands.{Commands, SaysFirst}
+use Rattle.om_promises.proofs.PutLemmas.{puts_then, puts_nothing}
+use Rattle.om_promises.proofs.ValueLemmas.{texts_of-append}
+use Rattle.om_work.specs.Works.{Has, ItemsStay, AreSaid, HaltsWithin, Feeds, FeedsSome}
+use Rattle.om_work.specs.Gathered.{text_state, MayBreakAt, MayBreak, GathersTo, GathersUntil, Gathers, GathersOne}
+use Rattle.om_work.proofs.FirstLemmas.{first_stays}
+
+-- ---- a text in memory
+
+abbrev grown : List ℕ → List ℕ → Change ByteState
+grown old new = change (text_state old) (text_state new)
+
+-- what a call on it did
+puts_text : (old new text : List ℕ) → Puts (grown old new) text → new ≡ old ++ text
+puts_text old new text put =
+    let is : ◌≡◌ {A = Option (List ℕ)} (Some new) (Some (old ++ text)) = put.appended in cc is
+
+part_text :
+    (old new text : List ℕ) → PutsPart (grown old new) text → take (length old) new ≡ old
+part_text old new text part =
+    let n = part.appended.0 in
+    let is : ◌≡◌ {A = Option (List ℕ)} (Some new) (Some (old ++ take n text)) =
+    part.appended.2 in
+    let same : new ≡ old ++ take n text = cc is in
+    ap (λ t. take (length old) t) same ∙ take_at old (take n text) (length old) refl
+
+-- ---- out fails in one of some texts
+
+-- of the texts of some items these were put, and then a part of the next one
+pub record FailsIn (out : Change ByteState) (more : List Said) : Type 0 where
+  pub first : List Said
+  pub next : Said
+  pub later : List Said
+  pub more_is : more ≡ first ++ next ∷ later
+  pub between : ByteState
+  pub put : Puts (change out.before between) (texts_of first)
+  pub part : PutsPart (change between out.after) next.text
+
+less_or : (m n : ℕ) → (m < n) ⊎ (n ≤ m)
+less_or m zero = inr (omega arith)
+less_or zero (suc n) = inl (omega arith)
+less_or (suc m) (suc n) = elim (less_or m n) [
+  | inl less ↦ inl (omega (arith, less))
+  | inr more ↦ inr (omega (arith, more))
+]
+
+module _ (q : ByteState) (faults : ℕ) (cause : HasCause faults q.faults true) where
+  abbrev from : Option (List ℕ) → Change ByteState
+  from bytes = change (record { bytes = bytes; faults = faults }) q
+
+  fails_untold :
+      is_some q.bytes ≡ false → (more : List Said) → (texts_of more ≡ [] → ⊥)
+      → FailsIn (from None) more
+  fails_untold told [] some = absurd (some refl)
+  fails_untold told (said ∷ more) some = record {
+    first = [];
+    next = said;
+    later = more;
+    more_is = refl;
+    between = record { bytes = None; faults = faults };
+    put = puts_nothing (record { bytes = None; faults = faults });
+    part = record { appended = tt; told = told; cause = cause };
+  }
+
+  module _ (told : is_some q.bytes ≡ true) where
+    -- so much of the texts came to the bytes before
+    abbrev Came : List ℕ → List Said → ℕ → Type 0
+    Came before more n = q.bytes ≡ Some (before ++ take n (texts_of more))
+
+    abbrev ended_by : List ℕ → ByteState
+    ended_by before = record { bytes = Some before; faults = faults }
+
+    told_here :
+        (before : List ℕ) (said : Said) (more : List Said) (n : ℕ) → n < length said.text
+        → Came before (said ∷ more) n → FailsIn (from (Some before)) (said ∷ more)
+    told_here before said more n less is = record {
+      first = [];
+      next = said;
+      later = more;
+      more_is = refl;
+      between = ended_by before;
+      put = puts_nothing (ended_by before);
+      part = record {
+        appended = (
+          n,
+          less,
+          is ∙ ap (λ t. Some (before ++ t))
+              (take-append-le n said.text (texts_of more) (omega (arith, less))),
+        );
+        told = told;
+        cause = cause;
+      };
+    }
+
+    told_there :
+        (before : List ℕ) (said : Said) (more : List Said) (n : ℕ) → length said.text ≤ n
+        → n < length (texts_of (said ∷ more)) → Came before (said ∷ more) n
+        → ((before : List ℕ) (n : ℕ) → n < length (texts_of more) → Came before more n
+        → FailsIn (from (Some before)) more)
+        → FailsIn (from (Some before)) (said ∷ more)
+    told_there before said more n all few is later =
+        let left = n - length said.text in
+        let number : n ≡ length said.text + left = omega (arith, all) in
+        let size = length-append said.text (texts_of more) in
+        let rest : Came (before ++ said.text) more left =
+        is ∙ (ap (λ k. Some (before ++ take k (said.text ++ texts_of more))) number
+        ∙ (ap (λ t. Some (before ++ t)) (take-append-add said.text (texts_of more) left)
+        ∙ ap (λ t. Some t) (sym (append_assoc before said.text (take left (texts_of more)))))) in
+        let next = later (before ++ said.text) left (omega (arith, few, number, size)) rest in
+        let first_put : Puts (change (ended_by before) (ended_by (before ++ said.text))) said.text =
+        record {
+          appended = refl;
+          told = refl;
+          cause = record { never_falls = omega arith; rose = tt; kept = refl; at_last = λ e. e };
+        } in
+        record {
+          first = said ∷ next.first;
+          next = next.next;
+          later = next.later;
+          more_is = ap (λ m. said ∷ m) next.more_is;
+          between = next.between;
+          put = puts_then (ended_by before) (ended_by (before ++ said.text)) next.between
+              said.text (texts_of next.first) first_put next.put;
+          part = next.part;
+        }
+
+    fails_told :
+        (before : List ℕ) (more : List Said) (n : ℕ) → n < length (texts_of more)
+        → Came before more n → FailsIn (from (Some before)) more
+    fails_told before [] n few is = absurd (omega (arith, few))
+    fails_told before (said ∷ more) n few is =
+        elim (less_or n (length said.text)) [
+          | inl less ↦ told_here before said more n less is
+          | inr all ↦
+              told_there before said more n all few is
+              (λ before n few is. fails_told before more n few is)
+        ]
+
+  fails_by :
+      (bytes : Option (List ℕ)) (more : List Said) → (texts_of more ≡ [] → ⊥)
+      → PutsPart (from bytes) (texts_of more) → FailsIn (from bytes) more
+  fails_by None more some part = fails_untold part.told more some
+  fails_by (Some before) more some part =
+      let a = part.appended in fails_told part.told before more a.0 a.1 a.2
+
+fails_in :
+    (o q : ByteState) (more : List Said) → (texts_of more ≡ [] → ⊥)
+    → PutsPart (change o q) (texts_of more) → FailsIn (change o q) more
+fails_in o q more some part = fails_by q o.faults part.cause o.bytes more some part
+
+-- ---- one more text
+
+none_split :
+    (first later : List Said) (next : Said) → ◌≡◌ {A = List Said} [] (first ++ next ∷ later) → ⊥
+none_split [] later next same = cc same
+none_split (said ∷ first) later next same = cc same
+
+-- what is in front of an item is in front of the last one
+last_split :
+    (more first later : List Said) (last next : Said)
+    → more ++ last ∷ [] ≡ first ++ next ∷ later
+    → ((more ≡ first) × (last ≡ next))
+    ⊎ ((before : List Said) × (more ≡ first ++ next ∷ before))
+last_split [] [] later last next same = let is : last ≡ next = cc same in inl (refl, is)
+last_split [] (said ∷ first) later last next same =
+    let rest : ◌≡◌ {A = List Said} [] (first ++ next ∷ later) = cc same in
+    absurd (none_split first later next rest)
+last_split (said ∷ more) [] later last next same =
+    let is : said ≡ next = cc same in inr (more, ap (λ s. s ∷ more) is)
+last_split (said ∷ more) (told ∷ first) later last next same =
+    let is : said ≡ told = cc same in
+    let rest : more ++ last ∷ [] ≡ first ++ next ∷ later = cc same in
+    elim (last_split more first later last next rest) [
+      | inl both ↦ inl (ap (λ s. s ∷ more) is ∙ ap (λ m. told ∷ m) both.0, both.1)
+      | inr some ↦ inr (some.0, ap (λ s. s ∷ more) is ∙ ap (λ m. told ∷ m) some.1)
+    ]
+
+module _ {A : Type 0} (c : Commands A) (a : A) where
+  -- ---- one item
+
+  -- it stops the run, and puts nothing
+  pub one_stopped :
+      (before after : Has) (in_hand old new bytes : List ℕ) (said : List Said) → before bytes said
+      → (stop : Stop) → Feeds c a before after in_hand (grown old new) (Err (halts.Stop stop))
+      → GathersOne c a before after in_hand old new (Err (halts.Stop stop))
+  one_stopped before after in_hand old new bytes said there stop feeds = (
+    puts_text old new [] (feeds bytes said there).2 ∙ append-nil old,
+    λ bytes said there. let f = feeds bytes said there in (f.0, f.1),
+  )
+
+  -- ---- items so far
+
+  pub gathers_none :
+      (has : Has) (in_hand text bytes : List ℕ) (said : List Said) → has bytes said → text ≡ []
+      → GathersTo c a has in_hand 0 text bytes said
+  gathers_none has in_hand text bytes said there none = record {
+    more = [];
+    there = subst (λ b. has b (said ++ [])) (sym (append-nil bytes))
+        (subst (λ s. has bytes s) (sym (append-nil said)) there);
+    text_is = none;
+    may_break = λ first later next same. absurd (none_split first later next same);
+  }
+
+  module _ (stay : ItemsStay c a) (in_hand bytes : List ℕ) (said : List Said) (t n : ℕ) where
+    abbrev rest : List ℕ
+    rest = drop t in_hand
+
+    all_in_hand :
+        ((bytes ++ take t in_hand) ++ take n rest) ++ drop n rest ≡ bytes ++ in_hand
+    all_in_hand =
+        append_assoc (bytes ++ take t in_hand) (take n rest) (drop n rest)
+        ∙ (ap (λ r. (bytes ++ take t in_hand) ++ r) (take-append-drop n rest)
+        ∙ (append_assoc bytes (take t in_hand) rest
+        ∙ ap (λ r. bytes ++ r) (take-append-drop t in_hand)))
+
+    may_break_more :
+        (more new : List Said) → length new ≤ 1 → MayBreak c a bytes said in_hand more
+        → HoldNoStop c a (bytes ++ take t in_hand) (said ++ more)
+        → HoldNoStop c a ((bytes ++ take t in_hand) ++ take n rest) ((said ++ more) ++ new)
+        → MayBreak c a bytes said in_hand (more ++ new)
+    may_break_more more [] few before holds then =
+        subst (λ m. MayBreak c a bytes said in_hand m) (sym (append-nil more)) before
+    may_break_more more (last ∷ []) few before holds then =
+        λ first later next same. elim (last_split more first later last next same) [
+          | inl both ↦
+              subst (λ f. MayBreakAt c a bytes said in_hand f next) both.0
+              (subst (λ s. MayBreakAt c a bytes said in_hand more s) both.1 at_last)
+          | inr some ↦ before first some.0 next some.1
+        ] where
+          at_last : MayBreakAt c a bytes said in_hand more last
+          at_last = record {
+            done = take t in_hand;
+            rest = rest;
+            split = sym (take-append-drop t in_hand);
+            holds = holds;
+            are_said = (
+              then.items,
+              then.rest ++ drop n rest,
+              subst (λ b. SaysFirst c a b then.items ((said ++ more) ++ last ∷ [])
+                  (then.rest ++ drop n rest)) all_in_hand
+                  (first_stays c a stay ((bytes ++ take t in_hand) ++ take n rest) then.items
+                  ((said ++ more) ++ last ∷ []) then.rest (drop n rest) then.first),
+            );
+          }
+    may_break_more more (one ∷ two ∷ new) few before holds then = absurd (omega (arith, few))
+
+  module _ (before has after : Has) (in_hand text new : List ℕ) (t : ℕ) where
+    -- some items were gathered, from any bytes and what is said of them
+    abbrev SoFar : Type 0
+    SoFar = (bytes : List ℕ) (said : List Said) → before bytes said
+        → GathersTo c a has in_hand t text bytes said
+
+    pub gathers_more :
+        ItemsStay c a → SoFar → (n : ℕ)
+        → GathersOne c a has after (drop t in_hand) text new (Ok n)
+        → (bytes : List ℕ) (said : List Said) → before bytes said
+        → GathersTo c a after in_hand (t + n) new bytes said
+    gathers_more stay so_far n (some, fits, one) bytes said there =
+        let s = so_far bytes said there in
+        let f = one (bytes ++ take t in_hand) (said ++ s.more) s.there in
+        let taken : (bytes ++ take t in_hand) ++ take n (drop t in_hand) ≡ bytes ++ take (t + n) in_hand =
+        append_assoc bytes (take t in_hand) (take n (drop t in_hand))
+        ∙ ap (λ b. bytes ++ b) (sym (take-add t n in_hand)) in
+        record {
+          more = s.more ++ f.1;
+          there = subst (λ b. after b (said ++ (s.more ++ f.1))) taken
+              (subst (λ all. after ((bytes ++ take t in_hand) ++ take n (drop t in_hand)) all)
+              (append_assoc said s.more f.1) f.3);
+          text_is = f.5 ∙ (ap (λ b. b ++ texts_of f.1) s.text_is ∙ sym (texts_of-append s.more f.1));
+          may_break = may_break_more stay in_hand bytes said t n s.more f.1 f.2 s.may_break f.0 f.4;
+        }
+
+    gathers_stop :
+        SoFar → (stop : Stop)
+        → GathersOne c a has after (drop t in_hand) text new (Err (halts.Stop stop))
+        → (bytes : List ℕ) (said : List Said) → before bytes said
+        → GathersUntil c a in_hand stop new bytes said
+    gathers_stop so_far stop (same, one) bytes said there =
+        let s = so_far bytes said there in
+        let f = one (bytes ++ take t in_hand) (said ++ s.more) s.there in record {
+          n = t;
+          more = s.more;
+          holds = f.0;
+          why = f.1;
+          text_is = same ∙ s.text_is;
+          may_break = s.may_break;
+        }
+
+    gathers_err :
+        SoFar → (any : Has) (halt : Halt)
+        → GathersOne c a has after (drop t in_hand) text new (Err halt)
+        → Gathers c a before any in_hand new (Err halt)
+    gathers_err so_far any (halts.Stop stop) one = gathers_stop so_far stop one
+    gathers_err so_far any halts.WriteFault never = never
+
+    pub gathers_halt :
+        SoFar → (any : Has) (halt : Halt) (result : Result ℕ Halt) → IsErrAnd result (λ e. e ≡ halt)
+        → GathersOne c a has after (drop t in_hand) text new (Err halt)
+        → Gathers c a before any in_hand new result
+    gathers_halt so_far any halt (Ok n) is one = absurd is
+    gathers_halt so_far any halt (Err e) is one =
+        subst (λ e. Gathers c a before any in_hand new (Err e)) (sym is)
+        (gathers_err so_far any halt one)
+
+  -- ---- they are put
+
+  module _ (before after : Has) (in_hand text : List ℕ) (o q : ByteState) where
+    pub some_put :
+        (result : Result ℕ Halt) → Gathers c a before after in_hand text result
+        → Puts (change o q) text → FeedsSome c a before after in_hand (change o q) result
+    some_put (Ok n) (some, fits, gathers) put = (
+      some,
+      fits,
+      λ bytes said there.
+          let g = gathers bytes said there in
+          (g.more, g.there, subst (λ t. Puts (change o q) t) g.text_is put),
+    )
+    some_put (Err (halts.Stop stop)) gathers put = λ bytes said there.
+        let g = gathers bytes said there in record {
+          done = take g.n in_hand;
+          in_hand = drop g.n in_hand;
+          split = sym (take-append-drop g.n in_hand);
+          more = g.more;
+          between = q;
+          put = subst (λ t. Puts (change o q) t) g.text_is put;
+          halts = (g.holds, g.why, puts_nothing q);
+        }
+    some_put (Err halts.WriteFault) never put = absurd never
+
+    broken :
+        (text ≡ [] → ⊥) → PutsPart (change o q) text → (bytes : List ℕ) (said more : List Said)
+        → text ≡ texts_of more → MayBreak c a bytes said in_hand more
+        → HaltsWithin c a bytes said in_hand (change o q) halts.WriteFault
+    broken some part bytes said more is may_break =
+        let f = fails_in o q more (λ none. some (is ∙ none)) (subst (λ t. PutsPart (change o q) t) is part) in
+        let b = may_break f.first f.later f.next f.more_is in
+        record {
+          done = b.done;
+          in_hand = b.rest;
+          split = b.split;
+          more = f.first;
+          between = f.between;
+          put = f.put;
+          halts = (
+            b.holds,
+            f.next,
+            subst (λ x. AreSaid c a x ((said ++ f.first) ++ f.next ∷ []))
+                (ap (λ r. bytes ++ r) b.split ∙ sym (append_assoc bytes b.done b.rest)) b.are_said,
+            f.part,
+          );
+        }
+
+    pub some_broken :
+        (result : Result ℕ Halt) → Gathers c a before after in_hand text result
+        → (text ≡ [] → ⊥) → PutsPart (change o q) text
+        → FeedsSome c a before after in_hand (change o q) (Err halts.WriteFault)
+    some_broken (Ok n) gathers some part = λ bytes said there.
+        let g = gathers.2 bytes said there in broken some part bytes said g.more g.text_is g.may_break
+    some_broken (Err (halts.Stop stop)) gathers some part = λ bytes said there.
+        let g = gathers bytes said there in broken some part bytes said g.more g.text_is g.may_break
+    some_broken (Err halts.WriteFault) never some part = absurd never

@@ -1,0 +1,80 @@
+-- What is said of items, gathered before it is put.
+use Rattle.std.specs.Prelude.{ℕ, ◌<◌, ◌≤◌, ◌≡◌, ◌⊎◌, List, [], ◌∷◌, ◌++◌, length, take, drop, Some, Result, Ok, Err}
+use Rattle.om_outcome.specs.Outcome.{out_of_memory, Said, texts_of}
+use Rattle.om_edge.specs.Faults.{last_count}
+use Rattle.om_edge.specs.State.{ByteState}
+use Rattle.om_stops.specs.declared.stop.Halt.{Halt}
+use Rattle.om_stops.specs.declared.stop.Halt.TheVariants as halts
+use Rattle.om_stops.specs.declared.stop.Stop.{Stop}
+use Rattle.om_stops.specs.Stops.{stop_of}
+use Rattle.om_promises.specs.Account.{HoldNoStop}
+use Rattle.om_promises.specs.Commands.{Commands}
+use Rattle.om_work.specs.Works.{Has, AreSaid}
+
+-- a text in memory, as a sink: how often memory ran out is not counted
+abbrev pub text_state : List ℕ → ByteState
+text_state text = record { bytes = Some text; faults = last_count }
+
+module _ {A : Type 0} (c : Commands A) (a : A) where
+  -- after these items out may fail in the text of the next one: the bytes before it hold no stop
+  pub record MayBreakAt (bytes : List ℕ) (said : List Said) (in_hand : List ℕ)
+      (first : List Said) (next : Said) : Type 0 where
+    pub done : List ℕ
+    pub rest : List ℕ
+    pub split : in_hand ≡ done ++ rest
+    pub holds : HoldNoStop c a (bytes ++ done) (said ++ first)
+    pub are_said : AreSaid c a (bytes ++ in_hand) ((said ++ first) ++ next ∷ [])
+
+  -- it may fail in any of these texts
+  abbrev pub MayBreak : List ℕ → List Said → List ℕ → List Said → Type 0
+  MayBreak bytes said in_hand more =
+      (first later : List Said) (next : Said) → more ≡ first ++ next ∷ later
+      → MayBreakAt bytes said in_hand first next
+
+  -- the bytes in hand are taken up to here, and this is the text of the items that end in them
+  pub record GathersTo (has : Has) (in_hand : List ℕ) (n : ℕ) (text bytes : List ℕ)
+      (said : List Said) : Type 0 where
+    pub more : List Said
+    pub there : has (bytes ++ take n in_hand) (said ++ more)
+    pub text_is : text ≡ texts_of more
+    pub may_break : MayBreak bytes said in_hand more
+
+  -- up to here, and there the run stops or memory ran out
+  pub record GathersUntil (in_hand : List ℕ) (stop : Stop) (text bytes : List ℕ)
+      (said : List Said) : Type 0 where
+    pub n : ℕ
+    pub more : List Said
+    pub holds : HoldNoStop c a (bytes ++ take n in_hand) (said ++ more)
+    pub why : c.Stops a holds.items (holds.rest ++ drop n in_hand) (stop_of stop)
+        ⊎ (stop_of stop ≡ out_of_memory)
+    pub text_is : text ≡ texts_of more
+    pub may_break : MayBreak bytes said in_hand more
+
+  -- some bytes in hand are taken, one at least, and the text of the items that end in them is
+  -- gathered; or it comes to a stop
+  abbrev pub Gathers : Has → Has → List ℕ → List ℕ → Result ℕ Halt → Type 0
+  Gathers before after in_hand text (Ok n) =
+      (0 < n) × (n ≤ length in_hand)
+      × ((bytes : List ℕ) (said : List Said) → before bytes said
+      → GathersTo after in_hand n text bytes said)
+  Gathers before after in_hand text (Err (halts.Stop stop)) =
+      (bytes : List ℕ) (said : List Said) → before bytes said
+      → GathersUntil in_hand stop text bytes said
+  Gathers before after in_hand text (Err halts.WriteFault) = ⊥
+
+  -- the same with one item at most, whose text comes after another
+  abbrev pub GathersOne : Has → Has → List ℕ → List ℕ → List ℕ → Result ℕ Halt → Type 0
+  GathersOne before after in_hand old new (Ok n) =
+      (0 < n) × (n ≤ length in_hand)
+      × ((bytes : List ℕ) (said : List Said) → before bytes said
+      → HoldNoStop c a bytes said
+      × (more : List Said) × (length more ≤ 1)
+      × after (bytes ++ take n in_hand) (said ++ more)
+      × HoldNoStop c a (bytes ++ take n in_hand) (said ++ more) × (new ≡ old ++ texts_of more))
+  GathersOne before after in_hand old new (Err (halts.Stop stop)) =
+      (new ≡ old)
+      × ((bytes : List ℕ) (said : List Said) → before bytes said
+      → (holds : HoldNoStop c a bytes said)
+      × (c.Stops a holds.items (holds.rest ++ in_hand) (stop_of stop)
+      ⊎ (stop_of stop ≡ out_of_memory)))
+  GathersOne before after in_hand old new (Err halts.WriteFault) = ⊥
