@@ -2,3 +2,4 @@
 
 mod dumps;
 mod leaves;
+mod typed;
