@@ -54,4 +54,24 @@ for words, first in ((['check', 'f.ml', 'int'], 'yes\n'), (['show', 'f.ml', 'int
 row('piece=21 take=2', (one * 2, '='), ['same'], 'err: omarshal: read fault\nstatus 6\nfailed to take: 1\n')
 row('piece=21 put=0', (one * 2, '='), ['same'], 'status 7\n')
 row('fetch=0', (one, '='), ['get', 'f.ml', 'int', '1.'], 'err: omarshal: bad path\nstatus 2\n')
+# err fails alone: its line is lost, and what is on out stays.
+put_err = 'status 7\n'
+row('put_err=0', ('8495a6', '='), ['check', 'f.ml', 'int'], put_err)
+row('piece=21 put_err=0', (one + '8495a6', '='), ['check', 'f.ml', 'int'], 'yes\n' + put_err)
+row('put_err=0', ('', 'none'), ['help'], put_err)
+row('put_err=1', ('', 'none'), ['help'], 'err: omarshal: usage\nstatus 2\n')
+wrong = ' script=' + b'2 set . = true\n'.hex()
+row('piece=25 put_err=0' + wrong, given, edit, outcome([v1, v1], '', 7))
+# out fails alone: nothing is put on err.
+row('put_out=0', (one, '='), ['check', 'f.ml', 'int'], put_err)
+row('piece=25 put_out=1' + s, given, edit, outcome(all3[:1], '', 7))
+# Two calls fail: nothing more is asked of what failed, and the last failure that is met is told.
+row('piece=21 take=1,2', (one * 3, '='), ['check', 'f.ml', 'int'], 'yes\nerr: omarshal: read fault\nstatus 6\nfailed to take: 1\n')
+row('piece=25 fetch=0,1' + s, given, edit, outcome([], 'cannot open f.ml', 8, 'failed to fetch: 1\n'))
+row('piece=25 read=0,1' + s, given, edit, outcome([], 'read fault', 6, 'failed to read: 1\n'))
+row('piece=25 put_out=0,1' + s, given, edit, outcome([], '', 7))
+row('take=0 put_err=0', (one, '='), ['check', 'f.ml', 'int'], put_err + 'failed to take: 1\n')
+row('piece=25 fetch=0 put_err=0' + s, given, edit, outcome([], '', 7, 'failed to fetch: 1\n'))
+row('piece=25 read=0 put_err=0' + s, given, edit, outcome([], '', 7, 'failed to read: 1\n'))
+row('piece=25 take=2 put_out=1' + s, given, edit, outcome(all3[:1], '', 7))
 sys.stdout.write(''.join(want) if '--answers' in sys.argv[1:] else '\n'.join(rows) + '\n')

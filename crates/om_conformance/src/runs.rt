@@ -2,10 +2,11 @@
 //! fail. A question gives between tabs settings, the input in hexadecimal digits, the text of
 //! `f.ml` behind `=`, or `none`, and the words.
 //!
-//! A setting is `fetch=N`, `read=N`, `take=N` or `put=N` where the call N of this kind fails,
-//! counted from 0; `out=N` or `err=N` where so many bytes fit there; `piece=N` where a take gives
-//! at most so many bytes; and `script=` with hexadecimal digits where there is a file `script` of
-//! these bytes.
+//! A setting is `fetch=N`, `read=N` or `take=N` where the call N of this kind fails, counted from 0,
+//! and `put=N` where the call N of each of out and err does, `put_out=N` and `put_err=N` of one of
+//! them; several numbers stand with commas. `out=N` or `err=N` is there where so many bytes fit,
+//! `piece=N` where a take gives at most so many bytes, and `script=` with hexadecimal digits where
+//! there is a file `script` of these bytes.
 
 use om_edge::{MemFiles, MemSink, MemSource};
 use om_outcome::status::Status;
@@ -43,12 +44,24 @@ fn number(given: &Given, name: &str) -> Option<u64> {
     setting(given, name)?.parse().ok()
 }
 
+// Adds the numbers of the calls of a kind that fail.
+fn add_failing(found: &mut Vec<u64>, given: &Given, name: &str) -> io::Result<()> {
+    let Some(numbers) = setting(given, name) else {
+        return Ok(());
+    };
+    for number in numbers.split(',') {
+        match number.parse::<u64>() {
+            Ok(number) => found.push(number)?,
+            Err(_) => return Err(ErrorKind::InvalidInput.into()),
+        }
+    }
+    Ok(())
+}
+
 // The calls of a kind that fail.
 fn failing(alloc: Global, given: &Given, name: &str) -> io::Result<Vec<u64>> {
     let mut found = Vec::new(alloc);
-    if let Some(number) = number(given, name) {
-        found.push(number)?;
-    }
+    add_failing(&mut found, given, name)?;
     Ok(found)
 }
 
@@ -155,9 +168,10 @@ fn opener_of(alloc: Global, given: &Given) -> io::Result<MemFiles> {
     Ok(MemFiles::new(alloc, pairs, fetches, reads))
 }
 
-// A sink with this much room.
-fn sink_of(alloc: Global, given: &Given, name: &str) -> io::Result<MemSink> {
-    let puts = failing(alloc, given, "put")?;
+// A sink with this much room, of which these calls fail besides those of both.
+fn sink_of(alloc: Global, given: &Given, name: &str, own: &str) -> io::Result<MemSink> {
+    let mut puts = failing(alloc, given, "put")?;
+    add_failing(&mut puts, given, own)?;
     match MemSink::new(alloc, room(given, name), puts) {
         Ok(sink) => Ok(sink),
         Err(_) => Err(ErrorKind::OutOfMemory.into()),
@@ -168,8 +182,8 @@ fn outside_of(alloc: Global, given: &Given, piece: usize) -> io::Result<Outside>
     Ok(Outside {
         input: input_of(alloc, given, piece)?,
         files: opener_of(alloc, given)?,
-        out: sink_of(alloc, given, "out")?,
-        err: sink_of(alloc, given, "err")?,
+        out: sink_of(alloc, given, "out", "put_out")?,
+        err: sink_of(alloc, given, "err", "put_err")?,
     })
 }
 
