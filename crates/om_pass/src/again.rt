@@ -119,7 +119,8 @@ pub fn block_at(
     left: &mut u64,
     object: usize,
 ) -> Option<(u8, u64, usize)>
-    ensures { IfSome result (λ block. IsBlockIn front.now marks.now object block.0 block.1 block.2) }
+    ensures { IfSome result
+        (λ block. IsBlockIn front.now marks.now object block.0 block.1 block.2) }
 {
     if object / 64 >= marks.len() {
         return None;

@@ -211,7 +211,8 @@ module _ {A : Type 0} (c : Commands A) (words : List (List ℕ)) where
     pub too_long : OnlyTooLong call
     pub file_too_long : IfFileTooLong call
     pub input_too_long : IfInputTooLong call
-    -- 6 or 10: by the input, and out has what is said of its items; or by a file, and it has nothing
+    -- 6 or 10: by the input, and out has what is said of its items; or by a file, and it has
+    -- nothing
     pub input_fails : IfInputFails call
     -- 9: memory ran out, and out has a front of what the outcome puts
     pub memory : IfMemory call
