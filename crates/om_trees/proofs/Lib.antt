@@ -12,3 +12,4 @@ pub mod SettleLemmas
 pub mod JudgeLemmas
 pub mod TypeLemmas
 pub mod NameLemmas
+pub mod VerdictLemmas

@@ -1,4 +1,4 @@
--- What trees without faults are.
+-- What trees without faults are, and that of each value there is one verdict.
 use Rattle.std.specs.Prelude.{ℕ, ◌≡◌, ◌↔◌, List, Some}
 use Rattle.om_model.specs.declared.value.Val.{Val}
 use Rattle.om_model.specs.declared.value.Obj.{Obj}
@@ -14,6 +14,8 @@ use Rattle.om_types.specs.Typing.{HasType}
 use Rattle.om_trees.specs.TreeType.{IsTreeType}
 use Rattle.om_trees.specs.SearchTree.{IsSearchTree}
 use Rattle.om_trees.specs.TreeFault.{HasNoTreeFault}
+use Rattle.om_trees.specs.Verdict.{IsTreeVerdict}
+use Rattle.om_trees.specs.declared.verdict.TreeVerdict.{TreeVerdict}
 
 -- each value that a path leads to at the type of a tree is a search tree
 abbrev pub HasSearchTrees : List Decl → List Obj → Val → Ty → Type 0
@@ -31,3 +33,14 @@ SoundTreesAreSearchTrees =
     → (graph : List Obj) (root : Val) → HasType (declared_shapes decls) graph root t
     → HasNoTreeFault (shape decls) (names_of decls) (Equal decls) graph root t
     ↔ HasSearchTrees decls graph root t
+
+-- the verdict is that of the value over these declarations
+abbrev pub IsVerdictOf : List Decl → List Obj → Val → Ty → TreeVerdict → Type 0
+IsVerdictOf decls graph root t verdict =
+    IsTreeVerdict (shape decls) (names_of decls) (Equal decls) graph root t verdict
+
+-- Of each value there is one verdict.
+abbrev pub TreeVerdictsAreOne : Type 0
+TreeVerdictsAreOne =
+    (decls : List Decl) (graph : List Obj) (root : Val) (t : Ty) (one other : TreeVerdict)
+    → IsVerdictOf decls graph root t one → IsVerdictOf decls graph root t other → one ≡ other

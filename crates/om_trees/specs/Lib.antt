@@ -4,6 +4,7 @@ pub mod Parts
 pub mod Valid
 pub mod TreeFault
 pub mod SearchTree
+pub mod Verdict
 pub mod Laws
 pub mod Judgement
 pub mod Span

@@ -9,8 +9,10 @@ mod node;
 mod order;
 mod span;
 mod types;
+mod verdict;
 
 pub use judging::{Judgement, judge};
-pub use laws::sound_trees_are_search_trees;
+pub use laws::{sound_trees_are_search_trees, tree_verdicts_are_one};
 pub use node::{Node, TreeKind};
 pub use types::{Layout, tree_types};
+pub use verdict::TreeVerdict;

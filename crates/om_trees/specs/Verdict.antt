@@ -1,0 +1,42 @@
+-- What is said of the sets and maps in a value.
+use Rattle.std.specs.Prelude.{ℕ, ◌≡◌, ◌⊎◌, ◌<◌, List, length, Some, slice_get, Contains}
+use Rattle.om_model.specs.declared.value.Val.{Val}
+use Rattle.om_model.specs.declared.value.Obj.{Obj}
+use Rattle.om_types.specs.declared.names.Names.{Names}
+use Rattle.om_types.specs.declared.shape.ShapeOf.{ShapeOf}
+use Rattle.om_types.specs.Fault.{IsBefore}
+use Rattle.om_trees.specs.declared.node.TreeKind.{TreeKind}
+use Rattle.om_trees.specs.declared.verdict.TreeVerdict.{TreeVerdict}
+use Rattle.om_trees.specs.declared.verdict.TreeVerdict.TheVariants.{Sound, Faulty}
+use Rattle.om_trees.specs.Judgement.{rank_of}
+use Rattle.om_trees.specs.TreeFault.{IsNode, IsTreeFault, HasNoTreeFault}
+
+-- heights first, then balance, then order; of one kind the lesser path
+abbrev pub IsLessFault : TreeKind → List ℕ → TreeKind → List ℕ → Type 0
+IsLessFault kind path other second =
+    (rank_of kind < rank_of other) ⊎ ((kind ≡ other) × IsBefore path second)
+
+module _ {T : Type 0} (shape : T → ShapeOf T) (names : T → Names) (Equal : T → T → Type 0)
+    (graph : List Obj) (root : Val) (t : T) where
+  -- The nodes, each object once at equal types.
+  pub record AreNodes (nodes : List (ℕ × T)) : Type 0 where
+    pub led :
+        (o : ℕ) (u : T) → Contains nodes (o, u)
+        → (path : List ℕ) × IsNode shape names Equal graph root t path o u
+    pub all :
+        (path : List ℕ) (o : ℕ) (u : T) → IsNode shape names Equal graph root t path o u
+        → (w : T) × Contains nodes (o, w) × Equal w u
+    pub apart :
+        (j k o : ℕ) (u w : T) → slice_get nodes j ≡ Some (o, u) → slice_get nodes k ≡ Some (o, w)
+        → Equal u w → j ≡ k
+
+  -- no fault and so many nodes, or the least fault
+  abbrev pub IsTreeVerdict : TreeVerdict → Type 0
+  IsTreeVerdict (Sound n) =
+      HasNoTreeFault shape names Equal graph root t
+      × (nodes : List (ℕ × T)) × AreNodes nodes × (n ≡ length nodes)
+  IsTreeVerdict (Faulty kind path) =
+      IsTreeFault shape names Equal graph root t kind path
+      × ((other : TreeKind) (second : List ℕ)
+      → IsTreeFault shape names Equal graph root t other second
+      → ¬ IsLessFault other second kind path)
