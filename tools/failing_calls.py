@@ -46,7 +46,7 @@ row('piece=25', given, edit, outcome([], 'cannot open script', 8))
 one = '8495a6be0000000100000000000000000000000041'
 row('take=0', (one, '='), ['check', 'f.ml', 'int'], 'err: omarshal: read fault\nstatus 6\nfailed to take: 1\n')
 row('put=0', ('8495a6', '='), ['check', 'f.ml', 'int'], 'status 7\n')
-row('put=1', (one * 2, '='), ['check', 'f.ml', 'int'], 'yes\nstatus 7\n')
+row('piece=21 put=1', (one * 2, '='), ['check', 'f.ml', 'int'], 'yes\nstatus 7\n')
 # Every other command: a take that fails after the first value, and a put.
 for words, first in ((['check', 'f.ml', 'int'], 'yes\n'), (['show', 'f.ml', 'int'], '1\n'), (['get', 'f.ml', 'int', '.'], '1\n'), (['dump'], 'root 1\n')):
     row('piece=21 take=1', (one * 2, '='), words, first + 'err: omarshal: read fault\nstatus 6\nfailed to take: 1\n')
