@@ -35,7 +35,7 @@ only_first x y (suc k) at_k = absurd (none-some y at_k)
 module _ (table : Table) (graph : List Obj) where
   -- ---- the start
 
-  abbrev start : ℕ → Visit
+  abbrev pub start : ℕ → Visit
   start o = record { object = o; ty = 0; parent = 0; step = 0 }
 
   start_explored :
@@ -129,7 +129,7 @@ module _ (table : Table) (graph : List Obj) where
 
   -- ---- an object
 
-  root_kept : (old new : List Visit) (o : ℕ) → old ≡ start o ∷ [] → Grows old new → root_of new ≡ o
+  pub root_kept : (old new : List Visit) (o : ℕ) → old ≡ start o ∷ [] → Grows old new → root_of new ≡ o
   root_kept old new o is grows =
       let some : 0 < length old = let one = ap length is in omega (arith, one) in
       root_still old new some grows ∙ ap root_of is

@@ -11,3 +11,4 @@ pub mod DecideLemmas
 pub mod ExploredLemmas
 pub mod RowsLemmas
 pub mod ScannedLemmas
+pub mod MetLemmas

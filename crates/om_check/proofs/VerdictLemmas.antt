@@ -72,7 +72,7 @@ module _ (table : Table) (graph : List Obj) where
         let v = slice_get_there all k (omega (arith, inside, x.are_told.many)) in
         (v.0, v.1, x.are_told.objects k v.0 e v.1 at_k, x.are_told.types k v.0 e v.1 at_k)
 
-    all_searched : IsSearched (table_shapes table) graph (vals.Ref (root_of all)) 0 x.told (λ path. Unit {0})
+    pub all_searched : IsSearched (table_shapes table) graph (vals.Ref (root_of all)) 0 x.told (λ path. Unit {0})
     all_searched =
         let at_0 : Entry ℕ = record { path = []; object = root_of all; type = 0 } in
         record {

@@ -8,3 +8,4 @@ pub mod Typing
 pub mod Clash
 pub mod Verdict
 pub mod ByHand
+pub mod Met

@@ -4,6 +4,7 @@
 mod clash;
 mod decide;
 mod laws;
+mod meetings;
 mod path;
 mod rest;
 mod search;
@@ -14,6 +15,7 @@ mod visits;
 
 pub use decide::check;
 pub use laws::items_take_61_steps;
+pub use meetings::{AllMet, met};
 pub use om_scan::Steps;
 pub use typing::Typing;
 pub use verdict::Verdict;

@@ -1,0 +1,102 @@
+//! All that is met of a value that has its type.
+
+ghost use Rattle.std.specs.Prelude.{◌≡◌, ◌<◌, length, slice_get, IfOk, IfSome};
+ghost use Rattle.om_model.specs.declared.value.Val.TheVariants as vals;
+ghost use Rattle.om_model.specs.Graph.{IsValue};
+ghost use Rattle.om_types.specs.Table.{table_shapes};
+ghost use Rattle.om_types.specs.Typing.{HasType};
+ghost use Rattle.om_type_table.specs.Made.{table_of, IsLawful};
+ghost use Rattle.om_check.specs.Told.{AreOrdered, IsPathOf};
+ghost use Rattle.om_check.specs.Met.{AreAllMet};
+
+use crate::path::path_of;
+use crate::search::search;
+use crate::visits::Visits;
+use om_heap::Heap;
+use om_model::Memory;
+use om_model::path::Path;
+use om_model::value::Val;
+use om_scan::{Steps, Taken, rows_of};
+use om_type_table::TypeTable;
+use std::alloc::Global;
+use std::marker::Model;
+
+/// Objects, each at each class of types at which it is met, in the order of their least paths.
+/// Contracts see the list of the visits.
+#[derive(Drop)]
+pub struct AllMet {
+    visits: Visits,
+}
+
+impl Model for AllMet {
+    ghost use Rattle.std.specs.Prelude.{List};
+    ghost use Rattle.om_check.specs.declared.visits.Visit.{Visit};
+
+    ghost Value = { List Visit };
+
+    ghost use Rattle.om_check.specs.Visits.{listed};
+
+    ghost view = { λ m. listed m.visits };
+}
+
+impl AllMet {
+    /// How many there are.
+    pub fn len(&self) -> usize
+        ensures { result ≡ length self.now }
+    {
+        self.visits.len()
+    }
+
+    /// Object and type of visit k.
+    pub fn get(&self, k: usize) -> (u64, usize)
+        requires { k < length self.now }
+        ensures { IfSome (slice_get self.now k)
+            (λ visit. (result.0 ≡ visit.object) × (result.1 ≡ visit.ty)) }
+    {
+        let visit = self.visits.get(k);
+        (visit.object, visit.ty)
+    }
+
+    /// The path to visit k, which is the least to its object at its class.
+    pub fn path(&self, alloc: Global, k: usize) -> Result<Path, Memory>
+        requires in_range { k < length self.now }
+        requires ordered { AreOrdered self.now }
+        ensures { IfOk result (IsPathOf self.now k) }
+    {
+        path_of(alloc, &self.visits, k)
+    }
+}
+
+/// All that is met of a value that has the type that is number 0.
+pub fn met(alloc: Global, heap: &Heap, root: Val, table: &TypeTable) -> Result<AllMet, Memory>
+    requires value { IsValue (length heap.now) root }
+    requires table { IsLawful (table_of table.now) }
+    requires has { HasType (table_shapes (table_of table.now)) heap.now root 0 }
+    ensures { IfOk result (AreAllMet (table_of table.now) heap.now root) }
+{
+    match root {
+        Val::Ref(object) => met_from(alloc, heap, object, table),
+        _ => {
+            let visits = Visits::none(alloc)?;
+            Ok(AllMet { visits })
+        }
+    }
+}
+
+/// The same from an object on: a search meets it, and finds no misfit.
+fn met_from(alloc: Global, heap: &Heap, object: u64, table: &TypeTable) -> Result<AllMet, Memory>
+    requires object { object < length heap.now }
+    requires table { IsLawful (table_of table.now) }
+    requires has { HasType (table_shapes (table_of table.now)) heap.now (vals.Ref object) 0 }
+    ensures { IfOk result (AreAllMet (table_of table.now) heap.now (vals.Ref object)) }
+{
+    let objects = heap.count();
+    let rows = rows_of(alloc, heap, table)?;
+    let none = Taken::none(alloc)?;
+    let mut steps = Steps::new();
+    let mut visits = Visits::new(alloc, objects, table, object)?;
+    match search(heap, table, &rows, &mut visits, &none, &mut steps)? {
+        Some(_) => unreachable!(),
+        None => Ok(AllMet { visits }),
+    }
+}
