@@ -2,7 +2,7 @@
 
 ghost use Rattle.std.specs.Prelude.{◌≡◌, ◌^◌, ◌<◌, ◌≤◌, length, OnOk, IfOk};
 ghost use Rattle.om_model.specs.Graph.{IsValue};
-ghost use Rattle.om_generate.specs.Generated.{generated, items_made, next_made};
+ghost use Rattle.om_generate.specs.Generated.{generated, next_made};
 ghost use Rattle.om_generate.specs.Items.{made_of, AreSound};
 
 use crate::item::draw_item;

@@ -74,9 +74,6 @@ leaf_custom piece t (inr (inl s)) = (_, s.3)
 leaf_custom piece t (inr (inr (inl s))) = (_, s.3)
 leaf_custom piece t (inr (inr (inr s))) = (_, s.3)
 
-pub leaf_seen : (by : _) (piece : List ℕ) (t : Token) → SpellsAfter (kinds.Custom by) piece t → (o : Obj) × (t ≡ leaf o)
-leaf_seen by piece t s = leaf_custom piece t s
-
 -- a token of the kind begins the bytes, and its length is known
 pub looked :
     (bytes : List ℕ) (kind : CodeKind) (len : ℕ) (seen : Seen) → 0 < length bytes → kind_of (get_or bytes 0 0) ≡ Ok kind → len ≤ length (drop 1 bytes) → len ≡ fixed_bytes kind + variable_bytes kind (drop 1 bytes)

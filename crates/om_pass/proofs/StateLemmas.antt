@@ -45,11 +45,6 @@ module _ (table : Table) (state : State) where
     w64 = omega arith;
   }
 
--- a reference comes where a type is asked for
-pub took_back : (table : Table) (state : State) (asked : Asked) (t offset : ℕ) → asked ≡ places.Type t → IsBack [] table (types_in state) t offset
-    → (1 ≤ offset) × (offset ≤ length state.types.items) × Took table state state (need_of asked) (shared offset)
-took_back table state asked t offset is back = (back.some, back.few, subst (λ a. Took table state state (need_of a) (shared offset)) (sym is) (took_shared table state t offset back))
-
 pub took_hash :
     (table : Table) (old new : State) (tags : List (PolyTag ℕ)) (z : ℤ) (tag : PolyTag ℕ) (t : ℕ) → tag_with tags z ≡ Some tag → tag.arg ≡ Some t
     → types_in new ≡ types_in old → needs_in new ≡ of_type t ∷ needs_in old → new.words ≡ old.words → Took table old new (hash_of tags) (integer z)

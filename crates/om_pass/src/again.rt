@@ -1,6 +1,6 @@
 //! Tokens that were passed are looked at again.
 
-ghost use Rattle.std.specs.Prelude.{◌≡◌, ◌≤◌, ◌<◌, ◌+◌, length, slice_get, Some, IfSome, if◌then◌else◌};
+ghost use Rattle.std.specs.Prelude.{◌≡◌, ◌<◌, ◌+◌, length, slice_get, Some, IfSome, if◌then◌else◌};
 ghost use Rattle.om_format.specs.Code.{IsKind};
 ghost use Rattle.om_format.specs.Raw.{fixed_bytes, variable_bytes};
 ghost use Rattle.om_format.specs.Token.{Token, IsToken, SpellsAfter, block_or_atom, word_token};

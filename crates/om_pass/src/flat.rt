@@ -1,7 +1,7 @@
 //! An object that is met at a second type: it is known there where its block is flat, that is, where
 //! its fields are integers, atoms and references back.
 
-ghost use Rattle.std.specs.Prelude.{◌≡◌, ◌≤◌, ◌<◌, ◌+◌, ◌-◌, List, [], length, drop};
+ghost use Rattle.std.specs.Prelude.{◌≤◌, ◌<◌, ◌+◌, ◌-◌, List, [], length, drop};
 ghost use Rattle.std.specs.Bool.{OnTrue};
 ghost use Rattle.om_model.specs.declared.value.Val.TheVariants as vals;
 ghost use Rattle.om_format.specs.Token.{Token};

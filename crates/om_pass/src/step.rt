@@ -1,7 +1,6 @@
 //! One token.
 
 ghost use Rattle.std.specs.Prelude.{◌≡◌, ◌≤◌, ◌<◌, ◌+◌, ◌/◌, ◌%◌, ℕ, List, length, IfOk, Ok};
-ghost use Rattle.std.specs.Bool.{OnTrue};
 ghost use Rattle.om_model.specs.declared.value.Obj.TheVariants as objects;
 ghost use Rattle.om_model.specs.Bytes.{signed as signed_number};
 ghost use Rattle.om_model.specs.Graph.{IsInteger};

@@ -1,6 +1,6 @@
 //! What is wrong with some nodes.
 
-ghost use Rattle.std.specs.Prelude.{ℕ, ◌≡◌, ◌<◌, length, All, IfOk};
+ghost use Rattle.std.specs.Prelude.{ℕ, ◌<◌, length, All, IfOk};
 ghost use Rattle.om_trees.specs.TreeFault.{IsMiscounted, IsUnbalanced, IsDisordered};
 ghost use Rattle.om_trees.specs.Span.{IsMarked};
 ghost use Rattle.om_trees.specs.Judgement.{AreClosed, IsJudgement, IsFirst, HasAt};
