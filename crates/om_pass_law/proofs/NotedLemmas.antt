@@ -38,14 +38,17 @@ module _ (table : Table) (noted more : List (ℕ × ℕ)) (kept : (o t : ℕ) �
   ats_more all later [] (need ∷ needs) at = absurd at
   ats_more all later (v ∷ vs) [] at = absurd at
   ats_more all later (v ∷ vs) (of_type t ∷ needs) at = (at_weaker table noted more kept all later v t at.0, ats_more all later vs needs at.1)
-  ats_more all later (v ∷ vs) (hash_of tags ∷ needs) at =
-      (at.0, record {
-        hash = at.1.hash;
-        is_hash = at.1.is_hash;
-        tag = at.1.tag;
-        has_hash = at.1.has_hash;
-        has_argument = at.1.has_argument;
-      }, ats_more all later vs (of_type at.0 ∷ needs) at.2)
+  ats_more all later (v ∷ vs) (hash_of tags ∷ needs) at = (
+    at.0,
+    record {
+      hash = at.1.hash;
+      is_hash = at.1.is_hash;
+      tag = at.1.tag;
+      has_hash = at.1.has_hash;
+      has_argument = at.1.has_argument;
+    },
+    ats_more all later vs (of_type at.0 ∷ needs) at.2,
+  )
 
   -- a block that was noted, once more tokens have come
   pub noted_more : (all later : List ℕ) (ts us : List Token) (o t : ℕ) → o < length all → IsFlatNoted table all noted ts o t → IsFlatNoted table (all ++ later) more (ts ++ us) o t

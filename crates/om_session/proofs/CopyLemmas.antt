@@ -82,16 +82,19 @@ module _ (t : TypeOver) (compat : Bool) (limit : ℕ) where
   reply trees h are_bytes =
       let spelled = spelled_all trees h in
       let none = spell_bytes limit (concat (map canon trees)) [] trees spelled are_bytes in
-      inl (tt, record {
-        items = items_of trees;
-        rest = [];
-        first = says_first declared_types its_task (concat (map canon trees)) trees (map said_of trees) []
-            (record { spelled = spelled; all_say = all_say 0 trees h });
-        last = inr (
-          goes_on declared_types its_task trees [] none clean refl (λ refusal e. cc e) (none_at_end trees),
-          record { trees = trees; are = refl; end = clean; tail = refl; ends = refl },
-        );
-      })
+      inl (
+        tt,
+        record {
+          items = items_of trees;
+          rest = [];
+          first = says_first declared_types its_task (concat (map canon trees)) trees (map said_of trees) []
+              (record { spelled = spelled; all_say = all_say 0 trees h });
+          last = inr (
+            goes_on declared_types its_task trees [] none clean refl (λ refusal e. cc e) (none_at_end trees),
+            record { trees = trees; are = refl; end = clean; tail = refl; ends = refl },
+          );
+        },
+      )
 
 module _ (once : HaveOneOutcome (commands declared_types)) (words : List (List ℕ)) (call : Call)
     (tells : TellsBytes call.input) (p : Promises (commands declared_types) words call) where
@@ -109,8 +112,8 @@ module _ (once : HaveOneOutcome (commands declared_types)) (words : List (List �
       ),
     ),
     subst (λ b. Answers (commands declared_types) (its_task is.type_is is.compat is.limit) (whole b) (said_all is.trees))
-    (sym is.bytes)
-    (reply is.type_is is.compat is.limit is.trees is.canonical (subst AreBytes is.bytes are_bytes)),
+        (sym is.bytes)
+        (reply is.type_is is.compat is.limit is.trees is.canonical (subst AreBytes is.bytes are_bytes)),
   )
 
   pub leaves_canonical : LeavesCanonical words call

@@ -12,7 +12,9 @@ ghost use Rattle.om_promises.specs.Lawful.{AreLawful};
 ghost use Rattle.om_promises.specs.LawfulLanguage.{IsLawful};
 ghost use Rattle.om_session.specs.Language.{TypeOver, declared_types};
 
-use om_commands::laws::{Speaks, commands_answer_once, commands_are_lawful, commands_keep_promises};
+use om_commands::laws::{
+    Speaks, commands_answer_once, commands_are_lawful, commands_keep_promises,
+};
 use om_decl::laws::one_answer;
 use om_decl::told::{files_are_well_formed, types_are_sound};
 use om_edit::edits_have_one_answer;
