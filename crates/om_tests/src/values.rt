@@ -1,5 +1,6 @@
 //! Tests of what is said and done with values at types.
 
+mod beside;
 mod dumps;
 mod leaves;
 mod typed;

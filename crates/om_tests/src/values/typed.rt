@@ -43,11 +43,11 @@ fn table_over(alloc: Global, decls: &[Decl], ty: &Ty) -> Result<Option<TypeTable
     }
 }
 
-// The table of a predeclared type.
-fn table_for(alloc: Global, text: &[u8]) -> Result<Option<TypeTable>, Memory>
+// The table of a type over a text of declarations.
+pub(crate) fn table_in(alloc: Global, file: &[u8], text: &[u8]) -> Result<Option<TypeTable>, Memory>
     ensures { IfOk result (λ found. IfSome found (λ table. IsLawful (table_of table))) }
 {
-    let decls = match read_decls(alloc, b"") {
+    let decls = match read_decls(alloc, file) {
         Ok(decls) => decls,
         Err(DeclFault::Memory) => return Err(Memory),
         Err(_) => return Ok(None),
@@ -57,6 +57,13 @@ fn table_for(alloc: Global, text: &[u8]) -> Result<Option<TypeTable>, Memory>
         Err(DeclFault::Memory) => Err(Memory),
         Err(_) => Ok(None),
     }
+}
+
+// The table of a predeclared type.
+pub(crate) fn table_for(alloc: Global, text: &[u8]) -> Result<Option<TypeTable>, Memory>
+    ensures { IfOk result (λ found. IfSome found (λ table. IsLawful (table_of table))) }
+{
+    table_in(alloc, b"", text)
 }
 
 // How many bytes one look takes of the list at a type.
@@ -75,7 +82,7 @@ fn one_look_types_a_value(rt: HostRuntime) -> Result<(), Fail> {
 }
 
 // The value of the list's bytes.
-fn list_value(alloc: Global) -> Result<Option<Value>, Memory>
+pub(crate) fn list_value(alloc: Global) -> Result<Option<Value>, Memory>
     ensures { IfOk result
         (λ found. IfSome found (λ value. IsValue (length value.heap) value.root)) }
 {
