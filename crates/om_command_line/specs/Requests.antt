@@ -18,8 +18,9 @@ abbrev pub texts : List (String Global) → List (List ℕ)
 texts words = map (λ word. string_bytes word) words
 
 abbrev pub request_of : Request → outcome.Request
-request_of (requests.Check file type limit) = outcome.check file.now type.now limit
-request_of (requests.Show file type limit) = outcome.show file.now type.now limit
+request_of (requests.Check file type limit) =
+    outcome.tell outcome.the_verdict file.now type.now limit
+request_of (requests.Show file type limit) = outcome.tell outcome.the_text file.now type.now limit
 request_of (requests.Get file type path limit) = outcome.get file.now type.now path.now limit
 request_of (requests.Edit file type script compat limit) =
     outcome.edit file.now type.now script.now compat limit

@@ -2,7 +2,7 @@
 use Rattle.std.proofs.Common.{◌≡◌, ◌⊎◌, ℕ, Bool, List, Option, Some, Result, Ok, Err, inl, inr, refl, sym, ap, ◌∙◌, subst}
 use Rattle.std.specs.Prelude.{MatchResult}
 use Rattle.om_outcome.specs.Outcome as outcome
-use Rattle.om_outcome.specs.Outcome.{Found, opened, whole, Request, check, show, get, edit, dump, compare, own, Stop, bad_path, declarations, requested_type, script_line, Saying, the_verdict, the_text, the_part, Work, tells, edits, Task, task, limit_of, Language, Then, OrRefusal, ReadsFile, ReadsTypeOf, ReadsPathOf, ReadsScriptOf, TellsAt, EditsBy, FindsWork}
+use Rattle.om_outcome.specs.Outcome.{Found, opened, whole, Request, tell, get, edit, dump, compare, own, Stop, bad_path, declarations, requested_type, script_line, Saying, the_part, Work, tells, edits, Task, task, limit_of, Language, Then, OrRefusal, ReadsFile, ReadsTypeOf, ReadsPathOf, ReadsScriptOf, TellsAt, EditsBy, FindsWork}
 use Rattle.om_promises.specs.Commands.{Fetches}
 use Rattle.om_promises.specs.Lawful.{IsOnce, IsInner, FailsAtFile}
 use Rattle.om_promises.specs.LawfulLanguage.{IsLawful}
@@ -125,8 +125,7 @@ module _ {D T E : Type 0} (language : Language D T E) (lawful : IsLawful languag
 
   work_once :
       (files : outcome.Fetches) (request : Request) → IsOnce (FindsWork language files request)
-  work_once files (check f t most) r s h k = tells_once files.file (f, t) the_verdict r s h k
-  work_once files (show f t most) r s h k = tells_once files.file (f, t) the_text r s h k
+  work_once files (tell saying f t most) r s h k = tells_once files.file (f, t) saying r s h k
   work_once files (get f t text most) r s h k =
       Then_once (ReadsPathOf language text)
       (λ path. TellsAt language files.file (f, t) (the_part path))
@@ -189,11 +188,8 @@ module _ {D T E : Type 0} (language : Language D T E) (lawful : IsLawful languag
       → files turn name ≡ others turn name)
       → FindsWork language (by_turns files) request result
       → FindsWork language (by_turns others) request result
-  work_by (check f t most) files others result same h =
-      tells_by (files 0) (others 0) (f, t) the_verdict result
-      (same 0 f (inl (refl, record { has_path = tt; type = t; typed = refl }))) h
-  work_by (show f t most) files others result same h =
-      tells_by (files 0) (others 0) (f, t) the_text result
+  work_by (tell saying f t most) files others result same h =
+      tells_by (files 0) (others 0) (f, t) saying result
       (same 0 f (inl (refl, record { has_path = tt; type = t; typed = refl }))) h
   work_by (get f t text most) files others result same (Err s, none, next) = (Err s, none, next)
   work_by (get f t text most) files others result same (Ok path, is_path, h) = (
@@ -276,12 +272,9 @@ module _ {D T E : Type 0} (language : Language D T E) (lawful : IsLawful languag
       (request : Request) (files : Fetches) (result : Result (Work T E) Stop) (name : List ℕ)
       → FindsWork language (by_turns files) request result → WantsFile language request name
       → IsRead name (files 0 name) result
-  file_wanted (check f t most) files result name h w =
+  file_wanted (tell saying f t most) files result name h w =
       same_file f t name files result w.type w.typed
-      (tells_read (files 0) (f, t) the_verdict result h)
-  file_wanted (show f t most) files result name h w =
-      same_file f t name files result w.type w.typed
-      (tells_read (files 0) (f, t) the_text result h)
+      (tells_read (files 0) (f, t) saying result h)
   file_wanted (get f t text most) files result name (Err s, (none, is), next) w =
       absurd (lawful.path_once text w.has_path.0 w.has_path.1 none)
   file_wanted (get f t text most) files result name (Ok path, is_path, h) w =
@@ -298,8 +291,7 @@ module _ {D T E : Type 0} (language : Language D T E) (lawful : IsLawful languag
       (request : Request) (files : Fetches) (result : Result (Work T E) Stop) (name : List ℕ)
       → FindsWork language (by_turns files) request result
       → WantsScript language request files name → IsRead name (files 1 name) result
-  script_wanted (check f t most) files result name h w = let e = w.scripted in absurd (cc e)
-  script_wanted (show f t most) files result name h w = let e = w.scripted in absurd (cc e)
+  script_wanted (tell saying f t most) files result name h w = let e = w.scripted in absurd (cc e)
   script_wanted (get f t text most) files result name h w = let e = w.scripted in absurd (cc e)
   script_wanted (edit f t script compat most) files result name (given, reads, next) w =
       from given (type_once (files 0) (f, t) (Ok w.type) given first reads) next where
@@ -398,14 +390,10 @@ module _ {D T E : Type 0} (language : Language D T E) (lawful : IsLawful languag
   work_inside :
       (request : Request) (files : Fetches) (stop : Stop)
       → FindsWork language (by_turns files) request (Err stop) → IsInside request files stop
-  work_inside (check f t most) files stop h =
-      at_file (check f t most) files stop 0 f
+  work_inside (tell saying f t most) files stop h =
+      at_file (tell saying f t most) files stop 0 f
       (inl (refl, record { has_path = tt; type = t; typed = refl }))
-      (tells_inside (files 0) (f, t) the_verdict stop h)
-  work_inside (show f t most) files stop h =
-      at_file (show f t most) files stop 0 f
-      (inl (refl, record { has_path = tt; type = t; typed = refl }))
-      (tells_inside (files 0) (f, t) the_text stop h)
+      (tells_inside (files 0) (f, t) saying stop h)
   work_inside (get f t text most) files stop (Err s, (none, e), is) =
       let same : stop ≡ s = cc is in inl (subst IsInner (sym (same ∙ e)) tt)
   work_inside (get f t text most) files stop (Ok path, is_path, h) =

@@ -1,6 +1,6 @@
 -- The type of what is to be done was read.
 use Rattle.std.proofs.Common.{◌≡◌, ℕ, Bool, List, Ok, Err, sym, subst}
-use Rattle.om_outcome.specs.Outcome.{Fetches, Request, check, show, get, edit, dump, compare, own, Saying, the_verdict, the_text, the_part, Work, tells, edits, dumps, compares, Language, ReadsTypeOf, TellsAt, EditsBy, FindsWork}
+use Rattle.om_outcome.specs.Outcome.{Fetches, Request, tell, get, edit, dump, compare, own, Saying, the_part, Work, tells, edits, dumps, compares, Language, ReadsTypeOf, TellsAt, EditsBy, FindsWork}
 use Rattle.om_promises.specs.LawfulLanguage.{IsGiven}
 
 -- the type of the work was read
@@ -29,8 +29,7 @@ module _ {D T E : Type 0} (language : Language D T E) (files : Fetches) where
       let is : work ≡ edits t ls compat = cc in subst (IsGivenWork language) (sym is) (type_given f u t reads)
 
   pub work_given : (request : Request) (work : Work T E) → FindsWork language files request (Ok work) → IsGivenWork language work
-  work_given (check f u most) work h = tells_given f u the_verdict work h
-  work_given (show f u most) work h = tells_given f u the_text work h
+  work_given (tell saying f u most) work h = tells_given f u saying work h
   work_given (get f u text most) work (Err s, reads, same) = absurd (cc same)
   work_given (get f u text most) work (Ok path, reads, h) = tells_given f u (the_part path) work h
   work_given (edit f u script compat most) work h = edits_given f u script compat work h

@@ -1,6 +1,6 @@
 -- The commands on values take their files turn by turn: FILE, and then SCRIPT.
 use Rattle.std.proofs.Common.{◌≡◌, ◌<◌, ℕ, List, Option, Some, Ok, Err, inl, inr, refl, sym, ap, ◌∙◌, arith}
-use Rattle.om_outcome.specs.Outcome.{Found, opened, whole, Request, check, show, get, edit, dump, compare, own, script_of, Language, ReadsTypeOf}
+use Rattle.om_outcome.specs.Outcome.{Found, opened, whole, Request, tell, get, edit, dump, compare, own, script_of, Language, ReadsTypeOf}
 use Rattle.om_promises.specs.Commands.{Fetches}
 use Rattle.om_promises.specs.Lawful.{AreInTurns}
 use Rattle.om_promises.specs.LawfulLanguage.{IsLawful}
@@ -21,8 +21,7 @@ module _ {D T E : Type 0} (language : Language D T E) (lawful : IsLawful languag
   script_path :
       (request : Request) (name : List ℕ) → script_of request ≡ Some name
       → HasPath language request
-  script_path (check f t most) name e = absurd (cc e)
-  script_path (show f t most) name e = absurd (cc e)
+  script_path (tell saying f t most) name e = absurd (cc e)
   script_path (get f t text most) name e = absurd (cc e)
   script_path (edit f t script compat most) name e = tt
   script_path (dump most) name e = absurd (cc e)

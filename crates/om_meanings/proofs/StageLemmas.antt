@@ -2,7 +2,7 @@
 use Rattle.std.proofs.Common.{◌≡◌, ◌⊎◌, ℕ, List, Option, Some, Ok, Err, inl, inr, refl, sym, ap, ◌∙◌, subst}
 use Rattle.om_outcome.specs.declared.status.Status.{Status}
 use Rattle.om_outcome.specs.declared.status.Status.TheVariants.{Usage, Types, Script, ReadFault, OpenFault, TooLong}
-use Rattle.om_outcome.specs.Outcome.{InputEnd, at_end, at_fault, at_length, unasked, Found, opened, missing, failed, unfetched, Request, check, show, get, edit, dump, compare, own, Stop, bad_path, declarations, requested_type, script_line, read_fault, too_long, status_of, fault_of, ReadsFile, ReadsTypeOf, ReadsScriptOf, Saying, the_verdict, the_text, the_part, TellsAt, FindsWork, Language}
+use Rattle.om_outcome.specs.Outcome.{InputEnd, at_end, at_fault, at_length, unasked, Found, opened, missing, failed, unfetched, Request, tell, get, edit, dump, compare, own, Stop, bad_path, declarations, requested_type, script_line, read_fault, too_long, status_of, fault_of, ReadsFile, ReadsTypeOf, ReadsScriptOf, Saying, the_part, TellsAt, FindsWork, Language}
 use Rattle.om_promises.specs.Commands.{Fetches}
 use Rattle.om_commands.specs.Tasks.{by_turns, WantsFile, WantsScript, Wants, Finds}
 use Rattle.om_meanings.specs.Causes.{HaveBars}
@@ -102,12 +102,9 @@ module _ {D T E : Type 0} (language : Language D T E) where
   work_bar :
       (request : Request) (files : Fetches) (stop : Stop)
       → FindsWork language (by_turns files) request (Err stop) → BarBy request files stop
-  work_bar (check f t most) files stop h =
-      tells_bar (check f t most) files f (record { has_path = tt; type = t; typed = refl })
-      the_verdict stop h
-  work_bar (show f t most) files stop h =
-      tells_bar (show f t most) files f (record { has_path = tt; type = t; typed = refl })
-      the_text stop h
+  work_bar (tell saying f t most) files stop h =
+      tells_bar (tell saying f t most) files f (record { has_path = tt; type = t; typed = refl })
+      saying stop h
   work_bar (get f t text most) files stop (Err s, (none, e), is) =
       let same : stop ≡ s = cc is in
       subst (BarBy (get f t text most) files) (sym (same ∙ e)) none
@@ -155,9 +152,7 @@ module _ {D T E : Type 0} (language : Language D T E) where
       (wants : WantsFile language request name) (stop : Stop)
       → ReadsTypeOf language (files 0) (name, wants.type) (Err stop)
       → FindsWork language (by_turns files) request (Err stop)
-  type_work (check f t most) files name wants stop reads =
-      (Err stop, same_typed f t name wants.type (files 0) stop wants.typed reads, refl)
-  type_work (show f t most) files name wants stop reads =
+  type_work (tell saying f t most) files name wants stop reads =
       (Err stop, same_typed f t name wants.type (files 0) stop wants.typed reads, refl)
   type_work (get f t text most) files name wants stop reads = (
     Ok wants.has_path.0,
@@ -175,9 +170,7 @@ module _ {D T E : Type 0} (language : Language D T E) where
       (wants : WantsScript language request files name) (stop : Stop)
       → ReadsScriptOf language (files 1) name (Err stop)
       → FindsWork language (by_turns files) request (Err stop)
-  script_work (check f t most) files name wants stop read =
-      let e = wants.scripted in absurd (cc e)
-  script_work (show f t most) files name wants stop read =
+  script_work (tell saying f t most) files name wants stop read =
       let e = wants.scripted in absurd (cc e)
   script_work (get f t text most) files name wants stop read =
       let e = wants.scripted in absurd (cc e)
@@ -201,8 +194,7 @@ module _ {D T E : Type 0} (language : Language D T E) where
   path_work :
       (request : Request) (files : Fetches) → HasNoPath language request
       → FindsWork language (by_turns files) request (Err bad_path)
-  path_work (check f t most) files none = absurd none
-  path_work (show f t most) files none = absurd none
+  path_work (tell saying f t most) files none = absurd none
   path_work (get f t text most) files none = (Err bad_path, (none, refl), refl)
   path_work (edit f t script compat most) files none = absurd none
   path_work (dump most) files none = absurd none

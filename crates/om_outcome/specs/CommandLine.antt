@@ -11,6 +11,13 @@ use Rattle.clap.specs.declared.builder.value_parser.ValueParser.TheVariants.{Uns
 
 -- ---- what is asked for
 
+-- what is said of a value at a type: whether it has the type, its text, or the text of the part at
+-- a path; where it has not the type, that and why
+pub data Saying : Type 0 where
+  the_verdict : Saying
+  the_text : Saying
+  the_part : (path : List ℕ) → Saying
+
 -- what is asked of a command that is a set of commands of its own, beside those on values
 pub data OwnRequest : Type 0 where
   build : (file type : List ℕ) → OwnRequest
@@ -18,8 +25,7 @@ pub data OwnRequest : Type 0 where
 
 -- what is asked for, with the limit of words on 64 bits in a value where values are read
 pub data Request : Type 0 where
-  check : (file type : List ℕ) → (limit : ℕ) → Request
-  show : (file type : List ℕ) → (limit : ℕ) → Request
+  tell : Saying → (file type : List ℕ) → (limit : ℕ) → Request
   get : (file type path : List ℕ) → (limit : ℕ) → Request
   edit : (file type script : List ℕ) → (compat : Bool) → (limit : ℕ) → Request
   dump : (limit : ℕ) → Request
@@ -28,8 +34,7 @@ pub data Request : Type 0 where
 
 -- FILE and TYPE, where the command reads values at them
 abbrev pub typed_by : Request → Option (List ℕ × List ℕ)
-typed_by (check file type limit) = Some (file, type)
-typed_by (show file type limit) = Some (file, type)
+typed_by (tell saying file type limit) = Some (file, type)
 typed_by (get file type path limit) = Some (file, type)
 typed_by (edit file type script compat limit) = Some (file, type)
 typed_by (dump limit) = None
@@ -48,8 +53,7 @@ script_of request = None
 
 -- the limit of words on 64 bits in a value, where values are read
 abbrev pub limit_of : Request → ℕ
-limit_of (check file type limit) = limit
-limit_of (show file type limit) = limit
+limit_of (tell saying file type limit) = limit
 limit_of (get file type path limit) = limit
 limit_of (edit file type script compat limit) = limit
 limit_of (dump limit) = limit
@@ -116,8 +120,8 @@ greatest_count = 1000000
 -- the commands
 abbrev pub forms : List Form
 forms =
-    row (codes "check") (typed []) (λ n file type. check file type n)
-    ∷ row (codes "show") (typed []) (λ n file type. show file type n)
+    row (codes "check") (typed []) (λ n file type. tell the_verdict file type n)
+    ∷ row (codes "show") (typed []) (λ n file type. tell the_text file type n)
     ∷ row (codes "get") (typed (wanted (codes "PATH") ∷ []))
     (λ n file type path. get file type path n)
     ∷ row (codes "edit") (typed (wanted (codes "SCRIPT") ∷ compat_flag ∷ []))

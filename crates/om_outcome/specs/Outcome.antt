@@ -4,7 +4,7 @@
 use Rattle.std.specs.Prelude.{ℕ, suc, ◌<◌, ◌≡◌, ◌==◌, ◌≢◌, ◌↔◌, ◌⊎◌, Bool, true, false, IsTrue, ◌&&◌, not, nat_lt, if◌then◌else◌, List, [], ◌∷◌, ◌++◌, length, filter, find, Option, Some, None, Result, Ok, Err, MatchResult, codes, decimal}
 use Rattle.om_outcome.specs.declared.status.Status.{Status}
 use Rattle.om_outcome.specs.declared.status.Status.TheVariants as statuses
-pub use Rattle.om_outcome.specs.CommandLine.{Request, check, show, get, edit, dump, compare, own, OwnRequest, build, generate, Asks, IsUsage, typed_by, path_of, script_of, limit_of}
+pub use Rattle.om_outcome.specs.CommandLine.{Saying, the_verdict, the_text, the_part, Request, tell, get, edit, dump, compare, own, OwnRequest, build, generate, Asks, IsUsage, typed_by, path_of, script_of, limit_of}
 use Rattle.om_outcome.specs.RefusalText.{refusal_text, truncated_text}
 use Rattle.om_format.specs.Iso.{Iso}
 use Rattle.om_format.specs.Tree.{Tree, root, objects_of}
@@ -224,13 +224,6 @@ ReadsFile name unfetched (Err stop) = ⊥
 
 -- ---- the types
 
--- what is said of a value at a type: whether it has the type, its text, or the text of the part at
--- a path; where it has not the type, that and why
-pub data Saying : Type 0 where
-  the_verdict : Saying
-  the_text : Saying
-  the_part : (path : List ℕ) → Saying
-
 -- why a value is not edited: it has not the type; a line of the script is refused, by its number;
 -- or what it was edited to is too large for a reader on 32 bits
 pub data Unedited : Type 0 where
@@ -300,10 +293,8 @@ EditsBy language files typed script_name compat result =
 -- that is a set of its own finds no work here.
 abbrev pub FindsWork : {D T E : Type 0} → Language D T E → Fetches → Request
     → Result (Work T E) Stop → Type 0
-FindsWork language files (check name type_text limit) result =
-    TellsAt language files.file (name, type_text) the_verdict result
-FindsWork language files (show name type_text limit) result =
-    TellsAt language files.file (name, type_text) the_text result
+FindsWork language files (tell saying name type_text limit) result =
+    TellsAt language files.file (name, type_text) saying result
 FindsWork language files (get name type_text path_text limit) result =
     Then (ReadsPathOf language path_text)
     (λ path. TellsAt language files.file (name, type_text) (the_part path)) result
