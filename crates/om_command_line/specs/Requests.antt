@@ -24,6 +24,8 @@ request_of (requests.Show file type limit) = outcome.tell outcome.the_text file.
 request_of (requests.Get file type path limit) = outcome.get file.now type.now path.now limit
 request_of (requests.Edit file type script compat limit) =
     outcome.edit file.now type.now script.now compat limit
+request_of (requests.Trees file type limit) =
+    outcome.tell outcome.the_trees file.now type.now limit
 request_of (requests.Dump limit) = outcome.dump limit
 request_of (requests.Same limit) = outcome.compare limit
 request_of (requests.Build file type) = outcome.own (outcome.build file.now type.now)

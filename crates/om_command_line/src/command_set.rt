@@ -50,11 +50,12 @@ const NUMBER: Argument<'static> = Argument::Number("NUMBER", GREATEST_NUMBER);
 
 const COUNT: Argument<'static> = Argument::Number("COUNT", GREATEST_COUNT);
 
-static FORMS: [Form<'static>; 8] = [
+static FORMS: [Form<'static>; 9] = [
     ("check", &[LIMIT, FILE, TYPE]),
     ("show", &[LIMIT, FILE, TYPE]),
     ("get", &[LIMIT, FILE, TYPE, PATH]),
     ("edit", &[LIMIT, FILE, TYPE, SCRIPT, COMPAT]),
+    ("trees", &[LIMIT, FILE, TYPE]),
     ("dump", &[LIMIT]),
     ("same", &[LIMIT]),
     ("build", &[FILE, TYPE]),

@@ -42,6 +42,12 @@ pub enum Request<'a> {
         compat: bool,
         limit: u64,
     },
+    /// Whether the search trees in the values of the input, which have the type, are sound.
+    Trees {
+        file: &'a str,
+        type_text: &'a str,
+        limit: u64,
+    },
     /// The values of the input as they are.
     Dump {
         limit: u64,
@@ -131,6 +137,11 @@ fn request_by<'a>(command: &str, arguments: &ArgMatches<'a>) -> Option<Request<'
             type_text,
             script: word(arguments, "SCRIPT"),
             compat: flag(arguments, "compat32"),
+            limit,
+        }),
+        "trees" => Some(Request::Trees {
+            file,
+            type_text,
             limit,
         }),
         "dump" => Some(Request::Dump { limit }),

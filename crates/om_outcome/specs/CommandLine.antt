@@ -11,12 +11,13 @@ use Rattle.clap.specs.declared.builder.value_parser.ValueParser.TheVariants.{Uns
 
 -- ---- what is asked for
 
--- what is said of a value at a type: whether it has the type, its text, or the text of the part at
--- a path; where it has not the type, that and why
+-- what is said of a value at a type: whether it has the type, its text, the text of the part at a
+-- path, or whether its search trees are sound; where it has not the type, that and why
 pub data Saying : Type 0 where
   the_verdict : Saying
   the_text : Saying
   the_part : (path : List ℕ) → Saying
+  the_trees : Saying
 
 -- what is asked of a command that is a set of commands of its own, beside those on values
 pub data OwnRequest : Type 0 where
@@ -126,6 +127,7 @@ forms =
     (λ n file type path. get file type path n)
     ∷ row (codes "edit") (typed (wanted (codes "SCRIPT") ∷ compat_flag ∷ []))
     (λ n file type script compat. edit file type script compat n)
+    ∷ row (codes "trees") (typed []) (λ n file type. tell the_trees file type n)
     ∷ row (codes "dump") (limit_option ∷ []) dump
     ∷ row (codes "same") (limit_option ∷ []) compare
     ∷ row (codes "build") (file_and_type []) (λ file type. own (build file type))

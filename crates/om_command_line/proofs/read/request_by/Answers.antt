@@ -18,10 +18,13 @@ returns-in_default c =
           (
             c.in_default.not-edit,
             (
-              c.in_default.not-dump,
+              c.in_default.not-trees,
               (
-                c.in_default.not-same,
-                (c.in_default.not-build, (c.in_default.not-gen, tt)),
+                c.in_default.not-dump,
+                (
+                  c.in_default.not-same,
+                  (c.in_default.not-build, (c.in_default.not-gen, tt)),
+                ),
               ),
             ),
           ),
