@@ -112,140 +112,141 @@ module _ {T : Type 0} (shape : T → ShapeOf T) (names : T → Names) (Equal : T
     by_kind kinds.Balance fault = (sound_node graph fault.0 (each path (vals.Ref fault.0) fault.1 fault.2.leads fault.2.tree)).1 fault.3
     by_kind kinds.Order fault = (sound_node graph fault.0.0 (each path (vals.Ref fault.0.0) fault.0.1 fault.0.2.leads fault.0.2.tree)).2 fault.0.3
 
-  module _ (has : HasType (shaped shape Equal) graph root t) (none : HasNoTreeFault shape names Equal graph root t) where
+  module _ (has : HasType (shaped shape Equal) graph root t) where
     -- what a path leads to is in question, and fits
-    placed : (path : List ℕ) (v : Val) (u : T) → Leads path v u → InQuestion u × (shaped shape Equal).fits graph v u
+    pub placed : (path : List ℕ) (v : Val) (u : T) → Leads path v u → InQuestion u × (shaped shape Equal).fits graph v u
     placed path v u leads =
         let held = held_by_some root has in
         let place = place_is_held (shaped shape Equal) InQuestion lawful graph held.0 held.1 path root t v u in_question held.2 leads in
         (place.0, place.1.fits)
 
-    object_of : (path : List ℕ) (o : ℕ) (u : T) → Leads path (vals.Ref o) u → (tree : IsTreeHere u) → IsNodeObject tree.kept graph o
+    pub object_of : (path : List ℕ) (o : ℕ) (u : T) → Leads path (vals.Ref o) u → (tree : IsTreeHere u) → IsNodeObject tree.kept graph o
     object_of path o u leads tree = node_object shape names Equal graph o u tree (placed path (vals.Ref o) u leads).1
 
-    -- ---- one node
-
-    counted : (path : List ℕ) (o : ℕ) (u : T) → Leads path (vals.Ref o) u → IsTreeHere u
-        → (node_at graph o).height ≡ pos 1 +ℤ int_max (left_height graph o) (right_height graph o)
-    counted path o u leads tree =
-        same_number (node_at graph o).height (pos 1 +ℤ int_max (left_height graph o) (right_height graph o))
-        (λ wrong. none kinds.Height path (o, u, record { leads = leads; tree = tree }, wrong))
-
-    level : (path : List ℕ) (o : ℕ) (u : T) → Leads path (vals.Ref o) u → IsTreeHere u → ¬ IsUnbalanced graph o
-    level path o u leads tree wrong = none kinds.Balance path (o, u, record { leads = leads; tree = tree }, wrong)
-
-    no_miscount : (path : List ℕ) → ¬ IsNodeWith shape names Equal graph root t IsMiscounted path
-    no_miscount path wrong = none kinds.Height path wrong
-
-    left_less : (path : List ℕ) (o : ℕ) (u : T) → Leads path (vals.Ref o) u → IsTreeHere u → (p : ℕ) → IsAtOrBelow graph (node_at graph o).left p
-        → IsElementLess graph p o
-    left_less path o u leads tree p below = ⊎_elim
-        (λ less. less)
-        (λ not_less. absurd (none kinds.Order path ((o, u, record { leads = leads; tree = tree }, inl (p, below, not_less)), no_miscount)))
-        (true_or_not (is_less graph (node_at graph p).element (node_at graph o).element))
-
-    right_more : (path : List ℕ) (o : ℕ) (u : T) → Leads path (vals.Ref o) u → IsTreeHere u → (p : ℕ) → IsAtOrBelow graph (node_at graph o).right p
-        → IsElementLess graph o p
-    right_more path o u leads tree p below = ⊎_elim
-        (λ less. less)
-        (λ not_less. absurd (none kinds.Order path ((o, u, record { leads = leads; tree = tree }, inr (p, below, not_less)), no_miscount)))
-        (true_or_not (is_less graph (node_at graph o).element (node_at graph p).element))
-
-    left_leads : (path : List ℕ) (o : ℕ) (u : T) → Leads path (vals.Ref o) u → (tree : IsTreeHere u) → IsNodeObject tree.kept graph o
+    pub left_leads : (path : List ℕ) (o : ℕ) (u : T) → Leads path (vals.Ref o) u → (tree : IsTreeHere u) → IsNodeObject tree.kept graph o
         → Leads (path ++ 0 ∷ []) (node_at graph o).left tree.left
     left_leads path o u leads tree its =
         value_at-push (shaped shape Equal) graph path root t 0 (vals.Ref o, u) ((node_at graph o).left, tree.left) leads
         (left_step shape names Equal graph o u tree its)
 
-    right_leads : (path : List ℕ) (o : ℕ) (u : T) → Leads path (vals.Ref o) u → (tree : IsTreeHere u) → IsNodeObject tree.kept graph o
+    pub right_leads : (path : List ℕ) (o : ℕ) (u : T) → Leads path (vals.Ref o) u → (tree : IsTreeHere u) → IsNodeObject tree.kept graph o
         → Leads (path ++ place_of_right tree.kept ∷ []) (node_at graph o).right tree.right
     right_leads path o u leads tree its =
         value_at-push (shaped shape Equal) graph path root t (place_of_right tree.kept) (vals.Ref o, u) ((node_at graph o).right, tree.right) leads
         (right_step shape names Equal graph o u tree its)
 
-    -- ---- trees
+    module _ (none : HasNoTreeFault shape names Equal graph root t) where
+      -- ---- one node
 
-    joined : (path : List ℕ) (o : ℕ) (u : T) → Leads path (vals.Ref o) u → IsTreeHere u
-        → IsUnfolded graph (node_at graph o).left → IsUnfolded graph (node_at graph o).right → IsUnfolded graph (vals.Ref o)
-    joined path o u leads type left right = record {
-      tree = node left.tree o right.tree;
-      is = (refl, left.is, right.is);
-      increasing = increasing_joined graph (elements graph left.tree) (node_at graph o).element (elements graph right.tree) left.increasing less right.increasing more;
-      stated = (
-        counted_up (node_at graph o).height (left_height graph o) (right_height graph o) (height left.tree) (height right.tree) left_is right_is (counted path o u leads type),
-        left.stated,
-        right.stated,
-      );
-      balanced = (
-        near (right_height graph o) (left_height graph o) (height right.tree) (height left.tree) right_is left_is (λ wrong. level path o u leads type (inr wrong)),
-        near (left_height graph o) (right_height graph o) (height left.tree) (height right.tree) left_is right_is (λ wrong. level path o u leads type (inl wrong)),
-        left.balanced,
-        right.balanced,
-      );
-      below = found;
-    } where
-      left_is : left_height graph o ≡ pos (height left.tree)
-      left_is = height_is graph (node_at graph o).left left.tree left.is left.stated
+      counted : (path : List ℕ) (o : ℕ) (u : T) → Leads path (vals.Ref o) u → IsTreeHere u
+          → (node_at graph o).height ≡ pos 1 +ℤ int_max (left_height graph o) (right_height graph o)
+      counted path o u leads tree =
+          same_number (node_at graph o).height (pos 1 +ℤ int_max (left_height graph o) (right_height graph o))
+          (λ wrong. none kinds.Height path (o, u, record { leads = leads; tree = tree }, wrong))
 
-      right_is : right_height graph o ≡ pos (height right.tree)
-      right_is = height_is graph (node_at graph o).right right.tree right.is right.stated
+      level : (path : List ℕ) (o : ℕ) (u : T) → Leads path (vals.Ref o) u → IsTreeHere u → ¬ IsUnbalanced graph o
+      level path o u leads tree wrong = none kinds.Balance path (o, u, record { leads = leads; tree = tree }, wrong)
 
-      less : AllLess graph (elements graph left.tree) (node_at graph o).element
-      less x among =
-          let m = left.below x among in
-          subst (λ y. IsTrue (is_less graph y (node_at graph o).element)) m.2 (left_less path o u leads type m.0 m.1)
+      no_miscount : (path : List ℕ) → ¬ IsNodeWith shape names Equal graph root t IsMiscounted path
+      no_miscount path wrong = none kinds.Height path wrong
 
-      more : AllMore graph (elements graph right.tree) (node_at graph o).element
-      more x among =
-          let m = right.below x among in
-          subst (λ y. IsTrue (is_less graph (node_at graph o).element y)) m.2 (right_more path o u leads type m.0 m.1)
+      left_less : (path : List ℕ) (o : ℕ) (u : T) → Leads path (vals.Ref o) u → IsTreeHere u → (p : ℕ) → IsAtOrBelow graph (node_at graph o).left p
+          → IsElementLess graph p o
+      left_less path o u leads tree p below = ⊎_elim
+          (λ less. less)
+          (λ not_less. absurd (none kinds.Order path ((o, u, record { leads = leads; tree = tree }, inl (p, below, not_less)), no_miscount)))
+          (true_or_not (is_less graph (node_at graph p).element (node_at graph o).element))
 
-      found :
-          (x : Val) → Contains (elements graph left.tree ++ (node_at graph o).element ∷ elements graph right.tree) x
-          → (m : ℕ) × IsAtOrBelow graph (vals.Ref o) m × ((node_at graph m).element ≡ x)
-      found x among = ⊎_elim
-          (λ first. let m = left.below x first in (m.0, below_left graph o m.0 m.1, m.2))
-          (λ rest. ⊎_elim
-          (λ here. (o, at_itself graph o, here))
-          (λ last. let m = right.below x last in (m.0, below_right graph o m.0 m.1, m.2))
-          (Contains-cases (node_at graph o).element (elements graph right.tree) x rest))
-          (Contains-append_cases (elements graph left.tree) ((node_at graph o).element ∷ elements graph right.tree) x among)
+      right_more : (path : List ℕ) (o : ℕ) (u : T) → Leads path (vals.Ref o) u → IsTreeHere u → (p : ℕ) → IsAtOrBelow graph (node_at graph o).right p
+          → IsElementLess graph o p
+      right_more path o u leads tree p below = ⊎_elim
+          (λ less. less)
+          (λ not_less. absurd (none kinds.Order path ((o, u, record { leads = leads; tree = tree }, inr (p, below, not_less)), no_miscount)))
+          (true_or_not (is_less graph (node_at graph o).element (node_at graph p).element))
 
-    -- a value below a height unfolds where each node does
-    part :
-        (z : ℤ) → ((path : List ℕ) (o : ℕ) (u : T) → Leads path (vals.Ref o) u → IsTreeHere u → height_of graph (vals.Ref o) <ℤ z → IsUnfolded graph (vals.Ref o))
-        → (path : List ℕ) (v : Val) (u : T) → Leads path v u → IsTreeHere u → height_of graph v <ℤ z → IsUnfolded graph v
-    part z each path v u leads tree less = ⊎_elim
-        (λ is. record { tree = empty; is = is; increasing = tt; stated = tt; balanced = tt; below = λ x among. absurd (Contains-none x among) })
-        (λ at. subst (λ w. IsUnfolded graph w) (sym at.1)
-        (each path at.0 u (subst (λ w. Leads path w u) at.1 leads) tree (subst (λ w. height_of graph w <ℤ z) at.1 less)))
-        (tree_value shape names Equal graph v u tree (placed path v u leads).1)
+      -- ---- trees
 
-    unfolded : (n : ℕ) (path : List ℕ) (o : ℕ) (u : T) → Leads path (vals.Ref o) u → IsTreeHere u → lower (all_stated graph) (node_at graph o).height < n
-        → IsUnfolded graph (vals.Ref o)
-    unfolded zero path o u leads tree few = absurd (omega (arith, few))
-    unfolded (suc n) path o u leads tree few =
-        let object = object_of path o u leads tree in
-        let height = counted path o u leads tree in
-        let each : (path' : List ℕ) (m : ℕ) (w : T) → Leads path' (vals.Ref m) w → IsTreeHere w → height_of graph (vals.Ref m) <ℤ (node_at graph o).height → IsUnfolded graph (vals.Ref m) =
-        λ path' m w leads' tree' less.
-        let fewer = lower_less (all_stated graph) m (node_at graph m).height (node_at graph o).height (stated_at graph tree'.kept m (object_of path' m w leads' tree')) less in
-        unfolded n path' m w leads' tree' (omega (arith, few, fewer)) in
-        let among = (placed path (vals.Ref o) u leads).0 in
-        let left = part (node_at graph o).height each (path ++ 0 ∷ []) (node_at graph o).left tree.left (left_leads path o u leads tree object)
-        (alike tree.left u among tree.left_same tree)
-        (left_is_lower (node_at graph o).height (left_height graph o) (right_height graph o) height) in
-        let right = part (node_at graph o).height each (path ++ place_of_right tree.kept ∷ []) (node_at graph o).right tree.right (right_leads path o u leads tree object)
-        (alike tree.right u among tree.right_same tree)
-        (right_is_lower (node_at graph o).height (left_height graph o) (right_height graph o) height) in
-        joined path o u leads tree left right
+      joined : (path : List ℕ) (o : ℕ) (u : T) → Leads path (vals.Ref o) u → IsTreeHere u
+          → IsUnfolded graph (node_at graph o).left → IsUnfolded graph (node_at graph o).right → IsUnfolded graph (vals.Ref o)
+      joined path o u leads type left right = record {
+        tree = node left.tree o right.tree;
+        is = (refl, left.is, right.is);
+        increasing = increasing_joined graph (elements graph left.tree) (node_at graph o).element (elements graph right.tree) left.increasing less right.increasing more;
+        stated = (
+          counted_up (node_at graph o).height (left_height graph o) (right_height graph o) (height left.tree) (height right.tree) left_is right_is (counted path o u leads type),
+          left.stated,
+          right.stated,
+        );
+        balanced = (
+          near (right_height graph o) (left_height graph o) (height right.tree) (height left.tree) right_is left_is (λ wrong. level path o u leads type (inr wrong)),
+          near (left_height graph o) (right_height graph o) (height left.tree) (height right.tree) left_is right_is (λ wrong. level path o u leads type (inl wrong)),
+          left.balanced,
+          right.balanced,
+        );
+        below = found;
+      } where
+        left_is : left_height graph o ≡ pos (height left.tree)
+        left_is = height_is graph (node_at graph o).left left.tree left.is left.stated
 
-    whole : (v : Val) → IsUnfolded graph v → IsSearchTree graph v
-    whole v its = record { tree = its.tree; is = its.is; increasing = its.increasing; stated = its.stated; balanced = its.balanced }
+        right_is : right_height graph o ≡ pos (height right.tree)
+        right_is = height_is graph (node_at graph o).right right.tree right.is right.stated
 
-    pub sound_is_ordered : (path : List ℕ) (v : Val) (u : T) → Leads path v u → IsTreeHere u → IsSearchTree graph v
-    sound_is_ordered path v u leads tree = ⊎_elim
-        (λ is. record { tree = empty; is = is; increasing = tt; stated = tt; balanced = tt })
-        (λ at. subst (λ w. IsSearchTree graph w) (sym at.1)
-        (whole (vals.Ref at.0) (unfolded (suc (lower (all_stated graph) (node_at graph at.0).height)) path at.0 u (subst (λ w. Leads path w u) at.1 leads) tree (omega arith))))
-        (tree_value shape names Equal graph v u tree (placed path v u leads).1)
+        less : AllLess graph (elements graph left.tree) (node_at graph o).element
+        less x among =
+            let m = left.below x among in
+            subst (λ y. IsTrue (is_less graph y (node_at graph o).element)) m.2 (left_less path o u leads type m.0 m.1)
+
+        more : AllMore graph (elements graph right.tree) (node_at graph o).element
+        more x among =
+            let m = right.below x among in
+            subst (λ y. IsTrue (is_less graph (node_at graph o).element y)) m.2 (right_more path o u leads type m.0 m.1)
+
+        found :
+            (x : Val) → Contains (elements graph left.tree ++ (node_at graph o).element ∷ elements graph right.tree) x
+            → (m : ℕ) × IsAtOrBelow graph (vals.Ref o) m × ((node_at graph m).element ≡ x)
+        found x among = ⊎_elim
+            (λ first. let m = left.below x first in (m.0, below_left graph o m.0 m.1, m.2))
+            (λ rest. ⊎_elim
+            (λ here. (o, at_itself graph o, here))
+            (λ last. let m = right.below x last in (m.0, below_right graph o m.0 m.1, m.2))
+            (Contains-cases (node_at graph o).element (elements graph right.tree) x rest))
+            (Contains-append_cases (elements graph left.tree) ((node_at graph o).element ∷ elements graph right.tree) x among)
+
+      -- a value below a height unfolds where each node does
+      part :
+          (z : ℤ) → ((path : List ℕ) (o : ℕ) (u : T) → Leads path (vals.Ref o) u → IsTreeHere u → height_of graph (vals.Ref o) <ℤ z → IsUnfolded graph (vals.Ref o))
+          → (path : List ℕ) (v : Val) (u : T) → Leads path v u → IsTreeHere u → height_of graph v <ℤ z → IsUnfolded graph v
+      part z each path v u leads tree less = ⊎_elim
+          (λ is. record { tree = empty; is = is; increasing = tt; stated = tt; balanced = tt; below = λ x among. absurd (Contains-none x among) })
+          (λ at. subst (λ w. IsUnfolded graph w) (sym at.1)
+          (each path at.0 u (subst (λ w. Leads path w u) at.1 leads) tree (subst (λ w. height_of graph w <ℤ z) at.1 less)))
+          (tree_value shape names Equal graph v u tree (placed path v u leads).1)
+
+      unfolded : (n : ℕ) (path : List ℕ) (o : ℕ) (u : T) → Leads path (vals.Ref o) u → IsTreeHere u → lower (all_stated graph) (node_at graph o).height < n
+          → IsUnfolded graph (vals.Ref o)
+      unfolded zero path o u leads tree few = absurd (omega (arith, few))
+      unfolded (suc n) path o u leads tree few =
+          let object = object_of path o u leads tree in
+          let height = counted path o u leads tree in
+          let each : (path' : List ℕ) (m : ℕ) (w : T) → Leads path' (vals.Ref m) w → IsTreeHere w → height_of graph (vals.Ref m) <ℤ (node_at graph o).height → IsUnfolded graph (vals.Ref m) =
+          λ path' m w leads' tree' less.
+          let fewer = lower_less (all_stated graph) m (node_at graph m).height (node_at graph o).height (stated_at graph tree'.kept m (object_of path' m w leads' tree')) less in
+          unfolded n path' m w leads' tree' (omega (arith, few, fewer)) in
+          let among = (placed path (vals.Ref o) u leads).0 in
+          let left = part (node_at graph o).height each (path ++ 0 ∷ []) (node_at graph o).left tree.left (left_leads path o u leads tree object)
+          (alike tree.left u among tree.left_same tree)
+          (left_is_lower (node_at graph o).height (left_height graph o) (right_height graph o) height) in
+          let right = part (node_at graph o).height each (path ++ place_of_right tree.kept ∷ []) (node_at graph o).right tree.right (right_leads path o u leads tree object)
+          (alike tree.right u among tree.right_same tree)
+          (right_is_lower (node_at graph o).height (left_height graph o) (right_height graph o) height) in
+          joined path o u leads tree left right
+
+      whole : (v : Val) → IsUnfolded graph v → IsSearchTree graph v
+      whole v its = record { tree = its.tree; is = its.is; increasing = its.increasing; stated = its.stated; balanced = its.balanced }
+
+      pub sound_is_ordered : (path : List ℕ) (v : Val) (u : T) → Leads path v u → IsTreeHere u → IsSearchTree graph v
+      sound_is_ordered path v u leads tree = ⊎_elim
+          (λ is. record { tree = empty; is = is; increasing = tt; stated = tt; balanced = tt })
+          (λ at. subst (λ w. IsSearchTree graph w) (sym at.1)
+          (whole (vals.Ref at.0) (unfolded (suc (lower (all_stated graph) (node_at graph at.0).height)) path at.0 u (subst (λ w. Leads path w u) at.1 leads) tree (omega arith))))
+          (tree_value shape names Equal graph v u tree (placed path v u leads).1)

@@ -1,0 +1,4 @@
+pub mod VisitLemmas
+pub mod AmongLemmas
+pub mod TableLemmas
+pub mod SameLemmas

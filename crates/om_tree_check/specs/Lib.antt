@@ -1,0 +1,4 @@
+pub mod TreeTable
+pub mod NodeVisits
+pub mod VerdictText
+pub mod Laws

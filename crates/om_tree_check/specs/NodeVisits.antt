@@ -1,0 +1,49 @@
+-- The nodes among all that is met of a value, and what is said of them.
+use Rattle.std.specs.Prelude.{ℕ, ◌≡◌, ◌<◌, Bool, false, List, length, IsTrue, Some, slice_get, slice_index_or}
+use Rattle.om_model.specs.declared.value.Obj.{Obj}
+use Rattle.om_check.specs.declared.visits.Visit.{Visit}
+use Rattle.om_check.specs.Told.{IsPathOf}
+use Rattle.om_trees.specs.declared.judging.Judgement.TheVariants as judgements
+use Rattle.om_trees.specs.declared.verdict.TreeVerdict.{TreeVerdict}
+use Rattle.om_trees.specs.declared.verdict.TreeVerdict.TheVariants.{Sound, Faulty}
+use Rattle.om_trees.specs.Judgement.{IsJudgement}
+use Rattle.om_tree_check.specs.declared.nodes.Nodes.{Nodes}
+
+-- ---- marks
+
+abbrev pub IsMarked : List Bool → ℕ → Type 0
+IsMarked found t = IsTrue (slice_index_or found t false)
+
+abbrev pub NoneMarked : List Bool → Type 0
+NoneMarked found = (t : ℕ) → ¬ IsMarked found t
+
+-- ---- nodes
+
+-- visit k is of the object, at such a type
+pub record IsVisitAt (IsTree : ℕ → Type 0) (all : List Visit) (k o : ℕ) : Type 0 where
+  pub visit : Visit
+  pub at : slice_get all k ≡ Some visit
+  pub object : visit.object ≡ o
+  pub tree : IsTree visit.ty
+
+-- Of the first n visits these are all that are at such a type, in their order.
+pub record AreNodeVisits (IsTree : ℕ → Type 0) (all : List Visit) (n : ℕ) (nodes : Nodes)
+    : Type 0 where
+  pub many : length nodes.visits.items ≡ length nodes.objects.items
+  pub below : (i k : ℕ) → slice_get nodes.visits.items i ≡ Some k → k < n
+  pub at : (i k o : ℕ) → slice_get nodes.visits.items i ≡ Some k
+      → slice_get nodes.objects.items i ≡ Some o → IsVisitAt IsTree all k o
+  pub each : (k : ℕ) (v : Visit) → k < n → slice_get all k ≡ Some v → IsTree v.ty
+      → (i : ℕ) × (slice_get nodes.visits.items i ≡ Some k)
+  pub rising : (i j k m : ℕ) → i < j → slice_get nodes.visits.items i ≡ Some k
+      → slice_get nodes.visits.items j ≡ Some m → k < m
+
+-- ---- what is said
+
+-- no fault and so many nodes; or the first of the gravest faults, and the path to its visit
+abbrev pub IsVerdictAmong : List Obj → List Visit → Nodes → TreeVerdict → Type 0
+IsVerdictAmong graph all nodes (Sound n) =
+    IsJudgement graph nodes.objects.items judgements.Sound × (n ≡ length nodes.objects.items)
+IsVerdictAmong graph all nodes (Faulty kind path) =
+    (i : ℕ) × (k : ℕ) × IsJudgement graph nodes.objects.items (judgements.Faulty kind i)
+    × (slice_get nodes.visits.items i ≡ Some k) × IsPathOf all k path

@@ -1,0 +1,18 @@
+-- The text of a verdict on the sets and maps in a value.
+use Rattle.std.specs.Prelude.{ℕ, List, ◌++◌, codes, decimal}
+use Rattle.om_model.specs.PathText.{path_text}
+use Rattle.om_trees.specs.declared.node.TreeKind.{TreeKind}
+use Rattle.om_trees.specs.declared.node.TreeKind.TheVariants as kinds
+use Rattle.om_trees.specs.declared.verdict.TreeVerdict.{TreeVerdict}
+use Rattle.om_trees.specs.declared.verdict.TreeVerdict.TheVariants.{Sound, Faulty}
+
+abbrev pub kind_word : TreeKind → List ℕ
+kind_word kinds.Height = codes "height"
+kind_word kinds.Balance = codes "balance"
+kind_word kinds.Order = codes "order"
+
+-- the number of nodes, or what is wrong and where
+abbrev pub verdict_text : TreeVerdict → List ℕ
+verdict_text (Sound n) = codes "sound " ++ decimal n
+verdict_text (Faulty kind path) =
+    codes "fault " ++ kind_word kind ++ codes " at " ++ path_text path

@@ -1,0 +1,50 @@
+//! The nodes among all that is met of a value.
+
+ghost use Rattle.std.specs.Prelude.{◌≡◌, ◌+◌, ◌<◌, false, length, slice_index_or, IfOk, OnOk};
+ghost use Rattle.om_tree_check.specs.NodeVisits.{AreNodeVisits, IsMarked};
+
+use om_check::AllMet;
+use om_model::Memory;
+use std::alloc::Global;
+
+/// The nodes of sets and maps: their objects, and the numbers of the visits to them.
+#[derive(Drop)]
+pub struct Nodes {
+    pub objects: Vec<usize>,
+    pub visits: Vec<usize>,
+}
+
+/// The visits at marked types, in their order.
+pub fn nodes_among(alloc: Global, all: &AllMet, found: &[bool]) -> Result<Nodes, Memory>
+    ensures { IfOk result (AreNodeVisits (IsMarked found.now) all.now (length all.now)) }
+{
+    let mut nodes = Nodes {
+        objects: Vec::new(alloc),
+        visits: Vec::new(alloc),
+    };
+    for k in 0..all.len() {
+        take_visit(&mut nodes, all, found, k)?;
+    }
+    Ok(nodes)
+}
+
+/// Takes visit k, where it is at a marked type.
+fn take_visit(nodes: &mut Nodes, all: &AllMet, found: &[bool], k: usize) -> Result<(), Memory>
+    requires in_range { k < length all.now }
+    requires so_far { AreNodeVisits (IsMarked found.now) all.now k nodes.old }
+    ensures { OnOk result (AreNodeVisits (IsMarked found.now) all.now (k + 1) nodes.new) }
+{
+    let (object, ty) = all.get(k);
+    if is_marked(found, ty) {
+        nodes.objects.push(object as usize)?;
+        nodes.visits.push(k)?;
+    }
+    Ok(())
+}
+
+/// Whether a type is marked.
+fn is_marked(found: &[bool], ty: usize) -> bool
+    ensures { result ≡ slice_index_or found.now ty false }
+{
+    ty < found.len() && found[ty]
+}

@@ -1,0 +1,94 @@
+//! The verdict on the sets and maps in a value.
+
+ghost use Rattle.std.specs.Prelude.{◌≡◌, ◌<◌, ◌↔◌, length, All, IfOk, IsTrue};
+ghost use Rattle.om_model.specs.Graph.{IsValue};
+ghost use Rattle.om_types.specs.Table.{table_shapes};
+ghost use Rattle.om_types.specs.Typing.{HasType};
+ghost use Rattle.om_type_table.specs.Made.{table_of};
+ghost use Rattle.om_check.specs.Told.{AreOrdered};
+ghost use Rattle.om_trees.specs.Judgement.{AreClosed};
+ghost use Rattle.om_tree_check.specs.NodeVisits.{AreNodeVisits, IsMarked, NoneMarked, IsVerdictAmong};
+ghost use Rattle.om_tree_check.specs.TreeTable.{IsTreeTable, AreMarked, IsTableVerdict};
+
+use crate::nodes::{Nodes, nodes_among};
+use om_check::{AllMet, met};
+use om_heap::Heap;
+use om_model::Memory;
+use om_model::value::Val;
+use om_trees::{Judgement, TreeVerdict, judge, tree_types};
+use om_type_table::TypeTable;
+use std::alloc::Global;
+
+/// What is said of the sets and maps in a value that has the type that is number 0: the least
+/// fault, or how many nodes there are, each object once at each class of types. Where the table
+/// has no such type, the value is not looked at.
+pub fn trees(
+    alloc: Global,
+    heap: &Heap,
+    root: Val,
+    table: &TypeTable,
+) -> Result<TreeVerdict, Memory>
+    requires value { IsValue (length heap.now) root }
+    requires table { IsTreeTable table.now }
+    requires has { HasType (table_shapes (table_of table.now)) heap.now root 0 }
+    ensures { IfOk result (IsTableVerdict table.now heap.now root) }
+{
+    let found = tree_types(alloc, table)?;
+    if has_none(found.as_slice()) {
+        return Ok(TreeVerdict::Sound(0));
+    }
+    verdict_by(alloc, heap, root, table, found.as_slice())
+}
+
+/// Whether no type is marked.
+fn has_none(found: &[bool]) -> bool
+    ensures { IsTrue result ↔ NoneMarked found.now }
+{
+    for is_tree in found {
+        if *is_tree {
+            return false;
+        }
+    }
+    true
+}
+
+/// The verdict by the types of sets and maps.
+fn verdict_by(
+    alloc: Global,
+    heap: &Heap,
+    root: Val,
+    table: &TypeTable,
+    found: &[bool],
+) -> Result<TreeVerdict, Memory>
+    requires value { IsValue (length heap.now) root }
+    requires table { IsTreeTable table.now }
+    requires has { HasType (table_shapes (table_of table.now)) heap.now root 0 }
+    requires found { AreMarked table.now found.now }
+    ensures { IfOk result (IsTableVerdict table.now heap.now root) }
+{
+    let all = met(alloc, heap, root, table)?;
+    let nodes = nodes_among(alloc, &all, found)?;
+    verdict_among(alloc, heap, &all, &nodes)
+}
+
+/// The verdict on nodes among what is met.
+fn verdict_among(
+    alloc: Global,
+    heap: &Heap,
+    all: &AllMet,
+    nodes: &Nodes,
+) -> Result<TreeVerdict, Memory>
+    requires ordered { AreOrdered all.now }
+    requires inside { All (λ k. k < length all.now) nodes.now.visits.items }
+    requires many { length nodes.now.visits.items ≡ length nodes.now.objects.items }
+    requires closed { AreClosed heap.now nodes.now.objects.items }
+    ensures { IfOk result (IsVerdictAmong heap.now all.now nodes.now) }
+{
+    match judge(alloc, heap, nodes.objects.as_slice())? {
+        Judgement::Sound => Ok(TreeVerdict::Sound(nodes.objects.len() as u64)),
+        Judgement::Faulty(kind, i) => {
+            let path = all.path(alloc, nodes.visits[i])?;
+            Ok(TreeVerdict::Faulty(kind, path))
+        }
+    }
+}
