@@ -33,8 +33,9 @@ use Rattle.om_edit.specs.EditedValues.{Edited}
 use Rattle.om_edit.specs.Laws.{EditsHaveOneAnswer}
 use Rattle.om_format.specs.Compat.{too_large_for_32}
 use Rattle.om_path.specs.declared.fault.PathFault.{PathFault}
-use Rattle.om_outcome.specs.Outcome.{Saying, Unedited, untyped}
-use Rattle.om_declared.specs.Language.{TypeOver, declared_types, ReadsPath, IsRefusal, ReachesFew, IsTooMuch, IsAccepted, IsTypeLine, IsBytesLine, AreBytesOf, AreBytesAfter, bytes_for, ReadsType, ReadsScript, script_refusal}
+use Rattle.om_trees.specs.Laws.{TreeVerdictsAreOne}
+use Rattle.om_outcome.specs.Outcome.{Said, Saying, the_verdict, the_text, the_part, the_trees, Unedited, untyped}
+use Rattle.om_declared.specs.Language.{TypeOver, declared_types, ReadsPath, IsRefusal, ReachesFew, IsTooMuch, IsAccepted, IsToldOf, judged, IsTypeLine, IsBytesLine, AreBytesOf, AreBytesAfter, bytes_for, ReadsType, ReadsScript, script_refusal}
 use Rattle.om_promises.specs.LawfulLanguage.{IsGiven, IsLawful}
 
 -- ---- answers
@@ -138,7 +139,8 @@ bytes_after_once compat (Ok edited) answer other is its = one_bytes compat edite
 bytes_after_once compat (Err refused) answer other is its = is ∙ sym its
 
 module _ (files_once : HasOneAnswer IsFileAnswer) (types_once : (decls : List Decl) → HasOneAnswer (IsTypeAnswer decls))
-    (paths_once : (text : List ℕ) → paths.HasOneAnswer text) (scripts_once : (text : List ℕ) → scripts.HasOneScriptAnswer text) (edits_once : EditsHaveOneAnswer) (files_well : FilesAreWellFormed) (types_sound : TypesAreSound) (never_both : NeverBoth) where
+    (paths_once : (text : List ℕ) → paths.HasOneAnswer text) (scripts_once : (text : List ℕ) → scripts.HasOneScriptAnswer text) (edits_once : EditsHaveOneAnswer) (files_well : FilesAreWellFormed) (types_sound : TypesAreSound) (never_both : NeverBoth)
+    (verdicts_once : TreeVerdictsAreOne) where
   same_decls : (text : List ℕ) (decls others : List Decl) → IsDeclared text decls → IsDeclared text others → decls ≡ others
   same_decls text decls others d e =
       d.stand ∙ (ap declarations_of (trees_once IsFileAnswer files_once text d.tree e.tree d.answer e.answer) ∙ sym e.stand)
@@ -175,8 +177,18 @@ module _ (files_once : HasOneAnswer IsFileAnswer) (types_once : (decls : List De
 
   -- a value has the type or a fault, and not both
   module _ (t : TypeOver) (well : AreWellFormed t.decls) (sound : IsSoundType t.decls t.type) (few : ReachesFew t.decls t.type) (graph : List Obj) (v : Val) where
+    -- one thing is told of a value that has the type
+    told_once : (saying : Saying) (one other : Said) → IsToldOf saying t graph v one → IsToldOf saying t graph v other → one ≡ other
+    told_once the_verdict one other is its = is ∙ sym its
+    told_once the_text one other is its = is ∙ sym its
+    told_once (the_part path) one other is its = is ∙ sym its
+    told_once the_trees one other (verdict, of, is) (second, of_second, its) =
+        is ∙ (ap judged (verdicts_once t.decls graph v t.type verdict second of of_second) ∙ sym its)
+
     lines_once : (saying : Saying) (line other : List ℕ) (one two : Bool) → IsTypeLine saying t graph v line one → IsTypeLine saying t graph v other two → (line ≡ other) × (one ≡ two)
-    lines_once saying line other one two (inl has) (inl its) = (has.spelled ∙ sym its.spelled, has.is_well ∙ sym its.is_well)
+    lines_once saying line other one two (inl has) (inl its) =
+        let same = told_once saying (record { text = line; well = one }) (record { text = other; well = two }) has.told its.told in
+        (ap (λ (s : Said). s.text) same, ap (λ (s : Said). s.well) same)
     lines_once saying line other one two (inr is) (inr its) = (no_line_once (declared_shapes t.decls) graph v t.type type_text line other is.why its.why, is.is_well ∙ sym its.is_well)
     lines_once saying line other one two (inl has) (inr is) = absurd (never_both t.decls t.type few.types well sound few.reached graph v is.why.fault is.why.least.is_fault has.has)
     lines_once saying line other one two (inr is) (inl has) = absurd (never_both t.decls t.type few.types well sound few.reached graph v is.why.fault is.why.least.is_fault has.has)

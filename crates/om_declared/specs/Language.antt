@@ -30,8 +30,11 @@ use Rattle.om_path.specs.declared.edits.ScriptFault.TheVariants as script_faults
 use Rattle.om_path.specs.declared.edits.ScriptLine.{ScriptLine}
 use Rattle.om_show.specs.Dumped.{dump_text}
 use Rattle.om_show.specs.Shown.{shown_text, shown_at}
+use Rattle.om_trees.specs.Laws.{IsVerdictOf}
+use Rattle.om_trees.specs.declared.verdict.TreeVerdict.{TreeVerdict}
+use Rattle.om_tree_check.specs.VerdictText.{is_sound, verdict_text}
 use Rattle.om_outcome.specs.RefusalText.{compat_text}
-use Rattle.om_outcome.specs.Outcome.{Language, Said, Saying, the_verdict, the_text, the_part, Unedited, untyped, refused_line, too_large, line}
+use Rattle.om_outcome.specs.Outcome.{Language, Said, Saying, the_verdict, the_text, the_part, the_trees, Unedited, untyped, refused_line, too_large, line}
 
 -- a type over declarations
 pub record TypeOver : Type 0 where
@@ -45,20 +48,29 @@ abbrev pub part_or_none : Option (List ℕ) → Said
 part_or_none None = record { text = codes "none"; well = false }
 part_or_none (Some text) = record { text = text; well = true }
 
--- what is told of a value that has the type: `yes`, its text, or the text of the part at the path
-abbrev pub told_of : Saying → TypeOver → List Obj → Val → Said
-told_of the_verdict t graph v = record { text = codes "yes"; well = true }
-told_of the_text t graph v =
-    record { text = shown_text (shape t.decls) (names_of t.decls) graph v t.type; well = true }
-told_of (the_part path) t graph v =
-    part_or_none (shown_at (shape t.decls) (names_of t.decls) graph (Equal t.decls) v t.type path)
+-- the text of the verdict on its sets and maps; nothing is wrong where they are sound
+abbrev pub judged : TreeVerdict → Said
+judged verdict = record { text = verdict_text verdict; well = is_sound verdict }
+
+-- what is told of a value that has the type: `yes`, its text, the text of the part at the path, or
+-- the verdict on its sets and maps
+abbrev pub IsToldOf : Saying → TypeOver → List Obj → Val → Said → Type 0
+IsToldOf the_verdict t graph v said = said ≡ record { text = codes "yes"; well = true }
+IsToldOf the_text t graph v said = said ≡ record {
+  text = shown_text (shape t.decls) (names_of t.decls) graph v t.type;
+  well = true;
+}
+IsToldOf (the_part path) t graph v said =
+    said
+    ≡ part_or_none (shown_at (shape t.decls) (names_of t.decls) graph (Equal t.decls) v t.type path)
+IsToldOf the_trees t graph v said =
+    (verdict : TreeVerdict) × IsVerdictOf t.decls graph v t.type verdict × (said ≡ judged verdict)
 
 -- the value has the type, and this is what is told of it
 pub record IsTold (saying : Saying) (t : TypeOver) (graph : List Obj) (v : Val) (text : List ℕ)
     (well : Bool) : Type 0 where
   pub has : HasType (declared_shapes t.decls) graph v t.type
-  pub spelled : text ≡ (told_of saying t graph v).text
-  pub is_well : well ≡ (told_of saying t graph v).well
+  pub told : IsToldOf saying t graph v (record { text = text; well = well })
 
 -- the value has not the type, and this is the line of the least fault, whatever was asked for
 pub record IsRefuted (t : TypeOver) (graph : List Obj) (v : Val) (text : List ℕ) (well : Bool)

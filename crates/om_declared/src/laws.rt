@@ -12,6 +12,7 @@ use om_decl::told::{files_are_well_formed, types_are_sound};
 use om_edit::edits_have_one_answer;
 use om_path::{one_answer as one_path, one_script_answer};
 use om_table::type_or_fault;
+use om_trees::tree_verdicts_are_one;
 
 /// Files and types in OCaml's own words, and scripts of edits.
 pub struct DeclaredTypes;
@@ -37,4 +38,5 @@ pub fn declared_types_are_lawful()
     files_are_well_formed();
     types_are_sound();
     type_or_fault();
+    tree_verdicts_are_one();
 }

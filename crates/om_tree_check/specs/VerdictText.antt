@@ -1,5 +1,5 @@
 -- The text of a verdict on the sets and maps in a value.
-use Rattle.std.specs.Prelude.{ℕ, List, ◌++◌, codes, decimal}
+use Rattle.std.specs.Prelude.{ℕ, Bool, true, false, List, ◌++◌, codes, decimal}
 use Rattle.om_model.specs.PathText.{path_text}
 use Rattle.om_trees.specs.declared.node.TreeKind.{TreeKind}
 use Rattle.om_trees.specs.declared.node.TreeKind.TheVariants as kinds
@@ -16,3 +16,8 @@ abbrev pub verdict_text : TreeVerdict → List ℕ
 verdict_text (Sound n) = codes "sound " ++ decimal n
 verdict_text (Faulty kind path) =
     codes "fault " ++ kind_word kind ++ codes " at " ++ path_text path
+
+-- no node has a fault
+abbrev pub is_sound : TreeVerdict → Bool
+is_sound (Sound n) = true
+is_sound (Faulty kind path) = false
