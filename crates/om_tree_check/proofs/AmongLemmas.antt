@@ -57,13 +57,16 @@ module _ (table : TypeTable) (graph : List Obj) (root : Val) (its : IsTreeTable 
   Leads path v u = value_at (table_shapes (table_of table)) graph root 0 path ≡ Some (v, u)
 
   abbrev IsNodeHere : List ℕ → ℕ → ℕ → Type 0
-  IsNodeHere path o u = IsNode (shape_in table) (names_in table) (SameClass table) graph root 0 path o u
+  IsNodeHere path o u = IsNode (shape_in table) (names_in table) (SameClass table) graph root 0
+      path o u
 
   abbrev HasNodeWith : (List Obj → ℕ → Type 0) → List ℕ → Type 0
-  HasNodeWith Has path = IsNodeWith (shape_in table) (names_in table) (SameClass table) graph root 0 Has path
+  HasNodeWith Has path = IsNodeWith (shape_in table) (names_in table) (SameClass table) graph root
+      0 Has path
 
   abbrev IsFaultHere : TreeKind → List ℕ → Type 0
-  IsFaultHere kind path = IsTreeFault (shape_in table) (names_in table) (SameClass table) graph root 0 kind path
+  IsFaultHere kind path = IsTreeFault (shape_in table) (names_in table) (SameClass table) graph
+      root 0 kind path
 
   -- ---- node i and its visit
 
@@ -92,7 +95,8 @@ module _ (table : TypeTable) (graph : List Obj) (root : Val) (its : IsTreeTable 
         visit = k.1;
         told = e.1;
         object = met.are_told.objects k.0 visit.visit e.0 visit.at e.1 ∙ visit.object;
-        tree = subst (IsTreeNumber table) (sym (met.are_told.types k.0 visit.visit e.0 visit.at e.1)) visit.tree;
+        tree = subst (IsTreeNumber table) (sym
+            (met.are_told.types k.0 visit.visit e.0 visit.at e.1)) visit.tree;
       }
 
   leads_there : (i o : ℕ) (n : IsNodeAt i o) → IsNodeHere n.entry.path o n.entry.type
@@ -118,7 +122,8 @@ module _ (table : TypeTable) (graph : List Obj) (root : Val) (its : IsTreeTable 
       let told = met.are_told.many in
       let v = slice_get_there all k.0 (omega (arith, inside, told)) in
       let type = met.are_told.types k.0 v.0 e v.1 k.1 in
-      let i = among.each k.0 v.0 (omega (arith, inside, told)) v.1 (subst (IsTreeNumber table) type tree) in
+      let i = among.each k.0 v.0 (omega (arith, inside, told)) v.1
+      (subst (IsTreeNumber table) type tree) in
       let within = slice_get_within nodes.visits.items i.0 k.0 i.1 in
       let many = among.many in
       let p = slice_get_there objects i.0 (omega (arith, within, many)) in
@@ -144,7 +149,8 @@ module _ (table : TypeTable) (graph : List Obj) (root : Val) (its : IsTreeTable 
 
   -- ---- the nodes are closed
 
-  part_among : (v : Val) (path : List ℕ) (u : ℕ) → Leads path v u → IsTreeNumber table u → IsAmong objects v
+  part_among : (v : Val) (path : List ℕ) (u : ℕ) → Leads path v u → IsTreeNumber table u → IsAmong
+      objects v
   part_among (vals.Int z) path u leads tree = tt
   part_among (vals.Atom tag) path u leads tree = tt
   part_among (vals.Ref m) path u leads tree =
@@ -159,27 +165,33 @@ module _ (table : TypeTable) (graph : List Obj) (root : Val) (its : IsTreeTable 
     inside = all_are (λ o. o < length graph) objects (λ i o at.
         let n = node_there i o at in
         let node = leads_there i o n in
-        let object = object_of (shape_in table) (names_in table) (SameClass table) Everything its.lawful.lawful alike graph root 0 tt has
+        let object = object_of (shape_in table) (names_in table) (SameClass table) Everything
+        its.lawful.lawful alike graph root 0 tt has
         n.entry.path o n.entry.type node.leads node.tree in
         slice_get_within graph o object.object object.at);
     left = λ o listed.
         let i = place_of objects o listed in
         let n = node_there i.0 o i.1 in
         let node = leads_there i.0 o n in
-        let object = object_of (shape_in table) (names_in table) (SameClass table) Everything its.lawful.lawful alike graph root 0 tt has
+        let object = object_of (shape_in table) (names_in table) (SameClass table) Everything
+        its.lawful.lawful alike graph root 0 tt has
         n.entry.path o n.entry.type node.leads node.tree in
         part_among (node_at graph o).left (n.entry.path ++ 0 ∷ []) node.tree.left
-        (left_leads (shape_in table) (names_in table) (SameClass table) Everything its.lawful.lawful alike graph root 0 tt has
+        (left_leads (shape_in table) (names_in table) (SameClass table) Everything
+        its.lawful.lawful alike graph root 0 tt has
         n.entry.path o n.entry.type node.leads node.tree object)
         (its.alike node.tree.left n.entry.type node.tree.left_same node.tree);
     right = λ o listed.
         let i = place_of objects o listed in
         let n = node_there i.0 o i.1 in
         let node = leads_there i.0 o n in
-        let object = object_of (shape_in table) (names_in table) (SameClass table) Everything its.lawful.lawful alike graph root 0 tt has
+        let object = object_of (shape_in table) (names_in table) (SameClass table) Everything
+        its.lawful.lawful alike graph root 0 tt has
         n.entry.path o n.entry.type node.leads node.tree in
-        part_among (node_at graph o).right (n.entry.path ++ place_of_right node.tree.kept ∷ []) node.tree.right
-        (right_leads (shape_in table) (names_in table) (SameClass table) Everything its.lawful.lawful alike graph root 0 tt has
+        part_among (node_at graph o).right (n.entry.path ++ place_of_right node.tree.kept ∷ [])
+        node.tree.right
+        (right_leads (shape_in table) (names_in table) (SameClass table) Everything
+        its.lawful.lawful alike graph root 0 tt has
         n.entry.path o n.entry.type node.leads node.tree object)
         (its.alike node.tree.right n.entry.type node.tree.right_same node.tree);
   }
@@ -187,21 +199,25 @@ module _ (table : TypeTable) (graph : List Obj) (root : Val) (its : IsTreeTable 
   -- ---- faults
 
   -- such a node is met where one stands at a path, and back
-  has_at : (Has : List Obj → ℕ → Type 0) (path : List ℕ) → HasNodeWith Has path → (i : ℕ) × HasAt (Has graph) objects i
+  has_at : (Has : List Obj → ℕ → Type 0) (path : List ℕ) → HasNodeWith Has path → (i : ℕ) × HasAt
+      (Has graph) objects i
   has_at Has path (o, u, node, wrong) =
       let at = met_at path o u node in
       (at.place, IsSomeAnd-at (slice_get objects at.place) o (Has graph) at.node.listed wrong)
 
-  has_node : (Has : List Obj → ℕ → Type 0) (i : ℕ) → HasAt (Has graph) objects i → (path : List ℕ) × HasNodeWith Has path
+  has_node : (Has : List Obj → ℕ → Type 0) (i : ℕ) → HasAt (Has graph) objects i → (path : List ℕ)
+      × HasNodeWith Has path
   has_node Has i wrong =
       let o = IsSomeAnd-some (slice_get objects i) (Has graph) wrong in
       let n = node_there i o.0 o.1 in
       (n.entry.path, (o.0, n.entry.type, leads_there i o.0 n, o.2))
 
-  none_at : (Has : List Obj → ℕ → Type 0) → ((path : List ℕ) → ¬ HasNodeWith Has path) → (i : ℕ) → ¬ HasAt (Has graph) objects i
+  none_at : (Has : List Obj → ℕ → Type 0) → ((path : List ℕ) → ¬ HasNodeWith Has path) → (i : ℕ) →
+      ¬ HasAt (Has graph) objects i
   none_at Has none i wrong = let node = has_node Has i wrong in none node.0 node.1
 
-  no_node : (Has : List Obj → ℕ → Type 0) → ((i : ℕ) → ¬ HasAt (Has graph) objects i) → (path : List ℕ) → ¬ HasNodeWith Has path
+  no_node : (Has : List Obj → ℕ → Type 0) → ((i : ℕ) → ¬ HasAt (Has graph) objects i) →
+      (path : List ℕ) → ¬ HasNodeWith Has path
   no_node Has none path node = let at = has_at Has path node in none at.0 at.1
 
   -- a fault at a path is one of the node that stands for it
@@ -219,7 +235,8 @@ module _ (table : TypeTable) (graph : List Obj) (root : Val) (its : IsTreeTable 
         place = at.place;
         object = o;
         node = at.node;
-        fault = IsSomeAnd-at (slice_get objects at.place) o (IsMiscounted graph) at.node.listed wrong;
+        fault = IsSomeAnd-at (slice_get objects at.place) o (IsMiscounted graph) at.node.listed
+            wrong;
         not_later = at.not_later;
       }
   fault_met kinds.Balance path (o, u, node, wrong) =
@@ -228,7 +245,8 @@ module _ (table : TypeTable) (graph : List Obj) (root : Val) (its : IsTreeTable 
         place = at.place;
         object = o;
         node = at.node;
-        fault = IsSomeAnd-at (slice_get objects at.place) o (IsUnbalanced graph) at.node.listed wrong;
+        fault = IsSomeAnd-at (slice_get objects at.place) o (IsUnbalanced graph) at.node.listed
+            wrong;
         not_later = at.not_later;
       }
   fault_met kinds.Order path ((o, u, node, wrong), none) =
@@ -237,7 +255,11 @@ module _ (table : TypeTable) (graph : List Obj) (root : Val) (its : IsTreeTable 
         place = at.place;
         object = o;
         node = at.node;
-        fault = (IsSomeAnd-at (slice_get objects at.place) o (IsDisordered graph) at.node.listed wrong, none_at IsMiscounted none);
+        fault = (
+          IsSomeAnd-at (slice_get objects at.place) o (IsDisordered graph) at.node.listed
+              wrong,
+          none_at IsMiscounted none,
+        );
         not_later = at.not_later;
       }
 
@@ -281,15 +303,18 @@ module _ (table : TypeTable) (graph : List Obj) (root : Val) (its : IsTreeTable 
 
   pair_there : (i o u : ℕ) → slice_get pairs i ≡ Some (o, u) → IsPairAt i o u
   pair_there i o u at =
-      let k = mapped_some (λ k. pair_of (slice_get met.told k)) (slice_get nodes.visits.items i) (o, u)
+      let k = mapped_some (λ k. pair_of (slice_get met.told k)) (slice_get nodes.visits.items i)
+      (o, u)
       (sym (slice_get-map (λ k. pair_of (slice_get met.told k)) nodes.visits.items i) ∙ at) in
       let within = slice_get_within nodes.visits.items i k.0 k.1 in
       let many = among.many in
       let p = slice_get_there objects i (omega (arith, within, many)) in
       let n = node_there i p.0 p.1 in
       let same : n.number ≡ k.0 = same_Some n.number k.0 (sym n.visit ∙ k.1) in
-      let told : slice_get met.told k.0 ≡ Some n.entry = subst (λ m. slice_get met.told m ≡ Some n.entry) same n.told in
-      let pair : ◌≡◌ {A = ℕ × ℕ} (n.entry.object, n.entry.type) (o, u) = sym (ap pair_of told) ∙ k.2 in
+      let told : slice_get met.told k.0 ≡ Some n.entry = subst
+      (λ m. slice_get met.told m ≡ Some n.entry) same n.told in
+      let pair : ◌≡◌ {A = ℕ × ℕ} (n.entry.object, n.entry.type) (o, u) = sym (ap pair_of told) ∙
+      k.2 in
       record {
         number = n.number;
         entry = n.entry;
@@ -307,7 +332,8 @@ module _ (table : TypeTable) (graph : List Obj) (root : Val) (its : IsTreeTable 
       ∙ ap (λ (found : Option (Entry ℕ)). Some (pair_of found)) n.told
       ∙ ap (λ (p : ℕ). Some (p, n.entry.type)) n.object
 
-  same_place : (i j k : ℕ) → slice_get nodes.visits.items i ≡ Some k → slice_get nodes.visits.items j ≡ Some k → i ≡ j
+  same_place : (i j k : ℕ) → slice_get nodes.visits.items i ≡ Some k → slice_get nodes.visits.items
+      j ≡ Some k → i ≡ j
   same_place i j k at_i at_j = ⊎_elim
       (λ less. absurd (let rising = among.rising i j k k less at_i at_j in omega (arith, rising)))
       (λ not_less. ⊎_elim
@@ -323,14 +349,16 @@ module _ (table : TypeTable) (graph : List Obj) (root : Val) (its : IsTreeTable 
         let p = pair_there i.0 o u i.1 in (
           p.entry.path,
           record {
-            leads = met.leads p.number p.entry p.told ∙ ap (λ q. Some (vals.Ref q, p.entry.type)) p.object ∙ ap (λ w. Some (vals.Ref o, w)) p.type;
+            leads = met.leads p.number p.entry p.told ∙ ap (λ q. Some (vals.Ref q, p.entry.type))
+                p.object ∙ ap (λ w. Some (vals.Ref o, w)) p.type;
             tree = subst (IsTreeNumber table) p.type p.tree;
           },
         );
     all = λ path o u node.
         let at = met_at path o u node in (
           at.node.entry.type,
-          slice_get-Contains pairs at.place (o, at.node.entry.type) (pair_listed at.place o at.node),
+          slice_get-Contains pairs at.place (o, at.node.entry.type)
+              (pair_listed at.place o at.node),
           sym at.equal,
         );
     apart = λ j k o u w at_j at_k equal.
@@ -338,23 +366,28 @@ module _ (table : TypeTable) (graph : List Obj) (root : Val) (its : IsTreeTable 
         let b = pair_there k o w at_k in
         let same : a.number ≡ b.number =
         met.apart a.number b.number a.entry b.entry a.told b.told (a.object ∙ sym b.object)
-        (subst (λ x. SameClass table x b.entry.type) (sym a.type) (subst (λ x. SameClass table u x) (sym b.type) equal)) in
+        (subst (λ x. SameClass table x b.entry.type) (sym a.type)
+        (subst (λ x. SameClass table u x) (sym b.type) equal)) in
         same_place j k b.number (a.visit ∙ ap Some same) b.visit;
   }
 
   -- ---- the verdict
 
-  is_sound : (n : ℕ) → IsJudgement graph objects judgements.Sound → n ≡ length objects → IsTableVerdict table graph root (Sound n)
+  is_sound : (n : ℕ) → IsJudgement graph objects judgements.Sound → n ≡ length objects →
+      IsTableVerdict table graph root (Sound n)
   is_sound n none many = (
     λ kind path fault. let at = fault_met kind path fault in none kind at.place at.fault,
     pairs,
     are_nodes,
-    many ∙ sym among.many ∙ sym (length-map nodes.visits.items (λ k. pair_of (slice_get met.told k))),
+    many ∙ sym among.many ∙ sym (length-map nodes.visits.items
+        (λ k. pair_of (slice_get met.told k))),
   )
 
   is_least :
-      (kind : TreeKind) (i k : ℕ) (path : List ℕ) → IsJudgement graph objects (judgements.Faulty kind i)
-      → slice_get nodes.visits.items i ≡ Some k → IsPathOf all k path → IsTableVerdict table graph root (Faulty kind path)
+      (kind : TreeKind) (i k : ℕ) (path : List ℕ) → IsJudgement graph objects
+      (judgements.Faulty kind i)
+      → slice_get nodes.visits.items i ≡ Some k → IsPathOf all k path → IsTableVerdict table graph
+      root (Faulty kind path)
   is_least kind i k path judged at_i is_path = (
     subst (IsFaultHere kind) (sym path_is) told.fault,
     λ other second fault less. by_order other second (fault_met other second fault) less,
@@ -366,41 +399,51 @@ module _ (table : TypeTable) (graph : List Obj) (root : Val) (its : IsTreeTable 
     number_is = same_Some told.node.number k (sym told.node.visit ∙ at_i)
 
     path_is : path ≡ told.node.entry.path
-    path_is = is_path met.told told.node.entry met.are_told (subst (λ m. slice_get met.told m ≡ Some told.node.entry) number_is told.node.told)
+    path_is = is_path met.told told.node.entry met.are_told
+        (subst (λ m. slice_get met.told m ≡ Some told.node.entry) number_is told.node.told)
 
     -- a node that is not earlier has no lesser path
-    not_before : (second : List ℕ) (j o : ℕ) (n : IsNodeAt j o) → i ≤ j → IsBefore second path → (¬ IsBefore second n.entry.path) → ⊥
+    not_before : (second : List ℕ) (j o : ℕ) (n : IsNodeAt j o) → i ≤ j → IsBefore second path →
+        (¬ IsBefore second n.entry.path) → ⊥
     not_before second j o n later before not_later =
         let own : IsBefore second told.node.entry.path = subst (IsBefore second) path_is before in
         ⊎_elim
         (λ after.
         let rising = among.rising i j told.node.number n.number after told.node.visit n.visit in
         not_later (before_transitive second told.node.entry.path n.entry.path own
-        (met.increasing told.node.number n.number told.node.entry n.entry rising told.node.told n.told)))
+        (met.increasing told.node.number n.number told.node.entry n.entry rising told.node.told
+        n.told)))
         (λ not_after.
         let here : i ≡ j = omega (arith, later, not_after) in
         let same : told.node.number ≡ n.number =
-        same_Some told.node.number n.number (sym told.node.visit ∙ ap (slice_get nodes.visits.items) here ∙ n.visit) in
+        same_Some told.node.number n.number (sym told.node.visit ∙ ap
+        (slice_get nodes.visits.items) here ∙ n.visit) in
         let entry : told.node.entry ≡ n.entry =
-        same_Some told.node.entry n.entry (sym told.node.told ∙ ap (slice_get met.told) same ∙ n.told) in
+        same_Some told.node.entry n.entry (sym told.node.told ∙ ap (slice_get met.told) same ∙
+        n.told) in
         not_later (subst (λ (e : Entry ℕ). IsBefore second e.path) entry own))
         (cases_lt i j)
 
-    by_order : (other : TreeKind) (second : List ℕ) → IsFaultMet other second → IsLessFault other second kind path → ⊥
+    by_order : (other : TreeKind) (second : List ℕ) → IsFaultMet other second → IsLessFault other
+        second kind path → ⊥
     by_order other second at (inl graver) = judged.1 other at.place at.fault (inl graver)
     by_order other second at (inr (same, before)) = ⊎_elim
         (λ earlier. judged.1 other at.place at.fault (inr (same, earlier)))
         (λ later. not_before second at.place at.object at.node later before at.not_later)
         (cases_lt at.place i)
 
-  pub verdict_is : (verdict : TreeVerdict) → IsVerdictAmong graph all nodes verdict → IsTableVerdict table graph root verdict
+  pub verdict_is : (verdict : TreeVerdict) → IsVerdictAmong graph all nodes verdict →
+      IsTableVerdict table graph root verdict
   verdict_is (Sound n) (none, many) = is_sound n none many
-  verdict_is (Faulty kind path) (i, k, judged, at_i, is_path) = is_least kind i k path judged at_i is_path
+  verdict_is (Faulty kind path) (i, k, judged, at_i, is_path) = is_least kind i k path judged at_i
+      is_path
 
 -- ---- no type of a set or a map
 
-module _ (table : TypeTable) (graph : List Obj) (root : Val) (none : (t : ℕ) → ¬ IsTreeNumber table t) where
-  no_node_at : (Has : List Obj → ℕ → Type 0) (path : List ℕ) → ¬ IsNodeWith (shape_in table) (names_in table) (SameClass table) graph root 0 Has path
+module _ (table : TypeTable) (graph : List Obj) (root : Val)
+    (none : (t : ℕ) → ¬ IsTreeNumber table t) where
+  no_node_at : (Has : List Obj → ℕ → Type 0) (path : List ℕ) → ¬ IsNodeWith (shape_in table)
+      (names_in table) (SameClass table) graph root 0 Has path
   no_node_at Has path node = none node.1 node.2.tree
 
   no_fault : HasNoTreeFault (shape_in table) (names_in table) (SameClass table) graph root 0
@@ -422,16 +465,21 @@ module _ (table : TypeTable) (graph : List Obj) (root : Val) (none : (t : ℕ) �
 
 -- a node with a fault is among the nodes
 pub fault_inside :
-    (graph : List Obj) (objects : List ℕ) (kind : TreeKind) (i : ℕ) → IsFaultAt graph objects kind i → i < length objects
+    (graph : List Obj) (objects : List ℕ) (kind : TreeKind) (i : ℕ) → IsFaultAt graph objects kind
+    i → i < length objects
 fault_inside graph objects kinds.Height i wrong =
-    let o = IsSomeAnd-some (slice_get objects i) (IsMiscounted graph) wrong in slice_get_within objects i o.0 o.1
+    let o = IsSomeAnd-some (slice_get objects i) (IsMiscounted graph) wrong in slice_get_within
+    objects i o.0 o.1
 fault_inside graph objects kinds.Balance i wrong =
-    let o = IsSomeAnd-some (slice_get objects i) (IsUnbalanced graph) wrong in slice_get_within objects i o.0 o.1
+    let o = IsSomeAnd-some (slice_get objects i) (IsUnbalanced graph) wrong in slice_get_within
+    objects i o.0 o.1
 fault_inside graph objects kinds.Order i wrong =
-    let o = IsSomeAnd-some (slice_get objects i) (IsDisordered graph) wrong.0 in slice_get_within objects i o.0 o.1
+    let o = IsSomeAnd-some (slice_get objects i) (IsDisordered graph) wrong.0 in slice_get_within
+    objects i o.0 o.1
 
 -- the numbers are those of visits
 pub visits_inside :
-    (IsTree : ℕ → Type 0) (all : List Visit) (nodes : Nodes) → AreNodeVisits IsTree all (length all) nodes
+    (IsTree : ℕ → Type 0) (all : List Visit) (nodes : Nodes) → AreNodeVisits IsTree all
+    (length all) nodes
     → All (λ k. k < length all) nodes.visits.items
 visits_inside IsTree all nodes among = all_are (λ k. k < length all) nodes.visits.items among.below

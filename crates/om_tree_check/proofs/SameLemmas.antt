@@ -49,7 +49,8 @@ module _ {T U : Type 0} (shape : T → ShapeOf T) (names : T → Names) (Equal :
 
   pub nodes_go :
       SayTheSame (shaped shape Equal) (shaped shape' Equal') Of graph
-      → ((i : T) (t : U) → Of i t → IsTreeType shape names Equal i → IsTreeType shape' names' Equal' t)
+      → ((i : T) (t : U) → Of i t → IsTreeType shape names Equal i → IsTreeType shape' names'
+      Equal' t)
       → (root : Val) (r : T) (s : U) → Of r s → NodesGo root r s
   nodes_go says trees root r s of path o i node =
       let t = there (value_at (shaped shape Equal) graph root r path)
@@ -170,7 +171,8 @@ module _ {T U : Type 0} (shape : T → ShapeOf T) (names : T → Names) (Equal :
   Goes o i t = Of i t × (path : List ℕ) × IsOtherNode path o t
 
   nodes_on : (xs : List (ℕ × T)) → AreNodes shape names Equal graph root r xs
-      → (ys : List (ℕ × U)) × AreNodes shape' names' Equal' graph root s ys × (length xs ≡ length ys)
+      → (ys : List (ℕ × U)) × AreNodes shape' names' Equal' graph root s ys ×
+      (length xs ≡ length ys)
   nodes_on xs are = (others.0, are_others, others.1.many) where
     others : (ys : List (ℕ × U)) × ArePaired Goes xs ys
     others = paired Goes xs (λ o i among.

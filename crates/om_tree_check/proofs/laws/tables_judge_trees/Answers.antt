@@ -3,4 +3,5 @@ use Rattle.om_tree_check.proofs.laws.tables_judge_trees.Goals as goal
 
 pub returns : goal.returns
 returns c decls t table well sound is =
-    judges_trees decls t table is well sound (c.tables_are_lawful.ensures decls t table well sound is)
+    judges_trees decls t table is well sound (c.tables_are_lawful.ensures decls t table well sound
+    is)

@@ -7,8 +7,10 @@ use Rattle.om_tree_check.proofs.verdict.trees.Goals as goal
 pub returns-then-has_none : goal.returns-then-has_none
 returns-then-has_none c =
     none_there c.args.table.now c.args.heap.now c.args.root
-    (λ t tree. subst NoneMarked c.as_slice.ensures.value (c.has_none.ensures.0 c.if-has_none.true) t ((c.in_ok-found.ensures t).1 tree))
+    (λ t tree. subst NoneMarked c.as_slice.ensures.value (c.has_none.ensures.0 c.if-has_none.true)
+    t ((c.in_ok-found.ensures t).1 tree))
 
 pub verdict_by-requires-clause-found : goal.verdict_by-requires-clause-found
 verdict_by-requires-clause-found c =
-    subst (λ (found : List Bool). AreMarked c.args.table.now found) (sym c.as_slice-2.ensures.value) c.in_ok-found.ensures
+    subst (λ (found : List Bool). AreMarked c.args.table.now found)
+    (sym c.as_slice-2.ensures.value) c.in_ok-found.ensures
