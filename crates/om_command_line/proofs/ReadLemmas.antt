@@ -1,9 +1,12 @@
 -- What is read of the words.
-use Rattle.std.proofs.Common.{◌≡◌, ◌≢◌, ◌∙◌, ◌^◌, ℕ, Bool, true, false, List, [], Option, Some, None, Result, Ok, Err, refl, sym, ap, subst, inl, inr, unwrap_or, arith}
-use Rattle.std.specs.Prelude.{Box, if◌then◌else◌, option_map}
+use Rattle.std.proofs.Common.{◌≡◌, ◌≢◌, ◌∙◌, ◌^◌, ℕ, Bool, true, false, List, [], ◌∷◌, Option, Some, None, Result, Ok, Err, refl, sym, ap, subst, inl, inr, unwrap_or, arith}
+use Rattle.std.specs.Prelude.{Box, if◌then◌else◌, find, option_map}
 use Rattle.std.specs.Box.{box_value}
+use Rattle.std.specs.List.{AllByRecursion}
 use Rattle.std.specs.Borrow.{Bor}
+use Rattle.std.specs.Str.{bytes_eq}
 use Rattle.std.specs.Str.Parse.{ParsesUnsigned, digits_value, without_leading_plus}
+use Rattle.std.proofs.lemmas.Slice.Eq.{bytes_eq-Decides}
 use Rattle.clap.specs.ValueTests.{accepts}
 use Rattle.clap.specs.Words.{App, HasKind, HasMatchesOf, IsAmong, ReadsOne, Row, fault_of, first_value, is_simple, is_simple_and_free, kind_of, one_text, rows_of, subcommand_name_of, subcommand_of, subcommand_rows, subcommand_rows_of}
 use Rattle.clap.specs.declared.builder.value_parser.ValueParser.TheVariants.{Unsigned}
@@ -16,7 +19,7 @@ use Rattle.clap.specs.declared.parser.matches.Found.{Found}
 use Rattle.clap.proofs.OnLiterals.{clap_on_literals}
 use Rattle.clap.proofs.ValueTestLemmas.{Accepts-accepts, accepts-Accepts}
 use Rattle.clap.proofs.WalkLemmas.{first_value-rows, one_text-rows}
-use Rattle.om_outcome.specs.CommandLine.{command_set, Request, Asks, IsUsage}
+use Rattle.om_outcome.specs.CommandLine.{command_set, Form, Request, Asks, IsUsage}
 use Rattle.om_command_line.specs.declared.read.Request.{Request as Reading}
 use Rattle.om_command_line.specs.declared.read.Unread.{Unread}
 use Rattle.om_command_line.specs.declared.read.Unread.TheVariants.{Usage, Memory}
@@ -57,6 +60,23 @@ module _ {E : Type 0} (Gives : List ℕ → Result ℕ E → Type 0) (parses : (
       go : (o : Option (List ℕ)) → one_text found name ≡ o → unwrap_or r 0 ≡ number_of (one_text found name)
       go None e = ap (λ (o : Option ℕ). unwrap_or o 0) (none e) ∙ sym (ap number_of e)
       go (Some text) e = parsed_is text r (value text e) ∙ sym (ap number_of e)
+
+-- ---- the command's name
+
+-- a name that no row of a table has is not found there
+pub name_unknown :
+    (name : List ℕ) (all : List Form)
+    → AllByRecursion (λ (form : Form). name ≡ form.name → ⊥) all
+    → find (λ form. bytes_eq form.name name) all ≡ None
+name_unknown name [] others = refl
+name_unknown name (form ∷ all) (other, others) =
+    go (bytes_eq form.name name) refl (name_unknown name all others)
+  where
+    go : (b : Bool) → bytes_eq form.name name ≡ b
+        → find (λ form. bytes_eq form.name name) all ≡ None
+        → find (λ form. bytes_eq form.name name) (form ∷ all) ≡ None
+    go true same rest = absurd (other (sym ((bytes_eq-Decides form.name name).0 same)))
+    go false apart rest = rw apart rest
 
 -- ---- the command that was met
 

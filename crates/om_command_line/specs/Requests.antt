@@ -25,6 +25,8 @@ request_of (requests.Edit file type script compat limit) =
     outcome.edit file.now type.now script.now compat limit
 request_of (requests.Dump limit) = outcome.dump limit
 request_of (requests.Same limit) = outcome.compare limit
+request_of (requests.Build file type) = outcome.own (outcome.build file.now type.now)
+request_of (requests.Generate n count type) = outcome.own (outcome.generate n count type.now)
 
 -- the arguments of a command
 abbrev pub arguments_of : ArgMatches → List Row

@@ -11,7 +11,7 @@ use clap::error::ErrorKind;
 use clap::{ArgMatches, Error};
 use std::alloc::{AllocError, Global};
 
-/// What the words ask for, with the limit of words on 64 bits in a value.
+/// What the words ask for, with the limit of words on 64 bits in a value where values are read.
 #[derive(Clone, Copy)]
 pub enum Request<'a> {
     /// Whether the values of the input have the type.
@@ -49,6 +49,17 @@ pub enum Request<'a> {
     /// Whether the two values of the input are the same.
     Same {
         limit: u64,
+    },
+    /// The bytes of the values that the lines of the input are, at the type.
+    Build {
+        file: &'a str,
+        type_text: &'a str,
+    },
+    /// What is said of the value that is made from a number, with so many items, at the type.
+    Generate {
+        number: u64,
+        count: u64,
+        type_text: &'a str,
     },
 }
 
@@ -124,6 +135,12 @@ fn request_by<'a>(command: &str, arguments: &ArgMatches<'a>) -> Option<Request<'
         }),
         "dump" => Some(Request::Dump { limit }),
         "same" => Some(Request::Same { limit }),
+        "build" => Some(Request::Build { file, type_text }),
+        "gen" => Some(Request::Generate {
+            number: number(arguments, "NUMBER"),
+            count: number(arguments, "COUNT"),
+            type_text,
+        }),
         _ => None,
     }
 }

@@ -1,5 +1,5 @@
 -- FILE and SCRIPT are what is wanted in the first two turns.
-use Rattle.std.proofs.Common.{◌≡◌, ℕ, zero, suc, ◌<◌, List, inl, inr, refl, arith}
+use Rattle.std.proofs.Common.{ℕ, zero, suc, ◌<◌, List, inl, inr, refl, arith}
 use Rattle.om_edge.specs.State.{FilesState, Change, change}
 use Rattle.om_outcome.specs.Outcome.{Request, Asks, Language}
 use Rattle.om_promises.specs.Account.{IsWanted, FetchesIn, FetchesFor}

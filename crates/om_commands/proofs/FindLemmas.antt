@@ -2,7 +2,7 @@
 use Rattle.std.proofs.Common.{◌≡◌, ◌⊎◌, ℕ, Bool, List, Option, Some, Result, Ok, Err, inl, inr, refl, sym, ap, ◌∙◌, subst}
 use Rattle.std.specs.Prelude.{MatchResult}
 use Rattle.om_outcome.specs.Outcome as outcome
-use Rattle.om_outcome.specs.Outcome.{Found, opened, whole, Request, check, show, get, edit, dump, compare, Stop, bad_path, declarations, requested_type, script_line, Saying, the_verdict, the_text, the_part, Work, tells, edits, Task, task, limit_of, Language, Then, OrRefusal, ReadsFile, ReadsTypeOf, ReadsPathOf, ReadsScriptOf, TellsAt, EditsBy, FindsWork}
+use Rattle.om_outcome.specs.Outcome.{Found, opened, whole, Request, check, show, get, edit, dump, compare, own, Stop, bad_path, declarations, requested_type, script_line, Saying, the_verdict, the_text, the_part, Work, tells, edits, Task, task, limit_of, Language, Then, OrRefusal, ReadsFile, ReadsTypeOf, ReadsPathOf, ReadsScriptOf, TellsAt, EditsBy, FindsWork}
 use Rattle.om_promises.specs.Commands.{Fetches}
 use Rattle.om_promises.specs.Lawful.{IsOnce, IsInner, FailsAtFile}
 use Rattle.om_promises.specs.LawfulLanguage.{IsLawful}
@@ -135,6 +135,7 @@ module _ {D T E : Type 0} (language : Language D T E) (lawful : IsLawful languag
       edits_once files (f, t) script compat r s h k
   work_once files (dump most) r s h k = h ∙ sym k
   work_once files (compare most) r s h k = h ∙ sym k
+  work_once files (own request) r s h k = absurd h
 
   pub finds_once :
       (request : Request) (files : Fetches) → IsOnce (Finds language request files)
@@ -216,6 +217,7 @@ module _ {D T E : Type 0} (language : Language D T E) (lawful : IsLawful languag
             (lines, script_by (files 1) (others 1) script lines (same 1 script (inr (refl, asked))) read, is)
   work_by (dump most) files others result same h = h
   work_by (compare most) files others result same h = h
+  work_by (own request) files others result same h = h
 
   pub finds_by :
       (request : Request) (files others : Fetches) (result : Result (Task T E) Stop)
@@ -290,6 +292,7 @@ module _ {D T E : Type 0} (language : Language D T E) (lawful : IsLawful languag
       (edits_read (by_turns files) (f, t) script compat result h)
   file_wanted (dump most) files result name h w = let e = w.typed in absurd (cc e)
   file_wanted (compare most) files result name h w = let e = w.typed in absurd (cc e)
+  file_wanted (own request) files result name h w = absurd h
 
   script_wanted :
       (request : Request) (files : Fetches) (result : Result (Work T E) Stop) (name : List ℕ)
@@ -320,6 +323,7 @@ module _ {D T E : Type 0} (language : Language D T E) (lawful : IsLawful languag
             result next)
   script_wanted (dump most) files result name h w = let e = w.scripted in absurd (cc e)
   script_wanted (compare most) files result name h w = let e = w.scripted in absurd (cc e)
+  script_wanted (own request) files result name h w = absurd h
 
   pub wanted_read :
       (request : Request) (files : Fetches) (result : Result (Task T E) Stop)
@@ -423,6 +427,7 @@ module _ {D T E : Type 0} (language : Language D T E) (lawful : IsLawful languag
       (subst (ComesOf script (files 1 script)) same (script_inside (files 1) script s read))
   work_inside (dump most) files stop h = absurd (cc h)
   work_inside (compare most) files stop h = absurd (cc h)
+  work_inside (own request) files stop h = absurd h
 
   pub finds_inside :
       (request : Request) (files : Fetches) (stop : Stop)

@@ -1,6 +1,6 @@
 -- The type of what is to be done was read.
 use Rattle.std.proofs.Common.{◌≡◌, ℕ, Bool, List, Ok, Err, sym, subst}
-use Rattle.om_outcome.specs.Outcome.{Fetches, Request, check, show, get, edit, dump, compare, Saying, the_verdict, the_text, the_part, Work, tells, edits, dumps, compares, Language, ReadsTypeOf, TellsAt, EditsBy, FindsWork}
+use Rattle.om_outcome.specs.Outcome.{Fetches, Request, check, show, get, edit, dump, compare, own, Saying, the_verdict, the_text, the_part, Work, tells, edits, dumps, compares, Language, ReadsTypeOf, TellsAt, EditsBy, FindsWork}
 use Rattle.om_promises.specs.LawfulLanguage.{IsGiven}
 
 -- the type of the work was read
@@ -36,3 +36,4 @@ module _ {D T E : Type 0} (language : Language D T E) (files : Fetches) where
   work_given (edit f u script compat most) work h = edits_given f u script compat work h
   work_given (dump most) work h = let is : work ≡ dumps = cc in subst (IsGivenWork language) (sym is) tt
   work_given (compare most) work h = let is : work ≡ compares = cc in subst (IsGivenWork language) (sym is) tt
+  work_given (own request) work h = absurd h

@@ -1,6 +1,6 @@
 -- The commands on values take their files turn by turn: FILE, and then SCRIPT.
 use Rattle.std.proofs.Common.{◌≡◌, ◌<◌, ℕ, List, Option, Some, Ok, Err, inl, inr, refl, sym, ap, ◌∙◌, arith}
-use Rattle.om_outcome.specs.Outcome.{Found, opened, whole, Request, check, show, get, edit, dump, compare, script_of, Language, ReadsTypeOf}
+use Rattle.om_outcome.specs.Outcome.{Found, opened, whole, Request, check, show, get, edit, dump, compare, own, script_of, Language, ReadsTypeOf}
 use Rattle.om_promises.specs.Commands.{Fetches}
 use Rattle.om_promises.specs.Lawful.{AreInTurns}
 use Rattle.om_promises.specs.LawfulLanguage.{IsLawful}
@@ -27,6 +27,7 @@ module _ {D T E : Type 0} (language : Language D T E) (lawful : IsLawful languag
   script_path (edit f t script compat most) name e = tt
   script_path (dump most) name e = absurd (cc e)
   script_path (compare most) name e = absurd (cc e)
+  script_path (own request) name e = absurd (cc e)
 
   -- FILE is wanted before SCRIPT
   file_before :

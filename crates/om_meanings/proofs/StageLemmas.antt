@@ -2,7 +2,7 @@
 use Rattle.std.proofs.Common.{◌≡◌, ◌⊎◌, ℕ, List, Option, Some, Ok, Err, inl, inr, refl, sym, ap, ◌∙◌, subst}
 use Rattle.om_outcome.specs.declared.status.Status.{Status}
 use Rattle.om_outcome.specs.declared.status.Status.TheVariants.{Usage, Types, Script, ReadFault, OpenFault, TooLong}
-use Rattle.om_outcome.specs.Outcome.{InputEnd, at_end, at_fault, at_length, unasked, Found, opened, missing, failed, unfetched, Request, check, show, get, edit, dump, compare, Stop, bad_path, declarations, requested_type, script_line, read_fault, too_long, status_of, fault_of, ReadsFile, ReadsTypeOf, ReadsScriptOf, Saying, the_verdict, the_text, the_part, TellsAt, FindsWork, Language}
+use Rattle.om_outcome.specs.Outcome.{InputEnd, at_end, at_fault, at_length, unasked, Found, opened, missing, failed, unfetched, Request, check, show, get, edit, dump, compare, own, Stop, bad_path, declarations, requested_type, script_line, read_fault, too_long, status_of, fault_of, ReadsFile, ReadsTypeOf, ReadsScriptOf, Saying, the_verdict, the_text, the_part, TellsAt, FindsWork, Language}
 use Rattle.om_promises.specs.Commands.{Fetches}
 use Rattle.om_commands.specs.Tasks.{by_turns, WantsFile, WantsScript, Wants, Finds}
 use Rattle.om_meanings.specs.Causes.{HaveBars}
@@ -129,6 +129,7 @@ module _ {D T E : Type 0} (language : Language D T E) where
       (script_bar (edit f t script compat most) files script asked s read)
   work_bar (dump most) files stop h = absurd (cc h)
   work_bar (compare most) files stop h = absurd (cc h)
+  work_bar (own request) files stop h = absurd h
 
   pub bar_of :
       (request : Request) (files : Fetches) (stop : Stop)
@@ -167,6 +168,7 @@ module _ {D T E : Type 0} (language : Language D T E) where
       (Err stop, same_typed f t name wants.type (files 0) stop wants.typed reads, refl)
   type_work (dump most) files name wants stop reads = let e = wants.typed in absurd (cc e)
   type_work (compare most) files name wants stop reads = let e = wants.typed in absurd (cc e)
+  type_work (own request) files name wants stop reads = let e = wants.typed in absurd (cc e)
 
   script_work :
       (request : Request) (files : Fetches) (name : List ℕ)
@@ -194,6 +196,7 @@ module _ {D T E : Type 0} (language : Language D T E) where
       )
   script_work (dump most) files name wants stop read = let e = wants.scripted in absurd (cc e)
   script_work (compare most) files name wants stop read = let e = wants.scripted in absurd (cc e)
+  script_work (own request) files name wants stop read = let e = wants.scripted in absurd (cc e)
 
   path_work :
       (request : Request) (files : Fetches) → HasNoPath language request
@@ -204,6 +207,7 @@ module _ {D T E : Type 0} (language : Language D T E) where
   path_work (edit f t script compat most) files none = absurd none
   path_work (dump most) files none = absurd none
   path_work (compare most) files none = absurd none
+  path_work (own request) files none = absurd none
 
   -- a stop of this status is found
   abbrev pub HasStopBefore : Request → Fetches → Status → Type 0

@@ -11,7 +11,12 @@ use Rattle.clap.specs.declared.builder.value_parser.ValueParser.TheVariants.{Uns
 
 -- ---- what is asked for
 
--- what is asked for, with the limit of words on 64 bits in a value
+-- what is asked of a command that is a set of commands of its own, beside those on values
+pub data OwnRequest : Type 0 where
+  build : (file type : List ℕ) → OwnRequest
+  generate : (number count : ℕ) → (type : List ℕ) → OwnRequest
+
+-- what is asked for, with the limit of words on 64 bits in a value where values are read
 pub data Request : Type 0 where
   check : (file type : List ℕ) → (limit : ℕ) → Request
   show : (file type : List ℕ) → (limit : ℕ) → Request
@@ -19,8 +24,9 @@ pub data Request : Type 0 where
   edit : (file type script : List ℕ) → (compat : Bool) → (limit : ℕ) → Request
   dump : (limit : ℕ) → Request
   compare : (limit : ℕ) → Request
+  own : OwnRequest → Request
 
--- FILE and TYPE, where the command has them
+-- FILE and TYPE, where the command reads values at them
 abbrev pub typed_by : Request → Option (List ℕ × List ℕ)
 typed_by (check file type limit) = Some (file, type)
 typed_by (show file type limit) = Some (file, type)
@@ -28,6 +34,7 @@ typed_by (get file type path limit) = Some (file, type)
 typed_by (edit file type script compat limit) = Some (file, type)
 typed_by (dump limit) = None
 typed_by (compare limit) = None
+typed_by (own request) = None
 
 -- PATH, where the command has one
 abbrev pub path_of : Request → Option (List ℕ)
@@ -39,7 +46,7 @@ abbrev pub script_of : Request → Option (List ℕ)
 script_of (edit file type script compat limit) = Some script
 script_of request = None
 
--- the limit of words on 64 bits in a value
+-- the limit of words on 64 bits in a value, where values are read
 abbrev pub limit_of : Request → ℕ
 limit_of (check file type limit) = limit
 limit_of (show file type limit) = limit
@@ -47,6 +54,7 @@ limit_of (get file type path limit) = limit
 limit_of (edit file type script compat limit) = limit
 limit_of (dump limit) = limit
 limit_of (compare limit) = limit
+limit_of (own request) = 0
 
 -- ---- the commands
 
@@ -90,9 +98,20 @@ limit_option = option (codes "limit") greatest_limit usual_limit
 abbrev pub compat_flag : Argument
 compat_flag = flag (codes "compat32")
 
+-- FILE and TYPE
+abbrev pub file_and_type : List Argument → List Argument
+file_and_type more = wanted (codes "FILE") ∷ wanted (codes "TYPE") ∷ more
+
 -- FILE and TYPE, after the limit
 abbrev pub typed : List Argument → List Argument
-typed more = limit_option ∷ wanted (codes "FILE") ∷ wanted (codes "TYPE") ∷ more
+typed more = limit_option ∷ file_and_type more
+
+-- the greatest NUMBER and COUNT of values that are made
+abbrev pub greatest_number : ℕ
+greatest_number = 2147483647
+
+abbrev pub greatest_count : ℕ
+greatest_count = 1000000
 
 -- the commands
 abbrev pub forms : List Form
@@ -105,6 +124,11 @@ forms =
     (λ n file type script compat. edit file type script compat n)
     ∷ row (codes "dump") (limit_option ∷ []) dump
     ∷ row (codes "same") (limit_option ∷ []) compare
+    ∷ row (codes "build") (file_and_type []) (λ file type. own (build file type))
+    ∷ row (codes "gen")
+    (number (codes "NUMBER") greatest_number ∷ number (codes "COUNT") greatest_count
+    ∷ wanted (codes "TYPE") ∷ [])
+    (λ n count type. own (generate n count type))
     ∷ []
 
 -- the command of this name

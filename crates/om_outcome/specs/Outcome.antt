@@ -4,7 +4,7 @@
 use Rattle.std.specs.Prelude.{ℕ, suc, ◌<◌, ◌≡◌, ◌==◌, ◌≢◌, ◌↔◌, ◌⊎◌, Bool, true, false, IsTrue, ◌&&◌, not, nat_lt, if◌then◌else◌, List, [], ◌∷◌, ◌++◌, length, filter, find, Option, Some, None, Result, Ok, Err, MatchResult, codes, decimal}
 use Rattle.om_outcome.specs.declared.status.Status.{Status}
 use Rattle.om_outcome.specs.declared.status.Status.TheVariants as statuses
-pub use Rattle.om_outcome.specs.CommandLine.{Request, check, show, get, edit, dump, compare, Asks, IsUsage, typed_by, path_of, script_of, limit_of}
+pub use Rattle.om_outcome.specs.CommandLine.{Request, check, show, get, edit, dump, compare, own, OwnRequest, build, generate, Asks, IsUsage, typed_by, path_of, script_of, limit_of}
 use Rattle.om_outcome.specs.RefusalText.{refusal_text, truncated_text}
 use Rattle.om_format.specs.Iso.{Iso}
 use Rattle.om_format.specs.Tree.{Tree, root, objects_of}
@@ -63,6 +63,7 @@ pub data Stop : Type 0 where
   requested_type : List ℕ → Stop
   value : ℕ → List ℕ → Stop
   script_line : ℕ → List ℕ → Stop
+  text_line : ℕ → List ℕ → Stop
   untyped_value : ℕ → List ℕ → Stop
   large_value : ℕ → List ℕ → Stop
   read_fault : Stop
@@ -78,6 +79,7 @@ status_of (declarations refusal) = statuses.Types
 status_of (requested_type refusal) = statuses.Types
 status_of (value number refusal) = statuses.Value
 status_of (script_line number refusal) = statuses.Script
+status_of (text_line number refusal) = statuses.Script
 status_of (untyped_value number fault) = statuses.No
 status_of (large_value number refusal) = statuses.Compat
 status_of read_fault = statuses.ReadFault
@@ -98,6 +100,7 @@ stop_text (requested_type refusal) = codes "type: " ++ refusal
 stop_text (value number refusal) = value_text number refusal
 stop_text (script_line number refusal) =
     codes "script line " ++ decimal number ++ codes ": " ++ refusal
+stop_text (text_line number refusal) = codes "text line " ++ decimal number ++ codes ": " ++ refusal
 stop_text (untyped_value number fault) = value_text number fault
 stop_text (large_value number refusal) = value_text number refusal
 stop_text read_fault = codes "read fault"
@@ -293,7 +296,8 @@ EditsBy language files typed script_name compat result =
     Then (ReadsScriptOf language files.script script_name)
     (λ script found. found ≡ Ok (edits type script compat))) result
 
--- PATH comes before FILE, and SCRIPT after TYPE; `dump` and `same` have none of these
+-- PATH comes before FILE, and SCRIPT after TYPE; `dump` and `same` have none of these. A command
+-- that is a set of its own finds no work here.
 abbrev pub FindsWork : {D T E : Type 0} → Language D T E → Fetches → Request
     → Result (Work T E) Stop → Type 0
 FindsWork language files (check name type_text limit) result =
@@ -307,6 +311,7 @@ FindsWork language files (edit name type_text script_name compat limit) result =
     EditsBy language files (name, type_text) script_name compat result
 FindsWork language files (dump limit) result = result ≡ Ok dumps
 FindsWork language files (compare limit) result = result ≡ Ok compares
+FindsWork language files (own request) result = ⊥
 
 -- ---- all stages before the values
 

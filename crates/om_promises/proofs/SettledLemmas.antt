@@ -3,7 +3,7 @@ use Rattle.std.proofs.Common.{◌≡◌, ◌⊎◌, ℕ, Bool, true, false, List
 use Rattle.std.specs.Prelude.{MatchResult, if◌then◌else◌}
 use Rattle.om_outcome.specs.declared.status.Status.{Status}
 use Rattle.om_outcome.specs.declared.status.Status.TheVariants as statuses
-use Rattle.om_outcome.specs.Outcome.{InputEnd, at_end, at_fault, at_length, unasked, Found, opened, missing, failed, unfetched, Request, Asks, Stop, usage, bad_path, not_two_values, cannot_open, declarations, requested_type, value, script_line, untyped_value, large_value, read_fault, too_long, out_of_memory, status_of, ending_of, fault_of, ReadsFile, Said, Reply, says, stops, Replies, replies, stopped, all_well, all_said}
+use Rattle.om_outcome.specs.Outcome.{InputEnd, at_end, at_fault, at_length, unasked, Found, opened, missing, failed, unfetched, Request, Asks, Stop, usage, bad_path, not_two_values, cannot_open, declarations, requested_type, value, script_line, text_line, untyped_value, large_value, read_fault, too_long, out_of_memory, status_of, ending_of, fault_of, ReadsFile, Said, Reply, says, stops, Replies, replies, stopped, all_well, all_said}
 use Rattle.om_promises.specs.Account.{Completes, Breaks, Account}
 use Rattle.om_promises.specs.Call.{Call}
 use Rattle.om_promises.specs.Causes.{IfWords}
@@ -42,6 +42,7 @@ inner_status (declarations refusal) inner outer = outer
 inner_status (requested_type refusal) inner outer = outer
 inner_status (value number refusal) inner outer = outer
 inner_status (script_line number refusal) inner outer = outer
+inner_status (text_line number refusal) inner outer = outer
 inner_status (untyped_value number fault) inner outer = outer
 inner_status (large_value number refusal) inner outer = outer
 inner_status read_fault inner outer = inner

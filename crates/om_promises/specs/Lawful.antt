@@ -2,7 +2,7 @@
 -- bytes follow.
 use Rattle.std.specs.Prelude.{ℕ, ◌<◌, ◌≡◌, ◌⊎◌, List, ◌++◌, length, Result, Ok, Err}
 use Rattle.om_model.specs.Bytes.{AreBytes}
-use Rattle.om_outcome.specs.Outcome.{Found, opened, missing, whole, Request, Stop, usage, bad_path, not_two_values, cannot_open, declarations, requested_type, value, script_line, untyped_value, large_value, read_fault, too_long, out_of_memory, ReadsFile, Said, stops}
+use Rattle.om_outcome.specs.Outcome.{Found, opened, missing, whole, Request, Stop, usage, bad_path, not_two_values, cannot_open, declarations, requested_type, value, script_line, text_line, untyped_value, large_value, read_fault, too_long, out_of_memory, ReadsFile, Said, stops}
 use Rattle.om_promises.specs.Commands.{Item, Fetches, Commands}
 
 -- at most one answer
@@ -20,6 +20,7 @@ IsInner (declarations refusal) = Unit {0}
 IsInner (requested_type refusal) = Unit {0}
 IsInner (value number refusal) = Unit {0}
 IsInner (script_line number refusal) = Unit {0}
+IsInner (text_line number refusal) = Unit {0}
 IsInner (untyped_value number fault) = Unit {0}
 IsInner (large_value number refusal) = Unit {0}
 IsInner read_fault = ⊥

@@ -49,6 +49,7 @@ stop_of (stops.Large number compat) = outcome.large_value number (text_of_compat
 stop_of (stops.Script number fault) = outcome.script_line number (declared_text fault)
 stop_of (stops.Edit number text) = outcome.script_line number text
 stop_of (stops.NoValue number) = outcome.script_line number (codes "NoValue")
+stop_of (stops.Text number text) = outcome.text_line number text
 stop_of stops.ReadFault = outcome.read_fault
 stop_of stops.TooLong = outcome.too_long
 stop_of stops.Memory = outcome.out_of_memory

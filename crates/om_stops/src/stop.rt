@@ -2,7 +2,7 @@
 
 ghost use Rattle.std.specs.Prelude.{◌≡◌, ◌++◌, codes, decimal, IfOk, OnOk, string_bytes};
 ghost use Rattle.std.specs.Fmt.{signed_decimal};
-ghost use Rattle.om_outcome.specs.Outcome.{status_of, stop_text, err_line, value, value_text as text_of_value, script_line, large_value, cannot_open};
+ghost use Rattle.om_outcome.specs.Outcome.{status_of, stop_text, err_line, value, value_text as text_of_value, script_line, text_line, large_value, cannot_open};
 ghost use Rattle.om_outcome.specs.RefusalText.{refusal_text as text_of_refusal, truncated_text as text_of_cut};
 ghost use Rattle.om_edge.specs.State.{change};
 ghost use Rattle.om_stops.specs.Stops.{stop_of, declared_text, text_of_compat, Reports};
@@ -20,8 +20,8 @@ use om_outcome::status::Status;
 use om_write::Compat;
 use std::alloc::{AllocError, Global};
 
-/// Why a run stops. The first number of a value, or of a line of a script, is its own; a text is
-/// that of a fault.
+/// Why a run stops. The first number of a value, or of a line of a script or of the input, is its
+/// own; a text is that of a fault.
 #[derive(Drop)]
 pub enum Stop<'a> {
     Usage,
@@ -38,6 +38,7 @@ pub enum Stop<'a> {
     Script(usize, DeclFault),
     Edit(usize, List<u8>),
     NoValue(usize),
+    Text(u64, List<u8>),
     ReadFault,
     TooLong,
     Memory,
@@ -81,7 +82,7 @@ fn status(stop: &Stop) -> Status
         Stop::Refused(..) | Stop::Cut(..) => Status::Value,
         Stop::Untyped(..) => Status::No,
         Stop::Large(..) => Status::Compat,
-        Stop::Script(..) | Stop::Edit(..) | Stop::NoValue(_) => Status::Script,
+        Stop::Script(..) | Stop::Edit(..) | Stop::NoValue(_) | Stop::Text(..) => Status::Script,
         Stop::ReadFault => Status::ReadFault,
         Stop::TooLong => Status::TooLong,
         Stop::Memory => Status::Memory,
@@ -111,6 +112,14 @@ fn line_front(alloc: Global, number: usize) -> Result<String, AllocError>
         (λ text. string_bytes text ≡ codes "script line " ++ decimal number ++ codes ": ") }
 {
     format!(in alloc; "script line {number}: ")
+}
+
+// What stands before the text of the fault of a line of the input, by its number.
+fn text_front(alloc: Global, number: u64) -> Result<String, AllocError>
+    ensures { IfOk result
+        (λ text. string_bytes text ≡ codes "text line " ++ decimal number ++ codes ": ") }
+{
+    format!(in alloc; "text line {number}: ")
 }
 
 // What is too large for a reader on 32 bits, with the digits of its number.
@@ -249,6 +258,21 @@ fn put_script_fault(
     put_script(line, alloc, number, text.as_slice())
 }
 
+// Puts the text of a fault of a line of the input at the end.
+fn put_text_line(
+    line: &mut Vec<u8>,
+    alloc: Global,
+    number: u64,
+    text: &[u8],
+) -> Result<(), Memory>
+    ensures { OnOk result
+        (line.new.items ≡ line.old.items ++ stop_text (text_line number text.now)) }
+{
+    let front = text_front(alloc, number)?;
+    put(line, front.as_bytes())?;
+    put(line, text)
+}
+
 // Puts that a file cannot be opened at the end.
 fn put_name(line: &mut Vec<u8>, name: &str) -> Result<(), Memory>
     ensures { OnOk result (line.new.items ≡ line.old.items ++ stop_text (cannot_open name.now)) }
@@ -276,6 +300,7 @@ fn put_text(line: &mut Vec<u8>, alloc: Global, stop: &Stop) -> Result<(), Memory
         Stop::Script(number, fault) => put_script_fault(line, alloc, *number, fault),
         Stop::Edit(number, text) => put_script(line, alloc, *number, text.as_slice()),
         Stop::NoValue(number) => put_script(line, alloc, *number, b"NoValue"),
+        Stop::Text(number, text) => put_text_line(line, alloc, *number, text.as_slice()),
         Stop::ReadFault => put(line, b"read fault"),
         Stop::TooLong => put(line, b"input too long"),
         Stop::Memory => put(line, b"out of memory"),

@@ -1,0 +1,30 @@
+use Rattle.std.proofs.Common.{ap}
+use Rattle.std.specs.Prelude.{option_map}
+use Rattle.om_outcome.specs.CommandLine.{forms}
+use Rattle.om_command_line.specs.Requests.{arguments_of, asked}
+use Rattle.om_command_line.proofs.ReadLemmas.{name_unknown}
+use Rattle.om_command_line.proofs.read.request_by.Goals as goal
+
+-- src/read.rt:106:1
+pub returns-in_default : goal.returns-in_default
+returns-in_default c =
+    ap (option_map (λ form. asked form.arguments form.asks (arguments_of c.args.arguments.now)))
+    (name_unknown c.args.command.now forms (
+      c.in_default.not-check,
+      (
+        c.in_default.not-show,
+        (
+          c.in_default.not-get,
+          (
+            c.in_default.not-edit,
+            (
+              c.in_default.not-dump,
+              (
+                c.in_default.not-same,
+                (c.in_default.not-build, (c.in_default.not-gen, tt)),
+              ),
+            ),
+          ),
+        ),
+      ),
+    ))
