@@ -1,15 +1,13 @@
 -- The command on texts is lawful, where the language is and a line is read in one way.
-use Rattle.std.proofs.Common.{◌≡◌, ◌⊎◌, ◌<◌, ◌+◌, ℕ, List, [], ◌∷◌, ◌++◌, Option, Some, Result, Ok, Err, inl, inr, refl, sym, ap, ◌∙◌, subst, length, arith}
-use Rattle.om_model.specs.Bytes.{AreBytes}
-use Rattle.om_outcome.specs.Outcome.{Found, opened, whole, Request, Stop, untyped_value, Said, Reply, says, stops, Language, ReadsFile, ReadsTypeOf}
+use Rattle.std.proofs.Common.{◌≡◌, ◌⊎◌, ◌<◌, ◌+◌, ℕ, List, [], ◌∷◌, ◌++◌, Some, Result, Ok, Err, inl, inr, refl, sym, ap, ◌∙◌, subst, arith}
+use Rattle.om_outcome.specs.Outcome.{Found, opened, whole, Request, Stop, untyped_value, Said, says, stops, Language, ReadsFile, ReadsTypeOf}
 use Rattle.om_promises.specs.Commands.{Item, value, text, Fetches}
 use Rattle.om_promises.specs.Lawful.{IsOnce, IsInner, IsWhole, FailsAtFile, AreLawfulAt, AreLawful, AreInTurns}
 use Rattle.om_promises.specs.LawfulLanguage.{IsGiven, IsLawful}
 use Rattle.om_commands.specs.Tasks.{by_turns}
 use Rattle.om_commands.proofs.FindLemmas.{type_once, type_by, type_read, ComesOf, type_inside}
 use Rattle.om_commands.proofs.GivenLemmas.{type_given}
-use Rattle.om_texts.specs.Later.{built_by}
-use Rattle.om_texts.specs.Texts.{Built, blank, made, refused, untyped, counted, IsFirstLine, IsSaidOf, AreTexts, StopsBy, SaysLine, StopsAtLine, IsReplyTo, EndsWithLine, Wants, Finds, building, IsReadOnce}
+use Rattle.om_texts.specs.Texts.{Built, blank, made, refused, untyped, counted, IsFirstLine, IsSaidOf, AreTexts, StopsBy, SaysLine, StopsAtLine, IsReplyTo, EndsWithLine, built_by, Wants, Finds, building, IsReadOnce}
 use Rattle.om_texts.proofs.LineLemmas.{line_once, line_front, some_line, line_stays, same_text}
 
 -- ---- what is said of a line

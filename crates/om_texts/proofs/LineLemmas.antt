@@ -1,7 +1,7 @@
 -- The bytes are a line, its line feed and a rest in one way.
 use Rattle.std.proofs.Common.{◌≡◌, ℕ, ◌<◌, List, [], ◌∷◌, ◌++◌, length, refl, sym, ap, ◌∙◌, subst, append_assoc, length-append, arith}
 use Rattle.om_promises.specs.Commands.{Item, text}
-use Rattle.om_texts.specs.Texts.{IsUnbroken, IsLine, IsFirstLine}
+use Rattle.om_texts.specs.Texts.{IsUnbroken, IsLine}
 
 -- a line feed among bytes breaks them
 pub broken : (line more : List ℕ) → IsUnbroken (line ++ 10 ∷ more) → ⊥

@@ -1,2 +1,3 @@
-pub mod Later
 pub mod Texts
+pub mod Meanings
+pub mod Laws

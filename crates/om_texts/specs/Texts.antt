@@ -1,12 +1,11 @@
 -- The command on the texts of the input, in the general form: an item is a line, and the line feed
 -- behind it. A line is blank, or a text, which becomes bytes.
-use Rattle.std.specs.Prelude.{ℕ, suc, ◌+◌, ◌≡◌, ◌≢◌, ◌⊎◌, true, List, [], ◌∷◌, ◌++◌, length, Option, Some, Result}
+use Rattle.std.specs.Prelude.{ℕ, suc, ◌+◌, ◌≡◌, ◌≢◌, true, List, [], ◌∷◌, ◌++◌, length, Option, Some, None, Result}
 use Rattle.std.specs.List.{AllByRecursion}
-use Rattle.om_outcome.specs.Outcome.{Request, Stop, untyped_value, Said, nothing_said, Reply, says, stops, Language, ReadsTypeOf}
+use Rattle.om_outcome.specs.Outcome.{Request, own, build, Stop, text_line, untyped_value, Said, nothing_said, Reply, says, stops, Language, ReadsTypeOf}
 use Rattle.om_promises.specs.Commands.{Item, value, text, Fetches, Commands}
 use Rattle.om_promises.specs.Lawful.{IsOnce}
 use Rattle.om_promises.specs.LawfulLanguage.{IsGiven}
-use Rattle.om_texts.specs.Later.{built_by, text_line}
 
 -- What a line is at a type: blank; a text of a value that has the type, with its bytes; a text that
 -- is refused; or one of a value that has not the type, with the line that tells it.
@@ -90,6 +89,11 @@ module _ {T : Type 0} (TextOf : T → List ℕ → Built → Type 0) (type : T) 
       (built : Built) × TextOf type bytes built × IsReplyTo items built last
 
 -- ---- the command
+
+-- FILE and TYPE, where texts are to become bytes
+abbrev pub built_by : Request → Option (List ℕ × List ℕ)
+built_by (own (build file type)) = Some (file, type)
+built_by request = None
 
 module _ {D T E : Type 0} (language : Language D T E) (TextOf : T → List ℕ → Built → Type 0) where
   -- FILE is wanted, in the first turn
