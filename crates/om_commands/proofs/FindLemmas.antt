@@ -81,7 +81,7 @@ module _ {D T E : Type 0} (language : Language D T E) (lawful : IsLawful languag
   path_once text (Err s) (Ok q) (none, is) k = absurd (lawful.path_once text q k none)
   path_once text (Err s) (Err t) (none, is) (none', is') = ap (λ s. Err s) (is ∙ sym is')
 
-  type_once :
+  pub type_once :
       (file : List ℕ → Found) (typed : List ℕ × List ℕ)
       → IsOnce (ReadsTypeOf language file typed)
   type_once file typed =
@@ -225,7 +225,7 @@ module _ {D T E : Type 0} (language : Language D T E) (lawful : IsLawful languag
 
   -- ---- each of them is read, or stops the run
 
-  type_read :
+  pub type_read :
       (file : List ℕ → Found) (typed : List ℕ × List ℕ) (result : Result T Stop)
       → ReadsTypeOf language file typed result → IsRead typed.0 (file typed.0) result
   type_read file typed =
@@ -336,10 +336,10 @@ module _ {D T E : Type 0} (language : Language D T E) (lawful : IsLawful languag
   -- ---- a stop of the outside comes of one of them
 
   -- the stop is none of the outside, or comes of this file
-  abbrev ComesOf : List ℕ → Found → Stop → Type 0
+  abbrev pub ComesOf : List ℕ → Found → Stop → Type 0
   ComesOf name found stop = IsInner stop ⊎ ReadsFile name found (Err stop)
 
-  type_inside :
+  pub type_inside :
       (file : List ℕ → Found) (typed : List ℕ × List ℕ) (stop : Stop)
       → ReadsTypeOf language file typed (Err stop) → ComesOf typed.0 (file typed.0) stop
   type_inside file typed stop (Err s, fault, is) =

@@ -12,7 +12,7 @@ IsGivenWork language compares = Unit {0}
 
 module _ {D T E : Type 0} (language : Language D T E) (files : Fetches) where
   -- the type of the work was read
-  type_given : (f u : List ℕ) (t : T) → ReadsTypeOf language files.file (f, u) (Ok t) → IsGiven language t
+  pub type_given : (f u : List ℕ) (t : T) → ReadsTypeOf language files.file (f, u) (Ok t) → IsGiven language t
   type_given f u t (Err s, h, other) = absurd (cc other)
   type_given f u t (Ok text, h, (Err s, g, other)) = absurd (cc other)
   type_given f u t (Ok text, h, (Ok d, g, given)) = (text, u, d, g, given)

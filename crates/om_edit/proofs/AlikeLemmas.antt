@@ -29,7 +29,7 @@ use Rattle.om_edit.specs.declared.spots.Spot.{Spot}
 use Rattle.om_edit.specs.declared.spots.Place.{Place}
 use Rattle.om_edit.specs.declared.refusal.Side.TheVariants.{Left}
 use Rattle.om_edit.specs.Places.{spot_after, or_step, place_from, place_at}
-use Rattle.om_edit.specs.Reasons.{Reason, no_field, not_block, no_literal, misread, ill_typed, reason_text}
+use Rattle.om_edit.specs.Reasons.{Reason, no_field, not_block, no_literal, misread, ill_typed, literal_text, in_script, reason_text}
 use Rattle.om_edit.specs.EditedValues.{Answer, put_at, linked, copied, object_of, unshared, IsSetAt, IsSet, IsMade}
 use Rattle.om_edit.specs.Tables.{SameClass, IsAnswerIn}
 use Rattle.om_edit.specs.Laws.{IsDeclaredAnswer, SayTheSame}
@@ -79,7 +79,7 @@ module _ (decls : List Decl) (t : Ty) (table : TypeTable) (is : IsTypeTable decl
 
   -- ---- answers
 
-  abbrev ReasonsAgree : Reason ℕ → Reason Ty → Type 0
+  abbrev pub ReasonsAgree : Reason ℕ → Reason Ty → Type 0
   ReasonsAgree (no_field side n) (no_field other m) = (side ≡ other) × (n ≡ m)
   ReasonsAgree not_block not_block = Unit {0}
   ReasonsAgree (no_literal place) (no_literal other) = place ≡ other
@@ -92,16 +92,16 @@ module _ (decls : List Decl) (t : Ty) (table : TypeTable) (is : IsTypeTable decl
   AnswersAgree (Err r) (Err s) = ReasonsAgree r s
   AnswersAgree one other = ⊥
 
-  text_is : (i : ℕ) (u : Ty) → Is i u → text_at table i ≡ type_text u
+  pub text_is : (i : ℕ) (u : Ty) → Is i u → text_at table i ≡ type_text u
   text_is i u at = ap text_or_none at
 
   refusal_text_same : (r : Refusal ℕ) (s : Refusal Ty) → RefusalsAgree Is r s
-      → reason_text (text_at table) (misread r) ≡ reason_text type_text (misread s)
+      → literal_text (text_at table) (misread r) ≡ literal_text type_text (misread s)
   refusal_text_same (misfit_at k i) (misfit_at j u) same =
-      ap (λ k. codes "Literal Misfit at " ++ decimal k ++ codes ": expected " ++ text_at table i) same.0
-      ∙ ap (λ text. codes "Literal Misfit at " ++ decimal j ++ codes ": expected " ++ text) (text_is i u same.1)
-  refusal_text_same (int_range_at k) (int_range_at j) same = ap (λ k. codes "Literal IntRange at " ++ decimal k) same
-  refusal_text_same (label_at k) (label_at j) same = ap (λ k. codes "Literal Label at " ++ decimal k) same
+      ap (λ k. codes "Misfit at " ++ decimal k ++ codes ": expected " ++ text_at table i) same.0
+      ∙ ap (λ text. codes "Misfit at " ++ decimal j ++ codes ": expected " ++ text) (text_is i u same.1)
+  refusal_text_same (int_range_at k) (int_range_at j) same = ap (λ k. codes "IntRange at " ++ decimal k) same
+  refusal_text_same (label_at k) (label_at j) same = ap (λ k. codes "Label at " ++ decimal k) same
   refusal_text_same (misfit_at k i) (int_range_at j) same = absurd same
   refusal_text_same (misfit_at k i) (label_at j) same = absurd same
   refusal_text_same (int_range_at k) (misfit_at j u) same = absurd same
@@ -109,12 +109,20 @@ module _ (decls : List Decl) (t : Ty) (table : TypeTable) (is : IsTypeTable decl
   refusal_text_same (label_at k) (misfit_at j u) same = absurd same
   refusal_text_same (label_at k) (int_range_at j) same = absurd same
 
+  pub literal_text_same : (r : Reason ℕ) (s : Reason Ty) → ReasonsAgree r s → literal_text (text_at table) r ≡ literal_text type_text s
+  literal_text_same (no_literal place) (no_literal other) same = ap (λ place. codes "Syntax at " ++ decimal place) same
+  literal_text_same (misread r) (misread s) same = refusal_text_same r s same
+  literal_text_same (no_field side n) (no_field other m) same = refl
+  literal_text_same not_block not_block same = refl
+  literal_text_same (ill_typed fault) (ill_typed other) same = refl
+  literal_text_same r s same = absurd same
+
   reason_text_same : (r : Reason ℕ) (s : Reason Ty) → ReasonsAgree r s → reason_text (text_at table) r ≡ reason_text type_text s
   reason_text_same (no_field side n) (no_field other m) same =
       ap (λ side. reason_text (text_at table) (no_field side n)) same.0 ∙ ap (λ n. reason_text (text_at table) (no_field other n)) same.1
   reason_text_same not_block not_block same = refl
-  reason_text_same (no_literal place) (no_literal other) same = ap (λ place. codes "Literal Syntax at " ++ decimal place) same
-  reason_text_same (misread r) (misread s) same = refusal_text_same r s same
+  reason_text_same (no_literal place) (no_literal other) same = ap in_script (literal_text_same (no_literal place) (no_literal other) same)
+  reason_text_same (misread r) (misread s) same = ap in_script (literal_text_same (misread r) (misread s) same)
   reason_text_same (ill_typed fault) (ill_typed other) same = ap (λ fault. reason_text (text_at table) (ill_typed fault)) same
   reason_text_same r s same = absurd same
 
@@ -142,7 +150,7 @@ module _ (decls : List Decl) (t : Ty) (table : TypeTable) (is : IsTypeTable decl
         (place_same (table_shapes (table_of table)) (declared_shapes decls) Is graph
         (table_says decls (types_of table) (table_of table) is.made graph) (k ∷ []) v i u at))
 
-    abbrev SpotsAgree : Place ℕ → Place Ty → Type 0
+    abbrev pub SpotsAgree : Place ℕ → Place Ty → Type 0
     SpotsAgree p q = (p.spot ≡ q.spot) × (p.value ≡ q.value) × Is p.ty q.ty
 
     abbrev pub PlacesAgree : Result (Place ℕ) ℕ → Result (Place Ty) ℕ → Type 0
@@ -209,11 +217,11 @@ module _ (decls : List Decl) (t : Ty) (table : TypeTable) (is : IsTypeTable decl
     unshare_agree root (Err n) (Ok p') same = absurd same
     unshare_agree root (Ok p) (Err n') same = absurd same
 
-    abbrev SetAlike : Val → Place Ty → List Lexeme → ℕ → Answer ℕ → Type 0
+    abbrev pub SetAlike : Val → Place Ty → List Lexeme → ℕ → Answer ℕ → Type 0
     SetAlike root p' lexemes end made =
         (other : Answer Ty) × IsSetAt (shape decls) (names_of decls) graph root p' lexemes end other × AnswersAgree made other
 
-    set_at_alike : (root : Val) (p : Place ℕ) (p' : Place Ty) (lexemes : List Lexeme) (end : ℕ) → SpotsAgree p p' → (made : Answer ℕ)
+    pub set_at_alike : (root : Val) (p : Place ℕ) (p' : Place Ty) (lexemes : List Lexeme) (end : ℕ) → SpotsAgree p p' → (made : Answer ℕ)
         → IsSetAt (shape_in table) (names_in table) graph root p lexemes end made → SetAlike root p' lexemes end made
     set_at_alike root p p' lexemes end same (Ok made) (objects, value, (v, spells, read), puts) = (
       Ok (put_at p'.spot value (graph ++ objects) root),

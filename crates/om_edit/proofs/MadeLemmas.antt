@@ -64,7 +64,7 @@ module _ {T : Type 0} (shape : T → ShapeOf T) (names : T → Names) (graph : L
   at_syntax k s same (Err not_block) is = absurd is
   at_syntax k s same (Err (ill_typed fault)) is = absurd is
 
-  set_once : (made other : Answer T) → IsSetHere made → IsSetHere other → made ≡ other
+  pub set_once : (made other : Answer T) → IsSetHere made → IsSetHere other → made ≡ other
   set_once made other one two = ⊎_elim
       (λ (v, spelled). at_literal v spelled made one ∙ sym (at_literal v spelled other two))
       (λ (k, s, same). at_syntax k s same made one ∙ sym (at_syntax k s same other two))

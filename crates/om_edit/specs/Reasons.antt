@@ -33,22 +33,36 @@ abbrev pub fault_places : Fault → List ℕ
 fault_places (Misfit path) = path_text path
 fault_places (Clash first second) = path_text first ++ codes " and " ++ path_text second
 
+-- of a literal in a script
+abbrev pub in_script : List ℕ → List ℕ
+in_script text = codes "Literal " ++ text
+
 module _ {T : Type 0} (type_text : T → List ℕ) where
+  -- why there is no value of a literal; of another reason this says nothing
+  abbrev pub literal_text : Reason T → List ℕ
+  literal_text (no_literal place) = codes "Syntax at " ++ decimal place
+  literal_text (misread (misfit_at place t)) =
+      codes "Misfit at " ++ decimal place ++ codes ": expected " ++ type_text t
+  literal_text (misread (int_range_at place)) = codes "IntRange at " ++ decimal place
+  literal_text (misread (label_at place)) = codes "Label at " ++ decimal place
+  literal_text reason = []
+
   abbrev pub reason_text : Reason T → List ℕ
   reason_text (no_field side step) =
       codes "NoField(" ++ side_text side ++ codes ", " ++ decimal step ++ codes ")"
   reason_text not_block = codes "NotBlock"
-  reason_text (no_literal place) = codes "Literal Syntax at " ++ decimal place
-  reason_text (misread (misfit_at place t)) =
-      codes "Literal Misfit at " ++ decimal place ++ codes ": expected " ++ type_text t
-  reason_text (misread (int_range_at place)) = codes "Literal IntRange at " ++ decimal place
-  reason_text (misread (label_at place)) = codes "Literal Label at " ++ decimal place
+  reason_text (no_literal place) = in_script (literal_text (no_literal place))
+  reason_text (misread refusal) = in_script (literal_text (misread refusal))
   reason_text (ill_typed fault) = codes "IllTyped at " ++ fault_places fault
 
   -- without a reason there is no text
   abbrev pub reason_or_none : Option (Reason T) → List ℕ
   reason_or_none None = []
   reason_or_none (Some reason) = reason_text reason
+
+  abbrev pub literal_or_none : Option (Reason T) → List ℕ
+  literal_or_none None = []
+  literal_or_none (Some reason) = literal_text reason
 
 -- ---- refusals of calls, whose types are numbers
 

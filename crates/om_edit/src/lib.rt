@@ -16,4 +16,4 @@ pub use laws::{
 };
 pub use refusal::{EditRefusal, Side};
 pub use spots::{Place, Spot};
-pub use text::refusal_text;
+pub use text::{literal_text, refusal_text};

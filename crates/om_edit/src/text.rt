@@ -4,7 +4,7 @@ ghost use Rattle.std.specs.Prelude.{◌≡◌, ◌<◌, ◌++◌, length, All, I
 ghost use Rattle.om_model.specs.PathText.{path_text};
 ghost use Rattle.om_literal.specs.Reading.{misfit_at};
 ghost use Rattle.om_fault.specs.Text.{text_at};
-ghost use Rattle.om_edit.specs.Reasons.{misread, side_text, fault_places, literal_reason, reason_of, reason_text, reason_or_none};
+ghost use Rattle.om_edit.specs.Reasons.{misread, side_text, fault_places, literal_reason, reason_of, literal_text as why_text, literal_or_none, reason_or_none};
 
 use crate::refusal::{EditRefusal, Side};
 use itoa::Buffer;
@@ -57,7 +57,22 @@ fn put_no_field(text: &mut Vec<u8>, side: Side, step: usize) -> Result<(), Memor
     put(text, b")")
 }
 
-/// Puts why a literal is refused.
+/// The text of why lexemes are no value of a type. Out of memory is none, and has no text.
+pub fn literal_text(
+    alloc: Global,
+    table: &TypeTable,
+    fault: LiteralFault,
+) -> Result<List<u8>, Memory>
+    requires within { All (λ i. i < length table.now.store) table.now.stored }
+    ensures { IfOk result
+        (λ text. text ≡ literal_or_none (text_at table.now) (literal_reason fault)) }
+{
+    let mut text = Vec::new(alloc);
+    put_fault(&mut text, alloc, table, fault)?;
+    Ok(List::of(text))
+}
+
+/// Puts why a literal of a script is refused.
 fn put_literal(
     text: &mut Vec<u8>,
     alloc: Global,
@@ -70,10 +85,31 @@ fn put_literal(
         ≡ text.old.items ++ reason_or_none (text_at table.now) (literal_reason fault)) }
 {
     match fault {
-        LiteralFault::Syntax(place) => put_at(text, b"Literal Syntax at ", place),
+        LiteralFault::Memory => Ok(()),
+        _ => {
+            put(text, b"Literal ")?;
+            put_fault(text, alloc, table, fault)
+        }
+    }
+}
+
+/// Puts why lexemes are no value of a type.
+fn put_fault(
+    text: &mut Vec<u8>,
+    alloc: Global,
+    table: &TypeTable,
+    fault: LiteralFault,
+) -> Result<(), Memory>
+    requires within { All (λ i. i < length table.now.store) table.now.stored }
+    ensures { OnOk result
+        (text.new.items
+        ≡ text.old.items ++ literal_or_none (text_at table.now) (literal_reason fault)) }
+{
+    match fault {
+        LiteralFault::Syntax(place) => put_at(text, b"Syntax at ", place),
         LiteralFault::Misfit(place, ty) => put_misfit(text, alloc, table, place, ty),
-        LiteralFault::IntRange(place) => put_at(text, b"Literal IntRange at ", place),
-        LiteralFault::Label(place) => put_at(text, b"Literal Label at ", place),
+        LiteralFault::IntRange(place) => put_at(text, b"IntRange at ", place),
+        LiteralFault::Label(place) => put_at(text, b"Label at ", place),
         LiteralFault::Memory => Ok(()),
     }
 }
@@ -89,9 +125,9 @@ fn put_misfit(
     requires within { All (λ i. i < length table.now.store) table.now.stored }
     ensures { OnOk result
         (text.new.items
-        ≡ text.old.items ++ reason_text (text_at table.now) (misread (misfit_at place ty))) }
+        ≡ text.old.items ++ why_text (text_at table.now) (misread (misfit_at place ty))) }
 {
-    put_at(text, b"Literal Misfit at ", place)?;
+    put_at(text, b"Misfit at ", place)?;
     put(text, b": expected ")?;
     put_type(text, alloc, table, ty)
 }

@@ -9,7 +9,7 @@ use Rattle.om_meanings.specs.Causes.{HaveBars}
 use Rattle.om_meanings.specs.Stages.{HasNoPath, IsRefusedType, RefusesTypes, RefusesScript, IsUnread, Bar}
 
 -- the status of a file that was not read
-abbrev IsOfFile : Status → Type 0
+abbrev pub IsOfFile : Status → Type 0
 IsOfFile status = (status ≡ ReadFault) ⊎ ((status ≡ OpenFault) ⊎ (status ≡ TooLong))
 
 end_status : (until : InputEnd) (stop : Stop) → fault_of until ≡ Some stop → IsOfFile (status_of stop)
@@ -18,7 +18,7 @@ end_status at_fault stop e = let is : read_fault ≡ stop = cc e in inl (sym (ap
 end_status at_length stop e = let is : too_long ≡ stop = cc e in inr (inr (sym (ap status_of is)))
 end_status unasked stop e = absurd (cc e)
 
-file_status :
+pub file_status :
     (name : List ℕ) (found : Found) (stop : Stop) → ReadsFile name found (Err stop)
     → IsOfFile (status_of stop)
 file_status name (opened taken) stop fault = end_status taken.until stop fault

@@ -8,7 +8,7 @@ use Rattle.om_edit.proofs.text.put_misfit.Goals as goal
 pub returns : goal.returns
 returns c =
     let old = c.args.text.now.items in
-    let a = codes "Literal Misfit at " ++ decimal c.args.place in
+    let a = codes "Misfit at " ++ decimal c.args.place in
     let b = a ++ codes ": expected " in
     let one = c.put_at.new.text.items in
     let two = c.put.new.text.items in

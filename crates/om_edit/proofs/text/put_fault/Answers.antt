@@ -1,4 +1,4 @@
-use Rattle.om_edit.proofs.text.put_literal.Goals as goal
+use Rattle.om_edit.proofs.text.put_fault.Goals as goal
 
 pub returns-in-Syntax : goal.returns-in-Syntax
 returns-in-Syntax c = rw c.in-Syntax.is c.put_at.ensures

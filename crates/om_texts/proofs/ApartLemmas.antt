@@ -1,0 +1,39 @@
+-- The command on texts is idle at each other request, and the commands on values are at its own.
+use Rattle.std.proofs.Common.{◌≡◌, ◌∙◌, ℕ, List, Some, None, Result, inl, inr, refl, sym}
+use Rattle.om_outcome.specs.Outcome.{Request, tell, get, edit, dump, compare, own, OwnRequest, Stop, Language, Task}
+use Rattle.om_promises.specs.Commands.{Fetches}
+use Rattle.om_choice.specs.Choice.{IsIdleAt, AreApart}
+use Rattle.om_commands.specs.Tasks.{Wants, Finds, commands}
+use Rattle.om_texts.specs.Texts.{Built, built_by, building}
+
+module _ {D T E : Type 0} (language : Language D T E) (TextOf : T → List ℕ → Built → Type 0) where
+  pub texts_idle :
+      (request : Request) → built_by request ≡ None → IsIdleAt (building language TextOf) request
+  texts_idle request none = record {
+    unwanted = λ files turn name h. differ (name, h.1) h.2;
+    unfound = λ files result h. differ h.0 h.1;
+  } where
+    differ : (typed : List ℕ × List ℕ) → built_by request ≡ Some typed → ⊥
+    differ typed e = let never : None ≡ Some typed = sym none ∙ e in cc never
+
+  values_idle : (request : OwnRequest) → IsIdleAt (commands language) (own request)
+  values_idle request = record {
+    unwanted = unwanted;
+    unfound = unfound;
+  } where
+    unwanted : (files : Fetches) (turn : ℕ) (name : List ℕ)
+        → Wants language (own request) files turn name → ⊥
+    unwanted files turn name (inl (now, w)) = let e = w.typed in cc e
+    unwanted files turn name (inr (now, w)) = let e = w.scripted in cc e
+
+    unfound : (files : Fetches) (result : Result (Task T E) Stop)
+        → Finds language (own request) files result → ⊥
+    unfound files result (work, h, told) = h
+
+  pub apart : AreApart (commands language) (building language TextOf)
+  apart (tell saying f t most) = inr (texts_idle (tell saying f t most) refl)
+  apart (get f t path most) = inr (texts_idle (get f t path most) refl)
+  apart (edit f t script compat most) = inr (texts_idle (edit f t script compat most) refl)
+  apart (dump most) = inr (texts_idle (dump most) refl)
+  apart (compare most) = inr (texts_idle (compare most) refl)
+  apart (own request) = inl (values_idle request)

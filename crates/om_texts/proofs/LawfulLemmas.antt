@@ -1,0 +1,219 @@
+-- The command on texts is lawful, where the language is and a line is read in one way.
+use Rattle.std.proofs.Common.{◌≡◌, ◌⊎◌, ◌<◌, ◌+◌, ℕ, List, [], ◌∷◌, ◌++◌, Some, Result, Ok, Err, inl, inr, refl, sym, ap, ◌∙◌, subst, arith}
+use Rattle.om_outcome.specs.Outcome.{Found, opened, whole, Request, Stop, untyped_value, Said, says, stops, Language, ReadsFile, ReadsTypeOf}
+use Rattle.om_promises.specs.Commands.{Item, value, text, Fetches}
+use Rattle.om_promises.specs.Lawful.{IsOnce, IsInner, IsWhole, FailsAtFile, AreLawfulAt, AreLawful, AreInTurns}
+use Rattle.om_promises.specs.LawfulLanguage.{IsGiven, IsLawful}
+use Rattle.om_commands.specs.Tasks.{by_turns}
+use Rattle.om_commands.proofs.FindLemmas.{type_once, type_by, type_read, ComesOf, type_inside}
+use Rattle.om_commands.proofs.GivenLemmas.{type_given}
+use Rattle.om_texts.specs.Texts.{Built, blank, made, refused, untyped, counted, IsFirstLine, IsSaidOf, AreTexts, StopsBy, SaysLine, StopsAtLine, IsReplyTo, EndsWithLine, built_by, Wants, Finds, building, IsReadOnce}
+use Rattle.om_texts.proofs.LineLemmas.{line_once, line_front, some_line, line_stays, same_text}
+
+-- ---- what is said of a line
+
+module _ {T : Type 0} (TextOf : T → List ℕ → Built → Type 0) (type : T)
+    (once : (line : List ℕ) → IsOnce (TextOf type line)) where
+  texts_once : (items : List Item) → IsOnce (AreTexts TextOf type items)
+  texts_once [] n m h k = h ∙ sym k
+  texts_once (value tree ∷ items) n m h k = absurd h
+  texts_once (text line ∷ items) n m (built, is, more, texts, e) (other, is', rest, texts', e') =
+      let same = once line built other is is' in
+      let next = texts_once items more rest texts texts' in
+      e ∙ (ap (λ b. counted b + more) same ∙ (ap (λ n. counted other + n) next ∙ sym e'))
+
+  said_once : (built : Built) → IsOnce (IsSaidOf built)
+  said_once blank said other h k = h ∙ sym k
+  said_once (made bytes) said other h k = h ∙ sym k
+  said_once (refused refusal) said other h k = absurd h
+  said_once (untyped fault) said other h k = absurd h
+
+  stop_once : (items : List Item) (built : Built) → IsOnce (StopsBy TextOf type items built)
+  stop_once items blank stop other h k = absurd h
+  stop_once items (made bytes) stop other h k = absurd h
+  stop_once items (refused refusal) stop other h k = h ∙ sym k
+  stop_once items (untyped fault) stop other (n, texts, e) (m, texts', e') =
+      e ∙ (ap (λ n. untyped_stop n) (texts_once items n m texts texts') ∙ sym e') where
+        untyped_stop : ℕ → Stop
+        untyped_stop n = untyped_value n fault
+
+  -- of no line something is said where the run stops
+  pub said_or_stopped :
+      (items : List Item) (built : Built) (said : Said) (stop : Stop)
+      → IsSaidOf built said → StopsBy TextOf type items built stop → ⊥
+  said_or_stopped items blank said stop h k = k
+  said_or_stopped items (made bytes) said stop h k = k
+  said_or_stopped items (refused refusal) said stop h k = h
+  said_or_stopped items (untyped fault) said stop h k = h
+
+  reply_once : (items : List Item) (built : Built) → IsOnce (IsReplyTo TextOf type items built)
+  reply_once items built (says said) (says other) h k = ap (λ s. says s) (said_once built said other h k)
+  reply_once items built (says said) (stops stop) h k = absurd (said_or_stopped items built said stop h k)
+  reply_once items built (stops stop) (says said) h k = absurd (said_or_stopped items built said stop k h)
+  reply_once items built (stops stop) (stops other) h k =
+      ap (λ s. stops s) (stop_once items built stop other h k)
+
+  inner : (items : List Item) (built : Built) (stop : Stop) → StopsBy TextOf type items built stop → IsInner stop
+  inner items blank stop h = absurd h
+  inner items (made bytes) stop h = absurd h
+  inner items (refused refusal) stop h = subst IsInner (sym h) tt
+  inner items (untyped fault) stop (n, texts, e) = subst IsInner (sym e) tt
+
+  said_of_line :
+      (items : List Item) (item : Item) → IsOnce (SaysLine TextOf type item)
+  said_of_line items item said other (line, is, built, of, h) (line', is', built', of', k) =
+      let lines = same_text line line' item is is' in
+      let same = once line' built built' (subst (λ l. TextOf type l built) lines of) of' in
+      said_once built' said other (subst (λ b. IsSaidOf b said) same h) k
+
+  stop_of_line :
+      (items : List Item) (bytes : List ℕ) → IsOnce (StopsAtLine TextOf type items bytes)
+  stop_of_line items bytes stop other (line, more, is, built, of, h) (line', more', is', built', of', k) =
+      let lines = line_once bytes line line' more more' is is' in
+      let same = once line' built built' (subst (λ l. TextOf type l built) lines.0 of) of' in
+      stop_once items built' stop other (subst (λ b. StopsBy TextOf type items b stop) same h) k
+
+  end_of_line :
+      (items : List Item) (bytes : List ℕ) → IsOnce (EndsWithLine TextOf type items bytes)
+  end_of_line items bytes last other (built, of, h) (built', of', k) =
+      let same = once bytes built built' of of' in
+      reply_once items built' last other (subst (λ b. IsReplyTo TextOf type items b last) same h) k
+
+  -- what is said of the line, and a stop at it, are apart
+  pub line_apart :
+      (items : List Item) (bytes : List ℕ) (item : Item) (more : List ℕ) (said : Said) (stop : Stop)
+      → IsFirstLine bytes item more → SaysLine TextOf type item said
+      → StopsAtLine TextOf type items bytes stop → ⊥
+  line_apart items bytes item more said stop (first, is_first, e) (line, is, built, of, h) (line', more', is', built', of', k) =
+      let one = line_once bytes first line' more more' is_first is' in
+      let lines = same_text line first item is e ∙ one.0 in
+      let same = once line' built built' (subst (λ l. TextOf type l built) lines of) of' in
+      said_or_stopped items built' said stop (subst (λ b. IsSaidOf b said) same h) k
+
+module _ {D T E : Type 0} (language : Language D T E) (TextOf : T → List ℕ → Built → Type 0) where
+  lawful_at :
+      (type : T) → ((line : List ℕ) → IsOnce (TextOf type line))
+      → AreLawfulAt (building language TextOf) type
+  lawful_at type once = record {
+    first_once = λ bytes are_bytes item other more rest h k.
+        let one = line_once bytes h.0 k.0 more rest h.1 k.1 in
+        (h.2 ∙ (ap (λ line. text line) one.0 ∙ sym k.2), one.1);
+    says_once = said_of_line TextOf type once;
+    stops_once = λ items bytes are_bytes. stop_of_line TextOf type once items bytes;
+    ends_once = λ items bytes are_bytes. end_of_line TextOf type once items bytes;
+    front = λ bytes item more h.
+        (h.0 ++ 10 ∷ [], line_front bytes h.0 more h.1, some_line h.0);
+    item_stays = λ bytes item more later h. (h.0, line_stays bytes h.0 more later h.1, h.2);
+    stop_stays = λ items bytes later stop h.
+        (h.0, h.1 ++ later, line_stays bytes h.0 h.1 later h.2, h.3, h.4, h.5);
+    stops_inside = λ items bytes stop h. inner TextOf type once items h.3 stop h.5;
+    ends_inside = λ items bytes stop h. inner TextOf type once items h.0 stop h.2;
+    apart = λ items bytes are_bytes. line_apart TextOf type once items bytes;
+  }
+
+  -- ---- the file
+
+  module _ (lawful : IsLawful language) where
+    same_typed : (x y : List ℕ × List ℕ) → Some x ≡ Some y → x ≡ y
+    same_typed x y e = cc e
+
+    -- FILE of the words is the one that is wanted
+    file_is :
+        (request : Request) (typed : List ℕ × List ℕ) (name type : List ℕ)
+        → built_by request ≡ Some typed → built_by request ≡ Some (name, type) → typed.0 ≡ name
+    file_is request typed name type h k =
+        ap (λ p. p.0) (same_typed typed (name, type) (sym h ∙ k))
+
+    found_once :
+        (request : Request) (files : Fetches) → IsOnce (Finds language TextOf request files)
+    found_once request files result other (typed, is, reads) (typed', is', reads') =
+        let same = same_typed typed typed' (sym is ∙ is') in
+        type_once language lawful (files 0) typed' result other
+        (subst (λ p. ReadsTypeOf language (files 0) p result) same reads) reads'
+
+    wants_typed :
+        (request : Request) (typed : List ℕ × List ℕ) (files : Fetches)
+        → built_by request ≡ Some typed → Wants language TextOf request files 0 typed.0
+    wants_typed request typed files is = (refl, typed.1, is)
+
+    by_wanted :
+        (request : Request) (files others : Fetches) (result : Result T Stop)
+        → ((turn : ℕ) (name : List ℕ) → Wants language TextOf request files turn name
+        → files turn name ≡ others turn name)
+        → Finds language TextOf request files result → Finds language TextOf request others result
+    by_wanted request files others result same (typed, is, reads) = (
+      typed,
+      is,
+      type_by language lawful (files 0) (others 0) typed result
+          (same 0 typed.0 (wants_typed request typed files is)) reads,
+    )
+
+    -- the file is read, or it stops the run
+    abbrev IsRead : Fetches → Result T Stop → ℕ → List ℕ → Type 0
+    IsRead files result turn name = ((bytes : List ℕ) × (files turn name ≡ opened (whole bytes)))
+        ⊎ ((stop : Stop) × ReadsFile name (files turn name) (Err stop) × (result ≡ Err stop))
+
+    wanted_read :
+        (request : Request) (files : Fetches) (result : Result T Stop)
+        → Finds language TextOf request files result
+        → (turn : ℕ) (name : List ℕ) → Wants language TextOf request files turn name
+        → IsRead files result turn name
+    wanted_read request files result (typed, is, reads) turn name (now, type, wanted) =
+        subst (λ t. IsRead files result t name) (sym now)
+        (subst (λ n. IsRead files result 0 n) (file_is request typed name type is wanted)
+        (type_read language lawful (files 0) typed result reads))
+
+    whole_or :
+        {S : Type 0} (found : Found) → ((bytes : List ℕ) × (found ≡ opened (whole bytes))) ⊎ S
+        → IsWhole found ⊎ S
+    whole_or found (inl read) = inl (inl read)
+    whole_or found (inr fails) = inr fails
+
+    found_inside :
+        (request : Request) (files : Fetches) (stop : Stop)
+        → Finds language TextOf request files (Err stop)
+        → IsInner stop ⊎ FailsAtFile (building language TextOf) request files (Err stop)
+    found_inside request files stop (typed, is, reads) =
+        by (type_inside language lawful (files 0) typed stop reads) where
+          by : ComesOf language lawful typed.0 (files 0 typed.0) stop
+              → IsInner stop ⊎ FailsAtFile (building language TextOf) request files (Err stop)
+          by (inl inner) = inl inner
+          by (inr fault) = inr (record {
+            turn = 0;
+            name = typed.0;
+            wants = wants_typed request typed files is;
+            stop = stop;
+            fault = fault;
+            is = refl;
+          })
+
+    -- the type was read
+    given :
+        (request : Request) (files : Fetches) (type : T) → Finds language TextOf request files (Ok type)
+        → IsGiven language type
+    given request files type (typed, is, reads) =
+        type_given language (by_turns files) typed.0 typed.1 type reads
+
+    pub building_lawful :
+        IsReadOnce language TextOf → AreLawful (building language TextOf)
+    building_lawful once = record {
+      wants_once = λ request files turn name other h k.
+          ap (λ p. p.0) (same_typed (name, h.1) (other, k.1) (sym h.2 ∙ k.2));
+      finds_once = found_once;
+      by_wanted = by_wanted;
+      reads_wanted = λ request files result finds turn name wants.
+          whole_or (files turn name) (wanted_read request files result finds turn name wants);
+      finds_inside = found_inside;
+      at = λ type found. lawful_at type (once type (given found.0 found.1 type found.2));
+    }
+
+    none_later : (turn later : ℕ) → turn < later → later ≡ 0 → ⊥
+    none_later turn later less e = omega arith
+
+    pub building_turns : AreInTurns (building language TextOf)
+    building_turns = record {
+      by_earlier = λ request files others turn name same h. h;
+      reads = wanted_read;
+      after_read = λ request files turn later name other less h k.
+          absurd (none_later turn later less k.0);
+    }

@@ -1,0 +1,48 @@
+-- The command on texts never ends with 4 or 11.
+use Rattle.std.proofs.Common.{◌≡◌, ◌⊎◌, ℕ, List, inl, inr}
+use Rattle.om_outcome.specs.declared.status.Status.{Status}
+use Rattle.om_outcome.specs.declared.status.Status.TheVariants.{Well, Value, Compat}
+use Rattle.om_outcome.specs.Outcome.{Language}
+use Rattle.om_promises.specs.Call.{Call}
+use Rattle.om_promises.specs.Outside.{IsUnsaid}
+use Rattle.om_causes.specs.Causes.{IsCaused, OnlyCaused}
+use Rattle.om_texts.specs.Texts.{Built, building}
+use Rattle.om_texts.specs.Meanings.{IsFine, texts_tables, IsNeverRefused}
+
+module _ {D T E : Type 0} (language : Language D T E) (TextOf : T → List ℕ → Built → Type 0)
+    (words : List (List ℕ)) (call : Call) where
+  abbrev Caused : Status → Type 0
+  Caused status = IsCaused (building language TextOf) (texts_tables language TextOf) words call status
+
+  not_four : Caused Value → ⊥
+  not_four (inl (none, is)) = cc is
+  not_four (inr (inl b)) = b.bar
+  not_four (inr (inr (found, files, type, prepared, input, is, (are_bytes, inl h)))) = h.breaks
+  not_four (inr (inr (found, files, type, prepared, input, is, (are_bytes, inr h)))) = by h.ends where
+    by : (IsFine TextOf type h.last × (Value ≡ Well)) ⊎ ⊥ → ⊥
+    by (inl (fine, e)) = cc e
+    by (inr never) = never
+
+  not_eleven : Caused Compat → ⊥
+  not_eleven (inl (none, is)) = cc is
+  not_eleven (inr (inl b)) = b.bar
+  not_eleven (inr (inr (found, files, type, prepared, input, is, (are_bytes, inl h)))) = h.breaks
+  not_eleven (inr (inr (found, files, type, prepared, input, is, (are_bytes, inr h)))) = by h.ends where
+    by : (IsFine TextOf type h.last × (Compat ≡ Well)) ⊎ ⊥ → ⊥
+    by (inl (fine, e)) = cc e
+    by (inr never) = never
+
+  pub never_refused :
+      OnlyCaused (building language TextOf) (texts_tables language TextOf) words call
+      → IsNeverRefused call
+  never_refused only = (
+    λ e. not_four (only Value (λ e. cc e) (λ e. cc e) four e),
+    λ e. not_eleven (only Compat (λ e. cc e) (λ e. cc e) eleven e),
+  ) where
+    four : IsUnsaid Value → ⊥
+    four (inl e) = cc e
+    four (inr e) = cc e
+
+    eleven : IsUnsaid Compat → ⊥
+    eleven (inl e) = cc e
+    eleven (inr e) = cc e

@@ -1,0 +1,104 @@
+-- What is said of lines, by the tables: from it what they are, and back.
+use Rattle.std.proofs.Common.{◌≡◌, ◌⊎◌, ℕ, ◌+◌, Bool, true, false, List, [], ◌∷◌, ◌++◌, inl, inr, refl, ap, ◌∙◌, subst}
+use Rattle.std.specs.Prelude.{◌&&◌, ◌≢◌, ◌==◌}
+use Rattle.std.specs.Bool.{Decides}
+use Rattle.std.proofs.lemmas.Bool.Decides.{Decides-eqb}
+use Rattle.std.specs.List.{AllByRecursion}
+use Rattle.om_outcome.specs.Outcome.{Said, nothing_said, all_well, Language}
+use Rattle.om_promises.specs.Commands.{Item, text, Cut, AllSay}
+use Rattle.om_texts.specs.Texts.{Built, blank, made, refused, untyped, counted, IsUnbroken, IsLine, put_bytes, IsSaidOf, AreTexts, building}
+use Rattle.om_texts.specs.Meanings.{AreLines, IsFine}
+use Rattle.om_texts.proofs.LineLemmas.{same_text}
+
+-- the lines as items
+abbrev pub texts : List (List ℕ) → List Item
+texts [] = []
+texts (line ∷ lines) = text line ∷ texts lines
+
+-- there is a line feed, or there is none
+pub line_or_rest :
+    (bytes : List ℕ) → IsUnbroken bytes ⊎ ((line : List ℕ) × (more : List ℕ) × IsLine bytes line more)
+line_or_rest [] = inl tt
+line_or_rest (b ∷ bytes) = by (nat_or b) (line_or_rest bytes) where
+  nat_or : (b : ℕ) → (b ≡ 10) ⊎ (b ≢ 10)
+  nat_or b = at (b == 10) (Decides-eqb b 10) where
+    at : (is : Bool) → Decides is (b ≡ 10) → (b ≡ 10) ⊎ (b ≢ 10)
+    at true d = inl (d.0 refl)
+    at false d = inr (λ e. let never : false ≡ true = d.1 e in cc never)
+
+  by : (b ≡ 10) ⊎ (b ≢ 10)
+      → IsUnbroken bytes ⊎ ((line : List ℕ) × (more : List ℕ) × IsLine bytes line more)
+      → IsUnbroken (b ∷ bytes) ⊎ ((line : List ℕ) × (more : List ℕ) × IsLine (b ∷ bytes) line more)
+  by (inl feed) next =
+      inr ([], bytes, record { unbroken = tt; bytes_are = ap (λ b. b ∷ bytes) feed })
+  by (inr other) (inl unbroken) = inl (other, unbroken)
+  by (inr other) (inr (line, more, h)) = inr (
+    b ∷ line,
+    more,
+    record { unbroken = (other, h.unbroken); bytes_are = ap (λ bytes. b ∷ bytes) h.bytes_are },
+  )
+
+module _ {T : Type 0} (TextOf : T → List ℕ → Built → Type 0) (type : T) where
+  -- what is said of a line shows that it is fine, and nothing is wrong with it
+  pub fine_of :
+      (line : List ℕ) (built : Built) (said : Said) → TextOf type line built → IsSaidOf built said
+      → IsFine TextOf type line × (said.well ≡ true)
+  fine_of line blank said of h = (inl of, ap (λ s. s.well) h)
+  fine_of line (made bytes) said of h = (inr (bytes, of), ap (λ s. s.well) h)
+  fine_of line (refused refusal) said of h = absurd h
+  fine_of line (untyped fault) said of h = absurd h
+
+  -- of a line that is fine something is said
+  pub said_of_fine :
+      (line : List ℕ) → IsFine TextOf type line
+      → (built : Built) × TextOf type line built × (said : Said) × IsSaidOf built said
+  said_of_fine line (inl of) = (blank, of, nothing_said, refl)
+  said_of_fine line (inr (bytes, of)) = (made bytes, of, put_bytes bytes, refl)
+
+  -- and they can be counted
+  pub counts_of :
+      (lines : List (List ℕ)) → AllByRecursion (IsFine TextOf type) lines
+      → (n : ℕ) × AreTexts TextOf type (texts lines) n
+  counts_of [] fine = (0, refl)
+  counts_of (line ∷ lines) (fine, rest) =
+      let next = counts_of lines rest in
+      let s = said_of_fine line fine in
+      (counted s.0 + next.0, (s.0, s.1, next.0, next.1, refl))
+
+module _ {D T E : Type 0} (language : Language D T E) (TextOf : T → List ℕ → Built → Type 0) (type : T)
+  where
+    -- items of which something is said are lines that are fine
+    pub lines_said :
+        (before : List Item) (bytes : List ℕ) (items : List Item) (said : List Said) (rest : List ℕ)
+        → Cut (building language TextOf) type bytes items rest
+        → AllSay (building language TextOf) type before items said
+        → (lines : List (List ℕ)) × AreLines bytes lines rest
+        × AllByRecursion (IsFine TextOf type) lines × (all_well said ≡ true)
+    lines_said before bytes [] [] rest cut told = ([], cut, tt, refl)
+    lines_said before bytes [] (s ∷ said) rest cut told = absurd told
+    lines_said before bytes (item ∷ items) [] rest cut told = absurd told
+    lines_said before bytes (item ∷ items) (s ∷ said) rest (more, (line, is, e), cut) ((other, e', built, of, h), told) =
+        let next = lines_said (before ++ item ∷ []) more items said rest cut told in
+        let same = same_text other line item e' e in
+        let f = fine_of TextOf type line built s (subst (λ l. TextOf type l built) same of) h in (
+          line ∷ next.0,
+          (more, is, next.1),
+          (f.0, next.2),
+          ap (λ w. w && all_well said) f.1 ∙ next.3,
+        )
+
+    -- and of lines that are fine something is said
+    pub said_of_lines :
+        (before : List Item) (bytes : List ℕ) (lines : List (List ℕ)) (rest : List ℕ)
+        → AreLines bytes lines rest → AllByRecursion (IsFine TextOf type) lines
+        → (said : List Said) × Cut (building language TextOf) type bytes (texts lines) rest
+        × AllSay (building language TextOf) type before (texts lines) said × (all_well said ≡ true)
+    said_of_lines before bytes [] rest are fine = ([], are, tt, refl)
+    said_of_lines before bytes (line ∷ lines) rest (more, is, are) (fine, all) =
+        let next = said_of_lines (before ++ text line ∷ []) more lines rest are all in
+        let s = said_of_fine TextOf type line fine in (
+          s.2 ∷ next.0,
+          (more, (line, is, refl), next.1),
+          ((line, refl, s.0, s.1, s.3), next.2),
+          ap (λ w. w && all_well next.0) (fine_of TextOf type line s.0 s.2 s.1 s.3).1 ∙ next.3,
+        )

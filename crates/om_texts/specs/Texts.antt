@@ -1,0 +1,123 @@
+-- The command on the texts of the input, in the general form: an item is a line, and the line feed
+-- behind it. A line is blank, or a text, which becomes bytes.
+use Rattle.std.specs.Prelude.{ℕ, suc, ◌+◌, ◌≡◌, ◌≢◌, true, List, [], ◌∷◌, ◌++◌, length, Option, Some, None, Result}
+use Rattle.std.specs.List.{AllByRecursion}
+use Rattle.om_outcome.specs.Outcome.{Request, own, build, Stop, text_line, untyped_value, Said, nothing_said, Reply, says, stops, Language, ReadsTypeOf}
+use Rattle.om_promises.specs.Commands.{Item, value, text, Fetches, Commands}
+use Rattle.om_promises.specs.Lawful.{IsOnce}
+use Rattle.om_promises.specs.LawfulLanguage.{IsGiven}
+
+-- What a line is at a type: blank; a text of a value that has the type, with its bytes; a text that
+-- is refused; or one of a value that has not the type, with the line that tells it.
+pub data Built : Type 0 where
+  blank : Built
+  made : (bytes : List ℕ) → Built
+  refused : (refusal : List ℕ) → Built
+  untyped : (fault : List ℕ) → Built
+
+-- ---- lines
+
+-- there is no line feed
+abbrev pub IsUnbroken : List ℕ → Type 0
+IsUnbroken bytes = AllByRecursion (λ b. b ≢ 10) bytes
+
+-- the bytes are a line, its line feed, and then the rest
+pub record IsLine (bytes line more : List ℕ) : Type 0 where
+  pub unbroken : IsUnbroken line
+  pub bytes_are : bytes ≡ line ++ 10 ∷ more
+
+abbrev pub IsFirstLine : List ℕ → Item → List ℕ → Type 0
+IsFirstLine bytes item more = (line : List ℕ) × IsLine bytes line more × (item ≡ text line)
+
+-- ---- what is said of a line
+
+-- a blank line is no text
+abbrev pub counted : Built → ℕ
+counted blank = 0
+counted (made bytes) = 1
+counted (refused refusal) = 1
+counted (untyped fault) = 1
+
+-- the bytes are put, and nothing is wrong
+abbrev pub put_bytes : List ℕ → Said
+put_bytes bytes = record { text = bytes; well = true }
+
+-- nothing is said of a blank line, and of a text its bytes
+abbrev pub IsSaidOf : Built → Said → Type 0
+IsSaidOf blank said = said ≡ nothing_said
+IsSaidOf (made bytes) said = said ≡ put_bytes bytes
+IsSaidOf (refused refusal) said = ⊥
+IsSaidOf (untyped fault) said = ⊥
+
+module _ {T : Type 0} (TextOf : T → List ℕ → Built → Type 0) (type : T) where
+  -- so many of the lines are texts
+  abbrev pub AreTexts : List Item → ℕ → Type 0
+  AreTexts [] n = n ≡ 0
+  AreTexts (value tree ∷ items) n = ⊥
+  AreTexts (text line ∷ items) n =
+      (built : Built) × TextOf type line built × (more : ℕ) × AreTexts items more
+      × (n ≡ counted built + more)
+
+  -- after these lines the next one stops the run so: lines are counted from 1, and texts from 0
+  abbrev pub StopsBy : List Item → Built → Stop → Type 0
+  StopsBy items blank stop = ⊥
+  StopsBy items (made bytes) stop = ⊥
+  StopsBy items (refused refusal) stop = stop ≡ text_line (suc (length items)) refusal
+  StopsBy items (untyped fault) stop =
+      (n : ℕ) × AreTexts items n × (stop ≡ untyped_value n fault)
+
+  -- this is said of the next line
+  abbrev pub SaysLine : Item → Said → Type 0
+  SaysLine item said =
+      (line : List ℕ) × (item ≡ text line) × (built : Built) × TextOf type line built
+      × IsSaidOf built said
+
+  -- the bytes are a line that stops the run, its line feed, and anything behind it
+  abbrev pub StopsAtLine : List Item → List ℕ → Stop → Type 0
+  StopsAtLine items bytes stop =
+      (line : List ℕ) × (more : List ℕ) × IsLine bytes line more
+      × (built : Built) × TextOf type line built × StopsBy items built stop
+
+  -- the reply to a line
+  abbrev pub IsReplyTo : List Item → Built → Reply → Type 0
+  IsReplyTo items built (says said) = IsSaidOf built said
+  IsReplyTo items built (stops stop) = StopsBy items built stop
+
+  -- a last line needs no line feed
+  abbrev pub EndsWithLine : List Item → List ℕ → Reply → Type 0
+  EndsWithLine items bytes last =
+      (built : Built) × TextOf type bytes built × IsReplyTo items built last
+
+-- ---- the command
+
+-- FILE and TYPE, where texts are to become bytes
+abbrev pub built_by : Request → Option (List ℕ × List ℕ)
+built_by (own (build file type)) = Some (file, type)
+built_by request = None
+
+module _ {D T E : Type 0} (language : Language D T E) (TextOf : T → List ℕ → Built → Type 0) where
+  -- FILE is wanted, in the first turn
+  abbrev pub Wants : Request → Fetches → ℕ → List ℕ → Type 0
+  Wants request files turn name =
+      (turn ≡ 0) × (type : List ℕ) × (built_by request ≡ Some (name, type))
+
+  -- TYPE is found as it is for all commands
+  abbrev pub Finds : Request → Fetches → Result T Stop → Type 0
+  Finds request files result =
+      (typed : List ℕ × List ℕ) × (built_by request ≡ Some typed)
+      × ReadsTypeOf language (files 0) typed result
+
+  abbrev pub building : Commands T
+  building = record {
+    Wants = Wants;
+    Finds = Finds;
+    Reads = λ type. Unit {0};
+    IsFirst = λ type. IsFirstLine;
+    Says = λ type items. SaysLine TextOf type;
+    Stops = λ type. StopsAtLine TextOf type;
+    Ends = λ type. EndsWithLine TextOf type;
+  }
+
+  -- a line is read in one way, at each type that some texts are read as
+  abbrev pub IsReadOnce : Type 0
+  IsReadOnce = (type : T) → IsGiven language type → (line : List ℕ) → IsOnce (TextOf type line)

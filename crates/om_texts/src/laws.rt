@@ -1,0 +1,139 @@
+//! The laws. Each function does nothing: what it ensures is the law.
+
+ghost use Rattle.std.specs.Prelude.{ℕ, List};
+ghost use Rattle.om_outcome.specs.Outcome.{Language};
+ghost use Rattle.om_promises.specs.CommandLaws.{HaveOneOutcome, HaveOneStop, StopsStay, StopsAreLast, ArePromised, Follow};
+ghost use Rattle.om_promises.specs.Causes.{AreAsTold, AreMeant, IfWords, IfFiles, OnlyOpenFault, IfMissing, OnlyTooLong, IfFileTooLong, IfInputTooLong, IfInputFails, IfMemory, IfWriteFault, IsDecided, IsExact, IsComplete};
+ghost use Rattle.om_promises.specs.Lawful.{AreLawful, AreInTurns};
+ghost use Rattle.om_promises.specs.LawfulLanguage.{IsLawful};
+ghost use Rattle.om_promises.specs.Outside.{OnlyReadFault, OnlyWriteFault};
+ghost use Rattle.om_promises.specs.Promises.{IfStop, IfEnd, IfUsage};
+ghost use Rattle.om_causes.specs.Causes.{Tables, AreExact, Causes};
+ghost use Rattle.om_choice.specs.Choice.{AreApart};
+ghost use Rattle.om_commands.specs.Tasks.{commands};
+ghost use Rattle.om_texts.specs.Laws.{IsIdleElsewhere};
+ghost use Rattle.om_texts.specs.Meanings.{texts_tables, IsNeverRefused};
+ghost use Rattle.om_texts.specs.Texts.{Built, building, IsReadOnce};
+
+use om_causes::laws::{Meant, causes_of_tables};
+use om_promises::laws::{Act, files_in_turns, lawful_commands, promised, promises_of_commands};
+use std::marker::PhantomData;
+
+/// What texts are read as: declarations, types, and lines of scripts; and what a line of the input
+/// is at a type.
+pub trait Builds {
+    ghost declarations: { Type 0 };
+
+    ghost types: { Type 0 };
+
+    ghost lines: { Type 0 };
+
+    ghost language: { Language declarations types lines };
+
+    ghost TextOf: { types → List ℕ → Built → Type 0 };
+}
+
+/// The command on texts, and what each status means at it.
+pub struct OnTexts<B>(PhantomData<B>);
+
+impl<B: Builds> Act for OnTexts<B> {
+    ghost acts = { B.types };
+
+    ghost commands = { building B.language B.TextOf };
+}
+
+impl<B: Builds> Meant for OnTexts<B> {
+    ghost acts = { B.types };
+
+    ghost commands = { building B.language B.TextOf };
+
+    ghost tables = { texts_tables B.language B.TextOf };
+}
+
+/// The command on texts is lawful, where the language is and a line is read in one way.
+pub fn building_is_lawful<B: Builds>()
+    requires language { IsLawful B.language }
+    requires once { IsReadOnce B.language B.TextOf }
+    ensures { AreLawful (building B.language B.TextOf) }
+{}
+
+/// It takes its file in one turn.
+pub fn building_takes_turns<B: Builds>()
+    requires { IsLawful B.language }
+    ensures { AreInTurns (building B.language B.TextOf) }
+{}
+
+/// So words, a file and an input have one outcome, and the input holds one stop at most, which
+/// stays and comes last.
+pub fn building_answers_once<B: Builds>()
+    requires language { IsLawful B.language }
+    requires once { IsReadOnce B.language B.TextOf }
+    ensures outcome { HaveOneOutcome (building B.language B.TextOf) }
+    ensures stop { HaveOneStop (building B.language B.TextOf) }
+    ensures stays { StopsStay (building B.language B.TextOf) }
+    ensures last { StopsAreLast (building B.language B.TextOf) }
+{
+    building_is_lawful::<B>();
+    lawful_commands::<OnTexts<B>>();
+}
+
+/// What is promised of a call follows from its account, and from that all else.
+pub fn building_keeps_promises<B: Builds>()
+    requires language { IsLawful B.language }
+    requires once { IsReadOnce B.language B.TextOf }
+    ensures account { ArePromised (building B.language B.TextOf) }
+    ensures stop { let c = building B.language B.TextOf in Follow c (IfStop c) }
+    ensures end { let c = building B.language B.TextOf in Follow c (IfEnd c) }
+    ensures usage { let c = building B.language B.TextOf in Follow c (IfUsage c) }
+    ensures words { let c = building B.language B.TextOf in Follow c (IfWords c) }
+    ensures files { let c = building B.language B.TextOf in Follow c (IfFiles c) }
+    ensures meant { let c = building B.language B.TextOf in Follow c (AreMeant c) }
+    ensures as_told { let c = building B.language B.TextOf in Follow c (AreAsTold c) }
+    ensures read_fault { Follow (building B.language B.TextOf) (λ words. OnlyReadFault) }
+    ensures write_fault { Follow (building B.language B.TextOf) (λ words. OnlyWriteFault) }
+    ensures open_fault { let c = building B.language B.TextOf in Follow c (OnlyOpenFault c) }
+    ensures missing { let c = building B.language B.TextOf in Follow c (IfMissing c) }
+    ensures too_long { let c = building B.language B.TextOf in Follow c (OnlyTooLong c) }
+    ensures file_too_long { let c = building B.language B.TextOf in Follow c (IfFileTooLong c) }
+    ensures input_too_long { let c = building B.language B.TextOf in Follow c (IfInputTooLong c) }
+    ensures input_fails { let c = building B.language B.TextOf in Follow c (IfInputFails c) }
+    ensures memory { let c = building B.language B.TextOf in Follow c (IfMemory c) }
+    ensures write_fault_by { let c = building B.language B.TextOf in Follow c (IfWriteFault c) }
+    ensures decided { let c = building B.language B.TextOf in Follow c (IsDecided c) }
+    ensures exact { let c = building B.language B.TextOf in Follow c (IsExact c) }
+    ensures complete { let c = building B.language B.TextOf in Follow c (IsComplete c) }
+{
+    building_is_lawful::<B>();
+    building_takes_turns::<B>();
+    promised::<OnTexts<B>>();
+    promises_of_commands::<OnTexts<B>>();
+    files_in_turns::<OnTexts<B>>();
+}
+
+/// No request is for the commands on values and for the one on texts, which is idle at each request
+/// that is not its own.
+pub fn building_stands_apart<B: Builds>()
+    ensures idle { IsIdleElsewhere B.language B.TextOf }
+    ensures apart { AreApart (commands B.language) (building B.language B.TextOf) }
+{}
+
+/// The tables are exact: what stops a run, and how an input ends, by its lines; and what the words
+/// and the file do.
+pub fn texts_have_meanings<B: Builds>()
+    ensures { AreExact (building B.language B.TextOf) (texts_tables B.language B.TextOf) }
+{}
+
+/// What is promised of a call gives each status its cause, and to each cause its status; and 4 and
+/// 11 never come.
+pub fn causes_of_texts<B: Builds>()
+    requires language { IsLawful B.language }
+    requires once { IsReadOnce B.language B.TextOf }
+    ensures causes { let c = building B.language B.TextOf in
+        Follow c (Causes c (texts_tables B.language B.TextOf)) }
+    ensures others { Follow (building B.language B.TextOf) (λ words. IsNeverRefused) }
+{
+    building_is_lawful::<B>();
+    building_takes_turns::<B>();
+    texts_have_meanings::<B>();
+    causes_of_tables::<OnTexts<B>>();
+}
