@@ -34,7 +34,7 @@ values_alike pairs (objects.I32 z) b alike = subst (λ o. AllZip (AreAlike pairs
 values_alike pairs (objects.I64 z) b alike = subst (λ o. AllZip (AreAlike pairs) [] (values_of o)) alike tt
 values_alike pairs (objects.Native z) b alike = subst (λ o. AllZip (AreAlike pairs) [] (values_of o)) alike tt
 
-length-AllZip : {A B : Type 0} (R : A → B → Type 0) (xs : List A) (ys : List B) → AllZip R xs ys → length xs ≡ length ys
+pub length-AllZip : {A B : Type 0} (R : A → B → Type 0) (xs : List A) (ys : List B) → AllZip R xs ys → length xs ≡ length ys
 length-AllZip R [] [] all = refl
 length-AllZip R [] (y ∷ ys) all = absurd all
 length-AllZip R (x ∷ xs) [] all = absurd all
@@ -246,10 +246,10 @@ paired_type w None next same = absurd (none-some next same)
 paired_type w (Some u) next same = let pair = same_Some (w, u) next same in (ap (λ p. Some p.1) pair, ap (λ p. p.0) pair)
 
 -- what stands at the end of a path, and what is alike to it stands there in the other graph
-record OtherPlace {T : Type 0} (shapes : Shapes T) (h : List Obj) (pairs : List (ℕ × ℕ)) (place : Option (Val × T)) (v : Val) (t : T) : Type 0 where
-  value : Val
-  is : place ≡ Some (value, t)
-  alike : AreAlike pairs v value
+pub record OtherPlace {T : Type 0} (shapes : Shapes T) (h : List Obj) (pairs : List (ℕ × ℕ)) (place : Option (Val × T)) (v : Val) (t : T) : Type 0 where
+  pub value : Val
+  pub is : place ≡ Some (value, t)
+  pub alike : AreAlike pairs v value
 
 module _ {T : Type 0} (shape : T → ShapeOf T) (Equal : T → T → Type 0) (g h : List Obj) (pairs : List (ℕ × ℕ))
     (pairing : IsPairing g h pairs) where
@@ -287,7 +287,7 @@ module _ {T : Type 0} (shape : T → ShapeOf T) (Equal : T → T → Type 0) (g 
         alike = subst (λ x. AreAlike pairs x other.0) parts.1 other.2;
       })
 
-  place_of_other :
+  pub place_of_other :
       (path : List ℕ) (v w : Val) (t : T) (x : Val) (u : T) → AreAlike pairs v w → value_at (shaped shape Equal) g v t path ≡ Some (x, u)
       → OtherPlace (shaped shape Equal) h pairs (value_at (shaped shape Equal) h w t path) x u
   place_of_other [] v w t x u alike found =

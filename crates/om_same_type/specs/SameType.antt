@@ -10,6 +10,7 @@ use Rattle.om_types.specs.Table.{Table, table_shapes}
 use Rattle.om_types.specs.Typing.{HasType}
 use Rattle.om_types.specs.declared.fault.Fault.{Fault}
 use Rattle.om_types.specs.LeastFault.{IsLeastFault}
+use Rattle.om_types.specs.VerdictText.{IsNoLine}
 
 -- at types over declarations
 abbrev pub DeclaredTypesAreKept : Type 0
@@ -34,3 +35,11 @@ abbrev pub TableFaultsAreKept : Type 0
 TableFaultsAreKept =
     (table : Table) (g h : List Obj) (v w : Val) (i : ℕ) (fault : Fault) → Iso g v h w
     → IsLeastFault (table_shapes table) g v i fault → IsLeastFault (table_shapes table) h w i fault
+
+-- the line that tells it is the same one, whatever the texts of types are
+abbrev pub DeclaredLinesAreKept : Type 0
+DeclaredLinesAreKept =
+    (decls : List Decl) (text_of : Ty → List ℕ) (g h : List Obj) (v w : Val) (t : Ty)
+    (line : List ℕ) → Iso g v h w
+    → IsNoLine (declared_shapes decls) text_of g v t line
+    → IsNoLine (declared_shapes decls) text_of h w t line

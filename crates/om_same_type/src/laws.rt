@@ -1,7 +1,7 @@
 //! The laws, as contracts.
 
 ghost use Rattle.om_same_type.specs.SameText.{DeclaredTextsAreKept, TableTextsAreKept};
-ghost use Rattle.om_same_type.specs.SameType.{DeclaredTypesAreKept, TableTypesAreKept, DeclaredFaultsAreKept, TableFaultsAreKept};
+ghost use Rattle.om_same_type.specs.SameType.{DeclaredTypesAreKept, TableTypesAreKept, DeclaredFaultsAreKept, TableFaultsAreKept, DeclaredLinesAreKept};
 
 /// A value that is the same as one that has a type has it too.
 pub fn the_same_has_the_same_types()
@@ -13,6 +13,11 @@ pub fn the_same_has_the_same_types()
 pub fn the_same_has_the_same_fault()
     ensures declared { DeclaredFaultsAreKept }
     ensures table { TableFaultsAreKept }
+{}
+
+/// So is the line that tells it.
+pub fn the_same_has_the_same_line()
+    ensures { DeclaredLinesAreKept }
 {}
 
 /// Values that are the same have one text at a type.

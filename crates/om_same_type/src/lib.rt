@@ -6,5 +6,6 @@
 mod laws;
 
 pub use laws::{
-    the_same_has_the_same_fault, the_same_has_the_same_text, the_same_has_the_same_types,
+    the_same_has_the_same_fault, the_same_has_the_same_line, the_same_has_the_same_text,
+    the_same_has_the_same_types,
 };
