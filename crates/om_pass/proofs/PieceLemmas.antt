@@ -117,6 +117,29 @@ module _ (table : Table) (stated : ℕ) (old new : State) (need : Need) (kind : 
       subst (λ k. TookPiece table stated old new need k piece) (sym is)
       (doubles table stated old new need piece width little (subst IsKind is known) bytes (subst (λ k. length piece ≡ fixed_bytes k + variable_bytes k piece) is whole) (let some = took.0 in omega (arith, some, many)) (λ all long. took.1 all (long ∙ many)))
 
+  long_of : (other : CodeKind) → kind ≡ other → length piece ≡ fixed_bytes other + variable_bytes other piece
+  long_of other is = subst (λ k. length piece ≡ fixed_bytes k + variable_bytes k piece) is whole
+
+  pub at_small_int : (n : ℕ) → kind ≡ kinds.SmallInt n → Took table old new need (integer (pos n)) → TookPiece table stated old new need kind piece
+  at_small_int n is took =
+      let long : length piece ≡ 0 = long_of (kinds.SmallInt n) is in
+      subst (λ k. TookPiece table stated old new need k piece) (sym is) (small_int table stated old new need piece n (subst IsKind is known) bytes long took)
+
+  pub at_small_string : (n : ℕ) → kind ≡ kinds.SmallString n → ((all : List ℕ) → length all ≡ n → Took table old new need (leaf (objects.Bytes all))) → TookPiece table stated old new need kind piece
+  at_small_string n is took =
+      let long : length piece ≡ 0 + n = long_of (kinds.SmallString n) is in
+      subst (λ k. TookPiece table stated old new need k piece) (sym is) (small_string table stated old new need piece n (subst IsKind is known) bytes (omega (arith, long)) took)
+
+  pub at_int : (width : ℕ) → kind ≡ kinds.Int width → IsInteger (signed piece) → Took table old new need (integer (signed piece)) → TookPiece table stated old new need kind piece
+  at_int width is fits took =
+      let long : length piece ≡ width + 0 = long_of (kinds.Int width) is in
+      subst (λ k. TookPiece table stated old new need k piece) (sym is) (int table stated old new need piece width (omega (arith, long)) fits took)
+
+  pub at_shared : (width : ℕ) → kind ≡ kinds.Shared width → 0 < stated → 1 ≤ number piece → number piece ≤ length (types_in old) → Took table old new need (shared (number piece)) → TookPiece table stated old new need kind piece
+  at_shared width is some first few took =
+      let long : length piece ≡ width + 0 = long_of (kinds.Shared width) is in
+      subst (λ k. TookPiece table stated old new need k piece) (sym is) (back table stated old new need piece width (omega (arith, long)) some first few took)
+
 -- what a slice from a place on is
 pub rest_from : (n : ℕ) (bytes : List ℕ) → take (length bytes - n) (drop n bytes) ≡ drop n bytes
 rest_from n bytes = let long = length-drop n bytes in take_all (length bytes - n) (drop n bytes) (omega (arith, long))

@@ -1,12 +1,12 @@
 -- What each token changes.
-use Rattle.std.proofs.Common.{ℕ, ℤ, ◌≤◌, ◌≡◌, ◌∙◌, List, [], ◌∷◌, length, Some, refl, sym, ap, subst, arith}
+use Rattle.std.proofs.Common.{ℕ, ℤ, ◌≤◌, ◌≡◌, ◌∙◌, ◌+◌, ◌++◌, List, [], ◌∷◌, length, Some, refl, sym, ap, subst, arith}
 use Rattle.std.specs.Prelude.{IsTrue}
 use Rattle.std.proofs.lemmas.List.{append-nil}
 use Rattle.om_types.specs.declared.shape.PolyTag.{PolyTag}
 use Rattle.om_types.specs.Fitting.{fits_int, fits_atom, tag_with}
 use Rattle.om_types.specs.Table.{Table}
-use Rattle.om_format.specs.Token.{integer, atom, shared}
-use Rattle.om_pass_law.specs.Asked.{of_type, hash_of, shape_at, IsBack}
+use Rattle.om_format.specs.Token.{integer, atom, shared, block}
+use Rattle.om_pass_law.specs.Asked.{Need, of_type, hash_of, shape_at, block_needs, IsBack}
 use Rattle.om_pass.specs.declared.state.State.{State}
 use Rattle.om_pass.specs.State.{types_in, needs_in, Took}
 use Rattle.om_pass.specs.declared.words.Words.{Words}
@@ -55,4 +55,16 @@ took_hash table old new tags z tag t has_hash has_argument types needs words = r
   needs = needs;
   w32 = let same = ap (λ (w : Words). w.w32) words in omega (arith, same);
   w64 = let same = ap (λ (w : Words). w.w64) words in omega (arith, same);
+}
+
+pub took_block :
+    (table : Table) (old new : State) (t tag size : ℕ) (next : List Need) → block_needs (shape_at table t) tag size ≡ Some next → types_in new ≡ types_in old ++ t ∷ [] → needs_in new ≡ next ++ needs_in old
+    → new.words.w32 + (1 + size) ≡ old.words.w32 → new.words.w64 + (1 + size) ≡ old.words.w64 → Took table old new (of_type t) (block tag size)
+took_block table old new t tag size next asks types needs w32 w64 = record {
+  next = next;
+  asks = asks;
+  types = types;
+  needs = needs;
+  w32 = w32;
+  w64 = w64;
 }

@@ -1,3 +1,4 @@
 pub mod Again
+pub mod Hot
 pub mod Places
 pub mod State

@@ -67,7 +67,7 @@ fn back(
 }
 
 /// The token at this byte comes, if it has what is asked for: how many bytes it has, or 0.
-#[inline(always)]
+#[inline(never)]
 pub fn turn<'a>(
     table: &'a TypeTable,
     stated: u64,

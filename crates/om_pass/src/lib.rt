@@ -6,6 +6,7 @@ mod again;
 mod back;
 mod fits;
 mod flat;
+mod hot;
 mod piece;
 mod places;
 mod state;

@@ -53,7 +53,7 @@ fn split<'a>(open: Open<'a>) -> Option<(Asked<'a>, Open<'a>)>
 
 /// Whether none is open any more.
 #[inline(always)]
-fn is_done(open: Open<'_>) -> bool
+pub fn is_done(open: Open<'_>) -> bool
     ensures { OnTrue result (open_needs open.entry ≡ []) }
 {
     match open {
@@ -81,37 +81,6 @@ impl<'a> Places<'a> {
         }
     }
 
-    /// What the first open place asks for, which is then no longer open.
-    #[inline(always)]
-    pub fn next(&mut self) -> Option<Asked<'a>>
-        ensures { MatchOption result
-            (places_needs self.old ≡ []) (λ asked. places_needs self.old ≡ need_of asked
-            ∷ places_needs self.new) }
-    {
-        if let Some((asked, rest)) = split(self.now) {
-            self.now = rest;
-            return Some(asked);
-        }
-        self.next_waiting()
-    }
-
-    /// The same where the innermost block has none.
-    #[tactic(auto, using(crate::proofs::PlaceLemmas::waiting_needs_push))]
-    fn next_waiting(&mut self) -> Option<Asked<'a>>
-        requires { open_needs self.old.now ≡ [] }
-        ensures { MatchOption result
-            (places_needs self.old ≡ []) (λ asked. places_needs self.old ≡ need_of asked
-            ∷ places_needs self.new) }
-    {
-        while let Some(open) = self.waiting.pop() {
-            if let Some((asked, rest)) = split(open) {
-                self.now = rest;
-                return Some(asked);
-            }
-        }
-        None
-    }
-
     /// The open places of the innermost block wait, if it has any.
     #[tactic(auto, using(crate::proofs::PlaceLemmas::waiting_needs_push))]
     #[inline(always)]
@@ -135,4 +104,35 @@ impl<'a> Places<'a> {
         self.now = inside;
         Ok(())
     }
+}
+
+/// What the first open place asks for, and what is then open in its block.
+#[inline(always)]
+pub fn first_place<'a>(now: Open<'a>, waiting: &mut Vec<Open<'a>>) -> Option<(Asked<'a>, Open<'a>)>
+    ensures { MatchOption result
+        (open_needs now.entry ++ waiting_needs waiting.old.items ≡ [])
+        (λ first. open_needs now.entry ++ waiting_needs waiting.old.items
+        ≡ need_of first.0 ∷ (open_needs first.1 ++ waiting_needs waiting.new.items)) }
+{
+    if let Some(first) = split(now) {
+        return Some(first);
+    }
+    first_waiting(waiting)
+}
+
+/// The same where the innermost block has none.
+#[tactic(auto, using(crate::proofs::PlaceLemmas::waiting_needs_push))]
+#[inline(always)]
+fn first_waiting<'a>(waiting: &mut Vec<Open<'a>>) -> Option<(Asked<'a>, Open<'a>)>
+    ensures { MatchOption result
+        (waiting_needs waiting.old.items ≡ [])
+        (λ first. waiting_needs waiting.old.items
+        ≡ need_of first.0 ∷ (open_needs first.1 ++ waiting_needs waiting.new.items)) }
+{
+    'waiting: while let Some(block) = waiting.pop() {
+        if let Some(first) = split(block) {
+            return Some(first);
+        }
+    }
+    None
 }

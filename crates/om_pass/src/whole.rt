@@ -7,7 +7,8 @@ ghost use Rattle.om_pass_law.specs.OnePass.{IsTypedFront};
 ghost use Rattle.om_pass.specs.State.{Leads, IsSpent, BeginsAs};
 
 use crate::back::{mark, turn};
-use crate::places::Places;
+use crate::hot::hot;
+use crate::places::{Places, first_place};
 use crate::state::State;
 use crate::words::Words;
 use om_headers::{HeaderStep, parse};
@@ -65,19 +66,37 @@ fn run<'a>(
     let mut at = start;
     let mut marks = Vec::new(alloc);
     let mut left = bytes.len() as u64;
+    let mut now = state.places.now;
+    let mut words = state.words;
     // Each turn takes a byte, so this ends long before.
     'tokens: for _turn in 0..u64::MAX {
-        mark(&mut marks, at, state.types.len())?;
-        let Some(asked) = state.places.next() else {
+        let Some((asked, others)) = first_place(now, &mut state.places.waiting) else {
+            state.words = words;
             if is_spent(head, start, at, state) {
                 return Ok(Some(at));
             }
             return Ok(None);
         };
-        let objects = head.objects;
+        if let Some((n, next)) = hot(
+            table,
+            head.objects,
+            asked,
+            others,
+            &bytes[at..],
+            &mut state.types,
+            &mut state.places.waiting,
+            &mut words,
+        ) {
+            at += n;
+            now = next;
+            continue;
+        }
+        state.places.now = others;
+        state.words = words;
+        mark(&mut marks, at, state.types.len())?;
         let n = turn(
             table,
-            objects,
+            head.objects,
             state,
             asked,
             marks.as_slice(),
@@ -89,6 +108,8 @@ fn run<'a>(
             return Ok(None);
         }
         at += n;
+        now = state.places.now;
+        words = state.words;
     }
     Ok(None)
 }

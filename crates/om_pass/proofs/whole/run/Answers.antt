@@ -1,24 +1,38 @@
-use Rattle.std.proofs.Common.{rules, ◌≡◌, length, refl, subst, arith}
+use Rattle.std.proofs.Common.{rules, ◌≡◌, ◌∙◌, length, refl, ap, subst, arith}
 use Rattle.om_type_table.specs.Made.{table_of}
 use Rattle.om_pass.specs.Places.{need_of}
-use Rattle.om_pass.specs.State.{types_in, IsMarked, TookTurn}
+use Rattle.om_pass.specs.Hot.{held}
+use Rattle.om_pass.specs.State.{types_in, IsMarked, TookFront, TookTurn}
 use Rattle.om_pass.specs.declared.state.State.{State}
-use Rattle.om_pass.proofs.RunLemmas.{leads_from, leads_marked, leads_turn, leads_end}
+use Rattle.om_pass.proofs.PieceLemmas.{rest_from}
+use Rattle.om_pass.proofs.RunLemmas.{leads_from, leads_marked, leads_further, leads_turn, leads_end}
 use Rattle.om_pass.proofs.whole.run.Goals as goal
 
 pub is_spent-requires : goal.is_spent-requires
-is_spent-requires c = leads_from (table_of c.args.table.now) c.args.limit c.args.bytes.now c.args.head.now c.args.start c.tokens.at c.tokens.marks.items c.tokens.state c.tokens.invariant
+is_spent-requires c = leads_from (table_of c.args.table.now) c.args.limit c.args.bytes.now c.args.head.now c.args.start c.tokens.at c.tokens.marks.items (held c.tokens.now c.tokens.state.places.waiting c.tokens.state.types c.tokens.words) c.tokens.invariant
 
 pub returns-then-is_spent : goal.returns-then-is_spent
 returns-then-is_spent c =
-    leads_end (table_of c.args.table.now) c.args.limit c.args.bytes.now c.args.head.now c.args.start c.tokens.at c.tokens.marks.items c.tokens.state _ c.requires.lawful.lawful c.tokens.invariant c.in_default.ensures refl refl c.if-is_spent.ensures
+    leads_end (table_of c.args.table.now) c.args.limit c.args.bytes.now c.args.head.now c.args.start c.tokens.at c.tokens.marks.items (held c.tokens.now c.tokens.state.places.waiting c.tokens.state.types c.tokens.words) _ c.requires.lawful.lawful c.tokens.invariant c.in_default.ensures refl refl c.if-is_spent.ensures
+
+pub tokens-preserved-in-Some-hot : goal.tokens-preserved-in-Some-hot
+tokens-preserved-in-Some-hot c =
+    let first : State = held c.tokens.now c.tokens.state.places.waiting c.tokens.state.types c.tokens.words in
+    let middle : State = held c.in-Some.others c.first_place.new.waiting c.tokens.state.types c.tokens.words in
+    let last : State = held c.in-Some-hot.next c.hot.new.waiting c.hot.new.types c.hot.new.words in
+    let front = subst (λ rest. TookFront (table_of c.args.table.now) c.args.head.now.objects middle last (need_of c.in-Some.asked) rest c.in-Some-hot.n) (rest_from c.tokens.at c.args.bytes.now) c.in-Some-hot.ensures in
+    leads_further (table_of c.args.table.now) c.args.limit c.args.bytes.now c.args.head.now c.args.start c.tokens.at c.in-Some-hot.n c.tokens.marks.items first middle last (need_of c.in-Some.asked) c.tokens.invariant refl c.in-Some.ensures refl front
 
 pub tokens-preserved : goal.tokens-preserved
 tokens-preserved c =
-    let many : c.len.result ≡ length (types_in c.tokens.state) = search rules in
+    let first : State = held c.tokens.now c.tokens.state.places.waiting c.tokens.state.types c.tokens.words in
+    let middle : State = held c.in-Some.others c.first_place.new.waiting c.tokens.state.types c.tokens.words in
+    let given : State = held c.in-Some.others c.hot.new.waiting c.hot.new.types c.hot.new.words in
+    let kept : given ≡ middle = c.in_default-hot.ensures in
+    let own : c.len.result ≡ length c.hot.new.types.items = search rules in
+    let many : c.len.result ≡ length (types_in c.tokens.state) = own ∙ ap (λ (s : State). length (types_in s)) kept in
     let marked = subst (λ n. IsMarked c.tokens.marks.items c.tokens.at n c.mark.new.marks.items) many c.in_ok-mark.ensures in
-    let middle : State = record { places = c.next.new.self; types = c.tokens.state.types; words = c.tokens.state.words } in
-    let took = subst (λ marks. TookTurn (table_of c.args.table.now) c.args.head.now.objects middle c.turn.new.state (need_of c.in-Some.asked) c.args.bytes.now marks c.tokens.at c.in_ok-n.n) c.as_slice.ensures.value (c.in_ok-n.ensures (omega (arith, c.if-n-eq0.false))) in
-    leads_turn (table_of c.args.table.now) c.args.limit c.args.bytes.now c.args.head.now c.args.start c.tokens.at c.in_ok-n.n c.mark.new.marks.items c.tokens.state middle c.turn.new.state (need_of c.in-Some.asked)
-    (leads_marked (table_of c.args.table.now) c.args.limit c.args.bytes.now c.args.head.now c.args.start c.tokens.at c.tokens.marks.items c.mark.new.marks.items c.tokens.state marked c.tokens.invariant)
-    refl c.in-Some.ensures refl took
+    let took = subst (λ marks. TookTurn (table_of c.args.table.now) c.args.head.now.objects given c.turn.new.state (need_of c.in-Some.asked) c.args.bytes.now marks c.tokens.at c.in_ok-n.n) c.as_slice.ensures.value (c.in_ok-n.ensures (omega (arith, c.if-n-eq0.false))) in
+    leads_turn (table_of c.args.table.now) c.args.limit c.args.bytes.now c.args.head.now c.args.start c.tokens.at c.in_ok-n.n c.mark.new.marks.items first middle c.turn.new.state (need_of c.in-Some.asked)
+    (leads_marked (table_of c.args.table.now) c.args.limit c.args.bytes.now c.args.head.now c.args.start c.tokens.at c.tokens.marks.items c.mark.new.marks.items first marked c.tokens.invariant)
+    refl c.in-Some.ensures refl (subst (λ (s : State). TookTurn (table_of c.args.table.now) c.args.head.now.objects s c.turn.new.state (need_of c.in-Some.asked) c.args.bytes.now c.mark.new.marks.items c.tokens.at c.in_ok-n.n) kept took)

@@ -1,7 +1,10 @@
 use Rattle.om_type_table.specs.Made.{table_of}
+use Rattle.om_pass.specs.Hot.{held}
 use Rattle.om_pass.specs.State.{Leads}
 use Rattle.om_pass.proofs.whole.run.Given as goal
 
--- the bytes up to here lead to the state
+-- the bytes up to here lead to what is held
 abbrev pub invariant-tokens : goal.invariant-tokens
-invariant-tokens l = Leads (table_of l.table) l.limit l.bytes l.head l.start l.at l.marks.items l.state
+invariant-tokens l =
+    Leads (table_of l.table) l.limit l.bytes l.head l.start l.at l.marks.items
+    (held l.now l.state.places.waiting l.state.types l.words)

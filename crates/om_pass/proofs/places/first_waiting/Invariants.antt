@@ -1,0 +1,10 @@
+use Rattle.std.proofs.Common.{◌≡◌, vec_len}
+use Rattle.om_pass.specs.Places.{waiting_needs}
+use Rattle.om_pass.proofs.places.first_waiting.Given as goal
+
+-- what waits is all that is open
+abbrev pub invariant-waiting : goal.invariant-waiting
+invariant-waiting l = waiting_needs l.waiting.items ≡ waiting_needs l.initial.waiting.items
+
+abbrev pub decreases-waiting : goal.decreases-waiting
+decreases-waiting l = vec_len l.waiting

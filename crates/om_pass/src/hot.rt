@@ -1,0 +1,421 @@
+//! The common tokens, taken while a pass holds its places and words in hand; no memory is asked
+//! for.
+
+ghost use Rattle.std.specs.Prelude.{◌≡◌, ◌<◌, ◌+◌, ◌++◌, [], ◌^◌, ℕ, List, length, Ok, MatchOption};
+ghost use Rattle.std.specs.Prelude.{IsTrue, slice_index, vec_len, vec_capacity};
+ghost use Rattle.std.specs.Bool.{OnTrue};
+ghost use Rattle.om_model.specs.declared.value.Obj.TheVariants as objects;
+ghost use Rattle.om_types.specs.Fitting as fitting;
+ghost use Rattle.om_format.specs.Code.{IsKind, kind_of};
+ghost use Rattle.om_format.specs.Raw.{fixed_bytes, variable_bytes};
+ghost use Rattle.om_format.specs.Token.{block, leaf};
+ghost use Rattle.om_headers.specs.Counting.{IsCountable};
+ghost use Rattle.om_type_table.specs.Made.{table_of};
+ghost use Rattle.om_pass_law.specs.Asked.{of_type, shape_at, IsBack};
+ghost use Rattle.om_pass.specs.State.{Took, TookPiece, TookFront};
+ghost use Rattle.std.specs.Global.{Vec};
+ghost use Rattle.om_pass.specs.declared.places.Open.{Open};
+ghost use Rattle.om_pass.specs.Hot.{held, IsLeafAdded};
+ghost use Rattle.om_pass.specs.Places.{open_needs, need_of, waiting_needs};
+
+use crate::fits::{block_places, fits_int, is_equal, shape_of, type_at};
+use crate::piece::piece_len;
+use crate::places::{Asked, Open, is_done};
+use crate::words::{Words, offset_of, signed_few};
+use om_model::code::{CodeKind, Measure};
+use om_type_table::TypeTable;
+use om_types::shape::ShapeOf;
+
+/// Whether there is room for the type of one more object, and none is to be marked.
+#[inline(always)]
+fn has_room(types: &Vec<u16>, ty: usize) -> bool
+    ensures { OnTrue result ((ty < 2 ^ 16) × (vec_len types.now < vec_capacity types.now)) }
+{
+    ty < 1 << 16 && types.len() < types.capacity() && types.len() % 64 != 0
+}
+
+/// The open places wait, if there are any; or there is no room for them.
+#[tactic(auto, using(crate::proofs::PlaceLemmas::waiting_needs_push))]
+#[inline(always)]
+fn keep_reserved<'a>(waiting: &mut Vec<Open<'a>>, others: Open<'a>) -> bool
+    ensures added { IsTrue result
+        → waiting_needs waiting.new.items
+        ≡ open_needs others.entry ++ waiting_needs waiting.old.items }
+    ensures kept { (IsTrue result → ⊥) → waiting.new ≡ waiting.old }
+{
+    if is_done(others) {
+        return true;
+    }
+    if waiting.len() >= waiting.capacity() {
+        return false;
+    }
+    waiting.push_reserved(others);
+    true
+}
+
+/// A block comes, and then its fields: these come before the others.
+#[inline(always)]
+fn hot_block<'a>(
+    table: &'a TypeTable,
+    ty: usize,
+    others: Open<'a>,
+    tag: u8,
+    size: u64,
+    types: &mut Vec<u16>,
+    waiting: &mut Vec<Open<'a>>,
+    words: &mut Words,
+) -> Option<Open<'a>>
+    requires { size < 2 ^ 60 }
+    ensures { MatchOption result
+        (held others.entry waiting.new types.new words.new
+        ≡ held others.entry waiting.old types.old words.old)
+        (λ now. Took (table_of table.now) (held others.entry waiting.old types.old words.old)
+        (held now waiting.new types.new words.new) (of_type ty) (block tag size)) }
+{
+    let Some(shape) = shape_of(table, ty) else {
+        return None;
+    };
+    let Some(inside) = block_places(shape, tag, size) else {
+        return None;
+    };
+    if words.w32 <= size || words.w64 <= size || !has_room(types, ty) {
+        return None;
+    }
+    if !keep_reserved(waiting, others) {
+        return None;
+    }
+    types.push_reserved(ty as u16);
+    words.w32 -= 1 + size;
+    words.w64 -= 1 + size;
+    Some(inside)
+}
+
+/// Whether an integer has the type.
+#[inline(always)]
+fn is_hot_int(table: &TypeTable, ty: usize, z: i64) -> bool
+    ensures { OnTrue result (IsTrue (fitting.fits_int (shape_at (table_of table.now) ty) z)) }
+{
+    match shape_of(table, ty) {
+        Some(ShapeOf::AnyInt) => true,
+        Some(shape) => fits_int(shape, z),
+        None => false,
+    }
+}
+
+/// An object without fields comes, if there is room for it.
+#[inline(always)]
+fn hot_leaf(ty: usize, measure: Measure, types: &mut Vec<u16>, words: &mut Words) -> bool
+    requires { IsCountable measure }
+    ensures added { IsTrue result → IsLeafAdded ty measure types.old types.new words.old words.new }
+    ensures kept { (IsTrue result → ⊥) → (types.new ≡ types.old) × (words.new ≡ words.old) }
+{
+    if !has_room(types, ty) {
+        return false;
+    }
+    let Some(left) = words.after(measure) else {
+        return false;
+    };
+    *words = left;
+    types.push_reserved(ty as u16);
+    true
+}
+
+/// A string of so many bytes comes.
+#[inline(always)]
+fn hot_bytes(
+    table: &TypeTable,
+    ty: usize,
+    size: u64,
+    types: &mut Vec<u16>,
+    words: &mut Words,
+) -> bool
+    requires { size < 2 ^ 60 }
+    ensures took { IsTrue result
+        → (now : Open) (waiting : Vec Open) (all : List ℕ) → length all ≡ size
+        → Took (table_of table.now) (held now waiting types.old words.old)
+        (held now waiting types.new words.new) (of_type ty) (leaf (objects.Bytes all)) }
+    ensures kept { (IsTrue result → ⊥) → (types.new ≡ types.old) × (words.new ≡ words.old) }
+{
+    match shape_of(table, ty) {
+        Some(ShapeOf::Bytes(_)) => hot_leaf(ty, Measure::Bytes(size), types, words),
+        _ => false,
+    }
+}
+
+/// A double comes.
+#[inline(always)]
+fn hot_double(table: &TypeTable, ty: usize, types: &mut Vec<u16>, words: &mut Words) -> bool
+    ensures took { IsTrue result
+        → (now : Open) (waiting : Vec Open) (bits : ℕ)
+        → Took (table_of table.now) (held now waiting types.old words.old)
+        (held now waiting types.new words.new) (of_type ty) (leaf (objects.Double bits)) }
+    ensures kept { (IsTrue result → ⊥) → (types.new ≡ types.old) × (words.new ≡ words.old) }
+{
+    match shape_of(table, ty) {
+        Some(ShapeOf::Double) => hot_leaf(ty, Measure::Double, types, words),
+        _ => false,
+    }
+}
+
+/// Whether so many places back an object stands that has an equal type.
+#[inline(always)]
+fn is_hot_back(table: &TypeTable, types: &[u16], ty: usize, offset: u64) -> bool
+    ensures { OnTrue result (IsBack [] (table_of table.now) types.now ty offset) }
+{
+    let made = types.len() as u64;
+    if offset == 0 || made < offset {
+        return false;
+    }
+    is_equal(table, type_at(types, (made - offset) as usize), ty)
+}
+
+/// The token comes of this kind, after whose code stands the piece: what is then open in the
+/// innermost block, if it was taken.
+#[inline(always)]
+fn hot_piece<'a>(
+    table: &'a TypeTable,
+    stated: u64,
+    ty: usize,
+    others: Open<'a>,
+    kind: CodeKind,
+    piece: &[u8],
+    types: &mut Vec<u16>,
+    waiting: &mut Vec<Open<'a>>,
+    words: &mut Words,
+) -> Option<Open<'a>>
+    requires known { IsKind kind }
+    requires whole { length piece.now ≡ fixed_bytes kind + variable_bytes kind piece.now }
+    ensures { MatchOption result
+        (held others.entry waiting.new types.new words.new
+        ≡ held others.entry waiting.old types.old words.old)
+        (λ now. TookPiece (table_of table.now) stated
+        (held others.entry waiting.old types.old words.old)
+        (held now waiting.new types.new words.new) (of_type ty) kind piece.now) }
+{
+    match kind {
+        CodeKind::SmallBlock(tag, size) => {
+            if size == 0 {
+                return None;
+            }
+            hot_block(
+                table,
+                ty,
+                others,
+                tag,
+                u64::from(size),
+                types,
+                waiting,
+                words,
+            )
+        }
+        CodeKind::SmallInt(value) => {
+            if is_hot_int(table, ty, i64::from(value)) {
+                Some(others)
+            } else {
+                None
+            }
+        }
+        CodeKind::SmallString(len) => {
+            if hot_bytes(table, ty, u64::from(len), types, words) {
+                Some(others)
+            } else {
+                None
+            }
+        }
+        CodeKind::Int(_) => {
+            let z = signed_few(piece);
+            if z >= -(1 << 62) && z < 1 << 62 && is_hot_int(table, ty, z) {
+                Some(others)
+            } else {
+                None
+            }
+        }
+        CodeKind::Shared(_) => {
+            let offset = offset_of(piece);
+            if stated > 0 && is_hot_back(table, types.as_slice(), ty, offset) {
+                Some(others)
+            } else {
+                None
+            }
+        }
+        CodeKind::Double(_) => {
+            if hot_double(table, ty, types, words) {
+                Some(others)
+            } else {
+                None
+            }
+        }
+        CodeKind::Str(width) => {
+            let len = (piece.len() - usize::from(width)) as u64;
+            if len < 1 << 60 && hot_bytes(table, ty, len, types, words) {
+                Some(others)
+            } else {
+                None
+            }
+        }
+        _ => None,
+    }
+}
+
+/// The token of this kind comes that begins the bytes: how many bytes it has, and what is then
+/// open in the innermost block, if it was taken.
+#[inline(always)]
+fn hot_kind<'a>(
+    table: &'a TypeTable,
+    stated: u64,
+    ty: usize,
+    others: Open<'a>,
+    kind: CodeKind,
+    rest: &[u8],
+    types: &mut Vec<u16>,
+    waiting: &mut Vec<Open<'a>>,
+    words: &mut Words,
+) -> Option<(usize, Open<'a>)>
+    requires some { 0 < length rest.now }
+    requires kind { kind_of (slice_index rest.now 0) ≡ Ok kind }
+    requires known { IsKind kind }
+    ensures { MatchOption result
+        (held others.entry waiting.new types.new words.new
+        ≡ held others.entry waiting.old types.old words.old)
+        (λ took. TookFront (table_of table.now) stated
+        (held others.entry waiting.old types.old words.old)
+        (held took.1 waiting.new types.new words.new) (of_type ty) rest.now took.0) }
+{
+    let after = &rest[1..];
+    let Some(len) = piece_len(kind, after) else {
+        return None;
+    };
+    match hot_piece(
+        table,
+        stated,
+        ty,
+        others,
+        kind,
+        &after[..len],
+        types,
+        waiting,
+        words,
+    ) {
+        Some(now) => Some((1 + len, now)),
+        None => None,
+    }
+}
+
+/// The same of the codes below 0x20.
+#[tactic(auto, unfolding(om_format::specs::Code::kind_of))]
+#[inline(always)]
+fn hot_large<'a>(
+    table: &'a TypeTable,
+    stated: u64,
+    ty: usize,
+    others: Open<'a>,
+    code: u8,
+    rest: &[u8],
+    types: &mut Vec<u16>,
+    waiting: &mut Vec<Open<'a>>,
+    words: &mut Words,
+) -> Option<(usize, Open<'a>)>
+    requires some { 0 < length rest.now }
+    requires code { slice_index rest.now 0 ≡ code }
+    ensures { MatchOption result
+        (held others.entry waiting.new types.new words.new
+        ≡ held others.entry waiting.old types.old words.old)
+        (λ took. TookFront (table_of table.now) stated
+        (held others.entry waiting.old types.old words.old)
+        (held took.1 waiting.new types.new words.new) (of_type ty) rest.now took.0) }
+{
+    match code {
+        0x00 => {
+            let kind = CodeKind::Int(1);
+            hot_kind(table, stated, ty, others, kind, rest, types, waiting, words)
+        }
+        0x01 => {
+            let kind = CodeKind::Int(2);
+            hot_kind(table, stated, ty, others, kind, rest, types, waiting, words)
+        }
+        0x02 => {
+            let kind = CodeKind::Int(4);
+            hot_kind(table, stated, ty, others, kind, rest, types, waiting, words)
+        }
+        0x04 => {
+            let kind = CodeKind::Shared(1);
+            hot_kind(table, stated, ty, others, kind, rest, types, waiting, words)
+        }
+        0x09 => {
+            let kind = CodeKind::Str(1);
+            hot_kind(table, stated, ty, others, kind, rest, types, waiting, words)
+        }
+        0x0c => {
+            let kind = CodeKind::Double(true);
+            hot_kind(table, stated, ty, others, kind, rest, types, waiting, words)
+        }
+        _ => None,
+    }
+}
+
+/// The first token of the bytes comes, if it is a common one and has the type.
+#[tactic(auto, unfolding(om_format::specs::Code::kind_of))]
+#[inline(always)]
+fn hot_typed<'a>(
+    table: &'a TypeTable,
+    stated: u64,
+    ty: usize,
+    others: Open<'a>,
+    rest: &[u8],
+    types: &mut Vec<u16>,
+    waiting: &mut Vec<Open<'a>>,
+    words: &mut Words,
+) -> Option<(usize, Open<'a>)>
+    ensures { MatchOption result
+        (held others.entry waiting.new types.new words.new
+        ≡ held others.entry waiting.old types.old words.old)
+        (λ took. TookFront (table_of table.now) stated
+        (held others.entry waiting.old types.old words.old)
+        (held took.1 waiting.new types.new words.new) (of_type ty) rest.now took.0) }
+{
+    if rest.is_empty() {
+        return None;
+    }
+    let code = rest[0];
+    // Each of these codes gets code of its own.
+    match code {
+        0x80.. => {
+            let kind = CodeKind::SmallBlock(code % 16, code / 16 % 8);
+            hot_kind(table, stated, ty, others, kind, rest, types, waiting, words)
+        }
+        0x40.. => {
+            let kind = CodeKind::SmallInt(code % 64);
+            hot_kind(table, stated, ty, others, kind, rest, types, waiting, words)
+        }
+        0x20.. => {
+            let kind = CodeKind::SmallString(code % 32);
+            hot_kind(table, stated, ty, others, kind, rest, types, waiting, words)
+        }
+        _ => hot_large(table, stated, ty, others, code, rest, types, waiting, words),
+    }
+}
+
+/// The first token of the bytes comes, if it is a common one and has what is asked for.
+#[inline(always)]
+pub fn hot<'a>(
+    table: &'a TypeTable,
+    stated: u64,
+    asked: Asked<'a>,
+    others: Open<'a>,
+    rest: &[u8],
+    types: &mut Vec<u16>,
+    waiting: &mut Vec<Open<'a>>,
+    words: &mut Words,
+) -> Option<(usize, Open<'a>)>
+    ensures { MatchOption result
+        (held others.entry waiting.new types.new words.new
+        ≡ held others.entry waiting.old types.old words.old)
+        (λ took. TookFront (table_of table.now) stated
+        (held others.entry waiting.old types.old words.old)
+        (held took.1 waiting.new types.new words.new) (need_of asked.entry) rest.now took.0) }
+{
+    let Asked::Type(ty) = asked else {
+        return None;
+    };
+    hot_typed(table, stated, ty, others, rest, types, waiting, words)
+}
