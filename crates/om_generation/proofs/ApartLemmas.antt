@@ -1,6 +1,6 @@
 -- The command is idle at each other request, and the commands on values are at its own.
 use Rattle.std.proofs.Common.{◌≡◌, ◌∙◌, ℕ, List, Some, None, Result, inl, inr, refl, sym}
-use Rattle.om_outcome.specs.Outcome.{Request, check, show, get, edit, dump, compare, own, OwnRequest, build, generate, Stop, Language, Task}
+use Rattle.om_outcome.specs.Outcome.{Request, tell, get, edit, dump, compare, own, OwnRequest, build, generate, Stop, Language, Task}
 use Rattle.om_promises.specs.Commands.{Fetches}
 use Rattle.om_choice.specs.Choice.{IsIdleAt, AreApart}
 use Rattle.om_commands.specs.Tasks.{Wants, Finds, commands}
@@ -33,8 +33,7 @@ module _ {D T E : Type 0} (language : Language D T E) where
     unfound files result (work, h, told) = h
 
   pub apart : AreApart (commands language) (generation language)
-  apart (check f t most) = inr (generation_idle (check f t most) refl)
-  apart (show f t most) = inr (generation_idle (show f t most) refl)
+  apart (tell saying f t most) = inr (generation_idle (tell saying f t most) refl)
   apart (get f t path most) = inr (generation_idle (get f t path most) refl)
   apart (edit f t script compat most) = inr (generation_idle (edit f t script compat most) refl)
   apart (dump most) = inr (generation_idle (dump most) refl)
@@ -48,8 +47,8 @@ module _ {D T E : Type 0} (language : Language D T E) where
   apart_from_texts other TextOf (own (build f t)) = inr (generation_idle (own (build f t)) refl)
   apart_from_texts other TextOf (own (generate n count t)) =
       inl (texts_idle other TextOf (own (generate n count t)) refl)
-  apart_from_texts other TextOf (check f t most) = inr (generation_idle (check f t most) refl)
-  apart_from_texts other TextOf (show f t most) = inr (generation_idle (show f t most) refl)
+  apart_from_texts other TextOf (tell saying f t most) =
+      inr (generation_idle (tell saying f t most) refl)
   apart_from_texts other TextOf (get f t path most) =
       inr (generation_idle (get f t path most) refl)
   apart_from_texts other TextOf (edit f t script compat most) =
