@@ -74,15 +74,16 @@ module _ (words : List (List ℕ)) (files : FilesState) where
         → Reports s err status → Ended
     stop_account s may r = by r.which may where
       by : (r.said ≡ s) ⊎ (r.said ≡ out_of_memory)
-          → (Prepares (generation declared_types) words unfetched_files (Err s) ⊎ (s ≡ out_of_memory))
-          → Ended
+          → (Prepares (generation declared_types) words unfetched_files (Err s)
+          ⊎ (s ≡ out_of_memory)) → Ended
       by (inl same) (inl prepared) =
           account_of s (inl (Err s, prepared, refl)) (subst Line same r.line)
       by (inl same) (inr memory) =
           account_of out_of_memory (inr refl) (subst Line (same ∙ memory) r.line)
       by (inr same) may = account_of out_of_memory (inr refl) (subst Line same r.line)
 
-  module _ (number count : ℕ) (type : List ℕ) (asks : Asks words (own (generate number count type))) where
+  module _ (number count : ℕ) (type : List ℕ)
+      (asks : Asks words (own (generate number count type))) where
     -- TYPE is refused
     pub type_account :
         (stop : codes.Stop) → GivesItemType type (Err stop)

@@ -35,7 +35,8 @@ module _ (types : DeclaredTypesAreKept) (lines : DeclaredLinesAreKept) (t : Type
   pub graph_line :
       (g : List Obj) (v : Val) → IsHeap g → IsValue (length g) v
       → (verdict : List ℕ) (well : Bool) → IsTypeLine the_verdict t g v verdict well
-      → (shown text : List ℕ) → ((tree : Tree) → IsTreeOf g v tree → shown ≡ generated_text tree verdict)
+      → (shown text : List ℕ)
+      → ((tree : Tree) → IsTreeOf g v tree → shown ≡ generated_text tree verdict)
       → text ≡ shown ++ 10 ∷ []
       → IsGraphLine t g v (record { text = text; well = well })
   graph_line g v heap value verdict well is shown text each put =
@@ -44,7 +45,8 @@ module _ (types : DeclaredTypesAreKept) (lines : DeclaredLinesAreKept) (t : Type
         tree = one.tree;
         is_tree = one.is;
         verdict = verdict;
-        is_verdict = verdict_kept g (objects_of one.tree 0) v (root one.tree 0) verdict well one.is.same is;
+        is_verdict =
+            verdict_kept g (objects_of one.tree 0) v (root one.tree 0) verdict well one.is.same is;
         text_is = put ∙ ap (λ (s : List ℕ). line s) (each one.tree one.is);
       }
 

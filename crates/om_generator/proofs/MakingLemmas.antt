@@ -44,9 +44,11 @@ module _ (number count : ℕ) (r : Requested) where
       → EndsAt (generation declared_types) act (HasNothing number count r) out result
   ends_none out result last bytes said has =
       subst (λ b. (holds : HoldNoStop (generation declared_types) act b said)
-      × PutsLast (generation declared_types) act said holds.items holds.rest out result) (sym has.none)
+      × PutsLast (generation declared_types) act said holds.items holds.rest out result)
+      (sym has.none)
       (subst (λ s. (holds : HoldNoStop (generation declared_types) act [] s)
-      × PutsLast (generation declared_types) act s holds.items holds.rest out result) (sym has.silent)
+      × PutsLast (generation declared_types) act s holds.items holds.rest out result)
+      (sym has.silent)
       (holds_none, last))
 
   pub ends_line :
@@ -59,7 +61,8 @@ module _ (number count : ℕ) (r : Requested) where
   pub ends_part :
       (said : Said) → IsMadeLine declared_types act said
       → (out : Change ByteState) → PutsPart out said.text
-      → EndsAt (generation declared_types) act (HasNothing number count r) out (Err halts.WriteFault)
+      → EndsAt (generation declared_types) act (HasNothing number count r) out
+      (Err halts.WriteFault)
   ends_part said is out part = ends_none out (Err halts.WriteFault) (said, (refl, refl, is), part)
 
   pub ends_memory :

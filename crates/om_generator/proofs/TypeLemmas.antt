@@ -29,6 +29,7 @@ module _ (file type text : List ℕ) (are : text ≡ item_declarations) where
   pub item_type_given :
       (result : Result Requested codes.Stop) → GivesType file type (opened (whole text)) result
       → GivesItemType type result
-  item_type_given (Ok r) (reads, ready) = (as_items (Ok (record { decls = r.decls; type = r.ty })) reads, ready)
+  item_type_given (Ok r) (reads, ready) =
+      (as_items (Ok (record { decls = r.decls; type = r.ty })) reads, ready)
   item_type_given (Err stop) (inl reads) = inl (as_items (Err (stop_of stop)) reads)
   item_type_given (Err stop) (inr memory) = inr memory

@@ -71,7 +71,8 @@ pub fn run_generation<S: Source, K: Sink, E: Sink>(
     out: &mut K,
     err: &mut E,
 ) -> Status
-    ensures account { (words : List (List ℕ)) → Asks words (own (generate number count type_text.now))
+    ensures account { (words : List (List ℕ))
+        → Asks words (own (generate number count type_text.now))
         → (files : FilesState) → Account (generation declared_types) words
         (call (change (S.state input.old) (S.state input.new)) (change files files)
         (change (K.state out.old) (K.state out.new))
