@@ -1,19 +1,12 @@
 -- Each of two sets of commands does the same as both, for words that ask for nothing of the other.
-use Rattle.std.proofs.Common.{◌⊎◌, ℕ, List, Result, Ok, Err, inl, inr, subst}
+use Rattle.std.proofs.Common.{◌⊎◌, ℕ, List, Result, Ok, Err, inl, inr}
 use Rattle.om_outcome.specs.Outcome.{Request, Asks, Stop}
 use Rattle.om_promises.specs.Call.{Call}
 use Rattle.om_promises.specs.Commands.{Fetches, Commands}
 use Rattle.om_promises.specs.Account.{Account}
 use Rattle.om_promises.specs.Promises.{Promises}
-use Rattle.om_command_line.proofs.RequestLemmas.{one_request}
 use Rattle.om_choice.specs.Choice.{Wants, Finds, choice, IsIdleAt, AreApart, AskNothingOf}
 use Rattle.om_choice.proofs.AlikeLemmas.{IsAlike, AreAlike, alike_back, account_too, promises_too}
-
--- words ask for one request at most
-pub one_is_asked : {A : Type 0} (c : Commands A) (words : List (List ℕ)) (request : Request)
-    → Asks words request → IsIdleAt c request → AskNothingOf c words
-one_is_asked c words request asks idle other asks' =
-    subst (IsIdleAt c) (one_request words request other asks asks') idle
 
 module _ {A B : Type 0} (c : Commands A) (d : Commands B) where
   pub idle_together : (request : Request) → IsIdleAt c request → IsIdleAt d request

@@ -64,11 +64,6 @@ AreApart c d = (request : Request) → IsIdleAt c request ⊎ IsIdleAt d request
 abbrev pub AskNothingOf : {A : Type 0} → Commands A → List (List ℕ) → Type 0
 AskNothingOf c words = (request : Request) → Asks words request → IsIdleAt c request
 
--- words ask for one request at most: where nothing is wanted or found for it, that is all
-abbrev pub AskForOne : {A : Type 0} → Commands A → Type 0
-AskForOne c = (words : List (List ℕ)) (request : Request) → Asks words request
-    → IsIdleAt c request → AskNothingOf c words
-
 module _ {A B : Type 0} (c : Commands A) (d : Commands B) where
   -- what is wanted and found by neither is wanted and found by no choice
   abbrev pub AreIdleTogether : Type 0

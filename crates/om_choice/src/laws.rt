@@ -2,7 +2,7 @@
 
 ghost use Rattle.std.specs.Prelude.{◌⊎◌};
 ghost use Rattle.om_promises.specs.Lawful.{AreLawful, AreInTurns};
-ghost use Rattle.om_choice.specs.Choice.{choice, AreApart, AskForOne, AreIdleTogether, HaveAccountsOfFirst, PromiseAsFirst, HaveAccountsOfSecond, PromiseAsSecond};
+ghost use Rattle.om_choice.specs.Choice.{choice, AreApart, AreIdleTogether, HaveAccountsOfFirst, PromiseAsFirst, HaveAccountsOfSecond, PromiseAsSecond};
 
 use om_promises::laws::Act;
 use std::marker::PhantomData;
@@ -42,11 +42,6 @@ pub fn choices_are_apart<A: Act, B: Act, C: Act>()
 /// Both as one are idle where each is.
 pub fn choices_are_idle<A: Act, B: Act>()
     ensures { AreIdleTogether A.commands B.commands }
-{}
-
-/// Words that ask for a request at which commands are idle ask for nothing of them.
-pub fn words_ask_for_one<A: Act>()
-    ensures { AskForOne A.commands }
 {}
 
 /// Where the words ask for nothing of the second, an account by the first is one by both, and what

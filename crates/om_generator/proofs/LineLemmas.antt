@@ -24,8 +24,7 @@ module _ (types : DeclaredTypesAreKept) (lines : DeclaredLinesAreKept) (t : Type
       → IsTypeLine the_verdict t g v text well → IsTypeLine the_verdict t h w text well
   verdict_kept g h v w text well same (inl told) = inl (record {
     has = types t.decls g h v w t.type same told.has;
-    spelled = told.spelled;
-    is_well = told.is_well;
+    told = told.told;
   })
   verdict_kept g h v w text well same (inr no_line) = inr (record {
     why = lines t.decls type_text g h v w t.type text same no_line.why;

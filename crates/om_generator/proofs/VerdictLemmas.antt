@@ -7,7 +7,7 @@ use Rattle.om_types.specs.Equal.{declared_shapes}
 use Rattle.om_types.specs.TypeText.{type_text}
 use Rattle.om_types.specs.Typing.{HasType}
 use Rattle.om_types.specs.VerdictText.{IsNoLine}
-use Rattle.om_outcome.specs.Outcome.{the_verdict}
+use Rattle.om_outcome.specs.Outcome.{Said, the_verdict}
 use Rattle.om_declared.specs.Language.{TypeOver, IsTypeLine}
 use Rattle.om_declared.specs.Verdict.{PutsNo}
 
@@ -15,7 +15,10 @@ module _ (t : TypeOver) (graph : List Obj) (v : Val) where
   pub puts_yes :
       HasType (declared_shapes t.decls) graph v t.type → (new : List ℕ) → new ≡ codes "yes"
       → IsTypeLine the_verdict t graph v new true
-  puts_yes has new put = inl (record { has = has; spelled = put; is_well = refl })
+  puts_yes has new put = inl (record {
+    has = has;
+    told = ap (λ (text : List ℕ). let s : Said = record { text = text; well = true } in s) put;
+  })
 
   pub puts_no :
       (old new : List ℕ) → old ≡ [] → PutsNo t graph v old new
