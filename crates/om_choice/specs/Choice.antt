@@ -1,8 +1,11 @@
 -- Two sets of commands as one: a request is for one of them.
 use Rattle.std.specs.Prelude.{ℕ, ◌⊎◌, List, Result, Ok, Err}
 use Rattle.std.proofs.Common.{inl, inr}
-use Rattle.om_outcome.specs.Outcome.{Request, Stop, Said, Reply}
+use Rattle.om_outcome.specs.Outcome.{Request, Asks, Stop, Said, Reply}
+use Rattle.om_promises.specs.Account.{Account}
+use Rattle.om_promises.specs.Call.{Call}
 use Rattle.om_promises.specs.Commands.{Item, Fetches, Commands}
+use Rattle.om_promises.specs.Promises.{Promises}
 
 module _ {A B : Type 0} (c : Commands A) (d : Commands B) where
   abbrev pub Wants : Request → Fetches → ℕ → List ℕ → Type 0
@@ -56,3 +59,32 @@ pub record IsIdleAt {A : Type 0} (c : Commands A) (request : Request) : Type 0 w
 -- no request is for both
 abbrev pub AreApart : {A B : Type 0} → Commands A → Commands B → Type 0
 AreApart c d = (request : Request) → IsIdleAt c request ⊎ IsIdleAt d request
+
+-- the words ask for nothing of these commands
+abbrev pub AskNothingOf : {A : Type 0} → Commands A → List (List ℕ) → Type 0
+AskNothingOf c words = (request : Request) → Asks words request → IsIdleAt c request
+
+module _ {A B : Type 0} (c : Commands A) (d : Commands B) where
+  -- what is wanted and found by neither is wanted and found by no choice
+  abbrev pub AreIdleTogether : Type 0
+  AreIdleTogether = (request : Request) → IsIdleAt c request → IsIdleAt d request
+      → IsIdleAt (choice c d) request
+
+  -- where the words ask for nothing of the second, an account by the first is one by both
+  abbrev pub HaveAccountsOfFirst : Type 0
+  HaveAccountsOfFirst = (words : List (List ℕ)) (call : Call) → AskNothingOf d words
+      → Account c words call → Account (choice c d) words call
+
+  -- and what both promise is promised by the first
+  abbrev pub PromiseAsFirst : Type 0
+  PromiseAsFirst = (words : List (List ℕ)) (call : Call) → AskNothingOf d words
+      → Promises (choice c d) words call → Promises c words call
+
+  -- the same where the words ask for nothing of the first
+  abbrev pub HaveAccountsOfSecond : Type 0
+  HaveAccountsOfSecond = (words : List (List ℕ)) (call : Call) → AskNothingOf c words
+      → Account d words call → Account (choice c d) words call
+
+  abbrev pub PromiseAsSecond : Type 0
+  PromiseAsSecond = (words : List (List ℕ)) (call : Call) → AskNothingOf c words
+      → Promises (choice c d) words call → Promises d words call

@@ -11,22 +11,22 @@ use Rattle.om_path.specs.declared.fault.PathFault.{PathFault}
 use Rattle.om_promises.specs.Call.{Call, call}
 use Rattle.om_promises.specs.Account.{FetchesFor, MayBe, Account}
 use Rattle.om_promises.specs.Commands.{Fetches, Given, Prepares, RunReplies}
-use Rattle.om_session.specs.declared.types.Requested.{Requested}
+use Rattle.om_declared.specs.declared.types.Requested.{Requested}
 use Rattle.om_session.specs.declared.values.Job.{Job}
 use Rattle.om_session.specs.declared.values.Job.TheVariants as jobs
 use Rattle.om_session.specs.declared.verdict.Saying.{Saying}
 use Rattle.om_session.specs.declared.verdict.Speech.TheVariants as speeches
 use Rattle.om_promises.specs.Given.{Fetched}
-use Rattle.om_session.specs.Language.{declared_types}
+use Rattle.om_declared.specs.Language.{declared_types}
 use Rattle.om_promises.specs.Outside.{PutsLine}
 use Rattle.om_stops.specs.Stops.{stop_of, Reports}
 use Rattle.om_session.specs.Telling.{AsksToTell, AsksToEdit}
-use Rattle.om_session.specs.Types.{type_over, IsPathStop, GivesType, GivesScript}
+use Rattle.om_declared.specs.Types.{type_over, IsPathStop, GivesType, GivesScript}
 use Rattle.om_session.specs.Values.{task_of}
 use Rattle.om_session.specs.Verdict.{saying_of}
 use Rattle.om_promises.proofs.PutLemmas.{puts_nothing}
 use Rattle.om_promises.proofs.TakeLemmas.{took_nothing}
-use Rattle.om_session.proofs.TypeLemmas.{path_refused}
+use Rattle.om_declared.proofs.TypeLemmas.{path_refused}
 use Rattle.om_commands.specs.Tasks.{by_turns, WantsFile, WantsScript, commands}
 use Rattle.om_work.specs.Reported.{HasAccount}
 use Rattle.om_commands.proofs.FetchLemmas.{wants_file, wants_script, new_fetches}

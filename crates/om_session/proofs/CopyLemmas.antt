@@ -16,7 +16,7 @@ use Rattle.om_path.specs.declared.edits.ScriptLine.{ScriptLine}
 use Rattle.om_promises.specs.Call.{Call}
 use Rattle.om_session.specs.Copied.{IsCanonical, IsLeftAlone, LeavesCanonical}
 use Rattle.om_promises.specs.Given.{TellsBytes}
-use Rattle.om_session.specs.Language.{TypeOver, declared_types, bytes_for, IsBytesLine}
+use Rattle.om_declared.specs.Language.{TypeOver, declared_types, bytes_for, IsBytesLine}
 use Rattle.om_promises.specs.CommandLaws.{HaveOneOutcome}
 use Rattle.om_promises.specs.Commands.{Given, Answers, Outcome}
 use Rattle.om_promises.specs.Promises.{Promises, told_files}

@@ -1,23 +1,16 @@
 -- Values that are edited: the type, the lines, and the bytes.
 use Rattle.std.proofs.Common.{◌≡◌, ◌∙◌, ◌==◌, ◌≢◌, ◌<◌, ℕ, Bool, true, false, cond, List, [], ◌∷◌, length, Option, None, Some, Result, Ok, Err, inl, inr, refl, sym, ap, subst, lt-ltb, eq-eqb}
-use Rattle.std.specs.Prelude.{filter, IsErrAnd, IsSomeAnd, option_map, nat_lt, if◌then◌else◌}
+use Rattle.std.specs.Prelude.{filter, IsErrAnd, option_map, nat_lt, if◌then◌else◌}
 use Rattle.om_model.specs.declared.value.Val.{Val}
 use Rattle.om_model.specs.declared.value.Obj.{Obj}
-use Rattle.om_model.specs.declared.value.Obj.TheVariants as objects
 use Rattle.om_model.specs.Graph.{IsValue}
 use Rattle.om_types.specs.Equal.{declared_shapes}
 use Rattle.om_types.specs.Ty.{Ty}
 use Rattle.om_types.specs.TypeText.{type_text}
 use Rattle.om_types.specs.Typing.{HasType}
 use Rattle.om_fault.specs.Text.{text_at}
-use Rattle.om_format.specs.Canonical.{canon}
-use Rattle.om_format.specs.Compat.{TooLargeFor32, token, header, too_large_for_32}
-use Rattle.om_format.specs.Iso.{IsTreeOf}
-use Rattle.om_format.specs.Token.{integer, atom, shared, block, leaf}
 use Rattle.om_format.specs.Tree.{Tree}
-use Rattle.om_edge.specs.Sink.{Puts, Writes}
 use Rattle.om_edge.specs.State.{ByteState, Change, change}
-use Rattle.om_edge.specs.declared.sink.WriteError.TheVariants as errors
 use Rattle.om_edit.specs.EditedValues.{Answer, Edited}
 use Rattle.om_edit.specs.Laws.{IsDeclaredAnswer, SayTheSame, TablesEditAlike}
 use Rattle.om_edit.specs.Reasons.{Reason, no_field, no_literal, misread, ill_typed, reason_text, reason_or_none, literal_reason, reason_of}
@@ -31,26 +24,22 @@ use Rattle.om_literal.specs.declared.fault.LiteralFault.{LiteralFault}
 use Rattle.om_literal.specs.declared.fault.LiteralFault.TheVariants as literals
 use Rattle.om_path.specs.declared.edits.ScriptLine.{ScriptLine}
 use Rattle.om_read.specs.declared.value.Value.{Value}
-use Rattle.om_write.specs.Tells.{Tells}
-use Rattle.om_write.specs.Written.{IsEarly, Writes32}
-use Rattle.om_write.specs.declared.compat.Compat.{Compat}
-use Rattle.om_write.specs.declared.writer32.Write32Error.{Write32Error}
-use Rattle.om_write.specs.declared.writer32.Write32Error.TheVariants as errors32
-use Rattle.om_outcome.specs.RefusalText.{compat_text}
-use Rattle.om_outcome.specs.Outcome.{Unedited, untyped, refused_line, too_large, line_past, says, nothing_said, ends_script}
+use Rattle.om_outcome.specs.Outcome.{Unedited, untyped, refused_line, line_past, says, nothing_said, ends_script}
 use Rattle.om_outcome.specs.Outcome as outcome
 use Rattle.om_session.specs.declared.edit.Edits.{Edits}
 use Rattle.om_stops.specs.declared.stop.Halt.{Halt}
 use Rattle.om_stops.specs.declared.stop.Halt.TheVariants as halts
 use Rattle.om_stops.specs.declared.stop.Stop.{Stop}
 use Rattle.om_stops.specs.declared.stop.Stop.TheVariants as stops
-use Rattle.om_session.specs.declared.types.Requested.{Requested}
-use Rattle.om_session.specs.Edits.{lines_at, ChecksType, Edit, EditsOn, IsReasonStop, IsRefusedLine, EditsLine, EditsAll, EditsLines, PutsBytes, PutsEdited, AnswersOf, IsPast}
-use Rattle.om_session.specs.Language.{declared_types, bytes_for, AreBytesOf}
-use Rattle.om_stops.specs.Stops.{stop_of, text_of_compat}
-use Rattle.om_session.specs.Types.{IsReady}
+use Rattle.om_declared.specs.declared.types.Requested.{Requested}
+use Rattle.om_session.specs.Edits.{lines_at, Edit, EditsOn, IsReasonStop, IsRefusedLine, EditsLine, EditsAll, EditsLines, PutsEdited, AnswersOf, IsPast}
+use Rattle.om_declared.specs.Language.{declared_types, AreBytesOf}
+use Rattle.om_stops.specs.Stops.{stop_of}
+use Rattle.om_declared.specs.Types.{IsReady}
 use Rattle.om_session.specs.Values.{EndsScript}
 use Rattle.om_promises.proofs.PutLemmas.{puts_nothing}
+use Rattle.om_declared.specs.Checked.{ChecksType}
+use Rattle.om_declared.specs.Bytes.{PutsBytes}
 
 -- ---- lines
 
@@ -198,60 +187,6 @@ module _ (e : Edits) (k : ℕ) (old : Value) where
       at (Err (halts.Stop stop)) (inl memory, none) = (inl memory, none)
       at (Err (halts.Stop stop)) (inr (why, is, told), none) = (inr (why, lifted (Err why) is, told), none)
       at (Err halts.WriteFault) (bytes, are, part) = (bytes, lifted (Ok bytes) are, part)
-
--- ---- bytes
-
--- the text of what is too large
-compat_told : (large : TooLargeFor32) (compat : Compat) → Tells large compat → compat_text large ≡ text_of_compat compat
-compat_told (token (integer z)) compat is = sym (ap text_of_compat is)
-compat_told (token (block tag size)) compat is = sym (ap text_of_compat is)
-compat_told (token (leaf (objects.Bytes bytes))) compat is = sym (ap text_of_compat is)
-compat_told (token (leaf (objects.Doubles all))) compat is = sym (ap text_of_compat is)
-compat_told (token (leaf (objects.Native z))) compat is = sym (ap text_of_compat is)
-compat_told (header n) compat is = sym (ap text_of_compat is)
-compat_told (token (atom tag)) compat is = absurd is
-compat_told (token (shared offset)) compat is = absurd is
-compat_told (token (leaf (objects.Block tag values))) compat is = absurd is
-compat_told (token (leaf (objects.Double bits))) compat is = absurd is
-compat_told (token (leaf (objects.I32 z))) compat is = absurd is
-compat_told (token (leaf (objects.I64 z))) compat is = absurd is
-
-module _ (compat : Bool) (k : ℕ) (g : List Obj) (v : Val) where
-  canon_are : (tree : Tree) → IsTreeOf g v tree → (compat ≡ true → too_large_for_32 tree ≡ None) → AreBytesOf compat g v (Ok (canon tree))
-  canon_are tree is small = (tree, is, at compat refl (too_large_for_32 tree) refl) where
-    at : (b : Bool) → compat ≡ b → (large : Option TooLargeFor32) → too_large_for_32 tree ≡ large → Ok (canon tree) ≡ bytes_for compat tree (too_large_for_32 tree)
-    at b e None same = sym (ap (bytes_for compat tree) same)
-    at false e (Some large) same = sym (ap (λ c. bytes_for c tree (too_large_for_32 tree)) e ∙ ap (bytes_for false tree) same)
-    at true e (Some large) same = let none : ◌≡◌ {A = Option TooLargeFor32} (Some large) None = sym same ∙ small e in absurd (cc none)
-
-  pub plain_put : compat ≡ false → (out : Change ByteState) → (tree : Tree) × IsTreeOf g v tree × Writes {A = Unit {0}} out (canon tree) (Ok tt) → PutsBytes {U = Unit {0}} compat k g v out (Ok tt)
-  plain_put plain out (tree, is, put) = (canon tree, canon_are tree is (λ e. let no : false ≡ true = sym plain ∙ e in absurd (cc no)), put)
-
-  pub plain_fault : compat ≡ false → (out : Change ByteState) → (tree : Tree) × IsTreeOf g v tree × Writes {A = Unit {0}} out (canon tree) (Err errors.Fault) → PutsBytes {U = Unit {0}} compat k g v out (Err halts.WriteFault)
-  plain_fault plain out (tree, is, part) = (canon tree, canon_are tree is (λ e. let no : false ≡ true = sym plain ∙ e in absurd (cc no)), part)
-
-  pub memory_put : (a b : ByteState) → b ≡ a → PutsBytes {U = Unit {0}} compat k g v (change a b) (Err (halts.Stop stops.Memory))
-  memory_put a b same = (inl refl, subst (λ b. Puts (change a b) []) (sym same) (puts_nothing a))
-
-  pub compat_put : compat ≡ true → (out : Change ByteState) → (tree : Tree) × IsTreeOf g v tree × Writes32 {A = Unit {0}} out tree (Ok tt) → PutsBytes {U = Unit {0}} compat k g v out (Ok tt)
-  compat_put asked out (tree, is, (none, put)) = (canon tree, canon_are tree is (λ e. none), put)
-
-  pub compat_fault : compat ≡ true → (out : Change ByteState) → (tree : Tree) × IsTreeOf g v tree × Writes32 {A = Unit {0}} out tree (Err errors32.Fault) → PutsBytes {U = Unit {0}} compat k g v out (Err halts.WriteFault)
-  compat_fault asked out (tree, is, (none, part)) = (canon tree, canon_are tree is (λ e. none), part)
-
-  pub compat_refused : compat ≡ true → {S : Type 0} (state : S → ByteState) (a b : S) (error : Write32Error) → (IsEarly error → b ≡ a) → (large : Compat) → error ≡ errors32.Compat large
-      → (tree : Tree) × IsTreeOf g v tree × Writes32 {A = Unit {0}} (change (state a) (state b)) tree (Err error) → PutsBytes {U = Unit {0}} compat k g v (change (state a) (state b)) (Err (halts.Stop (stops.Large k large)))
-  compat_refused asked state a b error untouched large is (tree, of, tells) =
-      let tells : IsSomeAnd (too_large_for_32 tree) (λ t. Tells t large) = subst (λ e. Writes32 {A = Unit {0}} (change (state a) (state b)) tree (Err e)) is tells in
-      let same : b ≡ a = untouched (subst IsEarly (sym is) tt) in
-      at (too_large_for_32 tree) refl tells (subst (λ b. Puts (change (state a) (state b)) []) (sym same) (puts_nothing (state a))) where
-        at : (what : Option TooLargeFor32) → too_large_for_32 tree ≡ what → IsSomeAnd what (λ t. Tells t large) → Puts (change (state a) (state b)) []
-            → PutsBytes {U = Unit {0}} compat k g v (change (state a) (state b)) (Err (halts.Stop (stops.Large k large)))
-        at None e tells none = absurd tells
-        at (Some t) e tells none = (
-          inr (too_large (compat_text t), (tree, of, sym (ap (λ c. bytes_for c tree (too_large_for_32 tree)) asked ∙ ap (bytes_for true tree) e)), ap (outcome.large_value k) (sym (compat_told t large tells))),
-          none,
-        )
 
 -- ---- the end
 

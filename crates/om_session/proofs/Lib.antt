@@ -1,9 +1,7 @@
-pub mod TypeLemmas
 pub mod VerdictLemmas
 pub mod ReadLemmas
 pub mod TypedLemmas
 pub mod EditLemmas
 pub mod AccountLemmas
-pub mod LanguageLemmas
 pub mod CopyLemmas
 pub mod SaidLemmas

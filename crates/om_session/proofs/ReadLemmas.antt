@@ -40,7 +40,7 @@ use Rattle.om_session.specs.declared.verdict.Speech.TheVariants as speeches
 use Rattle.om_session.specs.declared.values.Values.{Values}
 use Rattle.om_stops.specs.declared.stop.Halt.TheVariants as halts
 use Rattle.om_stops.specs.declared.stop.Stop.TheVariants as stops
-use Rattle.om_session.specs.Language.{declared_types}
+use Rattle.om_declared.specs.Language.{declared_types}
 use Rattle.om_session.specs.Verdict.{work_by, IsSaidOf}
 use Rattle.om_promises.specs.Account.{HoldNoStop}
 use Rattle.om_stops.specs.Stops.{stop_of}

@@ -3,10 +3,10 @@ use Rattle.std.specs.Prelude.{ℕ, Bool, List, Ok}
 use Rattle.om_outcome.specs.Outcome.{Found, Saying}
 use Rattle.om_edge.specs.State.{FilesState, Change, change}
 use Rattle.om_path.specs.declared.edits.Script.{Script}
-use Rattle.om_session.specs.declared.types.Requested.{Requested}
+use Rattle.om_declared.specs.declared.types.Requested.{Requested}
 use Rattle.om_promises.specs.Given.{Fetched}
 use Rattle.om_session.specs.Telling.{AsksToTell, AsksToEdit}
-use Rattle.om_session.specs.Types.{GivesType, GivesScript}
+use Rattle.om_declared.specs.Types.{GivesType, GivesScript}
 
 -- FILE and TYPE gave this type, and this is told of the values
 pub record AsksToSay (words : List (List ℕ)) (r : Requested) (saying : Saying) (limit : ℕ)

@@ -12,7 +12,7 @@ use Rattle.om_outcome.specs.Outcome.{edit, Asks, ReadsTypeOf, ReadsScriptOf, fet
 use Rattle.om_edge.specs.Files.{File, contents_of}
 use Rattle.om_edge.specs.Sink.{Puts}
 use Rattle.om_promises.specs.Call.{Call}
-use Rattle.om_session.specs.Language.{TypeOver, declared_types}
+use Rattle.om_declared.specs.Language.{TypeOver, declared_types}
 use Rattle.om_promises.specs.Outside.{IsHonest}
 
 -- the canonical bytes of the tree keep the limit; its value has the type, and where it is asked for

@@ -1,52 +1,34 @@
 -- Values that are edited.
-use Rattle.std.specs.Prelude.{ℕ, ◌≡◌, ◌⊎◌, Bool, List, [], ◌∷◌, length, option_map, Option, None, Some, Result, Ok, Err}
+use Rattle.std.specs.Prelude.{ℕ, ◌≡◌, List, ◌∷◌, length, option_map, Option, None, Some, Result, Ok, Err}
 use Rattle.om_model.specs.declared.value.Val.{Val}
 use Rattle.om_model.specs.declared.value.Obj.{Obj}
 use Rattle.om_model.specs.Graph.{IsValue}
-use Rattle.om_types.specs.Equal.{Equal, declared_shapes}
+use Rattle.om_types.specs.Equal.{Equal}
 use Rattle.om_types.specs.Names.{names_of}
 use Rattle.om_types.specs.Shape.{shape}
 use Rattle.om_types.specs.Ty.{Ty}
 use Rattle.om_types.specs.TypeText.{type_text}
-use Rattle.om_types.specs.Typing.{HasType}
-use Rattle.om_types.specs.VerdictText.{IsNoLine}
 use Rattle.om_edit.specs.EditedValues.{Edited, AreEdited}
 use Rattle.om_edit.specs.Reasons.{Reason, reason_text}
 use Rattle.om_fault.specs.Text.{text_at}
-use Rattle.om_edge.specs.Sink.{Puts, PutsPart}
 use Rattle.om_edge.specs.State.{ByteState, Change}
 use Rattle.om_path.specs.declared.edits.ScriptLine.{ScriptLine}
 use Rattle.om_read.specs.declared.value.Value.{Value}
-use Rattle.om_outcome.specs.Outcome.{Unedited, unedited_stop, untyped_value, script_line, out_of_memory, lines_for, line_past}
+use Rattle.om_outcome.specs.Outcome.{Unedited, script_line, lines_for, line_past}
 use Rattle.om_session.specs.declared.edit.Edits.{Edits}
 use Rattle.om_stops.specs.declared.stop.Halt.{Halt}
 use Rattle.om_stops.specs.declared.stop.Halt.TheVariants as halts
 use Rattle.om_stops.specs.declared.stop.Stop.{Stop}
-use Rattle.om_session.specs.declared.types.Requested.{Requested}
-use Rattle.om_session.specs.Language.{declared_types, AreBytesOf, IsBytesLine}
+use Rattle.om_declared.specs.declared.types.Requested.{Requested}
+use Rattle.om_declared.specs.Language.{declared_types, IsBytesLine}
 use Rattle.om_stops.specs.Stops.{stop_of}
-use Rattle.om_session.specs.Types.{type_over}
+use Rattle.om_declared.specs.Types.{type_over}
+use Rattle.om_declared.specs.Bytes.{PutsAnswer}
+use Rattle.om_declared.specs.Checked.{OrMemory}
 
 -- the lines that edit value k
 abbrev pub lines_at : ℕ → List ScriptLine → List ScriptLine
 lines_at k lines = lines_for declared_types lines k
-
--- the run stops, as this says, or memory ran out
-abbrev pub OrMemory : (Stop → Type 0) → Stop → Type 0
-OrMemory Stops stop = (stop_of stop ≡ out_of_memory) ⊎ Stops stop
-
--- ---- the type
-
-abbrev pub IsUntypedStop : Requested → ℕ → List Obj → Val → Stop → Type 0
-IsUntypedStop r k graph v stop =
-    (text : List ℕ) × IsNoLine (declared_shapes r.decls) type_text graph v r.ty text
-    × (stop_of stop ≡ untyped_value k text)
-
--- value k has the type; or the run stops, since it has not
-abbrev pub ChecksType : {U : Type 0} → Requested → ℕ → List Obj → Val → Result U Halt → Type 0
-ChecksType r k graph v (Ok unit) = HasType (declared_shapes r.decls) graph v r.ty
-ChecksType r k graph v (Err (halts.Stop stop)) = OrMemory (IsUntypedStop r k graph v) stop
-ChecksType r k graph v (Err halts.WriteFault) = ⊥
 
 -- ---- lines
 
@@ -103,24 +85,6 @@ EditsLines r k lines old new (Err (halts.Stop stop)) = OrMemory (AreRefusedLines
 EditsLines r k lines old new (Err halts.WriteFault) = ⊥
 
 -- ---- bytes
-
--- there are no bytes of value k, where this is what is answered
-abbrev pub IsUnedited : ℕ → (Result (List ℕ) Unedited → Type 0) → Stop → Type 0
-IsUnedited k Answers stop =
-    (why : Unedited) × Answers (Err why) × (stop_of stop ≡ unedited_stop k why)
-
--- the bytes of value k are put; or the run stops, and nothing is; or out failed
-abbrev pub PutsAnswer : {U : Type 0} → ℕ → (Result (List ℕ) Unedited → Type 0) → Change ByteState
-    → Result U Halt → Type 0
-PutsAnswer k Answers out (Ok unit) = (bytes : List ℕ) × Answers (Ok bytes) × Puts out bytes
-PutsAnswer k Answers out (Err (halts.Stop stop)) =
-    OrMemory (IsUnedited k Answers) stop × Puts out []
-PutsAnswer k Answers out (Err halts.WriteFault) =
-    (bytes : List ℕ) × Answers (Ok bytes) × PutsPart out bytes
-
-abbrev pub PutsBytes : {U : Type 0} → Bool → ℕ → List Obj → Val → Change ByteState → Result U Halt
-    → Type 0
-PutsBytes compat k graph v out result = PutsAnswer k (AreBytesOf compat graph v) out result
 
 -- what is answered to value k
 abbrev pub AnswersOf : Edits → ℕ → List Obj → Val → Result (List ℕ) Unedited → Type 0

@@ -1,11 +1,7 @@
 pub mod Verdict
 pub mod Copied
 pub mod Edits
-pub mod Fetch
-pub mod Gathered
-pub mod Language
 pub mod Telling
-pub mod Types
 pub mod Values
 pub mod Asked
 pub mod SaidOfValue

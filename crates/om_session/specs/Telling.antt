@@ -3,12 +3,12 @@
 use Rattle.std.specs.Prelude.{ℕ, ◌≡◌, Bool, List, Some, Result, Ok}
 use Rattle.om_outcome.specs.Outcome.{Found, Fetches, Stop, Saying, Work, Request, edit, Asks, typed_by, limit_of, TellsAt, FindsWork}
 use Rattle.om_path.specs.declared.edits.ScriptLine.{ScriptLine}
-use Rattle.om_session.specs.Language.{TypeOver, declared_types}
+use Rattle.om_declared.specs.Language.{TypeOver, declared_types}
 use Rattle.om_edge.specs.State.{FilesState, Change}
-use Rattle.om_session.specs.declared.types.Requested.{Requested}
+use Rattle.om_declared.specs.declared.types.Requested.{Requested}
 use Rattle.om_promises.specs.Given.{Fetched}
 use Rattle.om_commands.specs.Tasks.{HasPath}
-use Rattle.om_session.specs.Types.{GivesType}
+use Rattle.om_declared.specs.Types.{GivesType}
 
 -- PATH, if there, is a path, and what FILE and TYPE give is what is told
 pub record AsksToTell (words : List (List ℕ)) (name type : List ℕ) (saying : Saying) (limit : ℕ)

@@ -22,12 +22,12 @@ use Rattle.om_stops.specs.declared.stop.Halt.TheVariants as halts
 use Rattle.om_session.specs.declared.values.Values.{Values}
 use Rattle.om_session.specs.declared.values.Job.{Job}
 use Rattle.om_session.specs.declared.values.Job.TheVariants as jobs
-use Rattle.om_session.specs.Language.{TypeOver, declared_types}
+use Rattle.om_declared.specs.Language.{TypeOver, declared_types}
 use Rattle.om_session.specs.declared.edit.Edits.{Edits}
-use Rattle.om_session.specs.Edits.{OrMemory}
 use Rattle.om_stops.specs.Stops.{stop_of}
-use Rattle.om_session.specs.Types.{type_over, IsReady}
+use Rattle.om_declared.specs.Types.{type_over, IsReady}
 use Rattle.om_session.specs.Verdict.{work_by, IsReadySpeech}
+use Rattle.om_declared.specs.Checked.{OrMemory}
 
 -- the limit of words on 64 bits in a value
 abbrev pub word_limit : Job → ℕ

@@ -2,22 +2,15 @@
 use Rattle.std.specs.Prelude.{ℕ, ◌≡◌, Bool, true, List, ◌++◌}
 use Rattle.om_model.specs.declared.value.Val.{Val}
 use Rattle.om_model.specs.declared.value.Obj.{Obj}
-use Rattle.om_types.specs.Equal.{declared_shapes}
-use Rattle.om_types.specs.TypeText.{type_text}
-use Rattle.om_types.specs.VerdictText.{IsNoLine}
-use Rattle.om_type_table.specs.Made.{table_of}
-use Rattle.om_check.specs.Verdict.{IsVerdict}
-use Rattle.om_check.specs.declared.verdict.Verdict.{Verdict}
 use Rattle.om_outcome.specs.Outcome as outcome
 use Rattle.om_show.specs.Dumped.{dump_text}
 use Rattle.om_path.specs.declared.edits.ScriptLine.{ScriptLine}
-use Rattle.om_session.specs.declared.types.Requested.{Requested}
 use Rattle.om_session.specs.declared.verdict.Saying.{Saying}
 use Rattle.om_session.specs.declared.verdict.Saying.TheVariants as sayings
 use Rattle.om_session.specs.declared.verdict.Speech.{Speech}
 use Rattle.om_session.specs.declared.verdict.Speech.TheVariants as speeches
-use Rattle.om_session.specs.Language.{TypeOver, IsTypeLine, SaysLine}
-use Rattle.om_session.specs.Types.{type_over, IsReady}
+use Rattle.om_declared.specs.Language.{TypeOver, IsTypeLine, SaysLine}
+use Rattle.om_declared.specs.Types.{type_over, IsReady}
 
 abbrev pub saying_of : Saying → outcome.Saying
 saying_of sayings.Verdict = outcome.the_verdict
@@ -34,10 +27,6 @@ abbrev pub IsReadySpeech : Speech → Type 0
 IsReadySpeech (speeches.Tell r saying) = IsReady r.now
 IsReadySpeech speeches.Dump = Unit {0}
 
--- the verdict is on the value at the first type of the table
-abbrev pub IsVerdictOf : Requested → List Obj → Val → Verdict → Type 0
-IsVerdictOf r graph root verdict = IsVerdict (table_of r.table) graph root verdict
-
 -- this is said of a value, and whether nothing is wrong with it
 abbrev pub IsSaidOf : Speech → List Obj → Val → List ℕ → Bool → Type 0
 IsSaidOf (speeches.Tell r saying) graph v text well =
@@ -48,9 +37,3 @@ IsSaidOf speeches.Dump graph v text well = (text ≡ dump_text graph v) × (well
 abbrev pub PutsLine : outcome.Saying → TypeOver → List Obj → Val → List ℕ → List ℕ → Bool → Type 0
 PutsLine saying t graph root old new well =
     (line : List ℕ) × IsTypeLine saying t graph root line well × (new ≡ old ++ line)
-
--- the line of the least fault is put after another text
-abbrev pub PutsNo : TypeOver → List Obj → Val → List ℕ → List ℕ → Type 0
-PutsNo t graph root old new =
-    (line : List ℕ) × IsNoLine (declared_shapes t.decls) type_text graph root t.type line
-    × (new ≡ old ++ line)

@@ -1,31 +1,22 @@
 //! Values that are edited by the lines of a script.
 
-ghost use Rattle.std.specs.Prelude.{◌≡◌, ℕ, Bool, true, false, length, Some, IfOk};
+ghost use Rattle.std.specs.Prelude.{◌≡◌, ℕ, true, false, length, Some, IfOk};
 ghost use Rattle.om_model.specs.Graph.{IsValue};
 ghost use Rattle.om_edge.specs.State.{change};
-ghost use Rattle.om_session.specs.Edits.{ChecksType, EditsLine, EditsLines, PutsBytes, PutsEdited, IsReasonStop, IsPast};
+ghost use Rattle.om_session.specs.Edits.{EditsLine, EditsLines, PutsEdited, IsReasonStop, IsPast};
 ghost use Rattle.om_edit.specs.Reasons.{Reason, literal_reason, reason_of};
-ghost use Rattle.om_session.specs.Types.{IsReady};
-ghost use Rattle.om_session.specs.Verdict.{IsVerdictOf};
-ghost use Rattle.om_check.specs.declared.verdict.Verdict.TheVariants.{No};
+ghost use Rattle.om_declared.specs.Types.{IsReady};
 
-use crate::types::Requested;
-use crate::verdict::{find_verdict, put_no};
-use om_check::Verdict;
-use om_edge::{Sink, WriteError};
+use om_declared::{Requested, check_type, put_bytes};
+use om_edge::Sink;
 use om_edit::{EditRefusal, apply, refusal_text, tables_edit_alike};
 use om_heap::Heap;
 use om_literal::LiteralFault;
 use om_model::Memory;
-use om_model::list::List;
-use om_model::value::Val;
 use om_path::{Script, ScriptLine};
 use om_read::Value;
 use om_stops::stop::{Halt, Stop};
-use om_table::tables_decide;
 use om_type_table::laws::tables_are_lawful;
-use om_types::fault::Fault;
-use om_write::{Write32Error, write, write32};
 use std::alloc::Global;
 
 /// The lines of a script, at a type; and whether a value that a reader on 32 bits cannot hold is
@@ -53,62 +44,6 @@ pub fn edit_value<K: Sink>(
     check_type(alloc, &value.heap, value.root, number, edits.requested)?;
     edit_by_lines(alloc, value, number, edits.requested, edits.script)?;
     put_bytes(alloc, &value.heap, value.root, number, edits.compat, out)
-}
-
-/// Tests that the value has the type.
-fn check_type(
-    alloc: Global,
-    heap: &Heap,
-    root: Val,
-    number: u64,
-    requested: &Requested,
-) -> Result<(), Halt>
-    requires value { IsValue (length heap.now) root }
-    requires ready { IsReady requested.now }
-    ensures { ChecksType requested.now number heap.now root result }
-{
-    let verdict = find_verdict(alloc, heap, root, requested)?;
-    check_verdict(alloc, heap, root, number, requested, &verdict)
-}
-
-/// Tests that the verdict on the value is that it has the type.
-fn check_verdict(
-    alloc: Global,
-    heap: &Heap,
-    root: Val,
-    number: u64,
-    requested: &Requested,
-    verdict: &Verdict,
-) -> Result<(), Halt>
-    requires value { IsValue (length heap.now) root }
-    requires ready { IsReady requested.now }
-    requires verdict { IsVerdictOf requested.now heap.now root verdict.now }
-    ensures { ChecksType requested.now number heap.now root result }
-{
-    tables_decide();
-    match verdict {
-        Verdict::Yes(_) => Ok(()),
-        Verdict::No(fault) => refuse_value(alloc, heap, root, number, requested, fault),
-    }
-}
-
-/// Stops the run at a value that has not the type, by its least fault.
-fn refuse_value(
-    alloc: Global,
-    heap: &Heap,
-    root: Val,
-    number: u64,
-    requested: &Requested,
-    fault: &Fault,
-) -> Result<(), Halt>
-    requires value { IsValue (length heap.now) root }
-    requires ready { IsReady requested.now }
-    requires least { IsVerdictOf requested.now heap.now root (No fault.now) }
-    ensures { ChecksType requested.now number heap.now root result }
-{
-    let mut text = Vec::new(alloc);
-    put_no(&mut text, alloc, heap, root, requested, fault)?;
-    Err(Halt::Stop(Stop::Untyped(number, List::of(text))))
 }
 
 /// Edits the value of this number by its lines of the script, in their order.
@@ -194,65 +129,6 @@ fn is_memory_in(fault: LiteralFault) -> bool
     match fault {
         LiteralFault::Memory => true,
         _ => false,
-    }
-}
-
-/// Puts the bytes of the value of this number.
-fn put_bytes<K: Sink>(
-    alloc: Global,
-    heap: &Heap,
-    root: Val,
-    number: u64,
-    compat: bool,
-    out: &mut K,
-) -> Result<(), Halt>
-    requires { IsValue (length heap.now) root }
-    ensures { PutsBytes compat number heap.now root (change (K.state out.old) (K.state out.new))
-        result }
-{
-    if compat {
-        put_compat(alloc, heap, root, number, out)
-    } else {
-        put_plain(alloc, heap, root, number, out)
-    }
-}
-
-fn put_compat<K: Sink>(
-    alloc: Global,
-    heap: &Heap,
-    root: Val,
-    number: u64,
-    out: &mut K,
-) -> Result<(), Halt>
-    requires { IsValue (length heap.now) root }
-    ensures { (compat : Bool) → compat ≡ true
-        → PutsBytes compat number heap.now root (change (K.state out.old) (K.state out.new))
-        result }
-{
-    match write32(alloc, heap, root, out) {
-        Ok(()) => Ok(()),
-        Err(Write32Error::Compat(compat)) => Err(Halt::Stop(Stop::Large(number, compat))),
-        Err(Write32Error::Fault) => Err(Halt::WriteFault),
-        Err(Write32Error::Memory) => Err(Halt::Stop(Stop::Memory)),
-    }
-}
-
-fn put_plain<K: Sink>(
-    alloc: Global,
-    heap: &Heap,
-    root: Val,
-    number: u64,
-    out: &mut K,
-) -> Result<(), Halt>
-    requires { IsValue (length heap.now) root }
-    ensures { (compat : Bool) → compat ≡ false
-        → PutsBytes compat number heap.now root (change (K.state out.old) (K.state out.new))
-        result }
-{
-    match write(alloc, heap, root, out) {
-        Ok(()) => Ok(()),
-        Err(WriteError::Fault) => Err(Halt::WriteFault),
-        Err(WriteError::Memory) => Err(Halt::Stop(Stop::Memory)),
     }
 }
 

@@ -3,15 +3,12 @@
 
 mod commands;
 mod edit;
-mod fetch;
-mod gather;
 mod top;
-mod types;
 mod values;
 mod verdict;
 
 pub use commands::{
-    DeclaredTypes, declared_commands_are_lawful, declared_commands_have_one_outcome,
-    declared_commands_keep_promises, declared_statuses_have_causes, declared_types_are_lawful,
+    declared_commands_are_lawful, declared_commands_have_one_outcome,
+    declared_commands_keep_promises, declared_statuses_have_causes,
 };
 pub use top::run;

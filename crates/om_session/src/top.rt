@@ -6,7 +6,7 @@ ghost use Rattle.om_edge.specs.State.{FilesState, Change, change};
 ghost use Rattle.om_promises.specs.Call.{call};
 ghost use Rattle.om_session.specs.Copied.{LeavesCanonical};
 ghost use Rattle.om_session.specs.Asked.{AsksToSay, AsksForLines};
-ghost use Rattle.om_session.specs.Language.{declared_types};
+ghost use Rattle.om_declared.specs.Language.{declared_types};
 ghost use Rattle.om_promises.specs.Account.{Account};
 ghost use Rattle.om_promises.specs.Causes.{OutsideCauses};
 ghost use Rattle.om_promises.specs.Promises.{Promises};
@@ -14,7 +14,7 @@ ghost use Rattle.om_commands.specs.Tasks.{commands};
 ghost use Rattle.om_meanings.specs.Causes.{Causes};
 ghost use Rattle.om_work.specs.Reported.{HasAccount};
 ghost use Rattle.om_session.specs.Telling.{AsksToTell, AsksToEdit};
-ghost use Rattle.om_session.specs.Types.{IsReady};
+ghost use Rattle.om_declared.specs.Types.{IsReady};
 ghost use Rattle.om_session.specs.Values.{IsReadyJob, task_of};
 ghost use Rattle.om_session.specs.Verdict.{saying_of};
 ghost use Rattle.om_command_line.specs.Requests.{texts, request_of};
@@ -25,10 +25,10 @@ use crate::commands::{
     declared_statuses_have_causes,
 };
 use crate::edit::Edits;
-use crate::types::{Requested, find_script, find_type, path_stop};
 use crate::values::{Job, Progress};
 use crate::verdict::{Saying, Speech};
 use om_command_line::{Request, Unread, read_words};
+use om_declared::{Requested, find_script, find_type, path_stop};
 use om_edge::{Opener, Sink, Source};
 use om_outcome::status::Status;
 use om_path::{Script, read_path};
@@ -319,6 +319,9 @@ fn run_request<S: Source, O: Opener, K: Sink, E: Sink>(
             err,
         ),
         Request::Same { limit } => take_values(alloc, Job::Compare(limit), input, out, err),
+        // No set of commands has these yet, so that nothing is said of them.
+        Request::Build { .. } => report(alloc, err, Stop::Memory),
+        Request::Generate { .. } => report(alloc, err, Stop::Memory),
     }
 }
 

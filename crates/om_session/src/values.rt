@@ -9,7 +9,7 @@ ghost use Rattle.om_edge.specs.State.{change};
 ghost use Rattle.om_commands.specs.Tasks.{commands};
 ghost use Rattle.om_work.specs.Works.{Feeds, EndsAt};
 ghost use Rattle.om_session.specs.declared.values.Job.TheVariants as jobs;
-ghost use Rattle.om_session.specs.Language.{TypeOver, declared_types};
+ghost use Rattle.om_declared.specs.Language.{TypeOver, declared_types};
 ghost use Rattle.om_session.specs.Verdict.{IsReadySpeech};
 ghost use Rattle.om_session.specs.SaidOfValue.{PutsSaid};
 ghost use Rattle.om_session.specs.Values.{IsReadyJob, IsStopOf, AreValues, IsFull, MayTake, HasRead, IsValueRead, KeepsNext, PutsNext, Compares, EndsScript, task_of, word_limit};

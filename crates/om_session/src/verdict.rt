@@ -1,21 +1,20 @@
 //! What is said of a value.
 
-ghost use Rattle.std.specs.Prelude.{length, OnOk, IfOk};
+ghost use Rattle.std.specs.Prelude.{length, IfOk};
 ghost use Rattle.om_model.specs.Graph.{IsValue};
 ghost use Rattle.om_types.specs.Typing.{HasType};
 ghost use Rattle.om_types.specs.Table.{table_shapes};
 ghost use Rattle.om_type_table.specs.Made.{table_of};
-ghost use Rattle.om_session.specs.Types.{type_over, IsReady};
-ghost use Rattle.om_session.specs.Verdict.{IsReadySpeech, IsVerdictOf, IsSaidOf, PutsLine, PutsNo, saying_of};
+ghost use Rattle.om_declared.specs.Types.{type_over, IsReady};
+ghost use Rattle.om_session.specs.Verdict.{IsReadySpeech, IsSaidOf, PutsLine, saying_of};
 ghost use Rattle.om_session.specs.declared.verdict.Speech.TheVariants as speeches;
 ghost use Rattle.om_check.specs.declared.verdict.Verdict.TheVariants.{No};
 ghost use Rattle.om_outcome.specs.Outcome.{the_part};
+ghost use Rattle.om_declared.specs.Verdict.{IsVerdictOf};
 
-use crate::types::Requested;
-use om_check::{Steps, Verdict, check};
-use om_equal::table::tables_have_the_faults;
-use om_fault::laws::texts_are_of_types;
-use om_fault::{fault_text, walk};
+use om_check::Verdict;
+use om_declared::{Requested, find_verdict, put_no};
+use om_fault::walk;
 use om_heap::Heap;
 use om_model::Memory;
 use om_model::list::List;
@@ -26,7 +25,6 @@ use om_show::laws::roots_show_alike;
 use om_stops::put::put;
 use om_table::tables_decide;
 use om_type_table::laws::tables_are_lawful;
-use om_types::fault::Fault;
 use std::alloc::Global;
 
 /// What is told of a value that has a type: that it has it, its text, or the text of the part at a
@@ -120,22 +118,6 @@ fn line_by(
     })
 }
 
-/// Whether the value has the type, and if not the least fault.
-pub fn find_verdict(
-    alloc: Global,
-    heap: &Heap,
-    root: Val,
-    requested: &Requested,
-) -> Result<Verdict, Memory>
-    requires value { IsValue (length heap.now) root }
-    requires ready { IsReady requested.now }
-    ensures { IfOk result (IsVerdictOf requested.now heap.now root) }
-{
-    tables_are_lawful();
-    let mut steps = Steps::new();
-    check(alloc, heap, root, &requested.table, &mut steps)
-}
-
 /// Puts what is told of a value of this verdict at the end, and answers whether nothing is wrong
 /// with it: `no` and the fault where it has not the type.
 fn put_line(
@@ -161,31 +143,6 @@ fn put_line(
             Ok(false)
         }
     }
-}
-
-/// Puts `no` and the least fault at the end.
-pub fn put_no(
-    text: &mut Vec<u8>,
-    alloc: Global,
-    heap: &Heap,
-    root: Val,
-    requested: &Requested,
-    fault: &Fault,
-) -> Result<(), Memory>
-    requires value { IsValue (length heap.now) root }
-    requires ready { IsReady requested.now }
-    requires least { IsVerdictOf requested.now heap.now root (No fault.now) }
-    ensures { OnOk result
-        (PutsNo (type_over requested.now) heap.now root text.old.items text.new.items) }
-{
-    tables_are_lawful();
-    tables_decide();
-    tables_have_the_faults();
-    texts_are_of_types();
-    let why = fault_text(alloc, heap, root, &requested.table, fault)?;
-    put(text, b"no ")?;
-    put(text, why.as_slice())?;
-    Ok(())
 }
 
 /// Puts what is told of a value that has the type at the end, and answers whether nothing is wrong

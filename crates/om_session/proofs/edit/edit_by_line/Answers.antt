@@ -1,7 +1,7 @@
 use Rattle.std.proofs.Common.{inr}
 use Rattle.om_session.proofs.EditLemmas.{line_applied, refused_by}
-use Rattle.om_session.proofs.VerdictLemmas.{ready_lawful, ready_names}
 use Rattle.om_session.proofs.edit.edit_by_line.Goals as goal
+use Rattle.om_declared.proofs.VerdictLemmas.{ready_lawful, ready_names}
 
 pub apply-requires-clause-lawful : goal.apply-requires-clause-lawful
 apply-requires-clause-lawful c = ready_lawful c.args.requested.now c.requires.ready c.tables_are_lawful.ensures

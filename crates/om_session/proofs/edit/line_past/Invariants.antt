@@ -1,6 +1,6 @@
 use Rattle.std.proofs.Common.{◌≡◌, length}
 use Rattle.om_outcome.specs.Outcome.{line_past}
-use Rattle.om_session.specs.Language.{declared_types}
+use Rattle.om_declared.specs.Language.{declared_types}
 use Rattle.om_session.proofs.edit.line_past.Given as goal
 
 abbrev pub invariant-loop-line : goal.invariant-loop-line

@@ -1,7 +1,7 @@
 use Rattle.std.proofs.Common.{refl}
 use Rattle.om_outcome.specs.Outcome.{check, show}
 use Rattle.om_edge.specs.State.{change}
-use Rattle.om_session.proofs.AccountLemmas.{dump_account, compare_account}
+use Rattle.om_session.proofs.AccountLemmas.{unread_account, dump_account, compare_account}
 use Rattle.om_session.proofs.top.run_request.Goals as goal
 
 pub returns-in-Check : goal.returns-in-Check
@@ -45,3 +45,13 @@ returns-in-Same g c = λ words asks.
     (change (g.S.Source.state c.args.input.now) (g.S.Source.state c.take_values-in-Same.new.input))
     (change (g.K.Sink.state c.args.out.now) (g.K.Sink.state c.take_values-in-Same.new.out))
     (change (g.E.Sink.state c.args.err.now) (g.E.Sink.state c.take_values-in-Same.new.err)) c.take_values-in-Same.result (rw c.in-Same.is at asks) c.take_values-in-Same.ensures
+
+pub returns-in-Build : goal.returns-in-Build
+returns-in-Build g c = λ words asks.
+    unread_account words (g.S.Source.state c.args.input.now) (g.K.Sink.state c.args.out.now) (g.O.Opener.state c.args.files.now)
+    (change (g.E.Sink.state c.args.err.now) (g.E.Sink.state c.report.new.err)) c.report.result c.report.ensures
+
+pub returns-in-Generate : goal.returns-in-Generate
+returns-in-Generate g c = λ words asks.
+    unread_account words (g.S.Source.state c.args.input.now) (g.K.Sink.state c.args.out.now) (g.O.Opener.state c.args.files.now)
+    (change (g.E.Sink.state c.args.err.now) (g.E.Sink.state c.report-in-Generate.new.err)) c.report-in-Generate.result c.report-in-Generate.ensures

@@ -2,7 +2,7 @@ use Rattle.std.proofs.Common.{subst}
 use Rattle.om_edge.specs.State.{change}
 use Rattle.om_commands.specs.Tasks.{commands}
 use Rattle.om_work.specs.Reported.{HasAccount}
-use Rattle.om_session.specs.Language.{declared_types}
+use Rattle.om_declared.specs.Language.{declared_types}
 use Rattle.om_session.specs.Values.{task_of}
 use Rattle.om_session.proofs.top.take_values.Goals as goal
 

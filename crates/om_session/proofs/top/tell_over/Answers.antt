@@ -1,6 +1,6 @@
 use Rattle.std.specs.Borrow.{Bor}
 use Rattle.om_edge.specs.State.{change}
-use Rattle.om_session.specs.declared.types.Requested.{Requested}
+use Rattle.om_declared.specs.declared.types.Requested.{Requested}
 use Rattle.om_session.proofs.AccountLemmas.{told_account}
 use Rattle.om_session.proofs.top.tell_over.Goals as goal
 

@@ -1,5 +1,6 @@
-use Rattle.om_session.proofs.VerdictLemmas.{ready_lawful, place_typed, puts_found, puts_none}
+use Rattle.om_session.proofs.VerdictLemmas.{place_typed, puts_found, puts_none}
 use Rattle.om_session.proofs.verdict.put_part.Goals as goal
+use Rattle.om_declared.proofs.VerdictLemmas.{ready_lawful}
 
 pub walk-requires-clause-lawful : goal.walk-requires-clause-lawful
 walk-requires-clause-lawful c = ready_lawful c.args.requested.now c.requires.ready c.tables_are_lawful.ensures

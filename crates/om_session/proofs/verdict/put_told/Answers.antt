@@ -1,5 +1,6 @@
-use Rattle.om_session.proofs.VerdictLemmas.{ready_lawful, puts_yes, puts_text}
+use Rattle.om_session.proofs.VerdictLemmas.{puts_yes, puts_text}
 use Rattle.om_session.proofs.verdict.put_told.Goals as goal
+use Rattle.om_declared.proofs.VerdictLemmas.{ready_lawful}
 
 pub put_shown_at-requires-clause-lawful : goal.put_shown_at-requires-clause-lawful
 put_shown_at-requires-clause-lawful c = ready_lawful c.args.requested.now c.requires.ready c.tables_are_lawful.ensures

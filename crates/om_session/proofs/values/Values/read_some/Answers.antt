@@ -3,7 +3,7 @@ use Rattle.om_edge.specs.State.{change}
 use Rattle.om_commands.specs.Tasks.{commands}
 use Rattle.om_stops.specs.declared.stop.Stop.TheVariants.{NotTwoValues}
 use Rattle.om_work.proofs.PieceLemmas.{feeds_halt}
-use Rattle.om_session.specs.Language.{declared_types}
+use Rattle.om_declared.specs.Language.{declared_types}
 use Rattle.om_session.specs.Values.{MayTake, IsFull, HasRead, task_of, word_limit}
 use Rattle.om_promises.proofs.PutLemmas.{puts_nothing}
 use Rattle.om_session.proofs.ReadLemmas.{whole_read, few_read, some_taken, front_read, next_halts, stops_now, stops_in, full_stops}

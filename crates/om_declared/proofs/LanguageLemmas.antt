@@ -1,0 +1,231 @@
+-- What is read of a text is one thing, and a value has one line at a type that is read.
+use Rattle.std.proofs.Common.{◌≡◌, ℕ, Bool, false, List, Option, Some, None, Result, Ok, Err, inl, inr, sym, ap, ◌∙◌, subst}
+use Rattle.om_model.specs.declared.value.Val.{Val}
+use Rattle.om_model.specs.declared.value.Obj.{Obj}
+use Rattle.om_types.specs.declared.decl.Decl.{Decl}
+use Rattle.om_types.specs.Ty.{Ty}
+use Rattle.om_types.specs.Accepted.{AreWellFormed, IsSoundType}
+use Rattle.om_types.specs.Equal.{declared_shapes}
+use Rattle.om_types.specs.TypeText.{type_text}
+use Rattle.om_typing.proofs.OnceLemmas.{no_line_once}
+use Rattle.om_table.specs.TableDecides.{NeverBoth}
+use Rattle.om_table.proofs.FewLemmas.{few_not_many}
+use Rattle.om_format.specs.Tree.{Tree, root, objects_of}
+use Rattle.om_types.specs.Scope.{Rule, KeepsAll, BreaksInFile, BreaksInType}
+use Rattle.om_sites.specs.InFile.{file_places}
+use Rattle.om_sites.specs.InText.{in_texpr}
+use Rattle.om_grammar.specs.Grammar.{Kinds, file_kinds, texpr}
+use Rattle.om_grammar.specs.Depths.{file_ends, texpr_ends}
+use Rattle.om_grammar.specs.Refusals.{IsText, text_read, syntax_at, too_deep_at}
+use Rattle.om_parse.specs.Parsed.{kinds_of}
+use Rattle.om_parse.specs.Written.{declarations_of, type_of_texpr}
+use Rattle.om_decl.specs.Told.{FilesAreWellFormed, TypesAreSound}
+use Rattle.om_decl.specs.Answer.{Answer, accepted, no_lexemes, no_text, too_deep, broken, IsAnswer, IsFileAnswer, IsTypeAnswer, HasOneAnswer}
+use Rattle.om_decl.specs.Read.{IsDeclared, IsTypeOf}
+use Rattle.om_decl.specs.Text.{answer_text}
+use Rattle.om_path.specs.Answer as paths
+use Rattle.om_path.specs.ScriptAnswer as scripts
+use Rattle.om_path.specs.declared.edits.Script.{Script}
+use Rattle.om_path.specs.declared.edits.ScriptFault.{ScriptFault}
+use Rattle.om_path.specs.declared.edits.ScriptLine.{ScriptLine}
+use Rattle.om_canonical.proofs.SameTree.{one_tree_only}
+use Rattle.om_edit.specs.EditedValues.{Edited}
+use Rattle.om_edit.specs.Laws.{EditsHaveOneAnswer}
+use Rattle.om_format.specs.Compat.{too_large_for_32}
+use Rattle.om_path.specs.declared.fault.PathFault.{PathFault}
+use Rattle.om_outcome.specs.Outcome.{Saying, Unedited, untyped}
+use Rattle.om_declared.specs.Language.{TypeOver, declared_types, ReadsPath, IsRefusal, ReachesFew, IsTooMuch, IsAccepted, IsTypeLine, IsBytesLine, AreBytesOf, AreBytesAfter, bytes_for, ReadsType, ReadsScript, script_refusal}
+use Rattle.om_promises.specs.LawfulLanguage.{IsGiven, IsLawful}
+
+-- ---- answers
+
+tree_or : {Tree : Type 0} → Tree → Answer Tree → Tree
+tree_or other (accepted tree) = tree
+tree_or other (no_lexemes fault) = other
+tree_or other (no_text place) = other
+tree_or other (too_deep place) = other
+tree_or other (broken rule place) = other
+
+accepted_once : {Tree : Type 0} (one other : Tree) → ◌≡◌ {A = Answer Tree} (accepted one) (accepted other) → one ≡ other
+unfolding tree_or
+accepted_once one other same = ap (tree_or one) same
+
+module _ {Tree : Type 0} (Is : List ℕ → Answer Tree → Type 0) (once : HasOneAnswer Is) (text : List ℕ) where
+  trees_once : (tree other : Tree) → Is text (accepted tree) → Is text (accepted other) → tree ≡ other
+  trees_once tree other one two = accepted_once tree other (once text (accepted tree) (accepted other) one two)
+
+  never_refused : (tree : Tree) (refusal : List ℕ) → Is text (accepted tree) → IsRefusal (Is text) refusal → ⊥
+  never_refused tree refusal one r = r.refuses tree (once text r.answer (accepted tree) r.is one)
+
+  refusals_once : (refusal other : List ℕ) → IsRefusal (Is text) refusal → IsRefusal (Is text) other → refusal ≡ other
+  refusals_once refusal other r s = r.spelled ∙ (ap answer_text (once text r.answer s.answer r.is s.is) ∙ sym s.spelled)
+
+-- ---- what is accepted
+
+-- a tree that is accepted is that of some lexemes, and breaks no rule
+module _ {Tree : Type 0} (spelled : Tree → Kinds) (ends : Tree → List ℕ) (Breaks : Tree → Rule → ℕ → Type 0) (text : List ℕ) (tree : Tree) where
+  record IsKept : Type 0 where
+    lexemes : Kinds
+    reads : IsText spelled ends lexemes tree
+    keeps : KeepsAll (Breaks tree)
+
+  kept : IsAnswer spelled ends Breaks text (accepted tree) → IsKept
+  kept (Err fault, lexes, other) = absurd (cc other)
+  kept (Ok lexemes, lexes, (syntax_at k, is, other)) = absurd (cc other)
+  kept (Ok lexemes, lexes, (too_deep_at k, is, other)) = absurd (cc other)
+  kept (Ok lexemes, lexes, (text_read own, is, (same, keeps))) = record {
+    lexemes = kinds_of lexemes;
+    reads = subst (IsText spelled ends (kinds_of lexemes)) same is;
+    keeps = subst (λ t. KeepsAll (Breaks t)) same keeps;
+  }
+
+-- ---- paths
+
+module _ (once : (text : List ℕ) → paths.HasOneAnswer text) (text path : List ℕ) (is : ReadsPath text (Some path)) where
+  same_answer : (other : Result (List ℕ) PathFault) → paths.IsAnswer text other → other ≡ Ok path
+  same_answer other its = (once text).2 other its ∙ sym ((once text).2 (Ok path) is)
+
+  one_path : (other : List ℕ) → ReadsPath text (Some other) → path ≡ other
+  one_path other its = let same : ◌≡◌ {A = Result (List ℕ) PathFault} (Ok other) (Ok path) = same_answer (Ok other) its in cc same
+
+  no_fault : ReadsPath text None → ⊥
+  no_fault none = let same : ◌≡◌ {A = Result (List ℕ) PathFault} (Err none.0) (Ok path) = same_answer (Err none.0) none.2 in cc same
+
+-- ---- the language
+
+-- ---- scripts
+
+module _ (once : (text : List ℕ) → scripts.HasOneScriptAnswer text) (text : List ℕ) where
+  abbrev script_of : Result (List ScriptLine) ScriptFault → Result Script ScriptFault
+  script_of (Ok lines) = Ok (record { lines = lines })
+  script_of (Err fault) = Err fault
+
+  script_answers : (answer other : Result (List ScriptLine) ScriptFault) → scripts.AreEdits 1 text answer → scripts.AreEdits 1 text other → answer ≡ other
+  script_answers answer other is its = back answer other ((once text).2 (script_of answer) (as_script answer is) ∙ sym ((once text).2 (script_of other) (as_script other its))) where
+    as_script : (answer : Result (List ScriptLine) ScriptFault) → scripts.AreEdits 1 text answer → scripts.IsScriptAnswer text (script_of answer)
+    as_script (Ok lines) is = is
+    as_script (Err fault) is = is
+
+    back : (answer other : Result (List ScriptLine) ScriptFault) → script_of answer ≡ script_of other → answer ≡ other
+    back (Ok lines) (Ok others) e = let same : ◌≡◌ {A = Script} (record { lines = lines }) (record { lines = others }) = cc e in ap (λ (s : Script). Ok s.lines) same
+    back (Ok lines) (Err fault) e = absurd (cc e)
+    back (Err fault) (Ok lines) e = absurd (cc e)
+    back (Err fault) (Err other) e = let same : fault ≡ other = cc e in ap (λ f. Err f) same
+
+  lines_or_refusal : (lines : List ScriptLine) (refusal : ℕ × List ℕ) → ReadsScript text (Ok lines) → ReadsScript text (Err refusal) → ⊥
+  lines_or_refusal lines refusal is (fault, its, told) =
+      let k : ◌≡◌ {A = Result (List ScriptLine) ScriptFault} (Ok lines) (Err fault) = script_answers (Ok lines) (Err fault) is its in cc k
+
+  one_lines : (lines other : List ScriptLine) → ReadsScript text (Ok lines) → ReadsScript text (Ok other) → lines ≡ other
+  one_lines lines other is its =
+      let k : ◌≡◌ {A = Result (List ScriptLine) ScriptFault} (Ok lines) (Ok other) = script_answers (Ok lines) (Ok other) is its in cc k
+
+  one_refusal : (refusal other : ℕ × List ℕ) → ReadsScript text (Err refusal) → ReadsScript text (Err other) → refusal ≡ other
+  one_refusal refusal other (fault, is, told) (fault', its, told') =
+      let k : ◌≡◌ {A = Result (List ScriptLine) ScriptFault} (Err fault) (Err fault') = script_answers (Err fault) (Err fault') is its in
+      let same : fault ≡ fault' = cc k in
+      let both : ◌≡◌ {A = Option (ℕ × List ℕ)} (Some refusal) (Some other) = sym told ∙ (ap script_refusal same ∙ told') in cc both
+
+-- ---- bytes
+
+-- a value has one tree
+one_bytes : (compat : Bool) (graph : List Obj) (v : Val) (answer other : Result (List ℕ) Unedited) → AreBytesOf compat graph v answer → AreBytesOf compat graph v other → answer ≡ other
+one_bytes compat graph v answer other (tree, is, told) (tree', is', told') =
+    told ∙ (ap (λ t. bytes_for compat t (too_large_for_32 t)) (one_tree_only graph v tree tree' is is') ∙ sym told')
+
+bytes_after_once : (compat : Bool) (edited : Edited Ty) (answer other : Result (List ℕ) Unedited) → AreBytesAfter compat edited answer → AreBytesAfter compat edited other → answer ≡ other
+bytes_after_once compat (Ok edited) answer other is its = one_bytes compat edited.0 edited.1 answer other is its
+bytes_after_once compat (Err refused) answer other is its = is ∙ sym its
+
+module _ (files_once : HasOneAnswer IsFileAnswer) (types_once : (decls : List Decl) → HasOneAnswer (IsTypeAnswer decls))
+    (paths_once : (text : List ℕ) → paths.HasOneAnswer text) (scripts_once : (text : List ℕ) → scripts.HasOneScriptAnswer text) (edits_once : EditsHaveOneAnswer) (files_well : FilesAreWellFormed) (types_sound : TypesAreSound) (never_both : NeverBoth) where
+  same_decls : (text : List ℕ) (decls others : List Decl) → IsDeclared text decls → IsDeclared text others → decls ≡ others
+  same_decls text decls others d e =
+      d.stand ∙ (ap declarations_of (trees_once IsFileAnswer files_once text d.tree e.tree d.answer e.answer) ∙ sym e.stand)
+
+  same_types : (decls : List Decl) (text : List ℕ) (t u : Ty) → IsTypeOf decls text t → IsTypeOf decls text u → t ≡ u
+  same_types decls text t u one other =
+      one.stands ∙ (ap type_of_texpr (trees_once (IsTypeAnswer decls) (types_once decls) text one.tree other.tree one.answer other.answer) ∙ sym other.stands)
+
+  never_too_much : (decls : List Decl) (text refusal : List ℕ) (t : TypeOver) → IsAccepted decls text t → IsTooMuch decls text refusal → ⊥
+  never_too_much decls text refusal t a much =
+      let same : t.type ≡ much.type = same_types decls text t.type much.type a.written much.written in
+      few_not_many decls much.type a.few.types (rw (← same) a.few.reached) a.few.few much.many
+
+  type_or_refusal : (decls : List Decl) (text : List ℕ) (t : TypeOver) (refusal : List ℕ) → IsAccepted decls text t → ReadsType decls text (Err refusal) → ⊥
+  type_or_refusal decls text t refusal a (inl r) = never_refused (IsTypeAnswer decls) (types_once decls) text a.written.tree refusal a.written.answer r
+  type_or_refusal decls text t refusal a (inr much) = never_too_much decls text refusal t a much
+
+  type_refusals : (decls : List Decl) (text refusal other : List ℕ) → ReadsType decls text (Err refusal) → ReadsType decls text (Err other) → refusal ≡ other
+  type_refusals decls text refusal other (inl r) (inl s) = refusals_once (IsTypeAnswer decls) (types_once decls) text refusal other r s
+  type_refusals decls text refusal other (inl r) (inr s) = absurd (never_refused (IsTypeAnswer decls) (types_once decls) text s.written.tree refusal s.written.answer r)
+  type_refusals decls text refusal other (inr r) (inl s) = absurd (never_refused (IsTypeAnswer decls) (types_once decls) text r.written.tree other r.written.answer s)
+  type_refusals decls text refusal other (inr r) (inr s) = r.spelled ∙ sym s.spelled
+
+  -- declarations that are read are well-formed, and types over them sound
+  decls_well : (text : List ℕ) (decls : List Decl) → IsDeclared text decls → AreWellFormed decls
+  decls_well text decls d =
+      let k = kept file_kinds file_ends (λ tree. BreaksInFile (file_places tree)) text d.tree d.answer in
+      subst AreWellFormed (sym d.stand) (files_well k.lexemes d.tree k.reads k.keeps)
+
+  type_sound : (decls : List Decl) (text : List ℕ) (t : Ty) → AreWellFormed decls → IsTypeOf decls text t → IsSoundType decls t
+  type_sound decls text t well is =
+      let k = kept texpr texpr_ends (λ tree. BreaksInType decls (in_texpr 0 false tree)) text is.tree is.answer in
+      subst (IsSoundType decls) (sym is.stands) (types_sound decls is.tree well k.keeps)
+
+  -- a value has the type or a fault, and not both
+  module _ (t : TypeOver) (well : AreWellFormed t.decls) (sound : IsSoundType t.decls t.type) (few : ReachesFew t.decls t.type) (graph : List Obj) (v : Val) where
+    lines_once : (saying : Saying) (line other : List ℕ) (one two : Bool) → IsTypeLine saying t graph v line one → IsTypeLine saying t graph v other two → (line ≡ other) × (one ≡ two)
+    lines_once saying line other one two (inl has) (inl its) = (has.spelled ∙ sym its.spelled, has.is_well ∙ sym its.is_well)
+    lines_once saying line other one two (inr is) (inr its) = (no_line_once (declared_shapes t.decls) graph v t.type type_text line other is.why its.why, is.is_well ∙ sym its.is_well)
+    lines_once saying line other one two (inl has) (inr is) = absurd (never_both t.decls t.type few.types well sound few.reached graph v is.why.fault is.why.least.is_fault has.has)
+    lines_once saying line other one two (inr is) (inl has) = absurd (never_both t.decls t.type few.types well sound few.reached graph v is.why.fault is.why.least.is_fault has.has)
+
+    bytes_once : (lines : List ScriptLine) (compat : Bool) (answer other : Result (List ℕ) Unedited) → IsBytesLine t lines compat graph v answer → IsBytesLine t lines compat graph v other → answer ≡ other
+    bytes_once lines compat answer other (inl is) (inl its) =
+        let same : is.edited ≡ its.edited = edits_once.in_order t.decls t.type few.types well sound few.reached lines graph v is.edited its.edited is.made its.made in
+        bytes_after_once compat its.edited answer other (subst (λ e. AreBytesAfter compat e answer) same is.bytes) its.bytes
+    bytes_once lines compat answer other (inr is) (inr its) =
+        is.is ∙ (ap (λ text. Err (untyped text)) (no_line_once (declared_shapes t.decls) graph v t.type type_text is.text its.text is.why its.why) ∙ sym its.is)
+    bytes_once lines compat answer other (inl is) (inr its) = absurd (never_both t.decls t.type few.types well sound few.reached graph v its.why.fault its.why.least.is_fault is.has)
+    bytes_once lines compat answer other (inr is) (inl its) = absurd (never_both t.decls t.type few.types well sound few.reached graph v is.why.fault is.why.least.is_fault its.has)
+
+  -- a type that was read is sound over well-formed declarations, and reaches few types
+  pub record IsSoundOver (t : TypeOver) : Type 0 where
+    pub well : AreWellFormed t.decls
+    pub sound : IsSoundType t.decls t.type
+    pub few : ReachesFew t.decls t.type
+
+  pub given_sound : (t : TypeOver) → IsGiven declared_types t → IsSoundOver t
+  given_sound t (text, type, decls, declared, is) =
+      let well : AreWellFormed t.decls = subst AreWellFormed (sym is.over) (decls_well text decls declared) in
+      let written : IsTypeOf t.decls type t.type = subst (λ d. IsTypeOf d type t.type) (sym is.over) is.written in
+      record { well = well; sound = type_sound t.decls type t.type well written; few = subst (λ d. ReachesFew d t.type) (sym is.over) is.few }
+
+  given_once : (saying : Saying) (t : TypeOver) → IsGiven declared_types t → (tree : Tree) (line other : List ℕ) (one two : Bool)
+      → IsTypeLine saying t (objects_of tree 0) (root tree 0) line one → IsTypeLine saying t (objects_of tree 0) (root tree 0) other two → (line ≡ other) × (one ≡ two)
+  given_once saying t given tree = let s = given_sound t given in lines_once t s.well s.sound s.few (objects_of tree 0) (root tree 0) saying
+
+  edited_once : (t : TypeOver) → IsGiven declared_types t → (lines : List ScriptLine) (compat : Bool) (tree : Tree) (answer other : Result (List ℕ) Unedited)
+      → IsBytesLine t lines compat (objects_of tree 0) (root tree 0) answer → IsBytesLine t lines compat (objects_of tree 0) (root tree 0) other → answer ≡ other
+  edited_once t given lines compat tree = let s = given_sound t given in bytes_once t s.well s.sound s.few (objects_of tree 0) (root tree 0) lines compat
+
+  pub declared_lawful : IsLawful declared_types
+  declared_lawful = record {
+    declarations_once = λ text d refusal is refused. never_refused IsFileAnswer files_once text is.tree refusal is.answer refused;
+    same_declarations = same_decls;
+    same_refusal = λ text refusal other. refusals_once IsFileAnswer files_once text refusal other;
+    type_once = λ d text t refusal is refused. type_or_refusal d text t refusal is refused;
+    same_type = λ d text t u one other.
+        let types = same_types d text t.type u.type one.written other.written in
+        ap (λ d. let t : TypeOver = record { decls = d; type = t.type } in t) (one.over ∙ sym other.over)
+        ∙ ap (λ x. let t : TypeOver = record { decls = u.decls; type = x } in t) types;
+    same_type_refusal = type_refusals;
+    script_once = λ text lines refusal is refused. lines_or_refusal scripts_once text lines refusal is refused;
+    same_script = λ text lines other is its. one_lines scripts_once text lines other is its;
+    same_script_refusal = λ text refusal other is its. one_refusal scripts_once text refusal other is its;
+    bytes_once = edited_once;
+    path_once = λ text path is none. no_fault paths_once text path is none;
+    same_path = λ text path other is its. one_path paths_once text path is other its;
+    line_once = given_once;
+  }

@@ -1,0 +1,4 @@
+pub mod TypeLemmas
+pub mod LanguageLemmas
+pub mod BytesLemmas
+pub mod VerdictLemmas

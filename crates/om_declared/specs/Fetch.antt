@@ -1,0 +1,17 @@
+-- What came of fetching a file.
+use Rattle.std.specs.Prelude.{ℕ, List}
+use Rattle.om_outcome.specs.Outcome as outcome
+use Rattle.om_edge.specs.State.{FilesState, Change}
+use Rattle.om_declared.specs.declared.fetch.Fetch.{Fetch}
+use Rattle.om_declared.specs.declared.fetch.Fetch.TheVariants.{Opened, Missing, Failed}
+use Rattle.om_declared.specs.Gathered.{taken_of}
+use Rattle.om_promises.specs.Given.{Fetched}
+
+abbrev pub fetch_found : Fetch → outcome.Found
+fetch_found (Opened gathered) = outcome.opened (taken_of gathered)
+fetch_found Missing = outcome.missing
+fetch_found Failed = outcome.failed
+
+-- something came of it before memory ran out
+abbrev pub FetchedSome : Change FilesState → List ℕ → Type 0
+FetchedSome files name = (found : outcome.Found) × Fetched files name found

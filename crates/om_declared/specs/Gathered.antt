@@ -1,0 +1,21 @@
+-- What was gathered, as bytes taken.
+use Rattle.std.specs.Prelude.{◌≡◌}
+use Rattle.om_outcome.specs.Outcome.{Taken, at_end, at_fault, at_length, unasked}
+use Rattle.om_outcome.specs.Outcome as outcome
+use Rattle.om_edge.specs.State.{ByteState, Change}
+use Rattle.om_declared.specs.declared.gather.InputEnd.{InputEnd}
+use Rattle.om_declared.specs.declared.gather.InputEnd.TheVariants.{End, Fault, Length}
+use Rattle.om_declared.specs.declared.gather.Gathered.{Gathered}
+use Rattle.om_promises.specs.Given.{Gathers}
+
+abbrev pub until_of : InputEnd → outcome.InputEnd
+until_of End = at_end
+until_of Fault = at_fault
+until_of Length = at_length
+
+abbrev pub taken_of : Gathered → Taken
+taken_of g = record { bytes = g.bytes.items; until = until_of g.until }
+
+-- some bytes were taken, and no more were asked for
+abbrev pub GathersSome : Change ByteState → Type 0
+GathersSome source = (taken : Taken) × Gathers source taken × (taken.until ≡ unasked)

@@ -1,0 +1,17 @@
+//! What FILE, TYPE and SCRIPT are read as, and what is found of a value at the type that they give.
+#![tactic(auto)]
+
+mod bytes;
+mod check;
+mod fetch;
+mod gather;
+pub mod laws;
+mod types;
+mod verdict;
+
+pub use bytes::{put_bytes, put_plain};
+pub use check::check_type;
+pub use fetch::{Fetch, fetch_file};
+pub use gather::{Gathered, InputEnd, LENGTH_LIMIT, store};
+pub use types::{Requested, find_script, find_type, path_stop};
+pub use verdict::{find_verdict, put_no};

@@ -1,0 +1,63 @@
+//! The verdict on a value at the type.
+
+ghost use Rattle.std.specs.Prelude.{length, OnOk, IfOk};
+ghost use Rattle.om_model.specs.Graph.{IsValue};
+ghost use Rattle.om_declared.specs.Types.{type_over, IsReady};
+ghost use Rattle.om_declared.specs.Verdict.{IsVerdictOf, PutsNo};
+ghost use Rattle.om_check.specs.declared.verdict.Verdict.TheVariants.{No};
+
+use crate::types::Requested;
+use om_check::{Steps, Verdict, check};
+use om_equal::table::tables_have_the_faults;
+use om_fault::fault_text;
+use om_fault::laws::texts_are_of_types;
+use om_heap::Heap;
+use om_model::Memory;
+use om_model::list::List;
+use om_model::value::Val;
+use om_stops::put::put;
+use om_table::tables_decide;
+use om_type_table::laws::tables_are_lawful;
+use om_types::fault::Fault;
+use std::alloc::Global;
+
+/// Whether the value has the type, and if not the least fault.
+pub fn find_verdict(
+    alloc: Global,
+    heap: &Heap,
+    root: Val,
+    requested: &Requested,
+) -> Result<Verdict, Memory>
+    requires value { IsValue (length heap.now) root }
+    requires ready { IsReady requested.now }
+    ensures { IfOk result (IsVerdictOf requested.now heap.now root) }
+{
+    tables_are_lawful();
+    let mut steps = Steps::new();
+    check(alloc, heap, root, &requested.table, &mut steps)
+}
+
+/// Puts `no` and the least fault at the end.
+pub fn put_no(
+    text: &mut Vec<u8>,
+    alloc: Global,
+    heap: &Heap,
+    root: Val,
+    requested: &Requested,
+    fault: &Fault,
+) -> Result<(), Memory>
+    requires value { IsValue (length heap.now) root }
+    requires ready { IsReady requested.now }
+    requires least { IsVerdictOf requested.now heap.now root (No fault.now) }
+    ensures { OnOk result
+        (PutsNo (type_over requested.now) heap.now root text.old.items text.new.items) }
+{
+    tables_are_lawful();
+    tables_decide();
+    tables_have_the_faults();
+    texts_are_of_types();
+    let why = fault_text(alloc, heap, root, &requested.table, fault)?;
+    put(text, b"no ")?;
+    put(text, why.as_slice())?;
+    Ok(())
+}
