@@ -203,12 +203,12 @@ module _ (files_once : HasOneAnswer IsFileAnswer) (types_once : (decls : List De
     bytes_once lines compat answer other (inr is) (inl its) = absurd (never_both t.decls t.type few.types well sound few.reached graph v is.why.fault is.why.least.is_fault its.has)
 
   -- a type that was read is sound over well-formed declarations, and reaches few types
-  record IsSoundOver (t : TypeOver) : Type 0 where
-    well : AreWellFormed t.decls
-    sound : IsSoundType t.decls t.type
-    few : ReachesFew t.decls t.type
+  pub record IsSoundOver (t : TypeOver) : Type 0 where
+    pub well : AreWellFormed t.decls
+    pub sound : IsSoundType t.decls t.type
+    pub few : ReachesFew t.decls t.type
 
-  given_sound : (t : TypeOver) → IsGiven declared_types t → IsSoundOver t
+  pub given_sound : (t : TypeOver) → IsGiven declared_types t → IsSoundOver t
   given_sound t (text, type, decls, declared, is) =
       let well : AreWellFormed t.decls = subst AreWellFormed (sym is.over) (decls_well text decls declared) in
       let written : IsTypeOf t.decls type t.type = subst (λ d. IsTypeOf d type t.type) (sym is.over) is.written in

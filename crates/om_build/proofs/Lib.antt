@@ -1,0 +1,5 @@
+pub mod AlikeLemmas
+pub mod OnceLemmas
+pub mod StepLemmas
+pub mod TextsLemmas
+pub mod FeedLemmas

@@ -1,0 +1,73 @@
+-- What a line of the input is at a declared type.
+use Rattle.std.specs.Prelude.{ℕ, ◌≡◌, ◌≢◌, ◌⊎◌, Result, Ok, Err, List, [], length}
+use Rattle.om_model.specs.declared.value.Val.{Val}
+use Rattle.om_model.specs.declared.value.Obj.{Obj}
+use Rattle.om_lex.specs.declared.lexeme.Lexeme.{Lexeme}
+use Rattle.om_lex.specs.declared.lexeme.LexFault.{LexFault}
+use Rattle.om_lex.specs.LexText.{Lexes, Faults}
+use Rattle.om_types.specs.Equal.{declared_shapes}
+use Rattle.om_types.specs.Names.{names_of}
+use Rattle.om_types.specs.Shape.{shape}
+use Rattle.om_types.specs.Ty.{Ty}
+use Rattle.om_types.specs.TypeText.{type_text}
+use Rattle.om_types.specs.Typing.{HasType}
+use Rattle.om_types.specs.VerdictText.{IsNoLine}
+use Rattle.om_format.specs.Canonical.{canon}
+use Rattle.om_format.specs.Iso.{IsTreeOf}
+use Rattle.om_format.specs.Tree.{Tree}
+use Rattle.om_decl.specs.Text.{lexer_text}
+use Rattle.om_edit.specs.EditedValues.{Answer, IsLiteral, IsNoLiteral, IsMisread}
+use Rattle.om_edit.specs.Reasons.{Reason, no_literal, misread, literal_text}
+use Rattle.om_declared.specs.Language.{TypeOver}
+use Rattle.om_texts.specs.Texts.{Built, blank, made, refused, untyped}
+
+module _ (t : TypeOver) where
+  -- The lexemes are a literal of a value at the type, and these are its objects; or they are none,
+  -- or none of the type, first for this reason. Places are bytes, and the end is one.
+  abbrev pub AreText : List Lexeme → ℕ → Answer Ty → Type 0
+  AreText lexemes end (Ok built) =
+      IsLiteral (shape t.decls) (names_of t.decls) t.type lexemes 0 built.0 built.1
+  AreText lexemes end (Err (no_literal place)) =
+      IsNoLiteral (shape t.decls) (names_of t.decls) lexemes end place
+  AreText lexemes end (Err (misread refusal)) =
+      IsMisread (shape t.decls) (names_of t.decls) t.type lexemes end 0 refusal
+  AreText lexemes end (Err reason) = ⊥
+
+  module _ (line : List ℕ) where
+    -- the line has lexemes, and they are this
+    pub record IsText (answer : Answer Ty) : Type 0 where
+      pub lexemes : List Lexeme
+      pub lexes : Lexes line lexemes
+      pub some : lexemes ≢ []
+      pub are : AreText lexemes (length line) answer
+
+    -- it is a text of a value that has the type, and these are the canonical bytes of it
+    pub record IsMade (bytes : List ℕ) : Type 0 where
+      pub graph : List Obj
+      pub root : Val
+      pub is_text : IsText (Ok (graph, root))
+      pub has : HasType (declared_shapes t.decls) graph root t.type
+      pub tree : Tree
+      pub of : IsTreeOf graph root tree
+      pub are : bytes ≡ canon tree
+
+    -- it is one of a value that has not the type, and this is the line of the least fault
+    pub record IsUntyped (fault : List ℕ) : Type 0 where
+      pub graph : List Obj
+      pub root : Val
+      pub is_text : IsText (Ok (graph, root))
+      pub why : IsNoLine (declared_shapes t.decls) type_text graph root t.type fault
+
+    -- it has no lexemes, for a fault of the lexer, or they are no literal of the type
+    abbrev pub IsRefused : List ℕ → Type 0
+    IsRefused refusal =
+        ((fault : LexFault) × Faults line fault × (refusal ≡ lexer_text fault))
+        ⊎ ((reason : Reason Ty) × IsText (Err reason)
+        × (refusal ≡ literal_text type_text reason))
+
+-- what a line is
+abbrev pub declared_texts : TypeOver → List ℕ → Built → Type 0
+declared_texts t line blank = Lexes line []
+declared_texts t line (made bytes) = IsMade t line bytes
+declared_texts t line (refused refusal) = IsRefused t line refusal
+declared_texts t line (untyped fault) = IsUntyped t line fault

@@ -1,0 +1,100 @@
+-- What comes of a line, in code.
+use Rattle.std.specs.Prelude.{ℕ, ◌+◌, ◌≡◌, true, List, [], ◌∷◌, ◌++◌, length, Option, Some, None, Result, Ok, Err}
+use Rattle.om_model.specs.declared.value.Val.{Val}
+use Rattle.om_model.specs.declared.value.Obj.{Obj}
+use Rattle.om_model.specs.Graph.{IsValue}
+use Rattle.om_decl.specs.Text.{lexer_text}
+use Rattle.om_fault.specs.Text.{text_at}
+use Rattle.om_edit.specs.Reasons.{literal_or_none, literal_reason}
+use Rattle.om_edge.specs.Sink.{Puts, PutsPart}
+use Rattle.om_edge.specs.State.{ByteState, Change}
+use Rattle.om_outcome.specs.Outcome as outcome
+use Rattle.om_outcome.specs.Outcome.{text_line, untyped_value, out_of_memory, Said, all_well}
+use Rattle.om_stops.specs.declared.stop.Halt.{Halt}
+use Rattle.om_stops.specs.declared.stop.Halt.TheVariants as halts
+use Rattle.om_stops.specs.declared.stop.Stop.{Stop}
+use Rattle.om_stops.specs.Stops.{stop_of}
+use Rattle.om_promises.specs.Commands.{Item, SaysFirst}
+use Rattle.om_work.specs.Works.{Has, HaltsIn}
+use Rattle.om_type_table.specs.declared.table.TypeTable.{TypeTable}
+use Rattle.om_text.specs.declared.text.TextFault.{TextFault}
+use Rattle.om_text.specs.declared.text.TextFault.TheVariants as faults
+use Rattle.om_declared.specs.Checked.{OrMemory}
+use Rattle.om_declared.specs.Language.{TypeOver, declared_types}
+use Rattle.om_declared.specs.Types.{type_over, IsReady}
+use Rattle.om_declared.specs.declared.types.Requested.{Requested}
+use Rattle.om_texts.specs.Texts.{Built, blank, made, refused, untyped, counted, IsUnbroken, IsSaidOf, AreTexts, building}
+use Rattle.om_build.specs.Lines.{declared_texts, IsText}
+
+-- the text of a fault; want of memory has none
+abbrev pub IsFaultText : TypeTable → TextFault → List ℕ → Type 0
+IsFaultText table (faults.Lex fault) text = text ≡ lexer_text fault
+IsFaultText table (faults.Literal fault) text =
+    text ≡ literal_or_none (text_at table) (literal_reason fault)
+IsFaultText table faults.Memory text = ⊥
+
+-- line L, before which there are k texts, stops the run so
+abbrev pub IsStopAt : ℕ → ℕ → Built → outcome.Stop → Type 0
+IsStopAt line k blank stop = ⊥
+IsStopAt line k (made bytes) stop = ⊥
+IsStopAt line k (refused refusal) stop = stop ≡ text_line line refusal
+IsStopAt line k (untyped fault) stop = stop ≡ untyped_value k fault
+
+-- the line is blank, or a text of a value, whose objects are these; or the run stops
+abbrev pub ReadsLine : TypeOver → List ℕ → ℕ → List Obj → Result (Option Val) Halt → Type 0
+ReadsLine t text line new (Ok None) = declared_texts t text blank
+ReadsLine t text line new (Ok (Some root)) =
+    IsValue (length new) root × IsText t text (Ok (new, root))
+ReadsLine t text line new (Err (halts.Stop stop)) =
+    OrMemory (λ stop.
+    (refusal : List ℕ) × declared_texts t text (refused refusal)
+    × (stop_of stop ≡ text_line line refusal)) stop
+ReadsLine t text line new (Err halts.WriteFault) = ⊥
+
+-- what the line is comes to a stop, with its number and that of its text, and nothing is put; or
+-- out failed
+abbrev pub HaltsAtLine : TypeOver → List ℕ → ℕ → ℕ → Change ByteState → Halt → Type 0
+HaltsAtLine t text line k out (halts.Stop stop) =
+    OrMemory (λ stop.
+    (built : Built) × declared_texts t text built × IsStopAt line k built (stop_of stop)) stop
+    × Puts out []
+HaltsAtLine t text line k out halts.WriteFault =
+    (built : Built) × declared_texts t text built × (said : Said) × IsSaidOf built said
+    × PutsPart out said.text
+
+-- the bytes of the value are put; or the run stops; or out failed
+abbrev pub PutsValue : {U : Type 0} → TypeOver → List ℕ → ℕ → ℕ → Change ByteState
+    → Result U Halt → Type 0
+PutsValue t text line k out (Ok unit) =
+    (bytes : List ℕ) × declared_texts t text (made bytes) × Puts out bytes
+PutsValue t text line k out (Err halt) = HaltsAtLine t text line k out halt
+
+-- the line is put, as what it is at the type, and there are so many texts then
+abbrev pub PutsLine : TypeOver → List ℕ → ℕ → ℕ → Change ByteState → Result ℕ Halt → Type 0
+PutsLine t text line k out (Ok texts) =
+    (built : Built) × declared_texts t text built × (said : Said) × IsSaidOf built said
+    × Puts out said.text × (texts ≡ k + counted built)
+PutsLine t text line k out (Err halt) = HaltsAtLine t text line k out halt
+
+-- Of these bytes the lines were taken, each fine, of which this is said; and what comes after the
+-- last line feed is held.
+pub record HasTexts (requested : Requested) (held : List ℕ) (lines texts : ℕ) (bytes : List ℕ)
+    (said : List Said) : Type 0 where
+  pub ready : IsReady requested
+  pub items : List Item
+  pub first : SaysFirst (building declared_types declared_texts) (type_over requested) bytes items
+      said held
+  pub unbroken : IsUnbroken held
+  pub counted : lines ≡ length items
+  pub are_texts : AreTexts declared_texts (type_over requested) items texts
+  pub well : all_well said ≡ true
+
+-- a line ends with these bytes and a line feed, and is put; or it comes to a halt
+abbrev pub TakesLine : {U : Type 0} → TypeOver → Has → Has → List ℕ → Change ByteState
+    → Result U Halt → Type 0
+TakesLine t before after end out (Ok unit) =
+    (bytes : List ℕ) (said : List Said) → before bytes said
+    → (next : Said) × after (bytes ++ (end ++ 10 ∷ [])) (said ++ next ∷ []) × Puts out next.text
+TakesLine t before after end out (Err halt) =
+    (more bytes : List ℕ) (said : List Said) → before bytes said
+    → HaltsIn (building declared_types declared_texts) t bytes (end ++ 10 ∷ more) said out halt

@@ -1,0 +1,43 @@
+//! The laws. Each function does nothing: what it ensures is the law.
+
+ghost use Rattle.std.specs.Prelude.{List};
+ghost use Rattle.om_types.specs.declared.decl.Decl.{Decl};
+ghost use Rattle.om_path.specs.declared.edits.ScriptLine.{ScriptLine};
+ghost use Rattle.om_declared.specs.Language.{TypeOver, declared_types};
+ghost use Rattle.om_texts.specs.Texts.{IsReadOnce};
+ghost use Rattle.om_build.specs.Lines.{declared_texts};
+
+use om_decl::laws::one_answer;
+use om_decl::told::{files_are_well_formed, types_are_sound};
+use om_edit::edits_have_one_answer;
+use om_path::{one_answer as one_path, one_script_answer};
+use om_table::type_or_fault;
+use om_texts::laws::Builds;
+
+/// Texts of values of declared types.
+pub struct DeclaredTexts;
+
+impl Builds for DeclaredTexts {
+    ghost declarations = { List Decl };
+
+    ghost types = { TypeOver };
+
+    ghost lines = { ScriptLine };
+
+    ghost language = { declared_types };
+
+    ghost TextOf = { declared_texts };
+}
+
+/// A line is read in one way at each type that some texts are read as.
+pub fn declared_texts_are_read_once()
+    ensures { IsReadOnce declared_types declared_texts }
+{
+    one_answer();
+    one_path();
+    one_script_answer();
+    edits_have_one_answer();
+    files_are_well_formed();
+    types_are_sound();
+    type_or_fault();
+}

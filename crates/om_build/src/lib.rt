@@ -1,0 +1,10 @@
+//! Typed texts of the input, which become bytes: what a line is at a type, and the command that
+//! takes lines as they come.
+#![tactic(auto)]
+
+mod fault;
+pub mod laws;
+mod line;
+mod texts;
+
+pub use texts::Texts;

@@ -1,0 +1,131 @@
+//! The lines of the input, one by one, as its bytes come.
+
+ghost use Rattle.std.specs.Prelude.{◌≡◌, ◌++◌, ◌∷◌, ◌+◌, ◌<◌, ◌^◌, ℕ, List, [], length, OnOk};
+ghost use Rattle.om_outcome.specs.Outcome.{Said};
+ghost use Rattle.om_edge.specs.State.{change};
+ghost use Rattle.om_declared.specs.Types.{type_over, IsReady};
+ghost use Rattle.om_texts.specs.Texts.{IsUnbroken};
+ghost use Rattle.om_build.specs.Steps.{HasTexts, TakesLine};
+
+use crate::line::put_line;
+use memchr::memchr;
+use om_declared::Requested;
+use om_edge::Sink;
+use om_heap::Heap;
+use om_model::Memory;
+use om_stops::stop::Halt;
+use om_work::Work;
+use std::alloc::Global;
+
+const LINE_FEED: u8 = 10;
+
+/// Puts bytes at the end.
+fn keep(held: &mut Vec<u8>, bytes: &[u8]) -> Result<(), Memory>
+    ensures { OnOk result (held.new.items ≡ held.old.items ++ bytes.now) }
+{
+    Ok(held.extend_from_slice(bytes)?)
+}
+
+/// The texts so far: how many lines there were, and how many of them were texts; and what came
+/// after the last line feed. One line is held at a time, and the values of all texts stand in one
+/// heap, one after the other.
+#[derive(Drop)]
+pub struct Texts<'a> {
+    requested: &'a Requested,
+    held: Vec<u8>,
+    heap: Heap,
+    lines: u64,
+    texts: u64,
+}
+
+impl<'a> Texts<'a> {
+    /// No byte was taken.
+    pub fn new(alloc: Global, requested: &'a Requested) -> Texts<'a>
+        requires { IsReady requested.now }
+        ensures requested { result.requested ≡ requested.entry }
+        ensures has { HasTexts result.requested.now result.held.items result.lines result.texts [] [] }
+    {
+        Texts {
+            requested,
+            held: Vec::new(alloc),
+            heap: Heap::new(alloc),
+            lines: 0,
+            texts: 0,
+        }
+    }
+
+    /// Takes the end of a line, whose line feed comes next, and puts the line.
+    fn take_line<K: Sink>(&mut self, alloc: Global, end: &[u8], out: &mut K) -> Result<(), Halt>
+        requires unbroken { IsUnbroken end.now }
+        requires has { (bytes : List ℕ) × (said : List Said)
+            × HasTexts self.old.requested.now self.old.held.items self.old.lines self.old.texts
+            bytes said × (length bytes < 2 ^ 63) }
+        ensures kept { self.new.requested ≡ self.old.requested }
+        ensures takes { TakesLine (type_over self.old.requested.now)
+            (HasTexts self.old.requested.now self.old.held.items self.old.lines self.old.texts)
+            (HasTexts self.new.requested.now self.new.held.items self.new.lines self.new.texts)
+            end.now (change (K.state out.old) (K.state out.new)) result }
+    {
+        keep(&mut self.held, end)?;
+        let line = self.held.as_slice();
+        self.texts = put_line(
+            alloc,
+            &mut self.heap,
+            self.requested,
+            line,
+            self.lines + 1,
+            self.texts,
+            out,
+        )?;
+        self.held.clear();
+        self.lines += 1;
+        Ok(())
+    }
+}
+
+impl Work for Texts<'_> {
+    ghost use Rattle.om_declared.specs.Language.{TypeOver, declared_types};
+    ghost use Rattle.om_texts.specs.Texts.{building};
+    ghost use Rattle.om_build.specs.Lines.{declared_texts};
+
+    ghost Act = { TypeOver };
+
+    ghost commands = { building declared_types declared_texts };
+
+    ghost act = { λ w. type_over w.requested.now };
+
+    ghost has = { λ w bytes said. HasTexts w.requested.now w.held.items w.lines w.texts bytes said };
+
+    fn reads(&self) -> bool {
+        true
+    }
+
+    fn feed<K: Sink>(&mut self, alloc: Global, in_hand: &[u8], out: &mut K) -> Result<usize, Halt> {
+        match memchr(LINE_FEED, in_hand) {
+            Some(n) => {
+                self.take_line(alloc, &in_hand[..n], out)?;
+                Ok(n + 1)
+            }
+            None => {
+                keep(&mut self.held, in_hand)?;
+                Ok(in_hand.len())
+            }
+        }
+    }
+
+    fn end<K: Sink>(&mut self, alloc: Global, out: &mut K) -> Result<bool, Halt> {
+        let line = self.held.as_slice();
+        put_line(
+            alloc,
+            &mut self.heap,
+            self.requested,
+            line,
+            self.lines + 1,
+            self.texts,
+            out,
+        )?;
+        Ok(true)
+    }
+
+    fn laws(&self) {}
+}

@@ -1,5 +1,0 @@
-pub mod FindLemmas
-pub mod LawfulLemmas
-pub mod ApartLemmas
-pub mod DueLemmas
-pub mod LeavesLemmas
