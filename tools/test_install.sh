@@ -37,7 +37,9 @@ completes() {
 . "$work/prefix/share/bash-completion/completions/omarshal"
 mkdir "$work/files" && cd "$work/files" && : >shop.types && : >shop.script
 completes 'same show' s
-completes 'check dump edit get same show' ''
+completes 'build check dump edit get same show trees' ''
+completes 'shop.script shop.types' build ''
+completes '' build -
 completes 'shop.script shop.types' check ''
 completes 'shop.types' show shop.t
 completes '' check shop.types ''

@@ -3,10 +3,15 @@ _omarshal() {
     local word=${COMP_WORDS[COMP_CWORD]} command=${COMP_WORDS[1]-} i place=0 skip=0 options=--limit
     COMPREPLY=()
     if [ "$COMP_CWORD" -eq 1 ]; then
-        mapfile -t COMPREPLY < <(compgen -W 'check dump edit get same show' -- "$word")
+        mapfile -t COMPREPLY < <(compgen -W 'build check dump edit get same show trees' -- "$word")
         return
     fi
-    case $command in check | dump | get | same | show) ;; edit) options='--limit --compat32' ;; *) return ;; esac
+    case $command in
+    build) options= ;;
+    check | dump | get | same | show | trees) ;;
+    edit) options='--limit --compat32' ;;
+    *) return ;;
+    esac
     # The number of the word among FILE, TYPE and what follows.
     for ((i = 2; i < COMP_CWORD; i++)); do
         if [ "$skip" -eq 1 ]; then skip=0; continue; fi
@@ -17,7 +22,7 @@ _omarshal() {
     -*) mapfile -t COMPREPLY < <(compgen -W "$options" -- "$word") ;;
     *)
         case $command-$place in
-        check-0 | show-0 | get-0 | edit-0 | edit-2) mapfile -t COMPREPLY < <(compgen -f -- "$word") ;;
+        build-0 | check-0 | show-0 | trees-0 | get-0 | edit-0 | edit-2) mapfile -t COMPREPLY < <(compgen -f -- "$word") ;;
         esac
         ;;
     esac

@@ -50,9 +50,13 @@ texts_more t [] n line built none of =
       add_both k = omega arith
 texts_more t (value tree ∷ items) n line built h of = absurd h
 texts_more t (text first ∷ items) n line built (is, first_of, more, texts, e) of =
-    let next = texts_more t items more line built texts of in
-    (is, first_of, more + counted built, next,
-    ap (λ n. n + counted built) e ∙ grouped (counted is) more (counted built)) where
+    let next = texts_more t items more line built texts of in (
+      is,
+      first_of,
+      more + counted built,
+      next,
+      ap (λ n. n + counted built) e ∙ grouped (counted is) more (counted built),
+    ) where
       grouped : (a b c : ℕ) → (a + b) + c ≡ a + (b + c)
       grouped a b c = omega arith
 

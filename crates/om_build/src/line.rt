@@ -51,7 +51,8 @@ fn put_value<K: Sink>(
 ) -> Result<(), Halt>
     requires value { IsValue (length heap.now) root }
     requires ready { IsReady requested.now }
-    ensures { (line : List ℕ) (place : ℕ) → IsText (type_over requested.now) line (Ok (heap.now, root))
+    ensures { (line : List ℕ) (place : ℕ)
+        → IsText (type_over requested.now) line (Ok (heap.now, root))
         → PutsValue (type_over requested.now) line place number
         (change (K.state out.old) (K.state out.new)) result }
 {

@@ -1,6 +1,6 @@
 //! The lines of the input, one by one, as its bytes come.
 
-ghost use Rattle.std.specs.Prelude.{◌≡◌, ◌++◌, ◌∷◌, ◌+◌, ◌<◌, ◌^◌, ℕ, List, [], length, OnOk};
+ghost use Rattle.std.specs.Prelude.{◌≡◌, ◌++◌, ◌+◌, ◌<◌, ◌^◌, ℕ, List, [], length, OnOk};
 ghost use Rattle.om_outcome.specs.Outcome.{Said};
 ghost use Rattle.om_edge.specs.State.{change};
 ghost use Rattle.om_declared.specs.Types.{type_over, IsReady};
@@ -43,7 +43,8 @@ impl<'a> Texts<'a> {
     pub fn new(alloc: Global, requested: &'a Requested) -> Texts<'a>
         requires { IsReady requested.now }
         ensures requested { result.requested ≡ requested.entry }
-        ensures has { HasTexts result.requested.now result.held.items result.lines result.texts [] [] }
+        ensures has { HasTexts result.requested.now result.held.items result.lines result.texts
+            [] [] }
     {
         Texts {
             requested,

@@ -28,12 +28,6 @@ type Form<'a> = (&'a str, &'a [Argument<'a>]);
 // The greatest limit of words on 64 bits in a value.
 const GREATEST_LIMIT: u64 = 1 << 40;
 
-// The greatest NUMBER of a value that is made.
-const GREATEST_NUMBER: u64 = 2147483647;
-
-// The greatest COUNT of its items.
-const GREATEST_COUNT: u64 = 1000000;
-
 const LIMIT: Argument<'static> = Argument::Option("limit", GREATEST_LIMIT, "134217728");
 
 const COMPAT: Argument<'static> = Argument::Flag("compat32");
@@ -46,11 +40,7 @@ const PATH: Argument<'static> = Argument::Word("PATH");
 
 const SCRIPT: Argument<'static> = Argument::Word("SCRIPT");
 
-const NUMBER: Argument<'static> = Argument::Number("NUMBER", GREATEST_NUMBER);
-
-const COUNT: Argument<'static> = Argument::Number("COUNT", GREATEST_COUNT);
-
-static FORMS: [Form<'static>; 9] = [
+static FORMS: [Form<'static>; 8] = [
     ("check", &[LIMIT, FILE, TYPE]),
     ("show", &[LIMIT, FILE, TYPE]),
     ("get", &[LIMIT, FILE, TYPE, PATH]),
@@ -59,7 +49,6 @@ static FORMS: [Form<'static>; 9] = [
     ("dump", &[LIMIT]),
     ("same", &[LIMIT]),
     ("build", &[FILE, TYPE]),
-    ("gen", &[NUMBER, COUNT, TYPE]),
 ];
 
 // What clap is told of an argument.

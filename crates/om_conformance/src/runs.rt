@@ -122,10 +122,10 @@ fn put_values(alloc: Global, text: &mut Vec<u8>, written: &[u8]) -> io::Result<(
     }
 }
 
-// Whether the words are of the command that writes values.
+// Whether the words are of a command that writes values.
 fn writes_values(words: &[String]) -> bool {
     match words {
-        [command, ..] => command.as_str() == "edit",
+        [command, ..] => command.as_str() == "edit" || command.as_str() == "build",
         [] => false,
     }
 }

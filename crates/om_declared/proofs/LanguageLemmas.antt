@@ -139,8 +139,7 @@ bytes_after_once compat (Ok edited) answer other is its = one_bytes compat edite
 bytes_after_once compat (Err refused) answer other is its = is ∙ sym its
 
 module _ (files_once : HasOneAnswer IsFileAnswer) (types_once : (decls : List Decl) → HasOneAnswer (IsTypeAnswer decls))
-    (paths_once : (text : List ℕ) → paths.HasOneAnswer text) (scripts_once : (text : List ℕ) → scripts.HasOneScriptAnswer text) (edits_once : EditsHaveOneAnswer) (files_well : FilesAreWellFormed) (types_sound : TypesAreSound) (never_both : NeverBoth)
-    (verdicts_once : TreeVerdictsAreOne) where
+    (paths_once : (text : List ℕ) → paths.HasOneAnswer text) (scripts_once : (text : List ℕ) → scripts.HasOneScriptAnswer text) (edits_once : EditsHaveOneAnswer) (files_well : FilesAreWellFormed) (types_sound : TypesAreSound) (never_both : NeverBoth) where
   same_decls : (text : List ℕ) (decls others : List Decl) → IsDeclared text decls → IsDeclared text others → decls ≡ others
   same_decls text decls others d e =
       d.stand ∙ (ap declarations_of (trees_once IsFileAnswer files_once text d.tree e.tree d.answer e.answer) ∙ sym e.stand)
@@ -178,20 +177,20 @@ module _ (files_once : HasOneAnswer IsFileAnswer) (types_once : (decls : List De
   -- a value has the type or a fault, and not both
   module _ (t : TypeOver) (well : AreWellFormed t.decls) (sound : IsSoundType t.decls t.type) (few : ReachesFew t.decls t.type) (graph : List Obj) (v : Val) where
     -- one thing is told of a value that has the type
-    told_once : (saying : Saying) (one other : Said) → IsToldOf saying t graph v one → IsToldOf saying t graph v other → one ≡ other
-    told_once the_verdict one other is its = is ∙ sym its
-    told_once the_text one other is its = is ∙ sym its
-    told_once (the_part path) one other is its = is ∙ sym its
-    told_once the_trees one other (verdict, of, is) (second, of_second, its) =
+    told_once : TreeVerdictsAreOne → (saying : Saying) (one other : Said) → IsToldOf saying t graph v one → IsToldOf saying t graph v other → one ≡ other
+    told_once verdicts_once the_verdict one other is its = is ∙ sym its
+    told_once verdicts_once the_text one other is its = is ∙ sym its
+    told_once verdicts_once (the_part path) one other is its = is ∙ sym its
+    told_once verdicts_once the_trees one other (verdict, of, is) (second, of_second, its) =
         is ∙ (ap judged (verdicts_once t.decls graph v t.type verdict second of of_second) ∙ sym its)
 
-    lines_once : (saying : Saying) (line other : List ℕ) (one two : Bool) → IsTypeLine saying t graph v line one → IsTypeLine saying t graph v other two → (line ≡ other) × (one ≡ two)
-    lines_once saying line other one two (inl has) (inl its) =
-        let same = told_once saying (record { text = line; well = one }) (record { text = other; well = two }) has.told its.told in
+    lines_once : TreeVerdictsAreOne → (saying : Saying) (line other : List ℕ) (one two : Bool) → IsTypeLine saying t graph v line one → IsTypeLine saying t graph v other two → (line ≡ other) × (one ≡ two)
+    lines_once verdicts_once saying line other one two (inl has) (inl its) =
+        let same = told_once verdicts_once saying (record { text = line; well = one }) (record { text = other; well = two }) has.told its.told in
         (ap (λ (s : Said). s.text) same, ap (λ (s : Said). s.well) same)
-    lines_once saying line other one two (inr is) (inr its) = (no_line_once (declared_shapes t.decls) graph v t.type type_text line other is.why its.why, is.is_well ∙ sym its.is_well)
-    lines_once saying line other one two (inl has) (inr is) = absurd (never_both t.decls t.type few.types well sound few.reached graph v is.why.fault is.why.least.is_fault has.has)
-    lines_once saying line other one two (inr is) (inl has) = absurd (never_both t.decls t.type few.types well sound few.reached graph v is.why.fault is.why.least.is_fault has.has)
+    lines_once verdicts_once saying line other one two (inr is) (inr its) = (no_line_once (declared_shapes t.decls) graph v t.type type_text line other is.why its.why, is.is_well ∙ sym its.is_well)
+    lines_once verdicts_once saying line other one two (inl has) (inr is) = absurd (never_both t.decls t.type few.types well sound few.reached graph v is.why.fault is.why.least.is_fault has.has)
+    lines_once verdicts_once saying line other one two (inr is) (inl has) = absurd (never_both t.decls t.type few.types well sound few.reached graph v is.why.fault is.why.least.is_fault has.has)
 
     bytes_once : (lines : List ScriptLine) (compat : Bool) (answer other : Result (List ℕ) Unedited) → IsBytesLine t lines compat graph v answer → IsBytesLine t lines compat graph v other → answer ≡ other
     bytes_once lines compat answer other (inl is) (inl its) =
@@ -214,16 +213,17 @@ module _ (files_once : HasOneAnswer IsFileAnswer) (types_once : (decls : List De
       let written : IsTypeOf t.decls type t.type = subst (λ d. IsTypeOf d type t.type) (sym is.over) is.written in
       record { well = well; sound = type_sound t.decls type t.type well written; few = subst (λ d. ReachesFew d t.type) (sym is.over) is.few }
 
-  given_once : (saying : Saying) (t : TypeOver) → IsGiven declared_types t → (tree : Tree) (line other : List ℕ) (one two : Bool)
+  given_once : TreeVerdictsAreOne → (saying : Saying) (t : TypeOver) → IsGiven declared_types t → (tree : Tree) (line other : List ℕ) (one two : Bool)
       → IsTypeLine saying t (objects_of tree 0) (root tree 0) line one → IsTypeLine saying t (objects_of tree 0) (root tree 0) other two → (line ≡ other) × (one ≡ two)
-  given_once saying t given tree = let s = given_sound t given in lines_once t s.well s.sound s.few (objects_of tree 0) (root tree 0) saying
+  given_once verdicts_once saying t given tree =
+      let s = given_sound t given in lines_once t s.well s.sound s.few (objects_of tree 0) (root tree 0) verdicts_once saying
 
   edited_once : (t : TypeOver) → IsGiven declared_types t → (lines : List ScriptLine) (compat : Bool) (tree : Tree) (answer other : Result (List ℕ) Unedited)
       → IsBytesLine t lines compat (objects_of tree 0) (root tree 0) answer → IsBytesLine t lines compat (objects_of tree 0) (root tree 0) other → answer ≡ other
   edited_once t given lines compat tree = let s = given_sound t given in bytes_once t s.well s.sound s.few (objects_of tree 0) (root tree 0) lines compat
 
-  pub declared_lawful : IsLawful declared_types
-  declared_lawful = record {
+  pub declared_lawful : TreeVerdictsAreOne → IsLawful declared_types
+  declared_lawful verdicts_once = record {
     declarations_once = λ text d refusal is refused. never_refused IsFileAnswer files_once text is.tree refusal is.answer refused;
     same_declarations = same_decls;
     same_refusal = λ text refusal other. refusals_once IsFileAnswer files_once text refusal other;
@@ -239,5 +239,5 @@ module _ (files_once : HasOneAnswer IsFileAnswer) (types_once : (decls : List De
     bytes_once = edited_once;
     path_once = λ text path is none. no_fault paths_once text path is none;
     same_path = λ text path other is its. one_path paths_once text path is other its;
-    line_once = given_once;
+    line_once = given_once verdicts_once;
   }

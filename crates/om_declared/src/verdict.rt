@@ -13,7 +13,6 @@ use om_fault::fault_text;
 use om_fault::laws::texts_are_of_types;
 use om_heap::Heap;
 use om_model::Memory;
-use om_model::list::List;
 use om_model::value::Val;
 use om_stops::put::put;
 use om_table::tables_decide;

@@ -82,8 +82,8 @@ module _ {T : Type 0} (shape : T → ShapeOf T) (Equal : T → T → Type 0) (te
         u,
         o.is,
         is
-        ∙ ap (λ kind. path_text path ++ codes ": expected " ++ text_of u ++ codes ", found " ++ kind)
-        (kind_kept g h pairs pairing x o.value o.alike),
+            ∙ ap (λ kind. path_text path ++ codes ": expected " ++ text_of u ++ codes ", found " ++ kind)
+            (kind_kept g h pairs pairing x o.value o.alike),
       )
   fault_text_kept g h pairs pairing v w t (Clash first second) text alike (x, one, other, at, at', is) =
       let a = place_of_other shape Equal g h pairs pairing first v w t x one alike at in

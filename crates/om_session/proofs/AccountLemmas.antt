@@ -1,5 +1,5 @@
 -- The account of a call, from what each stage gave.
-use Rattle.std.proofs.Common.{◌≡◌, ◌⊎◌, ℕ, zero, suc, Bool, List, [], Ok, Err, inl, inr, refl, sym, ap, ◌∙◌, subst}
+use Rattle.std.proofs.Common.{◌≡◌, ◌⊎◌, ℕ, zero, suc, Bool, List, [], Ok, Err, inl, inr, refl, sym, ap, ◌∙◌, subst, arith}
 use Rattle.om_outcome.specs.declared.status.Status.{Status}
 use Rattle.std.specs.Borrow.{Bor}
 use Rattle.om_outcome.specs.Outcome.{IsUsage, Found, unfetched, nothing, Stop, usage, bad_path, out_of_memory, stops as stops_reply, stopped, ending_of, Request, get, edit, dump, compare, Asks, ReadsTypeOf, dumps, compares}
@@ -30,44 +30,12 @@ use Rattle.om_declared.proofs.TypeLemmas.{path_refused}
 use Rattle.om_commands.specs.Tasks.{by_turns, WantsFile, WantsScript, commands}
 use Rattle.om_work.specs.Reported.{HasAccount}
 use Rattle.om_commands.proofs.FetchLemmas.{wants_file, wants_script, new_fetches}
+use Rattle.om_work.proofs.StopLemmas.{WantsInTurns, nothing_found, none_fetched as nothing_fetched, stop_account}
 
--- ---- a stop before the values
-
-module _ (words : List (List ℕ)) (found : Fetches) (input out : ByteState) (files : Change FilesState) (fetches : FetchesFor (commands declared_types) words files found) (err : Change ByteState) (status : Status) where
-  abbrev given : Given
-  given = record { files = found; input = nothing }
-
-  abbrev ended : Call
-  ended = call (change input input) files (change out out) err status
-
-  abbrev Ended : Type 0
-  Ended = Account (commands declared_types) words ended
-
-  may_be : MayBe (commands declared_types) words ended given
-  may_be = record { input = took_nothing input; files = fetches; untaken = λ none. refl }
-
-  account_of : (s : Stop) → (RunReplies (commands declared_types) words given (stopped s) ⊎ (stops_reply s ≡ stops_reply out_of_memory)) → PutsLine err status (ending_of (stopped s)) → Ended
-  account_of s may line = record {
-    given = given;
-    may_be = may_be;
-    said = [];
-    first = inl (refl, refl);
-    ends = inl (record { last = stops_reply s; may_end = may; out = puts_nothing out; line = line });
-  }
-
-  memory_account : PutsLine err status (ending_of (stopped out_of_memory)) → Ended
-  memory_account line = account_of out_of_memory (inr refl) line
-
-  -- the stop is reported, or that memory ran out for its line
-  pub stop_account : (s : Stop) → (Prepares (commands declared_types) words found (Err s) ⊎ (s ≡ out_of_memory)) → Reports s err status → Ended
-  stop_account s (inl prepared) r = which r.which where
-    which : (r.said ≡ s) ⊎ (r.said ≡ out_of_memory) → Ended
-    which (inl same) = account_of s (inl (Err s, prepared, refl)) (subst (λ s. PutsLine err status (ending_of (stopped s))) same r.line)
-    which (inr same) = memory_account (subst (λ s. PutsLine err status (ending_of (stopped s))) same r.line)
-  stop_account s (inr memory) r = which r.which where
-    which : (r.said ≡ s) ⊎ (r.said ≡ out_of_memory) → Ended
-    which (inl same) = memory_account (subst (λ s. PutsLine err status (ending_of (stopped s))) (same ∙ memory) r.line)
-    which (inr same) = memory_account (subst (λ s. PutsLine err status (ending_of (stopped s))) same r.line)
+-- FILE and SCRIPT are wanted in two turns
+pub values_in_turns : WantsInTurns 2 (commands declared_types)
+values_in_turns request files turn name (inl (first, wants)) = omega (arith, first)
+values_in_turns request files turn name (inr (second, wants)) = omega (arith, second)
 
 -- ---- the values
 
@@ -82,24 +50,9 @@ abbrev two_found : Found → Found → ℕ → List ℕ → Found
 two_found first second zero name = first
 two_found first second (suc turn) name = second
 
-abbrev nothing_found : Fetches
-nothing_found = two_found unfetched unfetched
-
 -- nothing was fetched
 none_fetched : (words : List (List ℕ)) (files : FilesState) → FetchesFor (commands declared_types) words (change files files) nothing_found
-none_fetched words files =
-    new_fetches declared_types words nothing_found files files files (inr (refl, λ name is. refl)) (inr (refl, λ name is. refl))
-
--- memory ran out before FILE was fetched
-pub unread_account : (words : List (List ℕ)) (input out : ByteState) (files : FilesState) (err : Change ByteState) (status : Status)
-    → Reports out_of_memory err status → Account (commands declared_types) words (call (change input input) (change files files) (change out out) err status)
-unread_account words input out files err status r =
-    stop_account words nothing_found input out (change files files) (none_fetched words files) err status out_of_memory (inr refl) r
-
-pub usage_account : (words : List (List ℕ)) → IsUsage words → (input out : ByteState) (files : FilesState) (err : Change ByteState) (status : Status)
-    → Reports usage err status → Account (commands declared_types) words (call (change input input) (change files files) (change out out) err status)
-usage_account words none input out files err status r =
-    stop_account words nothing_found input out (change files files) (none_fetched words files) err status usage (inl (Err usage, (none, refl), refl)) r
+none_fetched words = nothing_fetched (commands declared_types) words 2 values_in_turns
 
 -- PATH is no path, or memory ran out for it
 pub path_account : (words : List (List ℕ)) (name type text : List ℕ) (limit : ℕ) → Asks words (get name type text limit)
@@ -107,7 +60,7 @@ pub path_account : (words : List (List ℕ)) (name type text : List ℕ) (limit 
     → (input out : ByteState) (files : FilesState) (err : Change ByteState) (status : Status)
     → Reports (stop_of stop) err status → Account (commands declared_types) words (call (change input input) (change files files) (change out out) err status)
 path_account words name type text limit asks fault refused stop is input out files err status r =
-    stop_account words nothing_found input out (change files files) (none_fetched words files) err status (stop_of stop) (why is) r where
+    stop_account (commands declared_types) words nothing_found input out (change files files) (none_fetched words files) err status (stop_of stop) (why is) r where
       why : IsPathStop fault stop → Prepares (commands declared_types) words nothing_found (Err (stop_of stop)) ⊎ (stop_of stop ≡ out_of_memory)
       why (inl (memory, is)) = inr is
       why (inr (some, is)) =
@@ -143,7 +96,7 @@ module _ (words : List (List ℕ)) (name type : List ℕ) (saying : Saying) (lim
   pub type_account : (stop : codes.Stop) → GivesType name type found (Err stop) → (input out : ByteState) (err : Change ByteState) (status : Status)
       → Reports (stop_of stop) err status → Account (commands declared_types) words (call (change input input) files (change out out) err status)
   type_account stop gives input out err status r =
-      stop_account words all_found input out files fetches err status (stop_of stop) (gives_err stop gives) r
+      stop_account (commands declared_types) words all_found input out files fetches err status (stop_of stop) (gives_err stop gives) r
 
   -- this is told of the values at the type
   pub told_account : (t : Bor Requested) → GivesType name type found (Ok t.now) → (input out err : Change ByteState) (status : Status)
@@ -172,7 +125,7 @@ module _ (words : List (List ℕ)) (file type script : List ℕ) (compat : Bool)
 
   pub file_account : (stop : codes.Stop) → GivesType file type found (Err stop) → (input out : ByteState) (err : Change ByteState) (status : Status)
       → Reports (stop_of stop) err status → Account (commands declared_types) words (call (change input input) files (change out out) err status)
-  file_account stop gives input out err status r = stop_account words file_found input out files file_fetches err status (stop_of stop) (file_gives stop gives) r
+  file_account stop gives input out err status r = stop_account (commands declared_types) words file_found input out files file_fetches err status (stop_of stop) (file_gives stop gives) r
 
 -- they are, and SCRIPT comes next
 module _ (words : List (List ℕ)) (r : Bor Requested) (script : List ℕ) (compat : Bool) (limit : ℕ) (a b c : FilesState) (asks : AsksToEdit words r.now script compat limit (change a b))
@@ -209,7 +162,7 @@ module _ (words : List (List ℕ)) (r : Bor Requested) (script : List ℕ) (comp
   pub script_account : (stop : codes.Stop) → GivesScript script found (Err stop) → (input out : ByteState) (err : Change ByteState) (status : Status)
       → Reports (stop_of stop) err status → Account (commands declared_types) words (call (change input input) (change a c) (change out out) err status)
   script_account stop gives input out err status reports =
-      stop_account words both_found input out (change a c) both_fetched err status (stop_of stop) (script_gives stop gives) reports
+      stop_account (commands declared_types) words both_found input out (change a c) both_fetched err status (stop_of stop) (script_gives stop gives) reports
 
   -- the values are edited
   pub edits_account : (s : Bor Script) → GivesScript script found (Ok s.now) → (input out err : Change ByteState) (status : Status)

@@ -14,6 +14,8 @@ use Rattle.om_edge.specs.Files.{File, contents_of}
 use Rattle.om_edge.specs.Sink.{Puts}
 use Rattle.om_path.specs.declared.edits.ScriptLine.{ScriptLine}
 use Rattle.om_promises.specs.Call.{Call}
+use Rattle.om_session.specs.All.{on_values, all_commands, IsOfValues, IsPart}
+use Rattle.om_session.proofs.PartLemmas.{only_this}
 use Rattle.om_session.specs.Copied.{IsCanonical, IsLeftAlone, LeavesCanonical}
 use Rattle.om_promises.specs.Given.{TellsBytes}
 use Rattle.om_declared.specs.Language.{TypeOver, declared_types, bytes_for, IsBytesLine}
@@ -97,7 +99,7 @@ module _ (t : TypeOver) (compat : Bool) (limit : ℕ) where
       )
 
 module _ (once : HaveOneOutcome (commands declared_types)) (words : List (List ℕ)) (call : Call)
-    (tells : TellsBytes call.input) (p : Promises (commands declared_types) words call) where
+    (tells : TellsBytes call.input) where
   its_outcome : (input : List ℕ) (files : List File) → AreBytes input → (is : IsLeftAlone words input files)
       → Outcome (commands declared_types) words (contents_of files) input (said_all is.trees)
   its_outcome input files are_bytes is = (
@@ -116,8 +118,11 @@ module _ (once : HaveOneOutcome (commands declared_types)) (words : List (List �
         (reply is.type_is is.compat is.limit is.trees is.canonical (subst AreBytes is.bytes are_bytes)),
   )
 
-  pub leaves_canonical : LeavesCanonical words call
-  leaves_canonical input files honest some is =
+  -- where the words ask to edit, what all commands promise is promised by those on values
+  pub leaves_canonical : IsPart on_values IsOfValues → Promises all_commands words call
+      → LeavesCanonical words call
+  leaves_canonical part all input files honest some is =
+      let p = part.promises words call (only_this IsOfValues words (edit is.file is.type is.script is.compat is.limit) is.asks tt) all in
       let are_bytes : AreBytes input = rw honest.well_read.input_told at tells in
       let o = p.headline input files honest some in
       let given : Given = record { files = told_files files; input = whole input } in

@@ -5,3 +5,5 @@ pub mod EditLemmas
 pub mod AccountLemmas
 pub mod CopyLemmas
 pub mod SaidLemmas
+pub mod PartLemmas
+pub mod TextLemmas

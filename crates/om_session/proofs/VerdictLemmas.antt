@@ -3,12 +3,16 @@ use Rattle.std.proofs.Common.{ℕ, ◌≡◌, ◌∙◌, Bool, List, ◌++◌, O
 use Rattle.std.specs.Prelude.{codes, option_map}
 use Rattle.om_model.specs.declared.value.Val.{Val}
 use Rattle.om_model.specs.declared.value.Obj.{Obj}
+use Rattle.om_types.specs.Equal.{Equal}
 use Rattle.om_types.specs.Fault.{value_at}
+use Rattle.om_types.specs.Names.{names_of}
+use Rattle.om_types.specs.Shape.{shape}
 use Rattle.om_types.specs.Table.{table_shapes}
 use Rattle.om_types.specs.Typing.{HasType}
 use Rattle.om_table.specs.TableDecides.{TheRootIsFirst, TablesDecide}
 use Rattle.om_type_table.specs.Made.{types_of, table_of}
 use Rattle.om_type_table.specs.Laws.{MadeAreLawful}
+use Rattle.om_check.specs.declared.verdict.Verdict.{Verdict}
 use Rattle.om_declared.specs.declared.types.Requested.{Requested}
 use Rattle.om_outcome.specs.Outcome as outcome
 use Rattle.om_show.specs.Laws.{RootsShowAlike, SameClass}
@@ -16,7 +20,11 @@ use Rattle.om_show.specs.Shown.{shown_text, shown_at}
 use Rattle.om_show.specs.Tables.{shape_in, names_in}
 use Rattle.om_session.specs.declared.verdict.Saying.{Saying}
 use Rattle.om_session.specs.declared.verdict.Saying.TheVariants as sayings
-use Rattle.om_declared.specs.Language.{told_of, part_or_none}
+use Rattle.om_declared.specs.Language.{IsToldOf, part_or_none}
+use Rattle.om_tree_check.specs.Laws.{TablesHaveTheVerdict}
+use Rattle.om_tree_check.specs.TreeTable.{IsTableVerdict}
+use Rattle.om_tree_check.specs.VerdictText.{is_sound, verdict_text}
+use Rattle.om_trees.specs.declared.verdict.TreeVerdict.{TreeVerdict}
 use Rattle.om_declared.specs.Types.{type_over, IsReady}
 use Rattle.om_session.specs.Verdict.{PutsLine, saying_of}
 use Rattle.om_session.proofs.TypedLemmas.{place_has_type}
@@ -27,41 +35,50 @@ module _ (r : Requested) (ready : IsReady r) where
   module _ (root_first : TheRootIsFirst) (graph : List Obj) (root : Val) where
     module _ (decide : TablesDecide) (has : HasType (table_shapes (table_of r.table)) graph root 0) where
       -- what is told of a value that has the type is put after another text
-      tells : (saying : outcome.Saying) (text : List ℕ) (well : Bool) → text ≡ (told_of saying (type_over r) graph root).text → well ≡ (told_of saying (type_over r) graph root).well
+      tells : (saying : outcome.Saying) (text : List ℕ) (well : Bool) → IsToldOf saying (type_over r) graph root (record { text = text; well = well })
           → (old new : List ℕ) → new ≡ old ++ text → PutsLine saying (type_over r) graph root old new well
-      tells saying text well spelled is_well old new put = (
+      tells saying text well told old new put = (
         text,
         inl (record {
           has = (decide r.decls r.ty (types_of r.table) (table_of r.table) (made r ready root_first graph root) graph root 0 r.ty (is_first r ready root_first graph root)).0 has;
-          spelled = spelled;
-          is_well = is_well;
+          told = told;
         }),
         put,
       )
 
       pub puts_yes : (saying : Saying) → saying ≡ sayings.Verdict → (old new : List ℕ) → new ≡ old ++ codes "yes" → PutsLine (saying_of saying) (type_over r) graph root old new true
       puts_yes saying is old new put =
-          subst (λ s. PutsLine (saying_of s) (type_over r) graph root old new true) (sym is) (tells outcome.the_verdict (codes "yes") true refl refl old new put)
+          subst (λ s. PutsLine (saying_of s) (type_over r) graph root old new true) (sym is) (tells outcome.the_verdict (codes "yes") true refl old new put)
+
+      pub puts_trees : TablesHaveTheVerdict → (verdict : TreeVerdict) → IsTableVerdict r.table graph root verdict → (old new : List ℕ) → new ≡ old ++ verdict_text verdict
+          → PutsLine outcome.the_trees (type_over r) graph root old new (is_sound verdict)
+      puts_trees same verdict is old new put =
+          tells outcome.the_trees (verdict_text verdict) (is_sound verdict) (verdict, (same r.decls r.ty r.table ready.made graph root verdict).0 is, refl) old new put
 
       module _ (alike : RootsShowAlike) where
         pub puts_text : (saying : Saying) → saying ≡ sayings.Text → (old new : List ℕ) → new ≡ old ++ shown_text (shape_in r.table) (names_in r.table) graph root 0
             → PutsLine (saying_of saying) (type_over r) graph root old new true
         puts_text saying is old new put =
             subst (λ s. PutsLine (saying_of s) (type_over r) graph root old new true) (sym is)
-            (tells outcome.the_text (shown_text (shape_in r.table) (names_in r.table) graph root 0) true ((alike r.decls r.ty r.table ready.made).whole graph root) refl old new put)
+            (tells outcome.the_text (shown_text (shape_in r.table) (names_in r.table) graph root 0) true
+            (ap (λ text. let s : outcome.Said = record { text = text; well = true } in s) ((alike r.decls r.ty r.table ready.made).whole graph root)) old new put)
 
         module _ (path : List ℕ) where
           abbrev by_number : Option (List ℕ)
           by_number = shown_at (shape_in r.table) (names_in r.table) graph (SameClass r.table) root 0 path
 
-          part_is : told_of (outcome.the_part path) (type_over r) graph root ≡ part_or_none by_number
+          abbrev told_part : outcome.Said
+          told_part = part_or_none (shown_at (shape r.decls) (names_of r.decls) graph (Equal r.decls) root r.ty path)
+
+          part_is : told_part ≡ part_or_none by_number
           part_is = ap part_or_none (sym ((alike r.decls r.ty r.table ready.made).part graph root path))
 
           puts_part : (part : Option (List ℕ)) → by_number ≡ part → (old new : List ℕ) → new ≡ old ++ (part_or_none part).text
               → PutsLine (outcome.the_part path) (type_over r) graph root old new (part_or_none part).well
-          puts_part part is old new put =
-              let same : part_or_none part ≡ told_of (outcome.the_part path) (type_over r) graph root = sym (part_is ∙ ap part_or_none is) in
-              tells (outcome.the_part path) (part_or_none part).text (part_or_none part).well (ap (λ (s : outcome.Said). s.text) same) (ap (λ (s : outcome.Said). s.well) same) old new put
+          puts_part None is old new put =
+              tells (outcome.the_part path) (codes "none") false (sym (part_is ∙ ap part_or_none is)) old new put
+          puts_part (Some text) is old new put =
+              tells (outcome.the_part path) text true (sym (part_is ∙ ap part_or_none is)) old new put
 
           -- the path leads somewhere
           pub puts_found : (w : Val) (i : ℕ) → Some (w, i) ≡ value_at (table_shapes (table_of r.table)) graph root 0 path → (old new : List ℕ)

@@ -5,3 +5,4 @@ pub mod Telling
 pub mod Values
 pub mod Asked
 pub mod SaidOfValue
+pub mod All

@@ -2,6 +2,7 @@
 use Rattle.std.specs.Prelude.{ℕ, ◌≡◌, Bool, true, List, ◌++◌}
 use Rattle.om_model.specs.declared.value.Val.{Val}
 use Rattle.om_model.specs.declared.value.Obj.{Obj}
+use Rattle.om_check.specs.declared.verdict.Verdict.{Verdict}
 use Rattle.om_outcome.specs.Outcome as outcome
 use Rattle.om_show.specs.Dumped.{dump_text}
 use Rattle.om_path.specs.declared.edits.ScriptLine.{ScriptLine}
@@ -16,6 +17,7 @@ abbrev pub saying_of : Saying → outcome.Saying
 saying_of sayings.Verdict = outcome.the_verdict
 saying_of sayings.Text = outcome.the_text
 saying_of (sayings.Part path) = outcome.the_part path.now
+saying_of sayings.Trees = outcome.the_trees
 
 -- the work that says so of each value
 abbrev pub work_by : Speech → outcome.Work TypeOver ScriptLine

@@ -10,7 +10,6 @@ ghost use Rattle.om_declared.specs.Types.{IsReady};
 use om_declared::{Requested, check_type, put_bytes};
 use om_edge::Sink;
 use om_edit::{EditRefusal, apply, refusal_text, tables_edit_alike};
-use om_heap::Heap;
 use om_literal::LiteralFault;
 use om_model::Memory;
 use om_path::{Script, ScriptLine};

@@ -1,6 +1,7 @@
 //! The top call: the words, the files, the type, and the values of the input one by one.
 #![tactic(auto)]
 
+mod build;
 mod commands;
 mod edit;
 mod top;
@@ -8,7 +9,8 @@ mod values;
 mod verdict;
 
 pub use commands::{
-    declared_commands_are_lawful, declared_commands_have_one_outcome,
-    declared_commands_keep_promises, declared_statuses_have_causes,
+    all_commands_are_lawful, all_commands_have_one_outcome, all_commands_have_parts,
+    all_commands_keep_promises, statuses_of_texts_have_causes, statuses_of_values_have_causes,
+    values_have_one_outcome,
 };
 pub use top::run;

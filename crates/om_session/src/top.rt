@@ -12,6 +12,10 @@ ghost use Rattle.om_promises.specs.Causes.{OutsideCauses};
 ghost use Rattle.om_promises.specs.Promises.{Promises};
 ghost use Rattle.om_commands.specs.Tasks.{commands};
 ghost use Rattle.om_meanings.specs.Causes.{Causes};
+ghost use Rattle.om_causes.specs.Causes.{Causes as CausesBy};
+ghost use Rattle.om_texts.specs.Meanings.{texts_tables};
+ghost use Rattle.om_build.specs.Lines.{declared_texts};
+ghost use Rattle.om_session.specs.All.{on_texts, all_commands, IsOfValues, IsOfTexts, AskOnly};
 ghost use Rattle.om_work.specs.Reported.{HasAccount};
 ghost use Rattle.om_session.specs.Telling.{AsksToTell, AsksToEdit};
 ghost use Rattle.om_declared.specs.Types.{IsReady};
@@ -20,9 +24,10 @@ ghost use Rattle.om_session.specs.Verdict.{saying_of};
 ghost use Rattle.om_command_line.specs.Requests.{texts, request_of};
 ghost use Rattle.om_stops.specs.Stops.{stop_of, Reports};
 
+use crate::build::build;
 use crate::commands::{
-    declared_commands_have_one_outcome, declared_commands_keep_promises,
-    declared_statuses_have_causes,
+    all_commands_have_parts, all_commands_keep_promises, statuses_of_texts_have_causes,
+    statuses_of_values_have_causes, values_have_one_outcome,
 };
 use crate::edit::Edits;
 use crate::values::{Job, Progress};
@@ -257,12 +262,13 @@ fn run_request<S: Source, O: Opener, K: Sink, E: Sink>(
     err: &mut E,
 ) -> Status
     ensures { (words : List (List ℕ)) → Asks words (request_of request.entry)
-        → Account (commands declared_types) words
+        → Account all_commands words
         (call (change (S.state input.old) (S.state input.new))
         (change (O.state files.old) (O.state files.new))
         (change (K.state out.old) (K.state out.new))
         (change (E.state err.old) (E.state err.new)) result) }
 {
+    all_commands_have_parts();
     match request {
         Request::Check {
             file,
@@ -311,6 +317,21 @@ fn run_request<S: Source, O: Opener, K: Sink, E: Sink>(
         } => edit(
             alloc, file, type_text, script, compat, limit, input, files, out, err,
         ),
+        Request::Trees {
+            file,
+            type_text,
+            limit,
+        } => tell(
+            alloc,
+            file,
+            type_text,
+            Saying::Trees,
+            limit,
+            input,
+            files,
+            out,
+            err,
+        ),
         Request::Dump { limit } => take_values(
             alloc,
             Job::Say(Speech::Dump, limit),
@@ -319,9 +340,7 @@ fn run_request<S: Source, O: Opener, K: Sink, E: Sink>(
             err,
         ),
         Request::Same { limit } => take_values(alloc, Job::Compare(limit), input, out, err),
-        // No set of commands has these yet, so that nothing is said of them.
-        Request::Build { .. } => report(alloc, err, Stop::Memory),
-        Request::Generate { .. } => report(alloc, err, Stop::Memory),
+        Request::Build { file, type_text } => build(alloc, file, type_text, input, files, out, err),
     }
 }
 
@@ -334,7 +353,7 @@ fn run_command<S: Source, O: Opener, K: Sink, E: Sink>(
     out: &mut K,
     err: &mut E,
 ) -> Status
-    ensures { Account (commands declared_types) (texts words.now)
+    ensures { Account all_commands (texts words.now)
         (call (change (S.state input.old) (S.state input.new))
         (change (O.state files.old) (O.state files.new))
         (change (K.state out.old) (K.state out.new))
@@ -357,17 +376,23 @@ pub fn run<S: Source, O: Opener, K: Sink, E: Sink>(
     out: &mut K,
     err: &mut E,
 ) -> Status
-    ensures promises { Promises (commands declared_types) (texts words.now)
+    ensures promises { Promises all_commands (texts words.now)
         (call (change (S.state input.old) (S.state input.new))
         (change (O.state files.old) (O.state files.new))
         (change (K.state out.old) (K.state out.new))
         (change (E.state err.old) (E.state err.new)) result) }
-    ensures causes { Causes declared_types (texts words.now)
+    ensures outside { OutsideCauses all_commands (texts words.now)
         (call (change (S.state input.old) (S.state input.new))
         (change (O.state files.old) (O.state files.new))
         (change (K.state out.old) (K.state out.new))
         (change (E.state err.old) (E.state err.new)) result) }
-    ensures outside { OutsideCauses (commands declared_types) (texts words.now)
+    ensures causes { AskOnly IsOfValues (texts words.now) → Causes declared_types (texts words.now)
+        (call (change (S.state input.old) (S.state input.new))
+        (change (O.state files.old) (O.state files.new))
+        (change (K.state out.old) (K.state out.new))
+        (change (E.state err.old) (E.state err.new)) result) }
+    ensures causes_of_texts { AskOnly IsOfTexts (texts words.now)
+        → CausesBy on_texts (texts_tables declared_types declared_texts) (texts words.now)
         (call (change (S.state input.old) (S.state input.new))
         (change (O.state files.old) (O.state files.new))
         (change (K.state out.old) (K.state out.new))
@@ -379,8 +404,10 @@ pub fn run<S: Source, O: Opener, K: Sink, E: Sink>(
         (change (E.state err.old) (E.state err.new)) result) }
 {
     input.tells_bytes();
-    declared_commands_have_one_outcome();
-    declared_commands_keep_promises();
-    declared_statuses_have_causes();
+    all_commands_keep_promises();
+    all_commands_have_parts();
+    values_have_one_outcome();
+    statuses_of_values_have_causes();
+    statuses_of_texts_have_causes();
     run_command(alloc, words, input, files, out, err)
 }

@@ -1,6 +1,6 @@
 //! What is said of a value.
 
-ghost use Rattle.std.specs.Prelude.{length, IfOk};
+ghost use Rattle.std.specs.Prelude.{◌≡◌, length, IfOk};
 ghost use Rattle.om_model.specs.Graph.{IsValue};
 ghost use Rattle.om_types.specs.Typing.{HasType};
 ghost use Rattle.om_types.specs.Table.{table_shapes};
@@ -9,8 +9,9 @@ ghost use Rattle.om_declared.specs.Types.{type_over, IsReady};
 ghost use Rattle.om_session.specs.Verdict.{IsReadySpeech, IsSaidOf, PutsLine, saying_of};
 ghost use Rattle.om_session.specs.declared.verdict.Speech.TheVariants as speeches;
 ghost use Rattle.om_check.specs.declared.verdict.Verdict.TheVariants.{No};
-ghost use Rattle.om_outcome.specs.Outcome.{the_part};
+ghost use Rattle.om_outcome.specs.Outcome.{the_part, the_trees};
 ghost use Rattle.om_declared.specs.Verdict.{IsVerdictOf};
+ghost use Rattle.om_tree_check.specs.VerdictText.{is_sound as is_sound_verdict};
 
 use om_check::Verdict;
 use om_declared::{Requested, find_verdict, put_no};
@@ -24,16 +25,19 @@ use om_print::{put_dump, put_shown_at};
 use om_show::laws::roots_show_alike;
 use om_stops::put::put;
 use om_table::tables_decide;
+use om_tree_check::{put_verdict, tables_have_the_verdict, tables_judge_trees, trees};
+use om_trees::TreeVerdict;
 use om_type_table::laws::tables_are_lawful;
 use std::alloc::Global;
 
-/// What is told of a value that has a type: that it has it, its text, or the text of the part at a
-/// path.
+/// What is told of a value that has a type: that it has it, its text, the text of the part at a
+/// path, or the verdict on its sets and maps.
 #[derive(Clone, Copy)]
 pub enum Saying<'a> {
     Verdict,
     Text,
     Part(&'a Path),
+    Trees,
 }
 
 /// What is said of a value: something at a type, or its lines as it is.
@@ -175,6 +179,7 @@ fn put_told(
             Ok(true)
         }
         Saying::Part(path) => put_part(text, alloc, heap, root, requested, path),
+        Saying::Trees => put_trees(text, alloc, heap, root, requested),
     }
 }
 
@@ -208,4 +213,36 @@ fn put_part(
             Ok(false)
         }
     }
+}
+
+/// Whether the sets and maps are sound.
+fn is_sound(verdict: &TreeVerdict) -> bool
+    ensures { result ≡ is_sound_verdict verdict.now }
+{
+    match verdict {
+        TreeVerdict::Sound(_) => true,
+        TreeVerdict::Faulty(_, _) => false,
+    }
+}
+
+/// Puts the verdict on the sets and maps in a value at the end, and answers whether they are sound.
+fn put_trees(
+    text: &mut Vec<u8>,
+    alloc: Global,
+    heap: &Heap,
+    root: Val,
+    requested: &Requested,
+) -> Result<bool, Memory>
+    requires value { IsValue (length heap.now) root }
+    requires ready { IsReady requested.now }
+    requires typed { HasType (table_shapes (table_of requested.now.table)) heap.now root 0 }
+    ensures { IfOk result
+        (PutsLine the_trees (type_over requested.now) heap.now root text.old.items text.new.items) }
+{
+    tables_decide();
+    tables_judge_trees();
+    tables_have_the_verdict();
+    let verdict = trees(alloc, heap, root, &requested.table)?;
+    put_verdict(text, alloc, &verdict)?;
+    Ok(is_sound(&verdict))
 }

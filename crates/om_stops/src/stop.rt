@@ -259,12 +259,7 @@ fn put_script_fault(
 }
 
 // Puts the text of a fault of a line of the input at the end.
-fn put_text_line(
-    line: &mut Vec<u8>,
-    alloc: Global,
-    number: u64,
-    text: &[u8],
-) -> Result<(), Memory>
+fn put_text_line(line: &mut Vec<u8>, alloc: Global, number: u64, text: &[u8]) -> Result<(), Memory>
     ensures { OnOk result
         (line.new.items ≡ line.old.items ++ stop_text (text_line number text.now)) }
 {

@@ -8,7 +8,7 @@ ghost use Rattle.om_promises.specs.Lawful.{AreLawful, AreInTurns};
 ghost use Rattle.om_promises.specs.LawfulLanguage.{IsLawful};
 ghost use Rattle.om_promises.specs.Outside.{OnlyReadFault, OnlyWriteFault};
 ghost use Rattle.om_promises.specs.Promises.{IfStop, IfEnd, IfUsage};
-ghost use Rattle.om_causes.specs.Causes.{Tables, AreExact, Causes};
+ghost use Rattle.om_causes.specs.Causes.{AreExact, Causes};
 ghost use Rattle.om_choice.specs.Choice.{AreApart};
 ghost use Rattle.om_commands.specs.Tasks.{commands};
 ghost use Rattle.om_texts.specs.Laws.{IsIdleElsewhere};

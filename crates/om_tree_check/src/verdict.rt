@@ -7,7 +7,7 @@ ghost use Rattle.om_types.specs.Typing.{HasType};
 ghost use Rattle.om_type_table.specs.Made.{table_of};
 ghost use Rattle.om_check.specs.Told.{AreOrdered};
 ghost use Rattle.om_trees.specs.Judgement.{AreClosed};
-ghost use Rattle.om_tree_check.specs.NodeVisits.{AreNodeVisits, IsMarked, NoneMarked, IsVerdictAmong};
+ghost use Rattle.om_tree_check.specs.NodeVisits.{NoneMarked, IsVerdictAmong};
 ghost use Rattle.om_tree_check.specs.TreeTable.{IsTreeTable, AreMarked, IsTableVerdict};
 
 use crate::nodes::{Nodes, nodes_among};

@@ -4,3 +4,4 @@ pub mod RunLemmas
 pub mod AccountLemmas
 pub mod OutsideLemmas
 pub mod GatherLemmas
+pub mod StopLemmas

@@ -17,9 +17,9 @@ returns-in_err-read_line g c =
 pub returns-in_err-put_value-in-Some : goal.returns-in_err-put_value-in-Some
 returns-in_err-put_value-in-Some g c =
     let read : ReadsLine (type_over c.args.requested.now) c.args.line.now c.args.number
-        c.read_line.new.heap (Ok (Some c.in-Some.root)) =
-        subst (λ v. ReadsLine (type_over c.args.requested.now) c.args.line.now c.args.number
-        c.read_line.new.heap (Ok v)) c.in-Some.is c.in_ok-read_line.ensures in
+    c.read_line.new.heap (Ok (Some c.in-Some.root)) =
+    subst (λ v. ReadsLine (type_over c.args.requested.now) c.args.line.now c.args.number
+    c.read_line.new.heap (Ok v)) c.in-Some.is c.in_ok-read_line.ensures in
     line_halts c.args.requested.now c.args.line.now c.args.number c.args.texts
     (change (g.K.Sink.state c.args.out.now) (g.K.Sink.state c.put_value.new.out))
     c.in_err-put_value-in-Some.field-0.0 c.from_residual-in_err-put_value-in-Some.result
@@ -29,9 +29,9 @@ returns-in_err-put_value-in-Some g c =
 pub returns-in_ok-put_value-in-Some : goal.returns-in_ok-put_value-in-Some
 returns-in_ok-put_value-in-Some g c =
     let read : ReadsLine (type_over c.args.requested.now) c.args.line.now c.args.number
-        c.read_line.new.heap (Ok (Some c.in-Some.root)) =
-        subst (λ v. ReadsLine (type_over c.args.requested.now) c.args.line.now c.args.number
-        c.read_line.new.heap (Ok v)) c.in-Some.is c.in_ok-read_line.ensures in
+    c.read_line.new.heap (Ok (Some c.in-Some.root)) =
+    subst (λ v. ReadsLine (type_over c.args.requested.now) c.args.line.now c.args.number
+    c.read_line.new.heap (Ok v)) c.in-Some.is c.in_ok-read_line.ensures in
     value_counts c.args.requested.now c.args.line.now c.args.number c.args.texts
     (change (g.K.Sink.state c.args.out.now) (g.K.Sink.state c.put_value.new.out))
     (c.in_ok-put_value-in-Some.ensures c.args.line.now c.args.number read.1)

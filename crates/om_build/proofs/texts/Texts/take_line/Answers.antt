@@ -59,8 +59,7 @@ pub returns-clause-takes : goal.returns-clause-takes
 returns-clause-takes g c = λ bytes said h.
     let s = c.args.self.now in
     let e = c.in_ok-self.ensures in
-    let line = c.as_slice-line.ensures.value ∙ c.in_ok-keep.ensures in
-    (
+    let line = c.as_slice-line.ensures.value ∙ c.in_ok-keep.ensures in (
       e.2,
       subst (λ held. HasTexts s.requested.now held (s.lines + 1) c.in_ok-self.field-0
           (bytes ++ (c.args.end.now ++ 10 ∷ [])) (said ++ e.2 ∷ []))

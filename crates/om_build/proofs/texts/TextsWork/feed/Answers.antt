@@ -56,8 +56,7 @@ returns-in_ok-take_line-in-Some-clause-feeds g c = λ reads.
     let n = c.in-Some.n in
     let at = feed_at c.args.in_hand.now n c.in-Some.ensures.0.high c.in-Some.ensures.0.before
     c.in-Some.ensures.1 in
-    let out = change (g.K.Sink.state c.args.out.now) (g.K.Sink.state c.take_line.new.out) in
-    (
+    let out = change (g.K.Sink.state c.args.out.now) (g.K.Sink.state c.take_line.new.out) in (
       omega arith,
       at.within,
       λ bytes said h.
