@@ -1,7 +1,7 @@
 #!/bin/sh
 # Checks files that OCaml itself wrote with omarshal, at the type files of examples/: each compiled interface of the
 # standard library and of the compiler, each .cmo, .cma, .cmx and .cmxa there, and a map, a set, a hash table and a queue.
-# Each value has its type, and comes back byte for byte from `edit` with an empty script; with a byte of it damaged it is
+# Each value has its type, comes back byte for byte from `edit` with an empty script, and from `build` of what `show` puts of it; with a byte of it damaged it is
 # refused, or does not have the type, or is another value of it, and omarshal ends with 0, 1 or 4 all the same. The argument
 # is the program; with none it is the one that `./omarshal` built.
 set -eu
@@ -58,7 +58,8 @@ nth() {
     head -c "$(length_of "$work/rest")" "$work/rest"
 }
 
-# value WHAT TYPES TYPE LINE: line LINE of the check of $work/values at a type is yes, and `edit` writes that value as it is.
+# value WHAT TYPES TYPE LINE: line LINE of the check of $work/values at a type is yes, `edit` writes that value as it is, and
+# `build` makes the same bytes of its text.
 value() {
     checked=$((checked + 1))
     "$program" check "$examples/$2" "$3" < "$work/values" > "$work/lines" 2> "$work/told" || true
@@ -72,6 +73,13 @@ value() {
     if ! "$program" edit "$examples/$2" "$3" /dev/null < "$work/one" > "$work/written" 2> "$work/told" ||
         ! cmp -s "$work/one" "$work/written"; then
         echo "FAILED: edit of $1 at $3 with an empty script: $(cat "$work/told")"
+        failures=$((failures + 1))
+    fi
+    checked=$((checked + 1))
+    if ! "$program" show "$examples/$2" "$3" < "$work/one" > "$work/text" 2> "$work/told" ||
+        ! "$program" build "$examples/$2" "$3" < "$work/text" > "$work/built" 2> "$work/told" ||
+        ! cmp -s "$work/written" "$work/built"; then
+        echo "FAILED: build of what show puts of $1 at $3: $(cat "$work/told")"
         failures=$((failures + 1))
     fi
 }

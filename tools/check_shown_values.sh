@@ -1,7 +1,7 @@
 #!/bin/sh
 # Reads what `omarshal show` prints back by OCaml: values of every kind are written by OCaml and shown, each text is turned
 # into an expression of OCaml (shown_to_ocaml.py), whose value OCaml writes again, and `omarshal same` says that both are the
-# same, with all that they share. The argument is the program; with none it is the one that `./omarshal` built.
+# same, with all that they share. What `build` makes of the text are the bytes that `edit` writes with an empty script. The argument is the program; with none it is the one that `./omarshal` built.
 set -eu
 export LC_ALL=C
 for needed in ocaml ocamlc python3; do
@@ -38,6 +38,11 @@ while IFS='	' read -r file type; do
         echo "FAILED: show $file at $type: $(head -c 200 text) $(cat told)"
         failures=$((failures + 1))
         continue
+    fi
+    if ! "$program" edit shown.ml "$type" /dev/null < "values/$file" > edited 2> told ||
+        ! "$program" build shown.ml "$type" < text > built 2> told || ! cmp -s edited built; then
+        echo "FAILED: build of what show puts of $file at $type: $(cat told)"
+        failures=$((failures + 1))
     fi
     {
         printf 'let () = write "again_%s" (' "$file"
