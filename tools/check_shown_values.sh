@@ -61,5 +61,21 @@ while IFS='	' read -r file type; do
         failures=$((failures + 1))
     fi
 done < values.tsv
+
+# a list of a million numbers: a text of some 12 MB in one line, nested a million times, with little stack
+ocaml -noprompt > /dev/null 2>&1 << 'END'
+let () =
+  let rec down n list = if n = 0 then list else down (n - 1) (n :: list) in
+  let file = open_out_bin "long" in
+  Marshal.to_channel file (down 1_000_000 []) [];
+  close_out file;;
+END
+if (ulimit -s 128 && "$program" show /dev/null 'int list' < long > text && "$program" build /dev/null 'int list' < text > built &&
+    "$program" edit /dev/null 'int list' /dev/null < long > edited) && cmp -s edited built; then
+    passed=$((passed + 1))
+else
+    echo "FAILED: a list of a million numbers is another value when its text is built"
+    failures=$((failures + 1))
+fi
 echo "$passed passed, $failures failed"
 [ "$failures" -eq 0 ]

@@ -20,19 +20,28 @@ cd "$work" || exit 2
 for _ in 1 2 3; do
     printf '\x84\x95\xa6\xbe\0\0\0\x05\0\0\0\x02\0\0\0\x06\0\0\0\x06\xa0\x41\xa0\x42\x40'
 done >input
-echo 'type t = int list' >types
+cat >types <<'END'
+type t = int list
+type tree = Empty | Node of {l : tree; v : int; r : tree; h : int}
+END
+# The set of 1, 2 and 3, and one whose root states a height too great.
+printf '\x84\x95\xa6\xbe\0\0\0\x0d\0\0\0\x03\0\0\0\x0f\0\0\0\x0f\xc0\xc0\x40\x41\x40\x41\x42\xc0\x40\x43\x40\x41\x42' >trees
+printf '\x84\x95\xa6\xbe\0\0\0\x05\0\0\0\x01\0\0\0\x05\0\0\0\x05\xc0\x40\x41\x40\x42' >>trees
+# A text of each kind of line: one with a comment, a blank one, one that has no line feed at its end.
+printf '::(1, ::(2, [])) (* two *)\n\n#0=::(3, [])' >texts
 printf '0 set .1 = ::(7, [])\n2 link .1.1 = .\n2 unshare .\n' >script
 
 wrong=0
+input=input
 refuse() {
     local name=$1 status want growth=0 refused=0 last=0
     shift
-    "$program" "$@" <input >whole 2>whole.err
+    "$program" "$@" <"$input" >whole 2>whole.err
     want=$?
     # Past the last growth of the run nothing is refused any more.
     while [ "$growth" -le $((last + 60)) ]; do
         growth=$((growth + 1))
-        FAIL_GROWTH=$growth LD_PRELOAD=$work/shim.so "$program" "$@" <input >out 2>err
+        FAIL_GROWTH=$growth LD_PRELOAD=$work/shim.so "$program" "$@" <"$input" >out 2>err
         status=$?
         if [ "$status" -eq 9 ] && [ "$(cat err)" = 'omarshal: out of memory' ] &&
             cmp -s -n "$(stat -c %s out)" out whole; then
@@ -53,4 +62,10 @@ refuse get get types t .1
 refuse edit edit types t script
 refuse dump dump
 refuse same same
+input=trees
+refuse trees trees types tree
+input=texts
+refuse build build types t
+refuse 'build (refused)' build types 'int option'
+refuse gen gen 7 3 'int list'
 exit "$wrong"

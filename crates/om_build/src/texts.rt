@@ -27,8 +27,8 @@ fn keep(held: &mut Vec<u8>, bytes: &[u8]) -> Result<(), Memory>
 }
 
 /// The texts so far: how many lines there were, and how many of them were texts; and what came
-/// after the last line feed. One line is held at a time, and the values of all texts stand in one
-/// heap, one after the other.
+/// after the last line feed. One line is held at a time, and the value of a text takes the heap of
+/// the one before.
 #[derive(Drop)]
 pub struct Texts<'a> {
     requested: &'a Requested,

@@ -5,10 +5,12 @@
 --   2   the words ask for nothing
 --   3   what FILE holds is refused, or TYPE (`Bar`)
 --   5   a text is refused, and all lines before it are blank or made (`Break`)
+--   6   FILE is not read to its end (`Bar`)
 --   8   FILE could not be opened (`Bar`)
+--   10  FILE has 2^48 bytes or more (`Bar`)
 --
--- No other comes of the texts or the files. What 6, 7, 9 and 10 mean, and the faults of files, is
--- the same for all commands: it stands in om_promises.
+-- Neither the texts nor the files cause another. What 6, 7, 9 and 10 mean of the input, of out and
+-- of memory is the same for all commands: it stands in om_promises.
 use Rattle.std.specs.Prelude.{ℕ, ◌≡◌, ◌≢◌, ◌⊎◌, List, [], ◌∷◌, Some, Err}
 use Rattle.std.specs.List.{AllByRecursion}
 use Rattle.om_outcome.specs.declared.status.Status.{Status}
