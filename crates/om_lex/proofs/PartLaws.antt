@@ -281,6 +281,14 @@ spans_of place (Word form ∷ parts) rest are =
     let end : place + len + length (flat_map part_bytes parts) ≡ place + length (form_bytes form ++ flat_map part_bytes parts) = omega (arith, length-append (form_bytes form) (flat_map part_bytes parts)) in
     (omega arith, form-positive form are.0.0.written, subst (SpansWithin (place + len) (lexemes_of (place + len) parts)) end later)
 
+-- a text has no more lexemes than bytes
+pub few_lexemes : (text : List ℕ) (lexemes : List Lexeme) → Lexes text lexemes → length lexemes ≤ length text
+few_lexemes text lexemes is = omega (arith, ap length is.3, ap length is.2, few 0 _ _ (spans_of 0 is.0 [] is.1))
+  where
+    few : (from : ℕ) (xs : List Lexeme) (end : ℕ) → SpansWithin from xs end → from + length xs ≤ end
+    few from [] end spans = omega (arith, spans)
+    few from (x ∷ xs) end spans = omega (arith, spans.0, spans.1, few (x.span.first + x.span.len) xs end spans.2)
+
 pub spans_within : (text : List ℕ) (r : Result (Vec Lexeme) LexFault) → IfOk r (λ v. Lexes text v.items) → IfOk r (λ v. SpansWithin 0 v.items (length text))
 spans_within text (Ok v) is =
     let spans = spans_of 0 is.0 [] is.1 in

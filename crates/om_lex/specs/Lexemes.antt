@@ -36,9 +36,9 @@ pub record Reached (text : List ℕ) (at : ℕ) (lexemes : List Lexeme) : Type 0
   pub inside : at ≤ length text
   pub found : lexemes ≡ lexemes_of 0 parts
 
--- after these lexemes comes another one, or none, and then they are the text's; or it has a fault
+-- after these lexemes comes another one, or none up to the end; or the text has a fault
 abbrev pub GoesOn : List ℕ → List Lexeme → Result (Option Lexeme) LexFault → Type 0
-GoesOn text front (Ok None) = Lexes text front
+GoesOn text front (Ok None) = Reached text (length text) front
 GoesOn text front (Ok (Some lexeme)) =
     Reached text (lexeme.span.first + lexeme.span.len) (front ++ lexeme ∷ [])
 GoesOn text front (Err fault) = UnlessMemory (Faults text) fault

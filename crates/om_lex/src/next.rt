@@ -13,7 +13,7 @@ use std::alloc::Global;
 pub fn next_lexeme(alloc: Global, text: &[u8], from: usize) -> Result<Option<Lexeme>, LexFault>
     requires { from ≤ length text.now }
 
-    // It comes after those before the place; or they are all; or the text has this fault.
+    // It comes after those before the place; or they are all; or the text has a fault.
     ensures next { (front : List Lexeme) → Reached text.now from front
         → GoesOn text.now front result }
 

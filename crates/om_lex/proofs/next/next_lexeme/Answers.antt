@@ -1,10 +1,10 @@
-use Rattle.std.proofs.Common.{◌+◌, Ok, drop, ap, subst, arith, ◌∙◌}
+use Rattle.std.proofs.Common.{◌+◌, ◌≡◌, Ok, length, drop, ap, subst, arith, ◌∙◌}
 use Rattle.std.proofs.lemmas.List.{take_rest, append-nil}
 use Rattle.om_lex.specs.declared.found.Step.{Step}
 use Rattle.om_lex.specs.declared.found.Step.TheVariants as steps
 use Rattle.om_lex.specs.Lexemes.{lexeme_in, Reached}
 use Rattle.om_lex.proofs.FaultLaws.{IsPartAt}
-use Rattle.om_lex.proofs.PartLaws.{reached_more, reached_further, reached_end, part_here, told_inside, told_fault, goes_down}
+use Rattle.om_lex.proofs.PartLaws.{reached_more, reached_further, part_here, told_inside, told_fault, goes_down}
 use Rattle.om_lex.proofs.next.next_lexeme.Goals as goal
 use Rattle.om_lex.proofs.next.next_lexeme.Goals.{In-Ok-Gap, In-Ok-Word}
 
@@ -50,4 +50,6 @@ returns-in-Err-clause-next c front r =
     rw c.moved.ensures (told_fault c.args.text.now c.loop-at.at front c.in-Err.fault (c.loop-at.invariant.2 front r) c.loop-at-test.true (rw take_rest at c.in-Err.ensures))
 
 pub returns-clause-next : goal.returns-clause-next
-returns-clause-next c front r = reached_end c.args.text.now c.loop-at.at front (c.loop-at.invariant.2 front r) (omega (arith, c.loop-at-test.false))
+returns-clause-next c front r =
+    let end : c.loop-at.at ≡ length c.args.text.now = omega (arith, c.loop-at-test.false, c.loop-at.invariant.1) in
+    subst (λ n. Reached c.args.text.now n front) end (c.loop-at.invariant.2 front r)
