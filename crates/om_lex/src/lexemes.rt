@@ -1,6 +1,6 @@
 //! The lexemes of a row, or those at places of a text.
 
-ghost use Rattle.std.specs.Prelude.{◌≡◌, Some, length, map, option_map, slice_get, IfOk};
+ghost use Rattle.std.specs.Prelude.{◌≡◌, ◌<◌, ◌^◌, Some, length, map, option_map, slice_get, IfOk};
 ghost use Rattle.om_lex.specs.declared.lexeme.Lexeme.{Lexeme};
 ghost use Rattle.om_lex.specs.Lexemes.{lexeme_from, lower_name};
 
@@ -91,12 +91,14 @@ fn lower_of(kind: &LexemeKind) -> &[u8]
 }
 
 /// Where lexemes are had from: a row of them, or a text and the places where they begin.
+#[derive(Clone, Copy)]
 enum Source<'a> {
     Row(&'a [Lexeme]),
     Text(&'a [u8], &'a [u32]),
 }
 
 /// Lexemes, which contracts see as their list.
+#[derive(Drop)]
 pub struct Lexemes<'a> {
     source: Source<'a>,
 }
@@ -132,7 +134,8 @@ impl<'a> Lexemes<'a> {
 
     /// How many there are.
     pub fn len(&self) -> usize
-        ensures { result ≡ length self.now }
+        ensures count { result ≡ length self.now }
+        ensures few { result < 2 ^ 63 }
     {
         match &self.source {
             Source::Row(row) => row.len(),
