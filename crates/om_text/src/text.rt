@@ -2,7 +2,7 @@
 
 ghost use Rattle.std.specs.Prelude.{◌≡◌, [], length};
 ghost use Rattle.om_literal_grammar.specs.Placed.{IsPlaced};
-ghost use Rattle.om_text.specs.Text.{GivesAnswer, GivesBack, ReadsText};
+ghost use Rattle.om_text.specs.Text.{GivesAnswer, GivesBack, ReadsText, text_fault};
 
 use om_heap::Heap;
 use om_lex::lexeme::LexFault;
@@ -48,6 +48,16 @@ pub fn read_text(
     read(alloc, heap, table, line)
 }
 
+/// A literal's fault as the line's.
+fn text_fault(fault: LiteralFault) -> TextFault
+    ensures { result ≡ text_fault fault }
+{
+    match fault {
+        LiteralFault::Memory => TextFault::Memory,
+        _ => TextFault::Literal(fault),
+    }
+}
+
 /// Reads a line, of which these are the nodes, as a value of the type of number 0.
 fn read_nodes(
     alloc: Global,
@@ -63,8 +73,7 @@ fn read_nodes(
 {
     match read_placed(alloc, heap, table, 0, line, placed) {
         Ok(root) => Ok(Some(root)),
-        Err(LiteralFault::Memory) => Err(TextFault::Memory),
-        Err(fault) => Err(TextFault::Literal(fault)),
+        Err(fault) => Err(text_fault(fault)),
     }
 }
 
