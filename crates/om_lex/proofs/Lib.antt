@@ -11,3 +11,4 @@ pub mod InsideLaws
 pub mod StepLaws
 pub mod FaultLaws
 pub mod PartLaws
+pub mod LowerLaws

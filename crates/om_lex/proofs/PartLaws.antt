@@ -3,11 +3,12 @@ use Rattle.std.proofs.Common.{◌≡◌, ◌≢◌, ℕ, ◌+◌, ◌-◌, ◌<�
 use Rattle.std.specs.Prelude.{IfOk, IfErr}
 use Rattle.std.specs.Global.{Vec}
 use Rattle.std.specs.List.{flat_map}
-use Rattle.std.proofs.lemmas.List.{append-nil, drop_at, drop-drop, length-drop, flat_map_more}
+use Rattle.std.proofs.lemmas.List.{append-nil, drop_all, drop_at, drop-drop, length-drop, flat_map_more}
 use Rattle.om_lex.specs.declared.lexeme.Lexeme.{Lexeme}
 use Rattle.om_lex.specs.declared.lexeme.LexFault.{LexFault}
 use Rattle.om_lex.specs.declared.lexeme.LexFault.TheVariants as faults
 use Rattle.om_lex.specs.Lexeme.{Form, form_bytes, IsForm}
+use Rattle.om_lex.specs.Lexemes.{Reached}
 use Rattle.om_lex.specs.LexText.{Part, Separator, Comment, Word, part_bytes, IsPart, AreParts, lexemes_of, Breaks, Lexes, Faults, UnlessMemory, Answers, Outcome, HasOneOutcome, SpansWithin}
 use Rattle.om_lex.specs.declared.found.Step.{Step}
 use Rattle.om_lex.specs.declared.found.Step.TheVariants as steps
@@ -72,15 +73,6 @@ lexemes_push place (p ∷ parts) part =
     ∙ sym (append_assoc (step_lexemes place step) (lexemes_of (place + step_len step) parts) (step_lexemes (place + length (part_bytes p ++ flat_map part_bytes parts)) (part_step part)))
     ∙ ap (λ t. t ++ step_lexemes (place + length (part_bytes p ++ flat_map part_bytes parts)) (part_step part)) (sym (lexemes_of-cons place p parts))
 
--- the parts up to a place, and their lexemes
-pub record Reached (text : List ℕ) (at : ℕ) (lexemes : List Lexeme) : Type 0 where
-  pub parts : List Part
-  pub are : AreParts parts (drop at text)
-  pub is : text ≡ flat_map part_bytes parts ++ drop at text
-  pub long : at ≡ length (flat_map part_bytes parts)
-  pub inside : at ≤ length text
-  pub found : lexemes ≡ lexemes_of 0 parts
-
 step_len-is : (text : List ℕ) (step : Step) (p : IsPartAt text step) → step_len step ≡ length (part_bytes p.part)
 step_len-is text step p = ap step_len (sym p.step_is) ∙ step_len-part p.part
 
@@ -114,6 +106,12 @@ reached_more text at lexemes step r p =
 pub reached_fault : (text : List ℕ) (at : ℕ) (lexemes : List Lexeme) (fault : LexFault) → Reached text at lexemes → IsFaultAt (drop at text) fault → Faults text (moved at fault)
 reached_fault text at lexemes fault r f =
     (r.parts, drop at text, r.are, r.is, subst (λ place. Breaks place (drop at text) (moved at fault)) r.long (f.breaks at))
+
+-- the parts up to the end are all of them
+pub reached_end : (text : List ℕ) (at : ℕ) (lexemes : List Lexeme) → Reached text at lexemes → length text ≤ at → Lexes text lexemes
+reached_end text at lexemes r end =
+    let none : drop at text ≡ [] = drop_all at text end in
+    (r.parts, subst (AreParts r.parts) none r.are, r.is ∙ ap (λ t. flat_map part_bytes r.parts ++ t) none ∙ append-nil (flat_map part_bytes r.parts), r.found)
 
 -- ---- one reading
 
@@ -282,6 +280,14 @@ spans_of place (Word form ∷ parts) rest are =
     let later = spans_of (place + len) parts rest are.1 in
     let end : place + len + length (flat_map part_bytes parts) ≡ place + length (form_bytes form ++ flat_map part_bytes parts) = omega (arith, length-append (form_bytes form) (flat_map part_bytes parts)) in
     (omega arith, form-positive form are.0.0.written, subst (SpansWithin (place + len) (lexemes_of (place + len) parts)) end later)
+
+-- a text has no more lexemes than bytes
+pub few_lexemes : (text : List ℕ) (lexemes : List Lexeme) → Lexes text lexemes → length lexemes ≤ length text
+few_lexemes text lexemes is = omega (arith, ap length is.3, ap length is.2, few 0 _ _ (spans_of 0 is.0 [] is.1))
+  where
+    few : (from : ℕ) (xs : List Lexeme) (end : ℕ) → SpansWithin from xs end → from + length xs ≤ end
+    few from [] end spans = omega (arith, spans)
+    few from (x ∷ xs) end spans = omega (arith, spans.0, spans.1, few (x.span.first + x.span.len) xs end spans.2)
 
 pub spans_within : (text : List ℕ) (r : Result (Vec Lexeme) LexFault) → IfOk r (λ v. Lexes text v.items) → IfOk r (λ v. SpansWithin 0 v.items (length text))
 spans_within text (Ok v) is =

@@ -87,7 +87,7 @@ pub step-lexeme : (b : ℕ) (bs : List ℕ) → is_separator b ≡ false → (eq
 unfolding step_at
 step-lexeme b bs no_separator no_bracket = rw (no_separator, no_bracket) refl
 
-no_separator-form : (b : ℕ) (bs : List ℕ) (form : Form) → form_at (b ∷ bs) ≡ Some form → is_separator b ≡ false
+pub no_separator-form : (b : ℕ) (bs : List ℕ) (form : Form) → form_at (b ∷ bs) ≡ Some form → is_separator b ≡ false
 no_separator-form b bs form e = false_from_ne_true _ (λ sep. no_value (sym (separator_no_form b bs sep) ∙ e))
 
 -- the step at a form that the grammar takes

@@ -1,3 +1,5 @@
 pub mod LexText
 pub mod Lexeme
+pub mod Lexemes
 pub mod Scan
+pub mod Sources

@@ -6,9 +6,13 @@ mod characters;
 mod comments;
 mod found;
 pub mod lexeme;
+mod lexemes;
+mod next;
 mod numbers;
 mod scan;
 mod symbols;
 mod words;
 
+pub use lexemes::Lexemes;
+pub use next::{next_lexeme, see_lexemes};
 pub use scan::{one_outcome, tokens};

@@ -44,7 +44,7 @@ fn lexeme_at(alloc: Global, text: &[u8]) -> Result<Found, LexFault>
 
 /// The separator, comment or lexeme at the front.
 #[tactic(auto, unfolding(crate::specs::Scan::step_at))]
-fn step_at(alloc: Global, text: &[u8]) -> Result<Step, LexFault>
+pub fn step_at(alloc: Global, text: &[u8]) -> Result<Step, LexFault>
     ensures { Answers (λ s. s) result (step_at text.now) }
 {
     let [first, rest @ ..] = text else {
@@ -65,7 +65,7 @@ fn step_at(alloc: Global, text: &[u8]) -> Result<Step, LexFault>
 }
 
 /// A fault of what begins at a place, seen from the text's beginning.
-fn moved(fault: LexFault, by: usize) -> LexFault
+pub fn moved(fault: LexFault, by: usize) -> LexFault
     requires { place_of fault + by < 2 ^ 64 }
     ensures { result ≡ moved by fault }
 {

@@ -13,7 +13,7 @@ use om_model::list::List;
 use std::alloc::Global;
 
 /// The keyword of this spelling.
-fn keyword_of(name: &[u8]) -> Option<Keyword>
+pub fn keyword_of(name: &[u8]) -> Option<Keyword>
     ensures { result ≡ keyword_of name.now }
 {
     if name == b"type".as_slice() {

@@ -7,6 +7,7 @@ use Rattle.std.proofs.lemmas.Option.{slice_get-get_or}
 use Rattle.om_lex.specs.declared.lexeme.Lexeme.{Lexeme}
 use Rattle.om_lex.specs.declared.lexeme.LexemeKind.TheVariants as kinds
 use Rattle.om_lex.specs.declared.lexeme.Symbol.TheVariants as symbols
+use Rattle.om_lex.specs.Lexemes.{lower_name}
 use Rattle.om_grammar.specs.Grammar.{Kinds, Name, mark}
 use Rattle.om_literal_grammar.specs.declared.node.Node.{Node}
 use Rattle.om_literal_grammar.specs.Literal.{Head, Literal, labelled, fields, Rows, no_rows, more_rows, label_kinds, owner_kinds, row_start, literal_kinds, plain_kinds, rows_kinds}
@@ -16,7 +17,7 @@ use Rattle.om_literal.specs.Pending.{listed_rows}
 use Rattle.om_literal.specs.NodesOf.{part_nodes, nodes_of_parts}
 use Rattle.om_literal.specs.Standing.{IsAt, Stands, own_node, inner_parts}
 use Rattle.om_literal.specs.Ends.{AreEnds, sibling}
-use Rattle.om_literal.specs.FieldNames.{name_in, name_before, name_of_node, names_from}
+use Rattle.om_literal.specs.FieldNames.{name_before, name_of_node, names_from}
 use Rattle.om_literal.proofs.StandingLemmas.{at_front, at_back, at_same, first_found, own_and_parts, own_first}
 use Rattle.om_literal.proofs.EndsLemmas.{sibling_next, place_in, own_parts}
 
@@ -72,8 +73,8 @@ module _ (nodes : List Node) (ends : List ℕ) (all : Kinds) (len : length ends 
 name_is : (all : Kinds) (k : ℕ) (front : Kinds) (x : Name) → IsAt all k (front ++ row_start x) → name_before all (k + length (front ++ row_start x)) ≡ x
 name_is all k front x h =
     let back : k + length (front ++ row_start x) - 2 ≡ k + length front = omega (arith, length-append front (row_start x)) in
-    ap (λ i. name_in (slice_get all i)) back
-    ∙ ap name_in (first_found all (k + length front) (kinds.Lower x) (mark symbols.Equals) (at_back all k front (row_start x) h))
+    ap (λ i. lower_name (slice_get all i)) back
+    ∙ ap lower_name (first_found all (k + length front) (kinds.Lower x) (mark symbols.Equals) (at_back all k front (row_start x) h))
 
 and_name :
     (all : Kinds) (parts : List (ℕ × Literal)) (k : ℕ) (v : Literal) (names : List Name) (x : Name)

@@ -1,8 +1,8 @@
 -- Where a literal stands, its parts stand, and its own first lexeme.
 use Rattle.std.proofs.Common.{arith, refl, sym, ap, ◌∙◌, length-append, append_assoc, get_or}
-use Rattle.std.specs.Prelude.{ℕ, ◌+◌, ◌<◌, ◌≡◌, Option, Some, None, List, [], ◌∷◌, ◌++◌, length, drop, slice_get}
-use Rattle.std.proofs.lemmas.List.{drop-drop, drop_at, length-drop, append-nil, get_or-drop, get_or-map, length-map}
-use Rattle.std.proofs.lemmas.Option.{slice_get-get_or}
+use Rattle.std.specs.Prelude.{ℕ, ◌+◌, ◌<◌, ◌≡◌, Option, Some, None, List, [], ◌∷◌, ◌++◌, length, drop, slice_get, option_map}
+use Rattle.std.proofs.lemmas.List.{drop-drop, drop_at, length-drop, append-nil, get_or-drop, length-map}
+use Rattle.std.proofs.lemmas.Option.{slice_get-get_or, slice_get-map}
 use Rattle.om_lex.specs.declared.lexeme.Lexeme.{Lexeme}
 use Rattle.om_lex.specs.declared.lexeme.LexemeKind.{LexemeKind}
 use Rattle.om_lex.specs.declared.lexeme.Symbol.{Symbol}
@@ -198,8 +198,8 @@ module _ (lexemes : List Lexeme) (k : ℕ) (l : Option ℕ) (p : Plain) (h : IsA
   lead_in = omega (arith, first_in _ _ _ _ own, length-map lexemes (λ (lexeme : Lexeme). lexeme.kind))
 
   -- which is of its kind
-  pub lead_is : (x : Lexeme) → x ≡ get_or lexemes (k + length (label_kinds l)) x → x.kind ≡ lead_of_plain p
-  lead_is x e =
-      ap (λ (lexeme : Lexeme). lexeme.kind) e
-      ∙ sym (get_or-map (λ (lexeme : Lexeme). lexeme.kind) lexemes (k + length (label_kinds l)) x (lead_of_plain p) lead_in)
-      ∙ first_is _ _ _ _ (lead_of_plain p) own
+  pub lead_is : (kind : LexemeKind) → Some kind ≡ option_map (λ (lexeme : Lexeme). lexeme.kind) (slice_get lexemes (k + length (label_kinds l))) → kind ≡ lead_of_plain p
+  lead_is kind e =
+      let found : Some kind ≡ Some (lead_of_plain p) =
+      e ∙ sym (slice_get-map (λ (lexeme : Lexeme). lexeme.kind) lexemes (k + length (label_kinds l))) ∙ first_found _ _ _ _ own in
+      cc

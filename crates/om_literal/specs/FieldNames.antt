@@ -1,18 +1,13 @@
 -- The names of fields, each two lexemes before its part.
 use Rattle.std.specs.Prelude.{ℕ, zero, suc, ◌-◌, nat_lt, if◌then◌else◌, Option, Some, None, List, [], ◌∷◌, length, slice_get}
-use Rattle.om_lex.specs.declared.lexeme.LexemeKind.{LexemeKind}
-use Rattle.om_lex.specs.declared.lexeme.LexemeKind.TheVariants as kinds
+use Rattle.om_lex.specs.Lexemes.{lower_name}
 use Rattle.om_grammar.specs.Grammar.{Name, Kinds}
 use Rattle.om_literal_grammar.specs.declared.node.Node.{Node}
 use Rattle.om_literal.specs.Ends.{sibling}
 
-abbrev pub name_in : Option LexemeKind → Name
-name_in (Some (kinds.Lower x)) = x
-name_in kind = []
-
 -- the name of the field whose part begins at lexeme k
 abbrev pub name_before : Kinds → ℕ → Name
-name_before all k = name_in (slice_get all (k - 2))
+name_before all k = lower_name (slice_get all (k - 2))
 
 abbrev pub name_of_node : Kinds → Option Node → Name
 name_of_node all None = []

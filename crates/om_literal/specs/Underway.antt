@@ -50,6 +50,7 @@ pub record IsText (text : Text) : Type 0 where
   pub named : length text.table.now.names ≡ length text.table.now.nodes
   pub many : length text.ends.now ≡ length text.nodes.now
   pub ends : AreEnds text.nodes.now text.ends.now
+  pub few : length text.lexemes.now < 2 ^ 63
 
 -- ---- parts that have begun
 

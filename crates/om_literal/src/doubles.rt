@@ -8,43 +8,49 @@ ghost use Rattle.om_literal.specs.Bits.{double_in, bits_of_node, bits_of_nodes};
 ghost use Rattle.om_literal.specs.Standing.{Stands};
 ghost use Rattle.om_literal.specs.Starts.{bits_of, and_bits, bits_of_parts, bits_of_rows};
 
-use om_lex::lexeme::{Lexeme, LexemeKind};
+use om_lex::Lexemes;
+use om_lex::lexeme::LexemeKind;
 use om_literal_grammar::{Form, Node};
 use om_model::Memory;
 use std::alloc::Global;
 
-/// The bits of the double that is this lexeme.
-fn double_at(lexemes: &[Lexeme], place: usize) -> Option<u64>
-    ensures { result ≡ double_in (slice_get (kinds_of lexemes.now) place) }
+/// The bits of the double that is of this kind.
+fn double_of(kind: &Option<LexemeKind>) -> Option<u64>
+    ensures { result ≡ double_in kind.now }
 {
-    if place >= lexemes.len() {
-        return None;
-    }
-    match &lexemes[place].kind {
-        LexemeKind::Double(bits) => Some(*bits),
+    match kind {
+        Some(LexemeKind::Double(bits)) => Some(*bits),
         _ => None,
     }
 }
 
+/// The bits of the double that is this lexeme.
+fn double_at(alloc: Global, lexemes: &Lexemes, place: usize) -> Result<Option<u64>, Memory>
+    ensures { IfOk result (λ bits. bits ≡ double_in (slice_get (kinds_of lexemes.now) place)) }
+{
+    let kind = lexemes.kind(alloc, place)?;
+    Ok(double_of(&kind))
+}
+
 /// The bits of a node that is a double without a label.
-fn node_bits(node: &Node, lexemes: &[Lexeme]) -> Option<u64>
-    ensures { result ≡ bits_of_node (kinds_of lexemes.now) node.now }
+fn node_bits(alloc: Global, node: &Node, lexemes: &Lexemes) -> Result<Option<u64>, Memory>
+    ensures { IfOk result (λ bits. bits ≡ bits_of_node (kinds_of lexemes.now) node.now) }
 {
     match (node.label, node.form) {
-        (None, Form::Double) => double_at(lexemes, node.first),
-        _ => None,
+        (None, Form::Double) => double_at(alloc, lexemes, node.first),
+        _ => Ok(None),
     }
 }
 
 /// The bits of nodes that all are doubles without a label.
-fn all_bits(alloc: Global, nodes: &[Node], lexemes: &[Lexeme]) -> Result<Option<Vec<u64>>, Memory>
+fn all_bits(alloc: Global, nodes: &[Node], lexemes: &Lexemes) -> Result<Option<Vec<u64>>, Memory>
     ensures { IfOk result
         (λ all. option_map (λ bits. bits.items) all
         ≡ bits_of_nodes (kinds_of lexemes.now) (Some []) nodes.now) }
 {
     let mut all = Vec::new(alloc);
     for node in nodes {
-        let Some(bits) = node_bits(node, lexemes) else {
+        let Some(bits) = node_bits(alloc, node, lexemes)? else {
             return Ok(None);
         };
         all.push(bits)?;
@@ -58,7 +64,7 @@ pub(crate) fn doubles_of_parts(
     alloc: Global,
     nodes: &[Node],
     at: usize,
-    lexemes: &[Lexeme],
+    lexemes: &Lexemes,
 ) -> Result<Option<Vec<u64>>, Memory>
     requires { at < length nodes.now }
 

@@ -10,23 +10,16 @@ ghost use Rattle.om_literal.specs.Standing.{Stands};
 ghost use Rattle.om_literal.specs.Starts.{names_of_rows};
 
 use crate::siblings::sibling;
-use om_lex::lexeme::{Lexeme, LexemeKind};
+use om_lex::Lexemes;
 use om_literal_grammar::Node;
 use om_model::Memory;
 use std::alloc::Global;
 
 /// The name of the field whose part begins at this lexeme: it stands before the `=`.
-fn name_before(lexemes: &[Lexeme], first: usize) -> &[u8]
+fn name_before<'a>(lexemes: &'a Lexemes, first: usize) -> &'a [u8]
     ensures { result.now ≡ specs.name_before (kinds_of lexemes.now) first }
 {
-    let place = first.saturating_sub(2);
-    if place >= lexemes.len() {
-        return &[];
-    }
-    match &lexemes[place].kind {
-        LexemeKind::Lower(name) => name.as_slice(),
-        _ => &[],
-    }
+    lexemes.lower(first.saturating_sub(2))
 }
 
 /// The names of so many fields, the first of whose parts begins at node `from`.
@@ -36,7 +29,7 @@ fn names_from<'a>(
     ends: &[usize],
     from: usize,
     many: usize,
-    lexemes: &'a [Lexeme],
+    lexemes: &'a Lexemes,
 ) -> Result<Vec<&'a [u8]>, Memory>
     ensures { IfOk result
         (λ names. map (λ name. name.now) names.items
@@ -62,7 +55,7 @@ pub(crate) fn field_names<'a>(
     nodes: &[Node],
     ends: &[usize],
     at: usize,
-    lexemes: &'a [Lexeme],
+    lexemes: &'a Lexemes,
 ) -> Result<Vec<&'a [u8]>, Memory>
     requires at { at < length nodes.now }
     requires len { length ends.now ≡ length nodes.now }

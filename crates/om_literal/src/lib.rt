@@ -19,4 +19,4 @@ mod text;
 
 pub use fault::LiteralFault;
 pub use laws::{one_literal_answer, worked_literals_fit};
-pub use read::read_literal;
+pub use read::{read_literal, read_placed};

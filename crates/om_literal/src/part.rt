@@ -16,16 +16,17 @@ ghost use Rattle.om_literal.specs.Reading.{is_next, with_label};
 ghost use Rattle.om_literal.specs.Started as started;
 ghost use Rattle.om_literal.specs.Started.{start_in};
 ghost use Rattle.om_literal.specs.Starts.{start_at};
-ghost use Rattle.om_literal.specs.Standing.{Stands, own_node};
+ghost use Rattle.om_literal.specs.Standing.{Stands, own_node, lead_of_plain};
 ghost use Rattle.om_literal.specs.Underway.{IsText, HasPart, IsMade, Begins, Grows};
 
 use crate::fault::LiteralFault;
 use crate::leaf::Leaf;
 use crate::opening::Opening;
 use crate::stack::Opened;
-use crate::start::{Start, start_of};
+use crate::start::{Start, leaf_at, start_of};
 use crate::text::{Text, byte_of, plain_first};
 use om_heap::Heap;
+use om_lex::lexeme::LexemeKind;
 use om_literal_grammar::{Form, Node};
 use om_model::Memory;
 use om_model::value::Val;
@@ -257,6 +258,36 @@ fn placed<'a>(
     }
 }
 
+/// The object of the literal at node j, which is this one and has this first lexeme behind its
+/// label, at a type.
+fn make_plain<'a>(
+    alloc: Global,
+    text: &Text<'a>,
+    heap: &mut Heap,
+    j: usize,
+    node: Node,
+    kind: &LexemeKind,
+    t: usize,
+) -> Result<Made<'a>, Memory>
+    requires text { IsText text.now }
+    requires node { j < length text.now.nodes.now }
+    ensures made { (k : ℕ) (l : Option ℕ) (p : Plain)
+        → Stands text.now.nodes.now text.now.lexemes.now j k (labelled l p)
+        → node ≡ own_node k (labelled l p) → kind.now ≡ lead_of_plain p
+        → IfOk result
+        (IsMade node.parts
+        (start_at t (shape_in text.now.table.now t) (names_in text.now.table.now t) p) heap.old
+        heap.new) }
+    ensures grows { Grows heap.old heap.new }
+{
+    if node.parts == 0 {
+        make_leaf(heap, leaf_at(text.table, kind, t))
+    } else {
+        let start = start_of(alloc, text, j, node, kind, t)?;
+        make(heap, start, node.parts, t)
+    }
+}
+
 /// The literal at node j is begun at a type.
 pub fn begin<'a>(
     alloc: Global,
@@ -280,7 +311,9 @@ pub fn begin<'a>(
     if !has_next_number(labels, node.label) {
         return Err(LiteralFault::Label(byte_of(text.lexemes, text.end, node.first)));
     }
-    let start = start_of(alloc, text, j, node, t)?;
-    let made = make(heap, start, node.parts, t)?;
+    let Some(kind) = text.lexemes.kind(alloc, plain_first(&node))? else {
+        return Err(LiteralFault::Memory);
+    };
+    let made = make_plain(alloc, text, heap, j, node, &kind, t)?;
     placed(text, labels, &node, t, made)
 }

@@ -5,6 +5,7 @@ ghost use Rattle.om_model.specs.declared.value.Val.{Val};
 ghost use Rattle.om_model.specs.declared.value.Obj.{Obj};
 ghost use Rattle.om_model.specs.Graph.{IsValue};
 ghost use Rattle.om_literal_grammar.specs.Nodes.{IsTreeOf};
+ghost use Rattle.om_literal_grammar.specs.Placed.{lexemes_at, IsPlaced};
 ghost use Rattle.om_literal.specs.declared.fault.LiteralFault.{LiteralFault};
 ghost use Rattle.om_literal.specs.LiteralAnswers.{IsAnswer, IsAnswered, Gives};
 ghost use Rattle.om_literal.specs.Underway.{IsText, ReadsTree, Reads};
@@ -15,8 +16,9 @@ use crate::parts::read_parts;
 use crate::siblings::subtree_ends;
 use crate::text::{Text, byte_of};
 use om_heap::Heap;
+use om_lex::Lexemes;
 use om_lex::lexeme::Lexeme;
-use om_literal_grammar::{TreeFault, read_literal_tree};
+use om_literal_grammar::{Placed, Tree, TreeFault, read_literal_tree};
 use om_model::value::Val;
 use om_type_table::TypeTable;
 use std::alloc::Global;
@@ -38,6 +40,34 @@ fn read_tree(alloc: Global, text: &Text, heap: &mut Heap, at: usize) -> Result<V
     }
 }
 
+/// Reads the literal of these nodes, which these lexemes spell, at a type. After a fault new objects
+/// may stay.
+fn read_nodes(
+    alloc: Global,
+    heap: &mut Heap,
+    table: &TypeTable,
+    at: usize,
+    lexemes: &Lexemes,
+    tree: &Tree,
+    end: usize,
+) -> Result<Val, LiteralFault>
+    requires named { length table.now.names ≡ length table.now.nodes }
+    requires tree { IsTreeOf lexemes.now tree.now }
+    ensures { Reads table.now at lexemes.now end heap.old heap.new result }
+{
+    let _few = lexemes.len();
+    let nodes = tree.as_slice();
+    let ends = subtree_ends(alloc, nodes)?;
+    let text = Text {
+        table,
+        lexemes,
+        nodes,
+        ends: ends.as_slice(),
+        end,
+    };
+    read_tree(alloc, &text, heap, at)
+}
+
 /// Reads lexemes as a literal at a type. After a fault new objects may stay.
 fn read_lexemes(
     alloc: Global,
@@ -50,23 +80,15 @@ fn read_lexemes(
     requires named { length table.now.names ≡ length table.now.nodes }
     ensures { Reads table.now at lexemes.now end heap.old heap.new result }
 {
+    let row = Lexemes::of_row(lexemes);
     let tree = match read_literal_tree(alloc, lexemes) {
         Ok(tree) => tree,
         Err(TreeFault::Syntax(k)) => {
-            return Err(LiteralFault::Syntax(byte_of(lexemes, end, k)));
+            return Err(LiteralFault::Syntax(byte_of(&row, end, k)));
         }
         Err(TreeFault::Memory) => return Err(LiteralFault::Memory),
     };
-    let nodes = tree.as_slice();
-    let ends = subtree_ends(alloc, nodes)?;
-    let text = Text {
-        table,
-        lexemes,
-        nodes,
-        ends: ends.as_slice(),
-        end,
-    };
-    read_tree(alloc, &text, heap, at)
+    read_nodes(alloc, heap, table, at, &row, &tree, end)
 }
 
 /// Reads the lexemes of a text that ends at this byte as a value of a type, whose objects are
@@ -94,6 +116,42 @@ pub fn read_literal(
 {
     let count = heap.count();
     let result = read_lexemes(alloc, heap, table, at, lexemes, end);
+    if result.is_err() {
+        heap.truncate(count);
+    }
+    result
+}
+
+/// Reads a text, of which these are the nodes, as a value of a type, whose objects are appended to
+/// the heap.
+pub fn read_placed(
+    alloc: Global,
+    heap: &mut Heap,
+    table: &TypeTable,
+    at: usize,
+    text: &[u8],
+    placed: &Placed,
+) -> Result<Val, LiteralFault>
+    requires named { length table.now.names ≡ length table.now.nodes }
+    requires placed { IsPlaced text.now placed.now.places.items placed.now.tree }
+
+    // The value, behind the old objects, or the fault, and then the heap is as it was. So it is out
+    // of memory too.
+    ensures answer { IsAnswered table.now at (lexemes_at text.now placed.now.places.items)
+        (length text.now) heap.old heap.new result }
+
+    // The one answer is given, unless memory runs out.
+    ensures only { (answer : Result (List Obj × Val) LiteralFault)
+        → IsAnswer table.now at (lexemes_at text.now placed.now.places.items) (length text.now)
+        heap.old answer
+        → Gives answer heap.new result }
+
+    // A value that is given is one of the heap.
+    ensures valid { IfOk result (IsValue (length heap.new)) }
+{
+    let count = heap.count();
+    let lexemes = Lexemes::of_text(text, placed.places.as_slice());
+    let result = read_nodes(alloc, heap, table, at, &lexemes, &placed.tree, text.len());
     if result.is_err() {
         heap.truncate(count);
     }

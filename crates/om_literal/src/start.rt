@@ -3,9 +3,12 @@
 ghost use Rattle.std.specs.Prelude.{ℕ, ◌≡◌, ◌<◌, ◌++◌, ◌∷◌, [], Some, None, Option, length, map, suc, option_map, slice_get, IfOk, ◌&&◌, ◌==◌, ◌+◌};
 ghost use Rattle.om_types.specs.declared.names.Names.{Names};
 ghost use Rattle.om_grammar.specs.Grammar.{Name};
-ghost use Rattle.om_literal_grammar.specs.Literal.{Head, Literal, labelled, Plain, Parts, Rows, array, fields, label_kinds};
+ghost use Rattle.om_literal_grammar.specs.Literal.{Head, Literal, labelled, Plain, Parts, Rows, array, fields};
 ghost use Rattle.om_literal_grammar.specs.Nodes.{rows_count};
+ghost use Rattle.om_literal.specs.Leaves as leaves;
+ghost use Rattle.om_literal.specs.Leaves.{leaf_in};
 ghost use Rattle.om_literal.specs.LiteralAnswers.{shape_in, names_in};
+ghost use Rattle.om_literal.specs.Pending.{parts_of};
 ghost use Rattle.om_literal.specs.Standing.{Stands, own_node, lead_of_owner, lead_of_plain};
 ghost use Rattle.om_literal.specs.Starts.{start_at, if_fits, doubles_start, and_bits, bits_of, bits_of_parts, bits_of_rows, names_of_rows};
 ghost use Rattle.om_literal.specs.Starts as starts;
@@ -19,7 +22,7 @@ use crate::opening::{
     Opening, applied_opening, array_opening, inline_opening, record_opening, tuple_opening,
 };
 use crate::rows::same_names;
-use crate::text::{Text, plain_first};
+use crate::text::Text;
 use om_lex::lexeme::{LexemeKind, Symbol};
 use om_literal_grammar::{Form, Node};
 use om_model::Memory;
@@ -192,20 +195,35 @@ fn shape_of(table: &TypeTable, t: usize) -> Option<&ShapeOf<usize>>
     table.nodes.as_slice().get(t)
 }
 
-/// The literal at node j, which is this one, at a type.
+/// A literal without parts, by its first lexeme behind its label, at a type.
+pub fn leaf_at<'k>(table: &TypeTable, kind: &'k LexemeKind, t: usize) -> Leaf<'k>
+    requires { length table.now.names ≡ length table.now.nodes }
+    ensures leaf { (k : ℕ) (p : Plain) → kind.now ≡ lead_of_plain p → length (parts_of k p) ≡ 0
+        → leaf_in result ≡ start_at t (shape_in table.now t) (names_in table.now t) p }
+    ensures sound { leaves.IsSound result }
+{
+    match shape_of(table, t) {
+        Some(shape) => leaf_of(shape, table.names(t), kind),
+        None => Leaf::Misfit,
+    }
+}
+
+/// The literal with parts at node j, which is this one and has this first lexeme behind its label,
+/// at a type.
 pub fn start_of<'a>(
     alloc: Global,
     text: &Text<'a>,
     j: usize,
     node: Node,
+    kind: &LexemeKind,
     t: usize,
 ) -> Result<Start<'a>, Memory>
     requires text { IsText text.now }
     requires node { j < length text.now.nodes.now }
-    requires first { node.first + length (label_kinds node.label) < length text.now.lexemes.now }
+    requires parts { 0 < node.parts }
     ensures start { (k : ℕ) (l : Option ℕ) (p : Plain)
         → Stands text.now.nodes.now text.now.lexemes.now j k (labelled l p)
-        → node ≡ own_node k (labelled l p)
+        → node ≡ own_node k (labelled l p) → kind.now ≡ lead_of_plain p
         → IfOk result
         (λ start. start_in t start
         ≡ start_at t (shape_in text.now.table.now t) (names_in text.now.table.now t) p) }
@@ -215,10 +233,5 @@ pub fn start_of<'a>(
         return Ok(Start::Leaf(Leaf::Misfit));
     };
     let names = text.table.names(t);
-    let kind = &text.lexemes[plain_first(&node)].kind;
-    if node.parts == 0 {
-        Ok(Start::Leaf(leaf_of(shape, names, kind)))
-    } else {
-        opening_start(alloc, text, j, node, shape, names, kind)
-    }
+    opening_start(alloc, text, j, node, shape, names, kind)
 }

@@ -4,7 +4,7 @@ ghost use Rattle.std.specs.Prelude.{◌≡◌, ◌+◌, ◌<◌, ◌^◌, length
 ghost use Rattle.om_literal.specs.LiteralAnswers.{byte_of as first_byte};
 ghost use Rattle.om_literal_grammar.specs.Literal.{label_kinds};
 
-use om_lex::lexeme::Lexeme;
+use om_lex::Lexemes;
 use om_literal_grammar::Node;
 use om_type_table::TypeTable;
 
@@ -12,7 +12,7 @@ use om_type_table::TypeTable;
 #[derive(Clone, Copy)]
 pub struct Text<'a> {
     pub table: &'a TypeTable,
-    pub lexemes: &'a [Lexeme],
+    pub lexemes: &'a Lexemes<'a>,
     pub nodes: &'a [Node],
     /// For each node the number of the one behind its last part.
     pub ends: &'a [usize],
@@ -21,11 +21,11 @@ pub struct Text<'a> {
 }
 
 /// The byte at which a lexeme begins, or the end.
-pub fn byte_of(lexemes: &[Lexeme], end: usize, k: usize) -> u64
+pub fn byte_of(lexemes: &Lexemes, end: usize, k: usize) -> u64
     ensures { result ≡ first_byte lexemes.now end k }
 {
-    match lexemes.get(k) {
-        Some(lexeme) => lexeme.span.first as u64,
+    match lexemes.first(k) {
+        Some(first) => first as u64,
         None => end as u64,
     }
 }

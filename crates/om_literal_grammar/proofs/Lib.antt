@@ -4,3 +4,4 @@ pub mod LiteralTable
 pub mod FollowCode
 pub mod ReadLemmas
 pub mod RangeLemmas
+pub mod PlacedLemmas

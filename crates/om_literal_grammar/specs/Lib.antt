@@ -4,3 +4,4 @@ pub mod WorkedTrees
 pub mod Popped
 pub mod Code
 pub mod Nodes
+pub mod Placed

@@ -7,8 +7,11 @@ use Rattle.om_lex.specs.declared.lexeme.Lexeme.{Lexeme}
 use Rattle.om_lex.specs.declared.lexeme.LexFault.{LexFault}
 use Rattle.om_lex.specs.LexText.{Lexes, Faults, Outcome}
 use Rattle.om_lex.proofs.PartLaws.{has_one_outcome}
-use Rattle.om_literal.specs.LiteralAnswers.{IsAnswer}
+use Rattle.om_literal.specs.LiteralAnswers.{IsAnswer, IsAnswered}
 use Rattle.om_literal.specs.declared.fault.LiteralFault.{LiteralFault}
+use Rattle.om_literal.specs.declared.fault.LiteralFault.TheVariants as literal
+use Rattle.om_literal_grammar.specs.declared.node.Node.{Node}
+use Rattle.om_literal_grammar.specs.Nodes.{IsTreeOf}
 use Rattle.om_literal.proofs.AnswerLemmas.{one_answer}
 use Rattle.std.proofs.Common.{true, false, ◌++◌, length-append}
 use Rattle.om_grammar.specs.Grammar.{mark}
@@ -17,7 +20,7 @@ use Rattle.om_literal_grammar.specs.Literal.{Head, upper_head, tag_head, cons_he
 use Rattle.om_type_table.specs.declared.table.TypeTable.{TypeTable}
 use Rattle.om_format.specs.Tree.{Tree, root, objects_of}
 use Rattle.om_text.specs.Laws.{ReadsAgain}
-use Rattle.om_text.specs.Text.{HasOneTextAnswer, Gives, TextAnswer, IsTextAnswer, ReadsText, GivesTree}
+use Rattle.om_text.specs.Text.{HasOneTextAnswer, Gives, TextAnswer, IsTextAnswer, ReadsText, GivesTree, text_fault}
 use Rattle.om_text.specs.declared.text.TextFault.{TextFault}
 use Rattle.om_text.specs.declared.text.TextFault.TheVariants as faults
 
@@ -112,6 +115,22 @@ spelled_some (labelled (Some k) p) e = absurd cc
 -- so lexemes with an answer are some
 some_lexemes : (table : TypeTable) (line : List ℕ) (lexemes : List Lexeme) (answer : List Obj × Val) → IsAnswer table 0 lexemes (length line) [] (Ok answer) → lexemes ≢ []
 some_lexemes table line lexemes answer is none = spelled_some is.literal (is.spelled ∙ ap (λ (ls : List Lexeme). map (λ (l : Lexeme). l.kind) ls) none)
+
+tree_some : (lexemes : List Lexeme) (nodes : List Node) → IsTreeOf lexemes nodes → lexemes ≢ []
+tree_some lexemes nodes is none = spelled_some is.0 (is.1 ∙ ap (λ (ls : List Lexeme). map (λ (l : Lexeme). l.kind) ls) none)
+
+-- a value or a fault over no objects is one of the line
+module _ (table : TypeTable) (line : List ℕ) (lexemes : List Lexeme) (nodes : List Node) (old new : List Obj) (empty : old ≡ []) (lexes : Lexes line lexemes) (tree : IsTreeOf lexemes nodes) where
+  refused : (fault : LiteralFault) → IsAnswer table 0 lexemes (length line) old (Err fault)
+      → (xs : List Lexeme) × Lexes line xs × (xs ≢ []) × IsAnswer table 0 xs (length line) [] (Err fault)
+  refused fault is = (lexemes, lexes, tree_some lexemes nodes tree, subst (λ (os : List Obj). IsAnswer table 0 lexemes (length line) os (Err fault)) empty is)
+
+  pub placed_fault : (fault : LiteralFault) → IsAnswered table 0 lexemes (length line) old new (Err fault) → ReadsText table line new (Err (text_fault fault))
+  placed_fault literal.Memory is = is ∙ empty
+  placed_fault (literal.Syntax place) is = (is.0 ∙ empty, refused (literal.Syntax place) is.1)
+  placed_fault (literal.Misfit place t) is = (is.0 ∙ empty, refused (literal.Misfit place t) is.1)
+  placed_fault (literal.IntRange place) is = (is.0 ∙ empty, refused (literal.IntRange place) is.1)
+  placed_fault (literal.Label place) is = (is.0 ∙ empty, refused (literal.Label place) is.1)
 
 read_back_answer : (table : TypeTable) (tree : Tree) (line : List ℕ) → ReadsAgain table tree line → IsTextAnswer table line (Ok (Some (objects_of tree 0, root tree 0)))
 read_back_answer table tree line r = (r.lexemes, r.lexes, some_lexemes table line r.lexemes (objects_of tree 0, root tree 0) (r.answer (length line)), r.answer (length line))

@@ -7,6 +7,8 @@ use Rattle.om_lex.specs.declared.lexeme.Lexeme.{Lexeme}
 use Rattle.om_lex.specs.LexText.{Lexes, Faults}
 use Rattle.om_format.specs.Tree.{Tree, root, objects_of}
 use Rattle.om_type_table.specs.declared.table.TypeTable.{TypeTable}
+use Rattle.om_literal.specs.declared.fault.LiteralFault.{LiteralFault}
+use Rattle.om_literal.specs.declared.fault.LiteralFault.TheVariants as literal
 use Rattle.om_literal.specs.LiteralAnswers.{IsAnswer}
 use Rattle.om_text.specs.Laws.{ReadsAgain}
 use Rattle.om_text.specs.declared.text.TextFault.{TextFault}
@@ -28,6 +30,11 @@ IsTextAnswer table line (Err (faults.Literal fault)) =
     (lexemes : List Lexeme) × Lexes line lexemes × (lexemes ≢ [])
     × IsAnswer table 0 lexemes (length line) [] (Err fault)
 IsTextAnswer table line (Err faults.Memory) = ⊥
+
+-- a literal's fault as the line's
+abbrev pub text_fault : LiteralFault → TextFault
+text_fault literal.Memory = faults.Memory
+text_fault fault = faults.Literal fault
 
 -- a line has one answer, and no other
 abbrev pub HasOneTextAnswer : TypeTable → List ℕ → Type 0

@@ -1,12 +1,14 @@
 //! Lines of text as values.
 
-ghost use Rattle.std.specs.Prelude.{◌≡◌, length};
-ghost use Rattle.om_text.specs.Text.{GivesAnswer, GivesBack, ReadsText};
+ghost use Rattle.std.specs.Prelude.{◌≡◌, [], length};
+ghost use Rattle.om_literal_grammar.specs.Placed.{IsPlaced};
+ghost use Rattle.om_text.specs.Text.{GivesAnswer, GivesBack, ReadsText, text_fault};
 
 use om_heap::Heap;
 use om_lex::lexeme::LexFault;
 use om_lex::tokens;
-use om_literal::{LiteralFault, read_literal};
+use om_literal::{LiteralFault, read_literal, read_placed};
+use om_literal_grammar::{Placed, PlacedFault, read_placed_tree};
 use om_model::value::Val;
 use om_type_table::TypeTable;
 use std::alloc::Global;
@@ -46,17 +48,46 @@ pub fn read_text(
     read(alloc, heap, table, line)
 }
 
-/// Reads a line as a value of the type of number 0.
-fn read(
+/// A literal's fault as the line's.
+fn text_fault(fault: LiteralFault) -> TextFault
+    ensures { result ≡ text_fault fault }
+{
+    match fault {
+        LiteralFault::Memory => TextFault::Memory,
+        _ => TextFault::Literal(fault),
+    }
+}
+
+/// Reads a line, of which these are the nodes, as a value of the type of number 0.
+fn read_nodes(
+    alloc: Global,
+    heap: &mut Heap,
+    table: &TypeTable,
+    line: &[u8],
+    placed: &Placed,
+) -> Result<Option<Val>, TextFault>
+    requires named { length table.now.names ≡ length table.now.nodes }
+    requires empty { heap.old ≡ [] }
+    requires placed { IsPlaced line.now placed.now.places.items placed.now.tree }
+    ensures { ReadsText table.now line.now heap.new result }
+{
+    match read_placed(alloc, heap, table, 0, line, placed) {
+        Ok(root) => Ok(Some(root)),
+        Err(fault) => Err(text_fault(fault)),
+    }
+}
+
+/// Reads a line of 2^32 bytes or more as a value of the type of number 0. It keeps all lexemes.
+fn read_long(
     alloc: Global,
     heap: &mut Heap,
     table: &TypeTable,
     line: &[u8],
 ) -> Result<Option<Val>, TextFault>
-    requires { length table.now.names ≡ length table.now.nodes }
+    requires named { length table.now.names ≡ length table.now.nodes }
+    requires empty { heap.old ≡ [] }
     ensures { ReadsText table.now line.now heap.new result }
 {
-    heap.clear();
     let lexemes = match tokens(alloc, line) {
         Ok(lexemes) => lexemes,
         Err(LexFault::Memory) => return Err(TextFault::Memory),
@@ -69,5 +100,26 @@ fn read(
         Ok(root) => Ok(Some(root)),
         Err(LiteralFault::Memory) => Err(TextFault::Memory),
         Err(fault) => Err(TextFault::Literal(fault)),
+    }
+}
+
+/// Reads a line as a value of the type of number 0.
+fn read(
+    alloc: Global,
+    heap: &mut Heap,
+    table: &TypeTable,
+    line: &[u8],
+) -> Result<Option<Val>, TextFault>
+    requires { length table.now.names ≡ length table.now.nodes }
+    ensures { ReadsText table.now line.now heap.new result }
+{
+    heap.clear();
+    match read_placed_tree(alloc, line) {
+        Ok(Some(placed)) => read_nodes(alloc, heap, table, line, &placed),
+        Ok(None) => Ok(None),
+        Err(PlacedFault::Lex(fault)) => Err(TextFault::Lex(fault)),
+        Err(PlacedFault::Syntax(byte)) => Err(TextFault::Literal(LiteralFault::Syntax(byte as u64))),
+        Err(PlacedFault::TooLong) => read_long(alloc, heap, table, line),
+        Err(PlacedFault::Memory) => Err(TextFault::Memory),
     }
 }

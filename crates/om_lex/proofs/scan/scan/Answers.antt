@@ -3,7 +3,8 @@ use Rattle.std.proofs.lemmas.List.{take_rest, append-nil}
 use Rattle.om_lex.specs.declared.found.Step.{Step}
 use Rattle.om_lex.specs.declared.found.Step.TheVariants as steps
 use Rattle.om_lex.proofs.FaultLaws.{IsPartAt}
-use Rattle.om_lex.proofs.PartLaws.{Reached, reached_more, reached_further, part_here, told_inside, told_fault, goes_down}
+use Rattle.om_lex.specs.Lexemes.{Reached}
+use Rattle.om_lex.proofs.PartLaws.{reached_more, reached_further, part_here, told_inside, told_fault, goes_down}
 use Rattle.om_lex.proofs.scan.scan.Goals as goal
 use Rattle.om_lex.proofs.scan.scan.Goals.{In-Ok-Gap, In-Ok-Word}
 

@@ -1,5 +1,5 @@
 use Rattle.std.proofs.Common.{◌-◌, length}
-use Rattle.om_lex.proofs.PartLaws.{Reached}
+use Rattle.om_lex.specs.Lexemes.{Reached}
 use Rattle.om_lex.proofs.scan.scan.Given as goal
 
 abbrev pub invariant-loop-at : goal.invariant-loop-at

@@ -1,15 +1,17 @@
 use Rattle.std.proofs.Common.{arith, rules, sym, ap, ◌∙◌, subst, get_or}
-use Rattle.std.specs.Prelude.{ℕ, ◌<◌, ◌≡◌, true, false, None, List, [], length, All}
+use Rattle.std.specs.Prelude.{ℕ, ◌+◌, ◌<◌, ◌≡◌, true, false, None, List, [], length, All, option_map, slice_get}
 use Rattle.std.proofs.lemmas.List.{append-nil}
 use Rattle.om_literal_grammar.specs.declared.node.Form.TheVariants as forms
 use Rattle.om_literal_grammar.specs.declared.node.Node.{Node}
-use Rattle.om_literal_grammar.specs.Literal.{again}
+use Rattle.om_lex.specs.declared.lexeme.Lexeme.{Lexeme}
+use Rattle.om_literal_grammar.specs.Literal.{again, label_kinds}
 use Rattle.om_literal.specs.LiteralAnswers.{shape_in, names_in}
 use Rattle.om_literal.specs.Reading.{is_next, literal_read}
 use Rattle.om_literal.specs.Standing.{Stands, own_node}
 use Rattle.om_literal.specs.Underway.{IsMade, Begins, MayRefuse}
 use Rattle.om_literal.specs.declared.fault.LiteralFault.TheVariants as faults
 use Rattle.om_literal.proofs.GoLemmas.{own_at, again_only, plain_only, part_inside, first_within}
+use Rattle.om_literal.proofs.StandingLemmas.{lead_is}
 use Rattle.om_literal.proofs.PlacedLemmas.{number_refused}
 use Rattle.om_literal.proofs.part.begin.Goals as goal
 
@@ -45,15 +47,17 @@ returns-then-not-has_next_number c = record {
   grows = ([], sym (append-nil c.args.heap.now));
 }
 
-pub start_of-requires : goal.start_of-requires
-start_of-requires c = record {
+pub make_plain-requires : goal.make_plain-requires
+make_plain-requires c = record {
   text = c.requires.text;
   node = part_inside c.args.text.now c.args.j c.requires.part;
-  first = first_within c.args.text.now c.args.j none c.requires.part c.in_default.not-Again;
 }
 
+pub plain_first-requires : goal.plain_first-requires
+plain_first-requires c = let first = first_within c.args.text.now c.args.j none c.requires.part c.in_default.not-Again in omega (arith, first, c.requires.text.few)
+
 pub placed-requires : goal.placed-requires
-placed-requires c = let first = first_within c.args.text.now c.args.j none c.requires.part c.in_default.not-Again in omega (arith, first)
+placed-requires c = let first = first_within c.args.text.now c.args.j none c.requires.part c.in_default.not-Again in omega (arith, first, c.requires.text.few)
 
 pub returns : goal.returns
 returns c = record {
@@ -62,9 +66,12 @@ returns c = record {
       let node = get_or c.args.text.now.nodes.now c.args.j none in
       let numbered : is_next c.args.labels.now.items (get_or c.args.text.now.nodes.now c.args.j none).label ≡ true = sym (ap (λ (ls : List ℕ). is_next ls (get_or c.args.text.now.nodes.now c.args.j none).label) c.deref-2.ensures.value) ∙ sym c.has_next_number.ensures ∙ c.if-not-has_next_number.false in
       plain_only (λ u. Stands c.args.text.now.nodes.now c.args.text.now.lexemes.now c.args.j k u → node ≡ own_node k u
-      → Begins c.args.text.now k u c.args.t c.args.heap.now c.make.new.heap c.args.labels.now.items c.placed.new.labels.items c.placed.result) k
-      (λ l p there is. c.placed.ensures k l p c.args.heap.now c.make.new.heap is (sym (ap (λ (n : Node). is_next c.args.labels.now.items n.label) is) ∙ numbered) all
-      (subst (λ start. IsMade node.parts start c.args.heap.now c.make.new.heap c.in_ok-made.made) (c.in_ok-start.ensures.start k l p there is) c.in_ok-made.ensures.made)) v
+      → Begins c.args.text.now k u c.args.t c.args.heap.now c.make_plain.new.heap c.args.labels.now.items c.placed.new.labels.items c.placed.result) k
+      (λ l p there is.
+      let led = lead_is c.args.text.now.lexemes.now k l p there.kinds_at c.in-Some.kind
+      (sym c.in-Some.is ∙ c.in_ok-kind.ensures ∙ ap (λ i. option_map (λ (x : Lexeme). x.kind) (slice_get c.args.text.now.lexemes.now i)) (c.plain_first.ensures ∙ ap (λ (n : Node). n.first + length (label_kinds n.label)) is)) in
+      c.placed.ensures k l p c.args.heap.now c.make_plain.new.heap is (sym (ap (λ (n : Node). is_next c.args.labels.now.items n.label) is) ∙ numbered) all
+      (c.in_ok-made.ensures.made k l p there is led)) v
       (λ e. c.in_default.not-Again (ap (λ (n : Node). n.form) own ∙ e)) stands own;
   grows = c.in_ok-made.ensures.grows;
 }

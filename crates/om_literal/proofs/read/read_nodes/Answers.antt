@@ -1,19 +1,20 @@
-use Rattle.std.proofs.Common.{sym, ap, ◌∙◌, subst}
+use Rattle.std.proofs.Common.{arith, sym, ap, ◌∙◌, subst}
 use Rattle.std.specs.Prelude.{ℕ, List, length}
 use Rattle.om_literal_grammar.specs.declared.node.Node.{Node}
 use Rattle.om_literal_grammar.specs.Nodes.{IsTreeOf}
 use Rattle.om_literal.specs.Ends.{AreEnds}
 use Rattle.om_literal.proofs.ReadLemmas.{tree_answers}
-use Rattle.om_literal.proofs.read.read_lexemes.Goals as goal
+use Rattle.om_literal.proofs.read.read_nodes.Goals as goal
 
 pub read_tree-requires-clause-text : goal.read_tree-requires-clause-text
 read_tree-requires-clause-text c = record {
   named = c.requires.named;
   many = ap (λ (ends : List ℕ). length ends) c.as_slice.ensures.value ∙ c.in_ok-ends.ensures.len;
+  few = omega (arith, c.len-few.ensures.few, c.len-few.ensures.count);
   ends = subst (AreEnds c.as_slice-nodes.result.now) (sym c.as_slice.ensures.value) (λ j k v at. c.in_ok-ends.ensures.ends j k v at);
 }
 
 pub returns : goal.returns
 returns c =
     tree_answers (record { table = c.args.table; lexemes = c.args.lexemes; nodes = c.as_slice-nodes.result; ends = c.as_slice.result; end = c.args.end }) c.args.at c.args.heap.now c.read_tree.new.heap
-    c.read_tree.result (subst (λ (nodes : List Node). IsTreeOf c.args.lexemes.now nodes) (sym c.as_slice-nodes.ensures) c.in-Ok.ensures.tree) c.read_tree.ensures
+    c.read_tree.result (subst (λ (nodes : List Node). IsTreeOf c.args.lexemes.now nodes) (sym c.as_slice-nodes.ensures) c.requires.tree) c.read_tree.ensures

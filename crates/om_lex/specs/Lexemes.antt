@@ -1,0 +1,61 @@
+-- Where the lexemes of a text stand, and the front of a text up to a place.
+use Rattle.std.specs.Prelude.{◌≡◌, ℕ, ◌+◌, ◌<◌, ◌≤◌, List, [], ◌∷◌, ◌++◌, length, drop, Option, Some, None, Result, Ok, Err, ⊤}
+use Rattle.std.specs.List.{flat_map}
+use Rattle.om_lex.specs.declared.lexeme.Keyword.TheVariants as keywords
+use Rattle.om_lex.specs.declared.lexeme.Lexeme.{Lexeme}
+use Rattle.om_lex.specs.declared.lexeme.LexemeKind.{LexemeKind}
+use Rattle.om_lex.specs.declared.lexeme.LexemeKind.TheVariants as kinds
+use Rattle.om_lex.specs.declared.lexeme.LexFault.{LexFault}
+use Rattle.om_lex.specs.declared.found.Step.{Step}
+use Rattle.om_lex.specs.declared.found.Step.TheVariants.{Word}
+use Rattle.om_lex.specs.LexText.{Part, part_bytes, AreParts, lexemes_of, Lexes, Faults, UnlessMemory}
+use Rattle.om_lex.specs.Scan.{step_at}
+
+-- the lexeme of a step at a place; where there is none, it is a keyword of no length
+abbrev pub lexeme_in : ℕ → Result Step LexFault → Lexeme
+lexeme_in place (Ok (Word word)) =
+    record { kind = word.kind; span = record { first = place; len = word.len } }
+lexeme_in place step =
+    record { kind = kinds.Keyword keywords.Type; span = record { first = place; len = 0 } }
+
+-- the lexeme at this place of a text
+abbrev pub lexeme_from : List ℕ → ℕ → Lexeme
+lexeme_from text place = lexeme_in place (step_at (drop place text))
+
+-- the name of a lexeme in lower case
+abbrev pub lower_name : Option LexemeKind → List ℕ
+lower_name (Some (kinds.Lower x)) = x
+lower_name kind = []
+
+-- the parts up to a place, and their lexemes
+pub record Reached (text : List ℕ) (at : ℕ) (lexemes : List Lexeme) : Type 0 where
+  pub parts : List Part
+  pub are : AreParts parts (drop at text)
+  pub is : text ≡ flat_map part_bytes parts ++ drop at text
+  pub long : at ≡ length (flat_map part_bytes parts)
+  pub inside : at ≤ length text
+  pub found : lexemes ≡ lexemes_of 0 parts
+
+-- after these lexemes comes another one, or none up to the end; or the text has a fault
+abbrev pub GoesOn : List ℕ → List Lexeme → Result (Option Lexeme) LexFault → Type 0
+GoesOn text front (Ok None) = Reached text (length text) front
+GoesOn text front (Ok (Some lexeme)) =
+    Reached text (lexeme.span.first + lexeme.span.len) (front ++ lexeme ∷ [])
+GoesOn text front (Err fault) = UnlessMemory (Faults text) fault
+
+-- after the parts with these lexemes comes another part, up to this place, or the text has a fault
+abbrev pub StepsOn : List ℕ → List Lexeme → Result ℕ LexFault → Type 0
+StepsOn text front (Ok end) = (more : List Lexeme) × Reached text end (front ++ more)
+StepsOn text front (Err fault) = UnlessMemory (Faults text) fault
+
+-- a lexeme behind a place, which is the one at its own place
+pub record IsNext (text : List ℕ) (from : ℕ) (lexeme : Lexeme) : Type 0 where
+  pub onward : from < lexeme.span.first + lexeme.span.len
+  pub within : lexeme.span.first + lexeme.span.len ≤ length text
+  pub behind : from ≤ lexeme.span.first
+  pub is : lexeme_from text lexeme.span.first ≡ lexeme
+
+-- the text's lexemes begin with these, or it has a fault
+abbrev pub Ends : List ℕ → List Lexeme → Result ⊤ LexFault → Type 0
+Ends text front (Ok done) = (more : List Lexeme) × Lexes text (front ++ more)
+Ends text front (Err fault) = UnlessMemory (Faults text) fault

@@ -1,0 +1,195 @@
+//! The lexemes of a row, or those at places of a text.
+
+ghost use Rattle.std.specs.Prelude.{◌≡◌, ◌<◌, ◌^◌, Some, length, map, option_map, slice_get, IfOk};
+ghost use Rattle.om_lex.specs.declared.lexeme.Lexeme.{Lexeme};
+ghost use Rattle.om_lex.specs.Lexemes.{lexeme_from, lower_name};
+
+use crate::bytes::{name_len, starts_lower};
+use crate::found::Step;
+use crate::lexeme::{Keyword, LexFault, Lexeme, LexemeKind};
+use crate::scan::step_at;
+use crate::words::keyword_of;
+use om_model::Memory;
+use om_model::list::List;
+use std::alloc::Global;
+use std::marker::Model;
+
+/// The kind of the lexeme at this place of a text.
+fn kind_from(alloc: Global, text: &[u8], place: usize) -> Result<LexemeKind, Memory>
+    ensures { IfOk result (λ kind. kind ≡ (lexeme_from text.now place).kind) }
+{
+    if place > text.len() {
+        return Ok(LexemeKind::Keyword(Keyword::Type));
+    }
+    match step_at(alloc, &text[place..]) {
+        Ok(Step::Word(word)) => Ok(word.kind),
+        Err(LexFault::Memory) => Err(Memory),
+        _ => Ok(LexemeKind::Keyword(Keyword::Type)),
+    }
+}
+
+/// The name in lower case at this place of a text, or none.
+fn lower_from(text: &[u8], place: usize) -> &[u8]
+    ensures { result.now ≡ lower_name (Some (lexeme_from text.now place).kind) }
+{
+    if place > text.len() {
+        return &[];
+    }
+    lower_at(&text[place..])
+}
+
+/// The name in lower case at the front, or none.
+fn lower_at(text: &[u8]) -> &[u8]
+    ensures { result.now ≡ lower_name (Some (lexeme_from text.now 0).kind) }
+{
+    let [first, ..] = text else {
+        return &[];
+    };
+    if !starts_lower(*first) {
+        return &[];
+    }
+    let name = &text[..name_len(text)];
+    match keyword_of(name) {
+        None => name,
+        Some(_) => &[],
+    }
+}
+
+/// A list of bytes once more.
+fn copy_list(alloc: Global, bytes: &List<u8>) -> Result<List<u8>, Memory>
+    ensures { IfOk result (λ copy. copy ≡ bytes.now) }
+{
+    Ok(List::of(Vec::from_slice(alloc, bytes.as_slice())?))
+}
+
+/// A kind once more.
+fn copy_kind(alloc: Global, kind: &LexemeKind) -> Result<LexemeKind, Memory>
+    ensures { IfOk result (λ copy. copy ≡ kind.now) }
+{
+    match kind {
+        LexemeKind::Keyword(keyword) => Ok(LexemeKind::Keyword(*keyword)),
+        LexemeKind::Lower(name) => Ok(LexemeKind::Lower(copy_list(alloc, name)?)),
+        LexemeKind::Upper(name) => Ok(LexemeKind::Upper(copy_list(alloc, name)?)),
+        LexemeKind::Tag(name) => Ok(LexemeKind::Tag(copy_list(alloc, name)?)),
+        LexemeKind::Variable(name) => Ok(LexemeKind::Variable(copy_list(alloc, name)?)),
+        LexemeKind::Character(c) => Ok(LexemeKind::Character(*c)),
+        LexemeKind::Integer(i) => Ok(LexemeKind::Integer(*i)),
+        LexemeKind::Text(bytes) => Ok(LexemeKind::Text(copy_list(alloc, bytes)?)),
+        LexemeKind::Double(bits) => Ok(LexemeKind::Double(*bits)),
+        LexemeKind::Symbol(symbol) => Ok(LexemeKind::Symbol(*symbol)),
+    }
+}
+
+/// The name that a kind is, where it is one in lower case.
+fn lower_of(kind: &LexemeKind) -> &[u8]
+    ensures { result.now ≡ lower_name (Some kind.now) }
+{
+    match kind {
+        LexemeKind::Lower(name) => name.as_slice(),
+        _ => &[],
+    }
+}
+
+/// Where lexemes are had from: a row of them, or a text and the places where they begin.
+#[derive(Clone, Copy)]
+enum Source<'a> {
+    Row(&'a [Lexeme]),
+    Text(&'a [u8], &'a [u32]),
+}
+
+/// Lexemes, which contracts see as their list.
+#[derive(Drop)]
+pub struct Lexemes<'a> {
+    source: Source<'a>,
+}
+
+impl<'a> Model for Lexemes<'a> {
+    ghost use Rattle.std.specs.Prelude.{List};
+    ghost use Rattle.om_lex.specs.declared.lexeme.Lexeme.{Lexeme};
+    ghost use Rattle.om_lex.specs.Sources.{lexemes_in};
+
+    ghost Value = { List Lexeme };
+
+    ghost view = { λ l. lexemes_in l.source };
+}
+
+impl<'a> Lexemes<'a> {
+    /// Those of a row.
+    pub fn of_row(row: &'a [Lexeme]) -> Lexemes<'a>
+        ensures { result ≡ row.now }
+    {
+        Lexemes {
+            source: Source::Row(row),
+        }
+    }
+
+    /// Those at these places of a text.
+    pub fn of_text(text: &'a [u8], places: &'a [u32]) -> Lexemes<'a>
+        ensures { result ≡ map (lexeme_from text.now) places.now }
+    {
+        Lexemes {
+            source: Source::Text(text, places),
+        }
+    }
+
+    /// How many there are.
+    pub fn len(&self) -> usize
+        ensures count { result ≡ length self.now }
+        ensures few { result < 2 ^ 63 }
+    {
+        match &self.source {
+            Source::Row(row) => row.len(),
+            Source::Text(_, places) => places.len(),
+        }
+    }
+
+    /// The first byte of lexeme number k.
+    pub fn first(&self, k: usize) -> Option<usize>
+        ensures { result ≡ option_map (λ (l : Lexeme). l.span.first) (slice_get self.now k) }
+    {
+        match &self.source {
+            Source::Row(row) => match row.get(k) {
+                Some(lexeme) => Some(lexeme.span.first),
+                None => None,
+            },
+            Source::Text(_, places) => match places.get(k) {
+                Some(place) => Some(*place as usize),
+                None => None,
+            },
+        }
+    }
+
+    /// The name that lexeme number k is, where it is one in lower case.
+    pub fn lower(&self, k: usize) -> &[u8]
+        ensures { result.now
+            ≡ lower_name (option_map (λ (l : Lexeme). l.kind) (slice_get self.now k)) }
+    {
+        match &self.source {
+            Source::Row(row) => match row.get(k) {
+                Some(lexeme) => lower_of(&lexeme.kind),
+                None => &[],
+            },
+            Source::Text(text, places) => match places.get(k) {
+                Some(place) => lower_from(text, *place as usize),
+                None => &[],
+            },
+        }
+    }
+
+    /// The kind of lexeme number k.
+    pub fn kind(&self, alloc: Global, k: usize) -> Result<Option<LexemeKind>, Memory>
+        ensures { IfOk result
+            (λ kind. kind ≡ option_map (λ (l : Lexeme). l.kind) (slice_get self.now k)) }
+    {
+        match &self.source {
+            Source::Row(row) => match row.get(k) {
+                Some(lexeme) => Ok(Some(copy_kind(alloc, &lexeme.kind)?)),
+                None => Ok(None),
+            },
+            Source::Text(text, places) => match places.get(k) {
+                Some(place) => Ok(Some(kind_from(alloc, text, *place as usize)?)),
+                None => Ok(None),
+            },
+        }
+    }
+}

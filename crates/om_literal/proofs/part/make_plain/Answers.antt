@@ -1,0 +1,12 @@
+use Rattle.std.proofs.Common.{arith, sym, ap, ◌∙◌, subst}
+use Rattle.std.specs.Prelude.{ℕ, ◌+◌, length, IfOk}
+use Rattle.om_literal_grammar.specs.declared.node.Node.{Node}
+use Rattle.om_literal_grammar.specs.Literal.{label_kinds}
+use Rattle.om_literal.specs.Underway.{IsMade}
+use Rattle.om_literal.proofs.part.make_plain.Goals as goal
+
+pub returns-then-node-eq0-clause-made : goal.returns-then-node-eq0-clause-made
+returns-then-node-eq0-clause-made c k l p there is led =
+    subst (λ start. IfOk c.make_leaf.result (IsMade c.args.node.parts start c.args.heap.now c.make_leaf.new.heap))
+    (c.leaf_at.ensures.leaf (k + length (label_kinds l)) p led (sym (ap (λ (n : Node). n.parts) is) ∙ c.if-node-eq0.true))
+    (c.make_leaf.ensures.made c.args.node.parts)

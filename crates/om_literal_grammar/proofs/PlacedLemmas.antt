@@ -1,0 +1,163 @@
+-- What the code has reached at a byte, and what follows there.
+use Rattle.std.proofs.Common.{ℕ, zero, suc, ◌+◌, ◌^◌, ◌≡◌, ◌≢◌, ◌∙◌, ◌<◌, ◌≤◌, List, [], ◌∷◌, ◌++◌, length, take, get_or, map, Option, Some, None, refl, sym, ap, subst, arith, append_assoc, append-nil}
+use Rattle.std.specs.Prelude.{true, false, Result, Ok, Err, option_map, unwrap_or, slice_get}
+use Rattle.std.proofs.lemmas.List.{map-append, length-map, length-append}
+use Rattle.om_lex.specs.declared.lexeme.Lexeme.{Lexeme}
+use Rattle.om_lex.specs.Lexemes as lex
+use Rattle.om_lex.specs.Lexemes.{lexeme_from, IsNext}
+use Rattle.om_lex.specs.LexText.{Lexes}
+use Rattle.om_lex.proofs.PartLaws.{reached_end, few_lexemes}
+use Rattle.om_grammar.specs.Grammar.{Kinds}
+use Rattle.om_grammar.specs.Machine.{run}
+use Rattle.om_grammar.specs.Refusals.{IsSyntax}
+use Rattle.om_literal_grammar.specs.declared.node.Node.{Node}
+use Rattle.om_literal_grammar.specs.declared.open.Open.{Open}
+use Rattle.om_literal_grammar.specs.declared.open.Stage.{Stage}
+use Rattle.om_literal_grammar.specs.declared.open.Stage.TheVariants as stages
+use Rattle.om_literal_grammar.specs.declared.placed.PlacedFault.{PlacedFault}
+use Rattle.om_literal_grammar.specs.declared.placed.PlacedFault.TheVariants as faults
+use Rattle.om_literal_grammar.specs.Literal.{literal_kinds}
+use Rattle.om_literal_grammar.specs.Machine.{start, step}
+use Rattle.om_literal_grammar.specs.Nodes.{kinds_of, IsTreeOf}
+use Rattle.om_literal_grammar.specs.Code.{step_code, end_code, Steps}
+use Rattle.om_literal_grammar.specs.Placed.{lexemes_at, StopsAt, IsLexed, Stopped, IsPlacedFault, IsPlaced}
+use Rattle.om_literal_grammar.proofs.FollowCode.{code_of}
+use Rattle.om_literal_grammar.proofs.ReadLemmas.{Reached, begins, goes_at, stops_at, is_tree_where, ends_early_where}
+
+-- the lexemes up to a byte are those at the places, and lead to what the code has
+pub record Front (text : List ℕ) (at : ℕ) (places : List ℕ) (ns : List Node) (os : List Open) (stage : Stage) : Type 0 where
+  pub reached : lex.Reached text at (lexemes_at text places)
+  pub read : Reached (lexemes_at text places) (length places) ns os stage
+  pub few : length places ≤ at
+
+-- ---- lists
+
+last_is : (xs : List Lexeme) (x : Lexeme) → x ≡ get_or (xs ++ x ∷ []) (length xs) x
+last_is [] x = refl
+last_is (y ∷ xs) x = last_is xs x
+
+front_of : (xs ys : Kinds) (n : ℕ) → length xs ≡ n → take n (xs ++ ys) ≡ take n xs
+front_of [] ys zero e = refl
+front_of (x ∷ xs) ys zero e = refl
+front_of [] ys (suc n) e = absurd (omega (arith, e))
+front_of (x ∷ xs) ys (suc n) e = ap (λ all. x ∷ all) (front_of xs ys n (omega (arith, e)))
+
+-- the lexemes that follow change nothing of what was reached
+further : (xs ys : List Lexeme) (n : ℕ) (ns : List Node) (os : List Open) (stage : Stage) → length xs ≡ n → Reached xs n ns os stage → Reached (xs ++ ys) n ns os stage
+further xs ys n ns os stage e r =
+    let all : kinds_of (xs ++ ys) ≡ kinds_of xs ++ kinds_of ys = map-append (λ (l : Lexeme). l.kind) xs ys in
+    (r.0, ap (λ ks. run step start (take n ks)) all ∙ ap (run step start) (front_of (kinds_of xs) (kinds_of ys) n (length-map xs (λ (l : Lexeme). l.kind) ∙ e)) ∙ r.1, r.2)
+
+more_is : (xs more : List Lexeme) (x : Lexeme) → x ≡ get_or ((xs ++ x ∷ []) ++ more) (length xs) x
+more_is [] more x = refl
+more_is (y ∷ xs) more x = more_is xs more x
+
+found_is : (xs more : List Lexeme) (x : Lexeme) → slice_get ((xs ++ x ∷ []) ++ more) (length xs) ≡ Some x
+found_is [] more x = refl
+found_is (y ∷ xs) more x = found_is xs more x
+
+none_is : (xs : List Lexeme) → slice_get xs (length xs) ≡ None
+none_is [] = refl
+none_is (x ∷ xs) = none_is xs
+
+some_are : (xs more : List Lexeme) (x : Lexeme) → (xs ++ x ∷ []) ++ more ≢ []
+some_are [] more x e = absurd cc
+some_are (y ∷ xs) more x e = absurd cc
+
+-- ---- the fault of lexemes
+
+pub stopped_lexed : (text : List ℕ) (front : List Lexeme) (first : ℕ) (f : PlacedFault) → IsLexed text f → Stopped text front first f
+stopped_lexed text front first (faults.Lex f) is = is
+stopped_lexed text front first (faults.Syntax byte) is = absurd is
+stopped_lexed text front first faults.TooLong is = absurd is
+stopped_lexed text front first faults.Memory is = tt
+
+pub placed_lexed : (text : List ℕ) (f : PlacedFault) → IsLexed text f → IsPlacedFault text f
+placed_lexed text (faults.Lex f) is = is
+placed_lexed text (faults.Syntax byte) is = absurd is
+placed_lexed text faults.TooLong is = absurd is
+placed_lexed text faults.Memory is = tt
+
+-- ---- at the first byte
+
+pub front_begins : (text : List ℕ) (places : List ℕ) (ns : List Node) (os : List Open) → places ≡ [] → ns ≡ [] → os ≡ [] → Front text 0 places ns os stages.Due
+front_begins text places ns os none h i =
+    subst (λ (ps : List ℕ). Front text 0 ps ns os stages.Due) (sym none)
+    (record {
+      reached = record { parts = []; are = tt; is = refl; long = refl; inside = omega arith; found = refl };
+      read = begins [] ns os h i;
+      few = omega arith;
+    })
+
+module _ (text : List ℕ) (at : ℕ) (places : List ℕ) (ns : List Node) (os : List Open) (stage : Stage) (front : Front text at places ns os stage) where
+  count_is : length (lexemes_at text places) ≡ length places
+  count_is = length-map places (lexeme_from text)
+
+  -- only what is no lexeme follows
+  pub front_ends : lex.Reached text (length text) (lexemes_at text places) → Front text (length text) places ns os stage
+  front_ends r = record { reached = r; read = front.read; few = omega (arith, front.few, front.reached.inside) }
+
+  module _ (short : length text < 2 ^ 32) (l : Lexeme) (next : IsNext text at l) (on : lex.Reached text (l.span.first + l.span.len) (lexemes_at text places ++ l ∷ [])) where
+    pub front_goes : (ms : List Node) (ps : List Open) (o : Option Stage) (then : Stage) (more : List ℕ)
+        → Steps (Ok o) ms ps (step_code ns os stage (length places) l.kind) → o ≡ Some then → more ≡ places ++ l.span.first ∷ []
+        → Front text (l.span.first + l.span.len) more ms ps then
+    front_goes ms ps o then more steps e is =
+        let all : lexemes_at text more ≡ lexemes_at text places ++ l ∷ [] =
+        ap (lexemes_at text) is ∙ map-append (lexeme_from text) places (l.span.first ∷ []) ∙ ap (λ (x : Lexeme). lexemes_at text places ++ x ∷ []) next.is in
+        let long : suc (length places) ≡ length more = omega (arith, ap length is, length-append places (l.span.first ∷ [])) in
+        let many : length (lexemes_at text places ++ l ∷ []) ≡ suc (length places) = omega (arith, length-append (lexemes_at text places) (l ∷ []), count_is) in
+        let here : l ≡ get_or (lexemes_at text places ++ l ∷ []) (length places) l = last_is (lexemes_at text places) l ∙ ap (λ n. get_or (lexemes_at text places ++ l ∷ []) n l) count_is in
+        let read = goes_at (lexemes_at text places ++ l ∷ []) (length places) ns os stage (further (lexemes_at text places) (l ∷ []) (length places) ns os stage count_is front.read)
+        l (omega (arith, many)) (omega (arith, many, front.few, next.behind, next.onward, next.within, short)) here ms ps o then steps e in
+        record {
+          reached = subst (lex.Reached text (l.span.first + l.span.len)) (sym all) on;
+          read = subst (λ n. Reached (lexemes_at text more) n ms ps then) long (subst (λ (xs : List Lexeme). Reached xs (suc (length places)) ms ps then) (sym all) read);
+          few = omega (arith, long, front.few, next.behind, next.onward);
+        }
+
+    stops_in : (ms : List Node) (ps : List Open) (o : Option Stage) (byte : ℕ) (more : List Lexeme)
+        → Steps (Ok o) ms ps (step_code ns os stage (length places) l.kind) → o ≡ None → byte ≡ l.span.first → Lexes text ((lexemes_at text places ++ l ∷ []) ++ more)
+        → StopsAt text byte
+    stops_in ms ps o byte more steps e is lexes =
+        let xs = lexemes_at text places in
+        let all = (xs ++ l ∷ []) ++ more in
+        let many : length all ≡ suc (length places) + length more = omega (arith, length-append (xs ++ l ∷ []) more, length-append xs (l ∷ []), count_is) in
+        let here : l ≡ get_or all (length places) l = more_is xs more l ∙ ap (λ n. get_or all n l) count_is in
+        let reached : Reached all (length places) ns os stage =
+        subst (λ (ys : List Lexeme). Reached ys (length places) ns os stage) (sym (append_assoc xs (l ∷ []) more)) (further xs (l ∷ [] ++ more) (length places) ns os stage count_is front.read) in
+        record {
+          lexemes = all;
+          lexeme = length places;
+          lexes = lexes;
+          some = some_are xs more l;
+          syntax = stops_at all (length places) ns os stage reached l (omega (arith, many)) (omega (arith, few_lexemes text all lexes, short)) here ms ps o steps e;
+          is = is ∙ ap (λ (found : Option Lexeme). unwrap_or (option_map (λ (x : Lexeme). x.span.first) found) (length text)) (sym (found_is xs more l) ∙ ap (slice_get all) count_is);
+        }
+
+    pub front_stops : (ms : List Node) (ps : List Open) (o : Option Stage) (f : PlacedFault)
+        → Steps (Ok o) ms ps (step_code ns os stage (length places) l.kind) → o ≡ None → Stopped text (lexemes_at text places ++ l ∷ []) l.span.first f
+        → IsPlacedFault text f
+    front_stops ms ps o (faults.Lex f) steps e is = is
+    front_stops ms ps o (faults.Syntax byte) steps e is = stops_in ms ps o byte is.1.0 steps e is.0 is.1.1
+    front_stops ms ps o faults.TooLong steps e is = absurd is
+    front_stops ms ps o faults.Memory steps e is = tt
+
+  module _ (end : length text ≤ at) where
+    lexes_all : Lexes text (lexemes_at text places)
+    lexes_all = reached_end text at (lexemes_at text places) front.reached end
+
+    pub front_blank : places ≡ [] → Lexes text []
+    front_blank none = subst (λ (ps : List ℕ). Lexes text (lexemes_at text ps)) none lexes_all
+
+    pub front_tree : (ms : List Node) → Some ms ≡ end_code ns os stage → IsPlaced text places ms
+    front_tree ms h = (lexes_all, is_tree_where (lexemes_at text places) (length places) ns os stage front.read (sym count_is) true ms ms (sym h) refl refl)
+
+    pub front_faulty : None ≡ end_code ns os stage → 0 < length places → StopsAt text (length text)
+    front_faulty h some = record {
+      lexemes = lexemes_at text places;
+      lexeme = length (lexemes_at text places);
+      lexes = lexes_all;
+      some = λ e. omega (arith, ap length e, count_is, some);
+      syntax = ends_early_where (lexemes_at text places) (length places) ns os stage front.read (sym count_is) false [] (sym h) refl;
+      is = ap (λ (found : Option Lexeme). unwrap_or (option_map (λ (x : Lexeme). x.span.first) found) (length text)) (sym (none_is (lexemes_at text places)));
+    }

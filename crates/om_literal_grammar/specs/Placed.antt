@@ -1,0 +1,60 @@
+-- What is answered about a text, whose lexemes are found at their places.
+use Rattle.std.specs.Prelude.{ℕ, ◌≡◌, ◌≢◌, ◌≤◌, ◌^◌, option_map, unwrap_or, Option, Some, None, Result, Ok, Err, List, [], ◌++◌, length, map, slice_get, ⊤}
+use Rattle.om_lex.specs.declared.lexeme.Lexeme.{Lexeme}
+use Rattle.om_lex.specs.Lexemes.{lexeme_from}
+use Rattle.om_lex.specs.LexText.{Lexes, Faults}
+use Rattle.om_grammar.specs.Refusals.{IsSyntax}
+use Rattle.om_literal_grammar.specs.declared.node.Node.{Node}
+use Rattle.om_literal_grammar.specs.declared.placed.Placed.{Placed}
+use Rattle.om_literal_grammar.specs.declared.placed.PlacedFault.{PlacedFault}
+use Rattle.om_literal_grammar.specs.declared.placed.PlacedFault.TheVariants as faults
+use Rattle.om_literal_grammar.specs.Literal.{literal_kinds}
+use Rattle.om_literal_grammar.specs.Nodes.{kinds_of, IsTreeOf}
+
+abbrev pub lexemes_at : List ℕ → List ℕ → List Lexeme
+lexemes_at text places = map (lexeme_from text) places
+
+-- the text's lexemes, of which there are some, are no literal, first at this byte
+pub record StopsAt (text : List ℕ) (byte : ℕ) : Type 0 where
+  pub lexemes : List Lexeme
+  pub lexeme : ℕ
+  pub lexes : Lexes text lexemes
+  pub some : lexemes ≢ []
+  pub syntax : IsSyntax literal_kinds (kinds_of lexemes) lexeme
+  pub is : byte
+      ≡ unwrap_or (option_map (λ (l : Lexeme). l.span.first) (slice_get lexemes lexeme))
+      (length text)
+
+-- ---- what functions give
+
+abbrev pub IsLexed : List ℕ → PlacedFault → Type 0
+IsLexed text (faults.Lex fault) = Faults text fault
+IsLexed text faults.Memory = ⊤
+IsLexed text fault = ⊥
+
+-- the text's lexemes begin with these, at whose last one no literal goes on
+abbrev pub Stopped : List ℕ → List Lexeme → ℕ → PlacedFault → Type 0
+Stopped text front first (faults.Syntax byte) =
+    (byte ≡ first) × ((more : List Lexeme) × Lexes text (front ++ more))
+Stopped text front first fault = IsLexed text fault
+
+abbrev pub IsPlacedFault : List ℕ → PlacedFault → Type 0
+IsPlacedFault text (faults.Lex fault) = Faults text fault
+IsPlacedFault text (faults.Syntax byte) = StopsAt text byte
+IsPlacedFault text faults.TooLong = 2 ^ 32 ≤ length text
+IsPlacedFault text faults.Memory = ⊤
+
+-- the places are those of the text's lexemes, and the nodes those of a literal that these spell
+abbrev pub IsPlaced : List ℕ → List ℕ → List Node → Type 0
+IsPlaced text places nodes =
+    Lexes text (lexemes_at text places) × IsTreeOf (lexemes_at text places) nodes
+
+abbrev pub ReadsAt : List ℕ → List ℕ → Result (Option (List Node)) PlacedFault → Type 0
+ReadsAt text places (Ok None) = Lexes text []
+ReadsAt text places (Ok (Some nodes)) = IsPlaced text places nodes
+ReadsAt text places (Err fault) = IsPlacedFault text fault
+
+abbrev pub ReadsPlaced : List ℕ → Result (Option Placed) PlacedFault → Type 0
+ReadsPlaced text (Ok None) = Lexes text []
+ReadsPlaced text (Ok (Some placed)) = IsPlaced text placed.places.items placed.tree
+ReadsPlaced text (Err fault) = IsPlacedFault text fault
