@@ -2,6 +2,7 @@
 //! least fault.
 #![tactic(auto)]
 
+mod found;
 mod laws;
 mod nodes;
 mod text;
