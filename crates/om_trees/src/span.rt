@@ -115,7 +115,8 @@ fn with_right(heap: &Heap, all: &[Settled], o: usize, span: Span) -> (Span, bool
 }
 
 /// What is known of a node, from its parts.
-fn settle_node(heap: &Heap, all: &[Settled], o: usize) -> Settled
+#[inline(always)]
+pub fn settle_node(heap: &Heap, all: &[Settled], o: usize) -> Settled
     requires { IsReady heap.now all.now o }
     ensures { IsSettledAs heap.now o result }
 {
