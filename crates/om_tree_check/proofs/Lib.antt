@@ -3,3 +3,4 @@ pub mod AmongLemmas
 pub mod TableLemmas
 pub mod SameLemmas
 pub mod PairLemmas
+pub mod SoundLemmas
