@@ -8,7 +8,7 @@ ghost use Rattle.om_trees.specs.Judgement.{AreClosed, IsJudgement, IsFirst, HasA
 use crate::levels::{by_height, settle_all};
 use crate::node::{TreeKind, is_miscounted, is_unbalanced};
 use crate::span::Settled;
-use crate::sweep::are_sound;
+use crate::sweep::sweep;
 use om_heap::Heap;
 use om_model::Memory;
 use std::alloc::Global;
@@ -27,9 +27,17 @@ pub fn judge(alloc: Global, heap: &Heap, nodes: &[usize]) -> Result<Judgement, M
     requires { AreClosed heap.now nodes.now }
     ensures { IfOk result (IsJudgement heap.now nodes.now) }
 {
-    if are_sound(alloc, heap, nodes)? {
-        return Ok(Judgement::Sound);
+    match sweep(alloc, heap, nodes)? {
+        Some(judgement) => Ok(judgement),
+        None => judge_by_height(alloc, heap, nodes),
     }
+}
+
+/// The same of nodes in any order.
+fn judge_by_height(alloc: Global, heap: &Heap, nodes: &[usize]) -> Result<Judgement, Memory>
+    requires { AreClosed heap.now nodes.now }
+    ensures { IfOk result (IsJudgement heap.now nodes.now) }
+{
     if let Some(i) = first_miscounted(heap, nodes) {
         return Ok(Judgement::Faulty(TreeKind::Height, i));
     }

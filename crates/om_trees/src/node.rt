@@ -1,7 +1,6 @@
 //! A node of a search tree, and what may be wrong with it.
 
 ghost use Rattle.std.specs.Prelude.{◌≡◌, ◌+◌, ◌<◌, ◌↔◌, ◌⊎◌, ◌+ℤ◌, ◌<ℤ◌, length, map, pos, All, IsTrue};
-ghost use Rattle.std.specs.Bool.{OnTrue};
 ghost use Rattle.om_model.specs.Graph.{IsValue, IsInteger};
 ghost use Rattle.om_heap.specs.Heap.{object_at, fields_of, field_at, word_of, IsFieldWord};
 ghost use Rattle.om_trees.specs.Parts as parts;
@@ -33,6 +32,7 @@ pub enum TreeKind {
 }
 
 /// The node that an object is.
+#[inline(always)]
 pub fn node_at(heap: &Heap, o: usize) -> Node
     requires { o < length heap.now }
     ensures node { result ≡ parts.node_at heap.now o }
@@ -51,6 +51,7 @@ pub fn node_at(heap: &Heap, o: usize) -> Node
 }
 
 /// The node of a block whose right part is in this field, and the height in the next one.
+#[inline(always)]
 fn with_right_at(heap: &Heap, o: u64, right: u64) -> Node
     requires object { o < length heap.now }
     requires place { (right ≡ 2) ⊎ (right ≡ 3) }
@@ -92,7 +93,8 @@ pub fn number_in(v: Val) -> i64
 }
 
 /// The height of a value.
-fn height_of(heap: &Heap, v: Val) -> i64
+#[inline(always)]
+pub fn height_of(heap: &Heap, v: Val) -> i64
     requires { IsValue (length heap.now) v }
     ensures height { result ≡ parts.height_of heap.now v }
     ensures small { IsInteger result }
@@ -125,26 +127,9 @@ pub fn is_unbalanced(heap: &Heap, o: usize) -> bool
     is_lopsided(heap, o, node, left, right)
 }
 
-/// Whether an object, which is this node, states one more than the height of its higher part, and
-/// its parts differ by two at most.
-#[inline(always)]
-pub fn is_well_counted(heap: &Heap, o: usize, node: Node) -> bool
-    requires node { node ≡ parts.node_at heap.now o }
-    requires valid { IsValid (length heap.now) node }
-    ensures counted { OnTrue result (¬ IsMiscounted heap.now o) }
-    ensures balanced { OnTrue result (¬ IsUnbalanced heap.now o) }
-{
-    let left = height_of(heap, node.left);
-    let right = height_of(heap, node.right);
-    if is_count_wrong(heap, o, node, left, right) {
-        return false;
-    }
-    !is_lopsided(heap, o, node, left, right)
-}
-
 /// Whether the height of a node is not one more than the greater of these, which its parts have.
 #[inline(always)]
-fn is_count_wrong(_heap: &Heap, _o: usize, node: Node, left: i64, right: i64) -> bool
+pub fn is_count_wrong(_heap: &Heap, _o: usize, node: Node, left: i64, right: i64) -> bool
     requires node { node ≡ parts.node_at _heap.now _o }
     requires valid { IsValid (length _heap.now) node }
     requires left { left ≡ parts.height_of _heap.now node.left }
@@ -158,7 +143,7 @@ fn is_count_wrong(_heap: &Heap, _o: usize, node: Node, left: i64, right: i64) ->
 
 /// Whether these heights, which the parts of a node have, differ by more than two.
 #[inline(always)]
-fn is_lopsided(_heap: &Heap, _o: usize, _node: Node, left: i64, right: i64) -> bool
+pub fn is_lopsided(_heap: &Heap, _o: usize, _node: Node, left: i64, right: i64) -> bool
     requires node { _node ≡ parts.node_at _heap.now _o }
     requires left { left ≡ parts.height_of _heap.now _node.left }
     requires right { right ≡ parts.height_of _heap.now _node.right }

@@ -1,6 +1,6 @@
 use Rattle.std.proofs.Common.{arith}
 use Rattle.om_trees.proofs.SweepLemmas.{one_more_known}
-use Rattle.om_trees.proofs.sweep.settle_sound.Goals as goal
+use Rattle.om_trees.proofs.sweep.sweep_node.Goals as goal
 
 pub returns-clause-known : goal.returns-clause-known
 returns-clause-known c =
