@@ -37,7 +37,7 @@ use Rattle.om_tree_check.specs.declared.nodes.Nodes.{Nodes}
 use Rattle.om_tree_check.specs.NodeVisits.{AreNodeVisits, IsVerdictAmong}
 use Rattle.om_tree_check.specs.TreeTable.{IsTreeTable, IsTableVerdict}
 
-all_are : {X : Type 0} (P : X → Type 0) (xs : List X)
+pub all_are : {X : Type 0} (P : X → Type 0) (xs : List X)
     → ((i : ℕ) (x : X) → slice_get xs i ≡ Some x → P x) → All P xs
 all_are P xs each k d below = each k (get_or xs k d) (slice_get-get_or xs k d below)
 

@@ -1,4 +1,5 @@
 pub mod TreeTable
 pub mod NodeVisits
+pub mod NodePairs
 pub mod VerdictText
 pub mod Laws

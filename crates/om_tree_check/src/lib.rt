@@ -2,11 +2,12 @@
 //! least fault.
 #![tactic(auto)]
 
+mod found;
 mod laws;
 mod nodes;
 mod text;
 mod verdict;
 
-pub use laws::{tables_have_the_verdict, tables_judge_trees};
+pub use laws::{sound_verdicts_tell_search_trees, tables_have_the_verdict, tables_judge_trees};
 pub use text::put_verdict;
 pub use verdict::trees;

@@ -1,8 +1,9 @@
 //! The nodes among all that is met of a value.
 
-ghost use Rattle.std.specs.Prelude.{◌≡◌, ◌+◌, ◌<◌, false, length, slice_index_or, IfOk, OnOk};
+ghost use Rattle.std.specs.Prelude.{◌≡◌, ◌+◌, ◌<◌, length, IfOk, OnOk};
 ghost use Rattle.om_tree_check.specs.NodeVisits.{AreNodeVisits, IsMarked};
 
+use crate::found::is_marked;
 use om_check::AllMet;
 use om_model::Memory;
 use std::alloc::Global;
@@ -40,11 +41,4 @@ fn take_visit(nodes: &mut Nodes, all: &AllMet, found: &[bool], k: usize) -> Resu
         nodes.visits.push(k)?;
     }
     Ok(())
-}
-
-/// Whether a type is marked.
-fn is_marked(found: &[bool], ty: usize) -> bool
-    ensures { result ≡ slice_index_or found.now ty false }
-{
-    ty < found.len() && found[ty]
 }

@@ -1,6 +1,7 @@
 //! The verdict on the sets and maps in a value.
 
-ghost use Rattle.std.specs.Prelude.{◌≡◌, ◌<◌, ◌↔◌, length, All, IfOk, IsTrue};
+ghost use Rattle.std.specs.Prelude.{◌≡◌, ◌<◌, ◌↔◌, length, All, IfOk, IfSome, IsTrue};
+ghost use Rattle.om_model.specs.declared.value.Val.TheVariants as vals;
 ghost use Rattle.om_model.specs.Graph.{IsValue};
 ghost use Rattle.om_types.specs.Table.{table_shapes};
 ghost use Rattle.om_types.specs.Typing.{HasType};
@@ -10,10 +11,12 @@ ghost use Rattle.om_trees.specs.Judgement.{AreClosed};
 ghost use Rattle.om_tree_check.specs.NodeVisits.{NoneMarked, IsVerdictAmong};
 ghost use Rattle.om_tree_check.specs.TreeTable.{IsTreeTable, AreMarked, IsTableVerdict};
 
+use crate::found::{is_marked, nodes_found};
 use crate::nodes::{Nodes, nodes_among};
 use om_check::{AllMet, met};
 use om_heap::Heap;
 use om_model::Memory;
+use om_model::path::Path;
 use om_model::value::Val;
 use om_trees::{Judgement, TreeVerdict, judge, tree_types};
 use om_type_table::TypeTable;
@@ -37,7 +40,10 @@ pub fn trees(
     if has_none(found.as_slice()) {
         return Ok(TreeVerdict::Sound(0));
     }
-    verdict_by(alloc, heap, root, table, found.as_slice())
+    match verdict_found(alloc, heap, root, table, found.as_slice())? {
+        Some(verdict) => Ok(verdict),
+        None => verdict_by(alloc, heap, root, table, found.as_slice()),
+    }
 }
 
 /// Whether no type is marked.
@@ -50,6 +56,42 @@ fn has_none(found: &[bool]) -> bool
         }
     }
     true
+}
+
+/// The verdict, where it asks for no path but that of the root.
+fn verdict_found(
+    alloc: Global,
+    heap: &Heap,
+    root: Val,
+    table: &TypeTable,
+    found: &[bool],
+) -> Result<Option<TreeVerdict>, Memory>
+    requires value { IsValue (length heap.now) root }
+    requires table { IsTreeTable table.now }
+    requires has { HasType (table_shapes (table_of table.now)) heap.now root 0 }
+    requires found { AreMarked table.now found.now }
+    ensures { IfOk result (λ told. IfSome told (IsTableVerdict table.now heap.now root)) }
+{
+    let nodes = nodes_found(alloc, heap, root, table, found)?;
+    match judge(alloc, heap, nodes.as_slice())? {
+        Judgement::Sound => Ok(Some(TreeVerdict::Sound(nodes.len() as u64))),
+        Judgement::Faulty(kind, i) => {
+            if is_marked(found, 0) && is_object(root, nodes[i]) {
+                return Ok(Some(TreeVerdict::Faulty(kind, Path::new(alloc))));
+            }
+            Ok(None)
+        }
+    }
+}
+
+/// Whether a value is a reference to an object.
+fn is_object(v: Val, o: usize) -> bool
+    ensures { IsTrue result ↔ (v ≡ vals.Ref o) }
+{
+    match v {
+        Val::Ref(p) => p == o as u64,
+        _ => false,
+    }
 }
 
 /// The verdict by the types of sets and maps.

@@ -13,3 +13,4 @@ pub mod JudgeLemmas
 pub mod TypeLemmas
 pub mod NameLemmas
 pub mod VerdictLemmas
+pub mod SweepLemmas

@@ -9,3 +9,4 @@ pub mod Laws
 pub mod Judgement
 pub mod Span
 pub mod Levels
+pub mod Sweep

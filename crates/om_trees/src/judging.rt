@@ -8,6 +8,7 @@ ghost use Rattle.om_trees.specs.Judgement.{AreClosed, IsJudgement, IsFirst, HasA
 use crate::levels::{by_height, settle_all};
 use crate::node::{TreeKind, is_miscounted, is_unbalanced};
 use crate::span::Settled;
+use crate::sweep::sweep;
 use om_heap::Heap;
 use om_model::Memory;
 use std::alloc::Global;
@@ -23,6 +24,17 @@ pub enum Judgement {
 /// wrong; where there is none, the first whose parts differ too much; where there is none either,
 /// the first that is out of order.
 pub fn judge(alloc: Global, heap: &Heap, nodes: &[usize]) -> Result<Judgement, Memory>
+    requires { AreClosed heap.now nodes.now }
+    ensures { IfOk result (IsJudgement heap.now nodes.now) }
+{
+    match sweep(alloc, heap, nodes)? {
+        Some(judgement) => Ok(judgement),
+        None => judge_by_height(alloc, heap, nodes),
+    }
+}
+
+/// The same of nodes in any order.
+fn judge_by_height(alloc: Global, heap: &Heap, nodes: &[usize]) -> Result<Judgement, Memory>
     requires { AreClosed heap.now nodes.now }
     ensures { IfOk result (IsJudgement heap.now nodes.now) }
 {

@@ -8,6 +8,7 @@ mod levels;
 mod node;
 mod order;
 mod span;
+mod sweep;
 mod types;
 mod verdict;
 

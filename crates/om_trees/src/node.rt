@@ -1,8 +1,8 @@
 //! A node of a search tree, and what may be wrong with it.
 
-ghost use Rattle.std.specs.Prelude.{◌≡◌, ◌+◌, ◌<◌, ◌↔◌, ◌⊎◌, ◌+ℤ◌, ◌<ℤ◌, length, pos, IsTrue};
+ghost use Rattle.std.specs.Prelude.{◌≡◌, ◌+◌, ◌<◌, ◌↔◌, ◌⊎◌, ◌+ℤ◌, ◌<ℤ◌, length, map, pos, All, IsTrue};
 ghost use Rattle.om_model.specs.Graph.{IsValue, IsInteger};
-ghost use Rattle.om_heap.specs.Heap.{object_at, fields_of};
+ghost use Rattle.om_heap.specs.Heap.{object_at, fields_of, field_at, word_of, IsFieldWord};
 ghost use Rattle.om_trees.specs.Parts as parts;
 ghost use Rattle.om_trees.specs.Parts.{node_of};
 ghost use Rattle.om_trees.specs.Valid.{IsValid};
@@ -32,6 +32,7 @@ pub enum TreeKind {
 }
 
 /// The node that an object is.
+#[inline(always)]
 pub fn node_at(heap: &Heap, o: usize) -> Node
     requires { o < length heap.now }
     ensures node { result ≡ parts.node_at heap.now o }
@@ -50,6 +51,7 @@ pub fn node_at(heap: &Heap, o: usize) -> Node
 }
 
 /// The node of a block whose right part is in this field, and the height in the next one.
+#[inline(always)]
 fn with_right_at(heap: &Heap, o: u64, right: u64) -> Node
     requires object { o < length heap.now }
     requires place { (right ≡ 2) ⊎ (right ≡ 3) }
@@ -57,12 +59,27 @@ fn with_right_at(heap: &Heap, o: u64, right: u64) -> Node
     ensures node { result ≡ node_of (fields_of (object_at heap.now o)) }
     ensures valid { IsValid (length heap.now) result }
 {
+    let words = heap.fields(o);
     Node {
-        left: heap.field(o, 0),
-        element: heap.field(o, 1),
-        right: heap.field(o, right),
-        height: number_in(heap.field(o, right + 1)),
+        left: value_at(heap, o, words, 0),
+        element: value_at(heap, o, words, 1),
+        right: value_at(heap, o, words, right as usize),
+        height: number_in(value_at(heap, o, words, right as usize + 1)),
     }
+}
+
+/// Field i of a block whose fields have these words.
+#[inline(always)]
+fn value_at(heap: &Heap, o: u64, words: &[u64], i: usize) -> Val
+    requires object { o < length heap.now }
+    requires field { i < length (fields_of (object_at heap.now o)) }
+    requires words { words.now ≡ map (word_of heap.now) (fields_of (object_at heap.now o)) }
+    requires valid { All (IsFieldWord heap.now) words.now }
+    ensures field { result ≡ field_at heap.now o i }
+    ensures valid { IsValue (length heap.now) result }
+{
+    let _count = heap.count();
+    heap.value_of(words[i])
 }
 
 /// The number that a value is, and 0 where it is none.
@@ -76,7 +93,8 @@ pub fn number_in(v: Val) -> i64
 }
 
 /// The height of a value.
-fn height_of(heap: &Heap, v: Val) -> i64
+#[inline(always)]
+pub fn height_of(heap: &Heap, v: Val) -> i64
     requires { IsValue (length heap.now) v }
     ensures height { result ≡ parts.height_of heap.now v }
     ensures small { IsInteger result }
@@ -95,7 +113,7 @@ pub fn is_miscounted(heap: &Heap, o: usize) -> bool
     let node = node_at(heap, o);
     let left = height_of(heap, node.left);
     let right = height_of(heap, node.right);
-    node.height != 1 + left.max(right)
+    is_count_wrong(heap, o, node, left, right)
 }
 
 /// Whether the heights of a node's parts differ by more than two.
@@ -106,6 +124,33 @@ pub fn is_unbalanced(heap: &Heap, o: usize) -> bool
     let node = node_at(heap, o);
     let left = height_of(heap, node.left);
     let right = height_of(heap, node.right);
+    is_lopsided(heap, o, node, left, right)
+}
+
+/// Whether the height of a node is not one more than the greater of these, which its parts have.
+#[inline(always)]
+pub fn is_count_wrong(_heap: &Heap, _o: usize, node: Node, left: i64, right: i64) -> bool
+    requires node { node ≡ parts.node_at _heap.now _o }
+    requires valid { IsValid (length _heap.now) node }
+    requires left { left ≡ parts.height_of _heap.now node.left }
+    requires right { right ≡ parts.height_of _heap.now node.right }
+    requires left_small { IsInteger left }
+    requires right_small { IsInteger right }
+    ensures { IsTrue result ↔ IsMiscounted _heap.now _o }
+{
+    node.height != 1 + left.max(right)
+}
+
+/// Whether these heights, which the parts of a node have, differ by more than two.
+#[inline(always)]
+pub fn is_lopsided(_heap: &Heap, _o: usize, _node: Node, left: i64, right: i64) -> bool
+    requires node { _node ≡ parts.node_at _heap.now _o }
+    requires left { left ≡ parts.height_of _heap.now _node.left }
+    requires right { right ≡ parts.height_of _heap.now _node.right }
+    requires left_small { IsInteger left }
+    requires right_small { IsInteger right }
+    ensures { IsTrue result ↔ IsUnbalanced _heap.now _o }
+{
     is_far(left, right) || is_far(right, left)
 }
 

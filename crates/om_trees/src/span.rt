@@ -5,9 +5,10 @@ ghost use Rattle.om_model.specs.declared.value.Val.TheVariants as vals;
 ghost use Rattle.om_trees.specs.Parts as parts;
 ghost use Rattle.om_trees.specs.Parts.{IsAtOrBelow};
 ghost use Rattle.om_trees.specs.TreeFault.{IsElementLess};
+ghost use Rattle.om_trees.specs.Valid.{IsValid};
 ghost use Rattle.om_trees.specs.Span.{IsLesser, IsGreater, IsSpread, IsSpan, IsOnLeftOrAt, IsLeftOver, IsRightUnder, IsSettledAs, IsSettled, IsPartSettled, IsReady};
 
-use crate::node::node_at;
+use crate::node::{Node, node_at};
 use crate::order::is_element_less;
 use om_heap::Heap;
 use om_model::value::Val;
@@ -84,8 +85,10 @@ fn greater(heap: &Heap, o: usize, p: usize) -> usize
 }
 
 /// The span of a node and what is on its left, and whether something there is not less.
-fn with_left(heap: &Heap, all: &[Settled], o: usize) -> (Span, bool)
+fn with_left(heap: &Heap, all: &[Settled], o: usize, node: Node) -> (Span, bool)
     requires inside { o < length heap.now }
+    requires node { node ≡ parts.node_at heap.now o }
+    requires valid { IsValid (length heap.now) node }
     requires left { IsPartSettled heap.now all.now (parts.node_at heap.now o).left }
     ensures span { IsSpan heap.now (IsOnLeftOrAt heap.now o) result.0 }
     ensures over { IsTrue result.1 ↔ IsLeftOver heap.now o }
@@ -94,33 +97,38 @@ fn with_left(heap: &Heap, all: &[Settled], o: usize) -> (Span, bool)
         least: o,
         greatest: o,
     };
-    match node_at(heap, o).left {
+    match node.left {
         Val::Ref(p) => joined(heap, all[p as usize].span, own),
         _ => (own, false),
     }
 }
 
 /// The span of a node and all below it, and whether something on the right is not greater.
-fn with_right(heap: &Heap, all: &[Settled], o: usize, span: Span) -> (Span, bool)
+fn with_right(heap: &Heap, all: &[Settled], o: usize, node: Node, span: Span) -> (Span, bool)
     requires inside { o < length heap.now }
+    requires node { node ≡ parts.node_at heap.now o }
+    requires valid { IsValid (length heap.now) node }
     requires right { IsPartSettled heap.now all.now (parts.node_at heap.now o).right }
     requires span { IsSpan heap.now (IsOnLeftOrAt heap.now o) span }
     ensures span { IsSpan heap.now (IsAtOrBelow heap.now (vals.Ref o)) result.0 }
     ensures under { IsTrue result.1 ↔ IsRightUnder heap.now o }
 {
-    match node_at(heap, o).right {
+    match node.right {
         Val::Ref(p) => joined(heap, span, all[p as usize].span),
         _ => (span, false),
     }
 }
 
 /// What is known of a node, from its parts.
-fn settle_node(heap: &Heap, all: &[Settled], o: usize) -> Settled
-    requires { IsReady heap.now all.now o }
+#[inline(always)]
+pub fn settle_node(heap: &Heap, all: &[Settled], o: usize, node: Node) -> Settled
+    requires ready { IsReady heap.now all.now o }
+    requires node { node ≡ parts.node_at heap.now o }
+    requires valid { IsValid (length heap.now) node }
     ensures { IsSettledAs heap.now o result }
 {
-    let left = with_left(heap, all, o);
-    let whole = with_right(heap, all, o, left.0);
+    let left = with_left(heap, all, o, node);
+    let whole = with_right(heap, all, o, node, left.0);
     Settled {
         span: whole.0,
         disordered: left.1 || whole.1,
@@ -137,7 +145,8 @@ pub fn settle(heap: &Heap, nodes: &[usize], all: &mut Vec<Settled>)
         → IsSettled heap.now all.new.items o }
 {
     for o in nodes {
-        let known = settle_node(heap, all.as_slice(), *o);
+        let node = node_at(heap, *o);
+        let known = settle_node(heap, all.as_slice(), *o, node);
         all[*o] = known;
     }
 }

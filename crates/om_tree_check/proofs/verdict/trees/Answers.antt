@@ -13,4 +13,9 @@ returns-then-has_none c =
 pub verdict_by-requires-clause-found : goal.verdict_by-requires-clause-found
 verdict_by-requires-clause-found c =
     subst (λ (found : List Bool). AreMarked c.args.table.now found)
+    (sym c.as_slice-in-None.ensures.value) c.in_ok-found.ensures
+
+pub verdict_found-requires-clause-found : goal.verdict_found-requires-clause-found
+verdict_found-requires-clause-found c =
+    subst (λ (found : List Bool). AreMarked c.args.table.now found)
     (sym c.as_slice-2.ensures.value) c.in_ok-found.ensures

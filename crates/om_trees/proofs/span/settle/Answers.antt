@@ -17,8 +17,21 @@ settle_node-known-requires c =
     let i = c.loop-o.o-index in
     let o = get_or nodes i 0 in
     let among = slice_get-Contains nodes i o (slice_get-get_or nodes i 0 c.loop-o-test.true) in
-    subst (λ (l : List Settled). IsReady c.args.heap.now l o) (sym c.as_slice.ensures.value)
-    (still_ready c.args.heap.now c.args.all.now.items c.loop-o.all.items c.loop-o.invariant.kept o (c.requires.ready o among))
+    record {
+      ready = subst (λ (l : List Settled). IsReady c.args.heap.now l o) (sym c.as_slice.ensures.value)
+          (still_ready c.args.heap.now c.args.all.now.items c.loop-o.all.items c.loop-o.invariant.kept
+          o (c.requires.ready o among));
+      node = c.node_at-node.ensures.node;
+      valid = c.node_at-node.ensures.valid;
+    }
+
+pub node_at-node-requires : goal.node_at-node-requires
+node_at-node-requires c =
+    let nodes = c.args.nodes.now in
+    let i = c.loop-o.o-index in
+    let o = get_or nodes i 0 in
+    (c.requires.ready o
+    (slice_get-Contains nodes i o (slice_get-get_or nodes i 0 c.loop-o-test.true))).inside
 
 pub index_mut-requires : goal.index_mut-requires
 index_mut-requires c =

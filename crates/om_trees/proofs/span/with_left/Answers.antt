@@ -16,7 +16,7 @@ joined-requires-clause-second c = own_spread c.args.heap.now c.args.o c.requires
 pub returns-in-Ref-clause-span : goal.returns-in-Ref-clause-span
 returns-in-Ref-clause-span c =
     let graph = c.args.heap.now in
-    let is : (node_at graph c.args.o).left ≡ vals.Ref c.in-Ref.p = sym (ap (λ (n : Node). n.left) c.node_at.ensures.node) ∙ c.in-Ref.is in
+    let is : (node_at graph c.args.o).left ≡ vals.Ref c.in-Ref.p = sym (ap (λ (n : Node). n.left) c.requires.node) ∙ c.in-Ref.is in
     let known = settled_part graph c.args.all.now (node_at graph c.args.o).left c.in-Ref.p unknown is c.requires.left in
     left_span graph c.args.o c.requires.inside c.in-Ref.p (get_or c.args.all.now c.in-Ref.p unknown) c.joined.result.0 is known
     c.joined.ensures.least c.joined.ensures.greatest
@@ -24,7 +24,7 @@ returns-in-Ref-clause-span c =
 pub returns-in-Ref-clause-over : goal.returns-in-Ref-clause-over
 returns-in-Ref-clause-over c =
     let graph = c.args.heap.now in
-    let is : (node_at graph c.args.o).left ≡ vals.Ref c.in-Ref.p = sym (ap (λ (n : Node). n.left) c.node_at.ensures.node) ∙ c.in-Ref.is in
+    let is : (node_at graph c.args.o).left ≡ vals.Ref c.in-Ref.p = sym (ap (λ (n : Node). n.left) c.requires.node) ∙ c.in-Ref.is in
     let known = settled_part graph c.args.all.now (node_at graph c.args.o).left c.in-Ref.p unknown is c.requires.left in
     let over = left_over graph c.args.o c.in-Ref.p (get_or c.args.all.now c.in-Ref.p unknown) is known in
     (λ is. over.0 (c.joined.ensures.over.0 is), λ wrong. c.joined.ensures.over.1 (over.1 wrong))
@@ -33,7 +33,7 @@ pub returns-in_default : goal.returns-in_default
 returns-in_default c =
     let graph = c.args.heap.now in
     let none : (p : ℕ) → IsAtOrBelow graph (node_at graph c.args.o).left p → ⊥ =
-    none_below graph (node_at graph c.args.o).left (λ q is. c.in_default.not-Ref q (ap (λ (n : Node). n.left) c.node_at.ensures.node ∙ is)) in
+    none_below graph (node_at graph c.args.o).left (λ q is. c.in_default.not-Ref q (ap (λ (n : Node). n.left) c.requires.node ∙ is)) in
     record {
       span = alone graph c.args.o c.requires.inside none;
       over = (λ is. absurd (false≢true is), λ wrong. absurd (none wrong.0 wrong.1));

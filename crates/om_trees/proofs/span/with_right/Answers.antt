@@ -17,14 +17,14 @@ joined-requires-clause-first c = spread c.args.heap.now (IsOnLeftOrAt c.args.hea
 pub joined-requires-clause-second : goal.joined-requires-clause-second
 joined-requires-clause-second c =
     let graph = c.args.heap.now in
-    let is : (node_at graph c.args.o).right ≡ vals.Ref c.in-Ref.p = sym (ap (λ (n : Node). n.right) c.node_at.ensures.node) ∙ c.in-Ref.is in
+    let is : (node_at graph c.args.o).right ≡ vals.Ref c.in-Ref.p = sym (ap (λ (n : Node). n.right) c.requires.node) ∙ c.in-Ref.is in
     let known = settled_part graph c.args.all.now (node_at graph c.args.o).right c.in-Ref.p unknown is c.requires.right in
     spread graph (IsAtOrBelow graph (vals.Ref c.in-Ref.p)) (get_or c.args.all.now c.in-Ref.p unknown).span known.span
 
 pub returns-in-Ref-clause-span : goal.returns-in-Ref-clause-span
 returns-in-Ref-clause-span c =
     let graph = c.args.heap.now in
-    let is : (node_at graph c.args.o).right ≡ vals.Ref c.in-Ref.p = sym (ap (λ (n : Node). n.right) c.node_at.ensures.node) ∙ c.in-Ref.is in
+    let is : (node_at graph c.args.o).right ≡ vals.Ref c.in-Ref.p = sym (ap (λ (n : Node). n.right) c.requires.node) ∙ c.in-Ref.is in
     let known = settled_part graph c.args.all.now (node_at graph c.args.o).right c.in-Ref.p unknown is c.requires.right in
     right_span graph c.args.o c.args.span c.requires.span c.in-Ref.p (get_or c.args.all.now c.in-Ref.p unknown) c.joined.result.0 is known
     c.joined.ensures.least c.joined.ensures.greatest
@@ -32,7 +32,7 @@ returns-in-Ref-clause-span c =
 pub returns-in-Ref-clause-under : goal.returns-in-Ref-clause-under
 returns-in-Ref-clause-under c =
     let graph = c.args.heap.now in
-    let is : (node_at graph c.args.o).right ≡ vals.Ref c.in-Ref.p = sym (ap (λ (n : Node). n.right) c.node_at.ensures.node) ∙ c.in-Ref.is in
+    let is : (node_at graph c.args.o).right ≡ vals.Ref c.in-Ref.p = sym (ap (λ (n : Node). n.right) c.requires.node) ∙ c.in-Ref.is in
     let known = settled_part graph c.args.all.now (node_at graph c.args.o).right c.in-Ref.p unknown is c.requires.right in
     let under = right_under graph c.args.o c.args.span c.requires.span c.in-Ref.p (get_or c.args.all.now c.in-Ref.p unknown) is known in
     (λ is. under.0 (c.joined.ensures.over.0 is), λ wrong. c.joined.ensures.over.1 (under.1 wrong))
@@ -41,7 +41,7 @@ pub returns-in_default : goal.returns-in_default
 returns-in_default c =
     let graph = c.args.heap.now in
     let none : (p : ℕ) → IsAtOrBelow graph (node_at graph c.args.o).right p → ⊥ =
-    none_below graph (node_at graph c.args.o).right (λ q is. c.in_default.not-Ref q (ap (λ (n : Node). n.right) c.node_at.ensures.node ∙ is)) in
+    none_below graph (node_at graph c.args.o).right (λ q is. c.in_default.not-Ref q (ap (λ (n : Node). n.right) c.requires.node ∙ is)) in
     record {
       span = no_right graph c.args.o c.args.span c.requires.span none;
       under = (λ is. absurd (false≢true is), λ wrong. absurd (none wrong.1 wrong.3));

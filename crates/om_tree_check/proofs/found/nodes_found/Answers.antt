@@ -1,0 +1,32 @@
+use Rattle.std.proofs.Common.{◌≡◌, subst}
+use Rattle.std.proofs.lemmas.Result.{IfOk-weaker}
+use Rattle.om_types.specs.Lawful.{Everything}
+use Rattle.om_types.specs.Table.{table_shapes}
+use Rattle.om_types.proofs.FaultLemmas.{fault_excludes_type}
+use Rattle.om_type_table.specs.Made.{table_of}
+use Rattle.om_check.specs.Verdict.{IsVerdict, PairsHavePaths}
+use Rattle.om_tree_check.specs.NodePairs.{AreNodeObjects, marked_objects}
+use Rattle.om_tree_check.proofs.PairLemmas.{are_found}
+use Rattle.om_tree_check.proofs.found.nodes_found.Goals as goal
+
+pub unreachable-requires : goal.unreachable-requires
+unreachable-requires c =
+    let table = table_of c.args.table.now in
+    let least = subst (IsVerdict table c.args.heap.now c.args.root) c.in-No.is
+    c.in_ok-typing.ensures.verdict in
+    fault_excludes_type (table_shapes table) Everything c.requires.table.lawful.lawful
+    c.args.heap.now c.args.root 0 c.in-No.field-0 tt least.is_fault c.requires.has
+
+pub returns : goal.returns
+returns c =
+    let table = table_of c.args.table.now in
+    let graph = c.args.heap.now in
+    let root = c.args.root in
+    let yes = subst (IsVerdict table graph root) c.in-Yes.is c.in_ok-typing.ensures.verdict in
+    let paths = subst (PairsHavePaths table graph root) c.in-Yes.is c.in_ok-typing.ensures.paths in
+    IfOk-weaker c.objects_at.result
+    (λ nodes. nodes.items ≡ marked_objects c.args.found.now c.in-Yes.typing)
+    (λ nodes. AreNodeObjects c.args.table.now graph root nodes.items)
+    (λ nodes is. are_found c.args.table.now graph root c.requires.table c.requires.has
+    c.in-Yes.typing yes.1 paths c.args.found.now c.requires.found nodes.items is)
+    c.objects_at.ensures

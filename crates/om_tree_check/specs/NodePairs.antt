@@ -1,0 +1,25 @@
+-- The nodes among the pairs of a check that found no fault.
+use Rattle.std.specs.Prelude.{ℕ, ◌≡◌, Bool, false, List, filter, map, slice_index_or}
+use Rattle.om_model.specs.declared.value.Val.{Val}
+use Rattle.om_model.specs.declared.value.Obj.{Obj}
+use Rattle.om_type_table.specs.declared.table.TypeTable.{TypeTable}
+use Rattle.om_trees.specs.TreeType.{shape_in, names_in, SameClass}
+use Rattle.om_trees.specs.Verdict.{AreNodes}
+
+-- whether the type of a pair is marked
+abbrev pub is_node_pair : List Bool → ℕ × ℕ → Bool
+is_node_pair found pair = slice_index_or found pair.1 false
+
+abbrev pub objects_of : List (ℕ × ℕ) → List ℕ
+objects_of pairs = map (λ (pair : ℕ × ℕ). pair.0) pairs
+
+-- the objects of the pairs at marked types
+abbrev pub marked_objects : List Bool → List (ℕ × ℕ) → List ℕ
+marked_objects found pairs = objects_of (filter (is_node_pair found) pairs)
+
+-- these are the objects of the nodes, each as often as there are classes at which it is one
+pub record AreNodeObjects (table : TypeTable) (graph : List Obj) (root : Val) (objects : List ℕ)
+    : Type 0 where
+  pub pairs : List (ℕ × ℕ)
+  pub nodes : AreNodes (shape_in table) (names_in table) (SameClass table) graph root 0 pairs
+  pub all : objects ≡ objects_of pairs

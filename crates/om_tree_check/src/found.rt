@@ -1,0 +1,75 @@
+//! The nodes as a check found them, without paths.
+
+ghost use Rattle.std.specs.Prelude.{◌≡◌, ◌+◌, ◌<◌, length, take, IfOk, OnOk, slice_index_or, false};
+ghost use Rattle.om_model.specs.Graph.{IsValue};
+ghost use Rattle.om_types.specs.Table.{table_shapes};
+ghost use Rattle.om_types.specs.Typing.{HasType};
+ghost use Rattle.om_type_table.specs.Made.{table_of};
+ghost use Rattle.om_tree_check.specs.NodePairs.{AreNodeObjects, marked_objects};
+ghost use Rattle.om_tree_check.specs.TreeTable.{IsTreeTable, AreMarked};
+
+use om_check::{Steps, Typing, Verdict, check};
+use om_heap::Heap;
+use om_model::Memory;
+use om_model::value::Val;
+use om_type_table::TypeTable;
+use std::alloc::Global;
+
+/// The objects of the nodes in a value that has its type, each once at each class.
+pub fn nodes_found(
+    alloc: Global,
+    heap: &Heap,
+    root: Val,
+    table: &TypeTable,
+    found: &[bool],
+) -> Result<Vec<usize>, Memory>
+    requires value { IsValue (length heap.now) root }
+    requires table { IsTreeTable table.now }
+    requires has { HasType (table_shapes (table_of table.now)) heap.now root 0 }
+    requires found { AreMarked table.now found.now }
+    ensures { IfOk result (λ nodes. AreNodeObjects table.now heap.now root nodes.items) }
+{
+    let mut steps = Steps::new();
+    match check(alloc, heap, root, table, &mut steps)? {
+        Verdict::Yes(typing) => objects_at(alloc, &typing, found),
+        Verdict::No(_) => unreachable!(),
+    }
+}
+
+/// The objects at marked types.
+fn objects_at(alloc: Global, typing: &Typing, found: &[bool]) -> Result<Vec<usize>, Memory>
+    ensures { IfOk result (λ nodes. nodes.items ≡ marked_objects found.now typing.now) }
+{
+    let mut nodes = Vec::new(alloc);
+    for k in 0..typing.len() {
+        take_pair(&mut nodes, typing, found, k)?;
+    }
+    Ok(nodes)
+}
+
+/// Takes the object of pair k, where it is at a marked type.
+#[inline(always)]
+fn take_pair(
+    nodes: &mut Vec<usize>,
+    typing: &Typing,
+    found: &[bool],
+    k: usize,
+) -> Result<(), Memory>
+    requires in_range { k < length typing.now }
+    requires so_far { nodes.old.items ≡ marked_objects found.now (take k typing.now) }
+    ensures { OnOk result (nodes.new.items ≡ marked_objects found.now (take (k + 1) typing.now)) }
+{
+    let (object, ty) = typing.get(k);
+    if is_marked(found, ty) {
+        nodes.push(object as usize)?;
+    }
+    Ok(())
+}
+
+/// Whether a type is marked.
+#[inline(always)]
+pub fn is_marked(found: &[bool], ty: usize) -> bool
+    ensures { result ≡ slice_index_or found.now ty false }
+{
+    ty < found.len() && found[ty]
+}

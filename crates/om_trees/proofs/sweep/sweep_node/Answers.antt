@@ -1,0 +1,10 @@
+use Rattle.std.proofs.Common.{arith}
+use Rattle.om_trees.proofs.SweepLemmas.{one_more_known}
+use Rattle.om_trees.proofs.sweep.sweep_node.Goals as goal
+
+pub returns-clause-known : goal.returns-clause-known
+returns-clause-known c =
+    let inside = c.requires.inside in
+    let many = c.requires.many in
+    one_more_known c.args.heap.now c.args.all.now.items c.args.o c.settle_node-settled.result
+    (omega (arith, inside, many)) c.requires.known c.settle_node-settled.ensures

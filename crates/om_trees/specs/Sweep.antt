@@ -1,0 +1,54 @@
+-- A sweep over nodes, from the last to the first: what is settled, and the gravest fault so far.
+use Rattle.std.specs.Prelude.{ℕ, ◌≡◌, ◌≢◌, ◌<◌, ◌≤◌, ◌-◌, ◌^◌, nat_lt, if◌then◌else◌, List, Option, Some, None, slice_get}
+use Rattle.om_model.specs.declared.value.Obj.{Obj}
+use Rattle.om_trees.specs.declared.judging.Judgement.{Judgement}
+use Rattle.om_trees.specs.declared.judging.Judgement.TheVariants.{Sound, Faulty}
+use Rattle.om_trees.specs.declared.node.TreeKind.{TreeKind}
+use Rattle.om_trees.specs.declared.node.TreeKind.TheVariants as kinds
+use Rattle.om_trees.specs.declared.span.Settled.{Settled}
+use Rattle.om_trees.specs.Judgement.{rank_of, IsToldBefore}
+use Rattle.om_trees.specs.Span.{IsSettledAs}
+use Rattle.om_trees.specs.TreeFault.{IsMiscounted, IsUnbalanced, IsDisordered}
+
+-- ---- what is settled
+
+-- what is settled has a least element that some object is
+abbrev pub AreKnown : List Obj → List Settled → Type 0
+AreKnown graph all =
+    (o : ℕ) (settled : Settled) → slice_get all o ≡ Some settled
+    → settled.span.least ≢ 2 ^ 64 - 1 → IsSettledAs graph o settled
+
+-- ---- what is wrong with one node
+
+abbrev pub HasKind : List Obj → TreeKind → ℕ → Type 0
+HasKind graph kinds.Height o = IsMiscounted graph o
+HasKind graph kinds.Balance o = IsUnbalanced graph o
+HasKind graph kinds.Order o = IsDisordered graph o
+
+-- nothing, or the gravest that is
+abbrev pub IsGravest : List Obj → ℕ → Option TreeKind → Type 0
+IsGravest graph o None = (kind : TreeKind) → ¬ HasKind graph kind o
+IsGravest graph o (Some kind) =
+    HasKind graph kind o
+    × ((other : TreeKind) → HasKind graph other o → ¬ (rank_of other < rank_of kind))
+
+-- ---- the gravest so far
+
+abbrev pub replaced : Judgement → TreeKind → ℕ → Judgement
+replaced Sound kind i = Faulty kind i
+replaced (Faulty other j) kind i =
+    if nat_lt (rank_of other) (rank_of kind) then Faulty other j else Faulty kind i
+
+-- after node i, which comes before all so far
+abbrev pub graver : Judgement → Option TreeKind → ℕ → Judgement
+graver gravest None i = gravest
+graver gravest (Some kind) i = replaced gravest kind i
+
+-- of the nodes from this one on none has anything wrong; or this is the first of the gravest
+abbrev pub IsGravestFrom : List Obj → List ℕ → ℕ → Judgement → Type 0
+IsGravestFrom graph nodes from Sound =
+    (j o : ℕ) → from ≤ j → slice_get nodes j ≡ Some o → (kind : TreeKind) → ¬ HasKind graph kind o
+IsGravestFrom graph nodes from (Faulty kind i) =
+    ((o : ℕ) × (slice_get nodes i ≡ Some o) × HasKind graph kind o)
+    × ((other : TreeKind) (j o : ℕ) → from ≤ j → slice_get nodes j ≡ Some o
+    → HasKind graph other o → ¬ IsToldBefore other j kind i)
