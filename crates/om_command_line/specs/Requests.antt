@@ -29,6 +29,7 @@ request_of (requests.Trees file type limit) =
 request_of (requests.Dump limit) = outcome.dump limit
 request_of (requests.Same limit) = outcome.compare limit
 request_of (requests.Build file type) = outcome.own (outcome.build file.now type.now)
+request_of (requests.Generate n count type) = outcome.own (outcome.generate n count type.now)
 
 -- the arguments of a command
 abbrev pub arguments_of : ArgMatches → List Row

@@ -28,6 +28,12 @@ type Form<'a> = (&'a str, &'a [Argument<'a>]);
 // The greatest limit of words on 64 bits in a value.
 const GREATEST_LIMIT: u64 = 1 << 40;
 
+// The greatest NUMBER of a value that is made.
+const GREATEST_NUMBER: u64 = 2147483647;
+
+// The greatest COUNT of its items.
+const GREATEST_COUNT: u64 = 1000000;
+
 const LIMIT: Argument<'static> = Argument::Option("limit", GREATEST_LIMIT, "134217728");
 
 const COMPAT: Argument<'static> = Argument::Flag("compat32");
@@ -40,7 +46,11 @@ const PATH: Argument<'static> = Argument::Word("PATH");
 
 const SCRIPT: Argument<'static> = Argument::Word("SCRIPT");
 
-static FORMS: [Form<'static>; 8] = [
+const NUMBER: Argument<'static> = Argument::Number("NUMBER", GREATEST_NUMBER);
+
+const COUNT: Argument<'static> = Argument::Number("COUNT", GREATEST_COUNT);
+
+static FORMS: [Form<'static>; 9] = [
     ("check", &[LIMIT, FILE, TYPE]),
     ("show", &[LIMIT, FILE, TYPE]),
     ("get", &[LIMIT, FILE, TYPE, PATH]),
@@ -49,6 +59,7 @@ static FORMS: [Form<'static>; 8] = [
     ("dump", &[LIMIT]),
     ("same", &[LIMIT]),
     ("build", &[FILE, TYPE]),
+    ("gen", &[NUMBER, COUNT, TYPE]),
 ];
 
 // What clap is told of an argument.

@@ -61,6 +61,12 @@ pub enum Request<'a> {
         file: &'a str,
         type_text: &'a str,
     },
+    /// What is said of the value that is made from a number, with so many items, at the type.
+    Generate {
+        number: u64,
+        count: u64,
+        type_text: &'a str,
+    },
 }
 
 /// Why nothing is read of the words: they ask for nothing, or memory ran out.
@@ -141,6 +147,11 @@ fn request_by<'a>(command: &str, arguments: &ArgMatches<'a>) -> Option<Request<'
         "dump" => Some(Request::Dump { limit }),
         "same" => Some(Request::Same { limit }),
         "build" => Some(Request::Build { file, type_text }),
+        "gen" => Some(Request::Generate {
+            number: number(arguments, "NUMBER"),
+            count: number(arguments, "COUNT"),
+            type_text,
+        }),
         _ => None,
     }
 }

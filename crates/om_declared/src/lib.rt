@@ -13,5 +13,5 @@ pub use bytes::{put_bytes, put_plain};
 pub use check::check_type;
 pub use fetch::{Fetch, fetch_file};
 pub use gather::{Gathered, InputEnd, LENGTH_LIMIT, store};
-pub use types::{Requested, find_script, find_type, path_stop};
+pub use types::{Requested, find_script, find_type, path_stop, read_gathered};
 pub use verdict::{find_verdict, put_no};

@@ -100,8 +100,8 @@ fn read_requested<'a>(
     }
 }
 
-// Reads the declarations that were gathered, and the type over them.
-fn read_gathered<'a>(
+/// Reads the declarations that were gathered, and the type over them.
+pub fn read_gathered<'a>(
     alloc: Global,
     gathered: &Gathered,
     type_text: &str,

@@ -22,6 +22,7 @@ pub data Saying : Type 0 where
 -- what is asked of a command that is a set of commands of its own, beside those on values
 pub data OwnRequest : Type 0 where
   build : (file type : List ℕ) → OwnRequest
+  generate : (number count : ℕ) → (type : List ℕ) → OwnRequest
 
 -- what is asked for, with the limit of words on 64 bits in a value where values are read
 pub data Request : Type 0 where
@@ -110,6 +111,13 @@ file_and_type more = wanted (codes "FILE") ∷ wanted (codes "TYPE") ∷ more
 abbrev pub typed : List Argument → List Argument
 typed more = limit_option ∷ file_and_type more
 
+-- the greatest NUMBER of a value that is made, and the greatest COUNT of its items
+abbrev pub greatest_number : ℕ
+greatest_number = 2147483647
+
+abbrev pub greatest_count : ℕ
+greatest_count = 1000000
+
 -- the commands
 abbrev pub forms : List Form
 forms =
@@ -123,6 +131,10 @@ forms =
     ∷ row (codes "dump") (limit_option ∷ []) dump
     ∷ row (codes "same") (limit_option ∷ []) compare
     ∷ row (codes "build") (file_and_type []) (λ file type. own (build file type))
+    ∷ row (codes "gen")
+    (number (codes "NUMBER") greatest_number ∷ number (codes "COUNT") greatest_count
+    ∷ wanted (codes "TYPE") ∷ [])
+    (λ n count type. own (generate n count type))
     ∷ []
 
 -- the command of this name

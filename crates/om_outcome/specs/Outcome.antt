@@ -4,7 +4,7 @@
 use Rattle.std.specs.Prelude.{ℕ, suc, ◌<◌, ◌≡◌, ◌==◌, ◌≢◌, ◌↔◌, ◌⊎◌, Bool, true, false, IsTrue, ◌&&◌, not, nat_lt, if◌then◌else◌, List, [], ◌∷◌, ◌++◌, length, filter, find, Option, Some, None, Result, Ok, Err, MatchResult, codes, decimal}
 use Rattle.om_outcome.specs.declared.status.Status.{Status}
 use Rattle.om_outcome.specs.declared.status.Status.TheVariants as statuses
-pub use Rattle.om_outcome.specs.CommandLine.{Saying, the_verdict, the_text, the_part, the_trees, Request, tell, get, edit, dump, compare, own, OwnRequest, build, Asks, IsUsage, typed_by, path_of, script_of, limit_of}
+pub use Rattle.om_outcome.specs.CommandLine.{Saying, the_verdict, the_text, the_part, the_trees, Request, tell, get, edit, dump, compare, own, OwnRequest, build, generate, Asks, IsUsage, typed_by, path_of, script_of, limit_of}
 use Rattle.om_outcome.specs.RefusalText.{refusal_text, truncated_text}
 use Rattle.om_format.specs.Iso.{Iso}
 use Rattle.om_format.specs.Tree.{Tree, root, objects_of}

@@ -1,0 +1,106 @@
+//! The laws. Each function does nothing: what it ensures is the law.
+
+ghost use Rattle.om_promises.specs.CommandLaws.{HaveOneOutcome, HaveOneStop, StopsStay, StopsAreLast, ArePromised, Follow};
+ghost use Rattle.om_promises.specs.Causes.{AreAsTold, AreMeant, IfAlone, IfWords, IfFiles, OnlyOpenFault, IfMissing, OnlyTooLong, IfFileTooLong, IfInputTooLong, IfInputFails, IfMemory, IfWriteFault, IsDecided, IsExact, IsComplete};
+ghost use Rattle.om_promises.specs.Lawful.{AreLawful, AreInTurns};
+ghost use Rattle.om_promises.specs.LawfulLanguage.{IsLawful};
+ghost use Rattle.om_promises.specs.Outside.{OnlyReadFault, OnlyWriteFault};
+ghost use Rattle.om_promises.specs.Promises.{IfStop, IfEnd, IfUsage};
+ghost use Rattle.om_choice.specs.Choice.{AreApart};
+ghost use Rattle.om_commands.specs.Tasks.{commands};
+ghost use Rattle.om_generation.specs.Generation.{Making, generation};
+ghost use Rattle.om_generation.specs.Laws.{IsIdleElsewhere};
+ghost use Rattle.om_generation.specs.Meanings.{Causes};
+ghost use Rattle.om_texts.specs.Texts.{building};
+
+use om_commands::laws::Speaks;
+use om_promises::laws::{Act, files_in_turns, lawful_commands, promised, promises_of_commands};
+use om_texts::laws::Builds;
+use std::marker::PhantomData;
+
+/// The command on a value that is made from a number, in a language.
+pub struct OnMade<L>(PhantomData<L>);
+
+impl<L: Speaks> Act for OnMade<L> {
+    ghost acts = { Making L.types };
+
+    ghost commands = { generation L.language };
+}
+
+/// The command is lawful, where the language is.
+pub fn generation_is_lawful<L: Speaks>()
+    requires { IsLawful L.language }
+    ensures { AreLawful (generation L.language) }
+{}
+
+/// It takes no file, so that each comes in its turn.
+pub fn generation_takes_turns<L: Speaks>()
+    ensures { AreInTurns (generation L.language) }
+{}
+
+/// So words have one outcome, whatever the files and the input are.
+pub fn generation_answers_once<L: Speaks>()
+    requires { IsLawful L.language }
+    ensures outcome { HaveOneOutcome (generation L.language) }
+    ensures stop { HaveOneStop (generation L.language) }
+    ensures stays { StopsStay (generation L.language) }
+    ensures last { StopsAreLast (generation L.language) }
+{
+    generation_is_lawful::<L>();
+    lawful_commands::<OnMade<L>>();
+}
+
+/// What is promised of a call follows from its account, and from that all else.
+pub fn generation_keeps_promises<L: Speaks>()
+    requires { IsLawful L.language }
+    ensures account { ArePromised (generation L.language) }
+    ensures stop { let c = generation L.language in Follow c (IfStop c) }
+    ensures end { let c = generation L.language in Follow c (IfEnd c) }
+    ensures alone { let c = generation L.language in Follow c (IfAlone c) }
+    ensures usage { let c = generation L.language in Follow c (IfUsage c) }
+    ensures words { let c = generation L.language in Follow c (IfWords c) }
+    ensures files { let c = generation L.language in Follow c (IfFiles c) }
+    ensures meant { let c = generation L.language in Follow c (AreMeant c) }
+    ensures as_told { let c = generation L.language in Follow c (AreAsTold c) }
+    ensures read_fault { Follow (generation L.language) (λ words. OnlyReadFault) }
+    ensures write_fault { Follow (generation L.language) (λ words. OnlyWriteFault) }
+    ensures open_fault { let c = generation L.language in Follow c (OnlyOpenFault c) }
+    ensures missing { let c = generation L.language in Follow c (IfMissing c) }
+    ensures too_long { let c = generation L.language in Follow c (OnlyTooLong c) }
+    ensures file_too_long { let c = generation L.language in Follow c (IfFileTooLong c) }
+    ensures input_too_long { let c = generation L.language in Follow c (IfInputTooLong c) }
+    ensures input_fails { let c = generation L.language in Follow c (IfInputFails c) }
+    ensures memory { let c = generation L.language in Follow c (IfMemory c) }
+    ensures write_fault_by { let c = generation L.language in Follow c (IfWriteFault c) }
+    ensures decided { let c = generation L.language in Follow c (IsDecided c) }
+    ensures exact { let c = generation L.language in Follow c (IsExact c) }
+    ensures complete { let c = generation L.language in Follow c (IsComplete c) }
+{
+    generation_is_lawful::<L>();
+    generation_takes_turns::<L>();
+    promised::<OnMade<L>>();
+    promises_of_commands::<OnMade<L>>();
+    files_in_turns::<OnMade<L>>();
+}
+
+/// It is idle at each request that is not its own. So no request is for the commands on values and
+/// for this one.
+pub fn generation_stands_apart<L: Speaks>()
+    ensures idle { IsIdleElsewhere L.language }
+    ensures apart { AreApart (commands L.language) (generation L.language) }
+{}
+
+/// Nor is one for the command on texts and for this one.
+pub fn generation_stands_apart_from_texts<B: Builds, L: Speaks>()
+    ensures { AreApart (building B.language B.TextOf) (generation L.language) }
+{}
+
+/// What is promised of a call gives it exactly the status that its words and TYPE have, unless
+/// memory ran out, or out or err failed; and with 0 and 1 out has the line. No status of the input
+/// or of files comes, since nothing is taken of them.
+pub fn causes_of_generation<L: Speaks>()
+    requires { IsLawful L.language }
+    ensures { Follow (generation L.language) (Causes L.language) }
+{
+    generation_is_lawful::<L>();
+}
