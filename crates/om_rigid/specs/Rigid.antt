@@ -4,9 +4,11 @@ use Rattle.std.specs.Prelude.{ℕ, ◌↔◌, List, [], Contains}
 use Rattle.om_model.specs.declared.value.Val.{Val}
 use Rattle.om_model.specs.declared.value.Obj.{Obj}
 use Rattle.om_types.specs.declared.decl.Decl.{Decl}
+use Rattle.om_types.specs.declared.fault.Fault.{Fault}
 use Rattle.om_types.specs.Ty.{Ty, instance}
 use Rattle.om_types.specs.Accepted.{IsSoundType, VariablesAmong, AreWellFormed}
 use Rattle.om_types.specs.Equal.{declared_shapes}
+use Rattle.om_types.specs.Fault.{IsFault}
 use Rattle.om_types.specs.Reached.{reached_from, IsReached}
 use Rattle.om_types.specs.Table.{Table, table_shapes}
 use Rattle.om_types.specs.Typing.{HasType}
@@ -34,19 +36,27 @@ HasEachInstance decls graph v t =
 -- a value has a type exactly where it has each closed instance of it
 abbrev pub VariablesStandForAll : Type 0
 VariablesStandForAll =
-    (decls : List Decl) (t : Ty) (types : List Ty) (table : Table) → IsMadeFor decls t types table
+    (decls : List Decl) (t : Ty) (types : List Ty)
+    → AreWellFormed decls → IsSoundType decls t → IsReached decls t types
     → (graph : List Obj) (v : Val)
     → HasType (declared_shapes decls) graph v t ↔ HasEachInstance decls graph v t
 
--- the same of the type's number in a table
+-- and where it has a fault at the type, it has not each
+abbrev pub FaultsAreOfInstances : Type 0
+FaultsAreOfInstances =
+    (decls : List Decl) (t : Ty) (types : List Ty)
+    → AreWellFormed decls → IsSoundType decls t → IsReached decls t types
+    → (graph : List Obj) (v : Val) (fault : Fault)
+    → IsFault (declared_shapes decls) graph v t fault → ¬ HasEachInstance decls graph v t
+
+-- the first of the type's number in a table
 abbrev pub NumbersStandForAll : Type 0
 NumbersStandForAll =
     (decls : List Decl) (t : Ty) (types : List Ty) (table : Table) → IsMadeFor decls t types table
     → (graph : List Obj) (v : Val)
     → HasType (table_shapes table) graph v 0 ↔ HasEachInstance decls graph v t
 
--- each sound type without variables is closed that reaches finitely many types, as one does of
--- which a table is made
+-- each sound type without variables is closed that reaches finitely many types
 abbrev pub ReachedAreClosed : Type 0
 ReachedAreClosed =
     (decls : List Decl) (t : Ty) (types : List Ty)

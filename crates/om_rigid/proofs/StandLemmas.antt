@@ -1,0 +1,31 @@
+-- A value has a type exactly where it has each closed instance of it, and a fault at the type is one at some instance.
+use Rattle.std.proofs.Common.{List}
+use Rattle.om_types.specs.declared.decl.Decl.{Decl}
+use Rattle.om_types.specs.Ty.{Ty}
+use Rattle.om_types.specs.Accepted.{IsSoundType, AreWellFormed}
+use Rattle.om_types.specs.Reached.{IsReached}
+use Rattle.om_types.specs.Table.{Table}
+use Rattle.om_equal.proofs.ReachedLemmas.{reached_listed}
+use Rattle.om_table.specs.TableDecides.{IsMadeFor}
+use Rattle.om_rigid.specs.Rigid.{VariablesStandForAll, FaultsAreOfInstances}
+use Rattle.om_rigid.proofs.BackLemmas.{has_type, none}
+use Rattle.om_rigid.proofs.ForthLemmas.{has_instance}
+use Rattle.om_rigid.proofs.TableExists.{table_there}
+
+-- of the types that a type reaches there is a table
+some_table : (decls : List Decl) (t : Ty) (types : List Ty) → AreWellFormed decls → IsSoundType decls t → IsReached decls t types
+    → (table : Table) × IsMadeFor decls t types table
+some_table decls t types well sound reached =
+    let there = table_there decls types (reached_listed decls t types reached) in
+    (there.0, record { well = well; sound = sound; reached = reached; made = there.1 })
+
+pub stands_for_all : VariablesStandForAll
+stands_for_all decls t types well sound reached graph v =
+    let made = some_table decls t types well sound reached in (
+      λ has value closed. has_instance decls t types made.0 made.1 graph value closed v has,
+      λ each. has_type decls t types made.0 made.1 graph v each,
+    )
+
+pub faults_are_of_instances : FaultsAreOfInstances
+faults_are_of_instances decls t types well sound reached graph v fault is each =
+    none decls t types well sound reached graph v each fault is
