@@ -1,0 +1,229 @@
+-- So `build` of these lines has one outcome, which puts the canonical bytes of the values.
+use Rattle.std.proofs.Common.{◌≡◌, ℕ, true, List, [], ◌∷◌, ◌++◌, map, Some, Ok, inl, inr, refl, sym, ap, ◌∙◌, subst, append_assoc, append-nil}
+use Rattle.std.proofs.lemmas.List.{append_cancel_left}
+use Rattle.std.specs.Prelude.{if◌then◌else◌, IfSome}
+use Rattle.std.specs.List.{concat, AllByRecursion}
+use Rattle.om_model.specs.Bytes.{AreBytes}
+use Rattle.om_format.specs.Canonical.{canon}
+use Rattle.om_format.specs.Spelled.{SpelledUnder}
+use Rattle.om_format.specs.Stream.{SpellAll}
+use Rattle.om_format.specs.Tree.{Tree}
+use Rattle.om_outcome.specs.declared.status.Status.TheVariants as statuses
+use Rattle.om_outcome.specs.Outcome.{at_end, Taken, whole, opened, found_of, own, build, Asks, tell, the_text, ending_of, nothing_said, says, Replies, replies, all_well}
+use Rattle.om_edge.specs.Files.{File, contents_of}
+use Rattle.om_edge.specs.Sink.{Puts}
+use Rattle.om_promises.specs.Account.{IsWanted}
+use Rattle.om_promises.specs.Call.{Call}
+use Rattle.om_promises.specs.Causes.{AreAsTold}
+use Rattle.om_promises.specs.CommandLaws.{HaveOneOutcome, Follow}
+use Rattle.om_promises.specs.Commands.{Item, text, Given, Cut, AllSay, Answers, Outcome}
+use Rattle.om_promises.specs.Given.{TellsBytes, TakesFrom, IsFoundOf}
+use Rattle.om_promises.specs.LawfulLanguage.{IsGiven}
+use Rattle.om_promises.specs.Promises.{Promises, told_files}
+use Rattle.om_commands.specs.Tasks.{commands}
+use Rattle.om_decl.specs.Read.{IsDeclared, IsTypeOf}
+use Rattle.om_rebuild.specs.Laws.{DeclaredTextsAreReadBack}
+use Rattle.om_declared.specs.Language.{TypeOver, declared_types}
+use Rattle.om_texts.specs.Texts.{blank, made, put_bytes, building}
+use Rattle.om_texts.proofs.SaidLemmas.{texts}
+use Rattle.om_texts.proofs.TableLemmas.{goes_on}
+use Rattle.om_build.specs.Lines.{declared_texts}
+use Rattle.om_shown.specs.Shown.{HasPut, Shows, Builds, PutsCanonical, ShownTextsAreBuilt}
+use Rattle.om_shown.proofs.LineLemmas.{IsSoundOver, HasIt, text_of, IsBuilt, is_built}
+use Rattle.om_shown.proofs.ShownLemmas.{lines_of, AreShown, are_shown}
+use Rattle.om_shown.proofs.WellLemmas.{EndsWell, ends_well}
+
+-- ---- what is said of the lines
+
+abbrev said_all : List Tree → Replies
+said_all trees = replies (map (λ tree. put_bytes (canon tree)) trees) (says nothing_said)
+
+texts_are : (trees : List Tree) → (ending_of (said_all trees)).out ≡ concat (map canon trees)
+texts_are [] = refl
+texts_are (tree ∷ trees) = ap (λ rest. canon tree ++ rest) (texts_are trees)
+
+all_are_well : (trees : List Tree)
+    → all_well (map (λ tree. put_bytes (canon tree)) trees ++ nothing_said ∷ []) ≡ true
+all_are_well [] = refl
+all_are_well (tree ∷ trees) = all_are_well trees
+
+module _ (t : TypeOver) where
+  abbrev lines : List Tree → List Item
+  lines trees = texts (map (text_of t) trees)
+
+  cut_in_lines : (trees : List Tree) → AllByRecursion (IsBuilt t) trees
+      → Cut (building declared_types declared_texts) t (lines_of t trees) (lines trees) []
+  cut_in_lines [] h = refl
+  cut_in_lines (tree ∷ trees) h = (
+    lines_of t trees,
+    (
+      text_of t tree,
+      record {
+        unbroken = h.0.one_line;
+        bytes_are = append_assoc (text_of t tree) (10 ∷ []) (lines_of t trees);
+      },
+      refl,
+    ),
+    cut_in_lines trees h.1,
+  )
+
+  all_say : (before : List Item) (trees : List Tree) → AllByRecursion (IsBuilt t) trees
+      → AllSay (building declared_types declared_texts) t before (lines trees)
+      (map (λ tree. put_bytes (canon tree)) trees)
+  all_say before [] h = tt
+  all_say before (tree ∷ trees) h = (
+    (text_of t tree, refl, made (canon tree), h.0.is_made, refl),
+    all_say (before ++ text (text_of t tree) ∷ []) trees h.1,
+  )
+
+  answers : (trees : List Tree) → AllByRecursion (IsBuilt t) trees
+      → Answers (building declared_types declared_texts) t (whole (lines_of t trees))
+      (said_all trees)
+  answers trees h = inl (
+    tt,
+    record {
+      items = lines trees;
+      rest = [];
+      first = record { cut = cut_in_lines trees h; all_say = all_say [] trees h };
+      last = inr (
+        goes_on declared_types declared_texts t (lines trees) [] tt,
+        (blank, ([], tt, refl, refl), refl),
+      );
+    },
+  )
+
+-- ---- what the first call took and put
+
+-- the file that was read has what it is told to hold
+held :
+    (contents other : List ℕ) → IsFoundOf (Some contents) (opened (whole other))
+    → contents ≡ other
+held contents other (rest, takes) =
+    takes.front ∙ (ap (λ rest. other ++ rest) (takes.ends refl) ∙ append-nil other)
+
+-- an input that ended was taken whole
+taken_whole : (taken : Taken) (bytes rest : List ℕ) → taken.until ≡ at_end
+    → TakesFrom bytes taken rest → bytes ≡ taken.bytes
+taken_whole taken bytes rest ended takes =
+    takes.front ∙ (ap (λ rest. taken.bytes ++ rest) (takes.ends ended) ∙ append-nil taken.bytes)
+
+-- what is put is one text
+put_once : (call : Call) (shown put : List ℕ) → HasPut call shown → Puts call.out put → shown ≡ put
+put_once call shown put has puts =
+    let after : call.out.after.bytes ≡ Some (has.before ++ put) = rw has.had at puts.appended in
+    let same : Some (has.before ++ shown) ≡ Some (has.before ++ put) = sym has.has ∙ after in
+    append_cancel_left has.before shown put (cc same)
+
+-- each value is made of its line
+all_built : (t : TypeOver) (limit : ℕ)
+    → ((bytes : List ℕ) (tree : Tree) → SpelledUnder limit bytes tree → HasIt t tree
+    → IsBuilt t tree)
+    → (bytes : List ℕ) (trees : List Tree) (rest : List ℕ) → SpellAll limit bytes trees rest
+    → AllByRecursion (HasIt t) trees → AllByRecursion (IsBuilt t) trees
+all_built t limit one bytes [] rest s h = tt
+all_built t limit one bytes (tree ∷ trees) rest (first, more, is, spelled, s) h =
+    (one first tree spelled h.0, all_built t limit one more trees rest s h.1)
+
+module _ (told : Follow (commands declared_types) (AreAsTold (commands declared_types)))
+    (once : HaveOneOutcome (building declared_types declared_texts))
+    (read_back : DeclaredTextsAreReadBack)
+    (sound : (t : TypeOver) → IsGiven declared_types t → IsSoundOver t) where
+  module _ (words : List (List ℕ)) (call : Call) (tells : TellsBytes call.input)
+      (promises : Promises (commands declared_types) words call)
+      (file type : List ℕ) (limit : ℕ) (contents input shown : List ℕ)
+      (shows : Shows words call file type limit contents input shown)
+      (e : EndsWell (commands declared_types) words call)
+      (v : AreShown words file type limit shows.asks e.given e.all e.well) where
+    same_contents : contents ≡ v.read.contents
+    same_contents =
+        let wanted : IsWanted (commands declared_types) words e.given.files 0 file = record {
+          request = tell the_text file type limit;
+          asks = shows.asks;
+          wants = inl (refl, record { has_path = tt; type = type; typed = refl });
+        } in
+        let found : IfSome call.files.before.map (λ all.
+        IsFoundOf (contents_of all file) (e.given.files 0 file)) =
+        told words call tells promises e.given.files e.may_be.files 0 file wanted in
+        let here : IsFoundOf (contents_of shows.files file) (e.given.files 0 file) =
+        rw shows.map at found in
+        let held_here : IsFoundOf (Some contents) (e.given.files 0 file) = rw shows.holds at here in
+        held contents v.read.contents (subst (IsFoundOf (Some contents)) v.read.read held_here)
+
+    same_input : input ≡ e.given.input.bytes
+    same_input =
+        let told_input : (rest : List ℕ) × TakesFrom input e.given.input rest
+        × (call.input.after.bytes ≡ Some rest) =
+        rw shows.input_is at e.may_be.input.told in
+        taken_whole e.given.input input told_input.0 v.ended told_input.1
+
+    values : SpellAll limit input v.trees []
+    values = subst (λ bytes. SpellAll limit bytes v.trees []) (sym same_input) v.spelled
+
+    shown_is : shown ≡ lines_of v.t v.trees
+    shown_is = put_once call shown (ending_of e.all).out shows.puts e.out ∙ v.out
+
+    declared : IsDeclared contents v.read.decls
+    declared = subst (λ text. IsDeclared text v.read.decls) (sym same_contents) v.read.declared
+
+    built : AllByRecursion (IsBuilt v.t) v.trees
+    built =
+        let accepted = v.read.accepted in
+        let here : IsDeclared contents v.t.decls =
+        subst (IsDeclared contents) (sym accepted.over) declared in
+        let written : IsTypeOf v.t.decls type v.t.type =
+        subst (λ decls. IsTypeOf decls type v.t.type) (sym accepted.over) accepted.written in
+        let is_sound = sound v.t (contents, type, v.read.decls, declared, accepted) in
+        let one = is_built v.t read_back contents type here written is_sound limit in
+        all_built v.t limit one input v.trees [] values v.have
+
+    its_outcome : (words : List (List ℕ)) (files : List File) → Asks words (own (build file type))
+        → contents_of files file ≡ Some contents
+        → Outcome (building declared_types declared_texts) words (contents_of files) shown
+        (said_all v.trees)
+    its_outcome words files asks holds = (
+      Ok v.t,
+      (
+        Ok (own (build file type)),
+        asks,
+        (
+          (file, type),
+          refl,
+          (Ok contents, ap found_of holds, (Ok v.read.decls, declared, v.read.accepted)),
+        ),
+      ),
+      subst (λ b. Answers (building declared_types declared_texts) v.t (whole b) (said_all v.trees))
+          (sym shown_is) (answers v.t v.trees built),
+    )
+
+    puts_canonical : (later_words : List (List ℕ)) (later : Call) → TellsBytes later.input
+        → Promises (building declared_types declared_texts) later_words later
+        → Builds later_words later file type contents shown → PutsCanonical limit input later
+    puts_canonical later_words later later_tells later_promises builds =
+        let o = later_promises.headline shown builds.files builds.honest builds.suffices in
+        let are_bytes : AreBytes shown = rw builds.honest.well_read.input_told at later_tells in
+        let given : Given = record { files = told_files builds.files; input = whole shown } in
+        let same : o.all ≡ said_all v.trees =
+        once later_words given are_bytes o.all (said_all v.trees) o.outcome
+        (its_outcome later_words builds.files builds.asks builds.holds) in
+        record {
+          trees = v.trees;
+          values = values;
+          out =
+              subst (λ text. Puts later.out text)
+              (ap (λ all. (ending_of all).out) same ∙ texts_are v.trees) o.out;
+          err = subst (λ all. Puts later.err (ending_of all).err) same o.err;
+          status =
+              o.status
+              ∙ (ap (λ all. (ending_of all).status) same
+              ∙ ap (λ well. if well then statuses.Well else statuses.No)
+              (all_are_well v.trees));
+        }
+
+  pub shown_texts_are_built :
+      ShownTextsAreBuilt (commands declared_types) (building declared_types declared_texts)
+  shown_texts_are_built words call tells promises later_words later later_tells later_promises
+      file type limit contents input shown shows builds =
+      let e = ends_well (commands declared_types) words call promises.account shows.well in
+      let v = are_shown words file type limit shows.asks e.given e.all e.well e.outcome in
+      puts_canonical words call tells promises file type limit contents input shown shows e v
+      later_words later later_tells later_promises builds

@@ -1,0 +1,4 @@
+pub mod WellLemmas
+pub mod ShownLemmas
+pub mod LineLemmas
+pub mod BuiltLemmas

@@ -1,0 +1,124 @@
+-- The text of a value at a type that was read is a line that is made into its canonical bytes.
+use Rattle.std.proofs.Common.{◌≡◌, ℕ, ◌<◌, ◌≤◌, ◌^◌, List, [], ◌∷◌, length, map, Option, refl, ap, ◌∙◌, length-append, arith}
+use Rattle.std.specs.Prelude.{◌≢◌}
+use Rattle.std.specs.List.{concat, AllZip}
+use Rattle.om_format.specs.Canonical.{canon}
+use Rattle.om_format.specs.Spelled.{SpelledUnder}
+use Rattle.om_format.specs.Token.{Token, Spells}
+use Rattle.om_format.specs.Tree.{Tree, tokens, root, made, objects_of}
+use Rattle.om_format.proofs.SpellValues.{some_bytes}
+use Rattle.om_canonical.proofs.CanonLemmas.{made-le}
+use Rattle.om_canonical.proofs.TreeGraphs.{own_tree}
+use Rattle.om_lex.specs.declared.lexeme.Lexeme.{Lexeme}
+use Rattle.om_literal_grammar.specs.Literal.{Literal, labelled, again, Plain, integer, character, string, double, truth, unit, constant, applied, fields, tuple, empty_array, array, literal_kinds}
+use Rattle.om_literal_grammar.specs.Nodes.{FirstsBelow, literal_nodes, plain_nodes}
+use Rattle.om_literal_grammar.proofs.RangeLemmas.{firsts_in}
+use Rattle.om_types.specs.Accepted.{AreWellFormed, IsSoundType}
+use Rattle.om_types.specs.Equal.{declared_shapes}
+use Rattle.om_types.specs.Names.{names_of}
+use Rattle.om_types.specs.Shape.{shape}
+use Rattle.om_types.specs.Typing.{HasType}
+use Rattle.om_show.specs.Shown.{shown_text}
+use Rattle.om_readback.specs.ReadBack.{IsReadBack}
+use Rattle.om_rebuild.specs.Laws.{DeclaredTextsAreReadBack}
+use Rattle.om_decl.specs.Read.{IsDeclared, IsTypeOf}
+use Rattle.om_declared.specs.Language.{TypeOver, ReachesFew}
+use Rattle.om_texts.specs.Texts.{IsUnbroken}
+use Rattle.om_build.specs.Lines.{IsMade}
+
+-- ---- a literal has lexemes
+
+plain_some : (p : Plain) (l : Option ℕ) (n : ℕ) → FirstsBelow n (plain_nodes 0 l p) → 0 < n
+plain_some (integer i) l n h = h.0
+plain_some (character c) l n h = h.0
+plain_some (string s) l n h = h.0
+plain_some (double d) l n h = h.0
+plain_some (truth b) l n h = h.0
+plain_some unit l n h = h.0
+plain_some (constant c) l n h = h.0
+plain_some (applied c ps v) l n h = h.0
+plain_some (fields o rs x v) l n h = h.0
+plain_some (tuple ps u v) l n h = h.0
+plain_some empty_array l n h = h.0
+plain_some (array ps v) l n h = h.0
+
+some_below : (v : Literal) (n : ℕ) → FirstsBelow n (literal_nodes 0 v) → 0 < n
+some_below (labelled l p) n h = plain_some p l n h
+some_below (again k) n h = h.0
+
+lexemes_some : (v : Literal) (lexemes : List Lexeme)
+    → literal_kinds v ≡ map (λ (l : Lexeme). l.kind) lexemes → lexemes ≢ []
+lexemes_some v lexemes spelled none =
+    let some : 0 < length (literal_kinds v) =
+    some_below v (length (literal_kinds v)) (firsts_in v) in
+    let empty : length (literal_kinds v) ≡ 0 =
+    ap length (spelled ∙ ap (λ (all : List Lexeme). map (λ (l : Lexeme). l.kind) all) none) in
+    omega (arith, some, empty)
+
+-- ---- a value that is spelled has few objects
+
+pieces_long : (all : List Token) (pieces : List (List ℕ)) → AllZip Spells all pieces
+    → length all ≤ length (concat pieces)
+pieces_long [] pieces h = omega arith
+pieces_long (t ∷ all) [] h = absurd h
+pieces_long (t ∷ all) (piece ∷ pieces) h =
+    let next = pieces_long all pieces h.1 in
+    omega (arith, some_bytes t piece h.0, next, length-append piece (concat pieces))
+
+few_objects : (limit : ℕ) (bytes : List ℕ) (tree : Tree) → SpelledUnder limit bytes tree
+    → made tree < 2 ^ 63
+few_objects limit bytes tree s =
+    let long = pieces_long (tokens tree) s.pieces s.spells.spells in
+    omega (arith, made-le tree s.spells.is_tree, long, s.spells.length, s.small)
+
+-- ---- a line
+
+-- the type is sound over well-formed declarations, and reaches few types
+pub record IsSoundOver (t : TypeOver) : Type 0 where
+  pub well : AreWellFormed t.decls
+  pub sound : IsSoundType t.decls t.type
+  pub few : ReachesFew t.decls t.type
+
+module _ (t : TypeOver) where
+  -- the value has the type
+  abbrev pub HasIt : Tree → Type 0
+  HasIt tree = HasType (declared_shapes t.decls) (objects_of tree 0) (root tree 0) t.type
+
+  abbrev pub text_of : Tree → List ℕ
+  text_of tree =
+      shown_text (shape t.decls) (names_of t.decls) (objects_of tree 0) (root tree 0) t.type
+
+  -- the text is a line that is made into these bytes
+  pub record IsBuilt (tree : Tree) : Type 0 where
+    pub one_line : IsUnbroken (text_of tree)
+    pub is_made : IsMade t (text_of tree) (canon tree)
+
+  module _ (read_back : DeclaredTextsAreReadBack) (contents type : List ℕ)
+      (declared : IsDeclared contents t.decls) (written : IsTypeOf t.decls type t.type)
+      (sound : IsSoundOver t) where
+    pub is_built : (limit : ℕ) (bytes : List ℕ) (tree : Tree) → SpelledUnder limit bytes tree
+        → HasIt tree → IsBuilt tree
+    is_built limit bytes tree spelled has =
+        let is_tree = spelled.spells.is_tree in
+        let back = spelled.spells.refers_back in
+        let few = few_objects limit bytes tree spelled in
+        let b : IsReadBack (shape t.decls) (names_of t.decls) tree t.type (text_of tree) =
+        read_back contents type t.decls t.type sound.few.types declared written sound.well
+        sound.sound sound.few.reached tree is_tree back few has in
+        record {
+          one_line = b.one_line;
+          is_made = record {
+            graph = objects_of tree 0;
+            root = root tree 0;
+            is_text = record {
+              lexemes = b.lexemes;
+              lexes = b.lexes;
+              some = lexemes_some b.literal b.lexemes b.spelled;
+              are = (b.literal, b.spelled, record { labels = b.labels; read = b.reads 0 });
+            };
+            has = has;
+            tree = tree;
+            of = own_tree tree is_tree back;
+            are = refl;
+          };
+        }
