@@ -29,42 +29,44 @@ fn is_told(code: u8, want: (char, u8, u8)) -> bool {
     }
 }
 
+// A code, and what it is by the runtime's header.
+static KINDS: [(u8, (char, u8, u8)); 30] = [
+    (0x80, ('b', 0, 0)),
+    (0xa1, ('b', 1, 2)),
+    (0xff, ('b', 15, 7)),
+    (0x40, ('i', 0, 0)),
+    (0x7f, ('i', 63, 0)),
+    (0x20, ('s', 0, 0)),
+    (0x3f, ('s', 31, 0)),
+    (0x00, ('I', 1, 0)),
+    (0x01, ('I', 2, 0)),
+    (0x02, ('I', 4, 0)),
+    (0x03, ('I', 8, 0)),
+    (0x04, ('R', 1, 0)),
+    (0x05, ('R', 2, 0)),
+    (0x06, ('R', 4, 0)),
+    (0x14, ('R', 8, 0)),
+    (0x08, ('B', 4, 0)),
+    (0x13, ('B', 8, 0)),
+    (0x09, ('S', 1, 0)),
+    (0x0a, ('S', 4, 0)),
+    (0x15, ('S', 8, 0)),
+    (0x0b, ('D', 8, 0)),
+    (0x0c, ('D', 8, 1)),
+    (0x0d, ('A', 1, 0)),
+    (0x0f, ('A', 4, 0)),
+    (0x16, ('A', 8, 0)),
+    (0x0e, ('A', 1, 1)),
+    (0x07, ('A', 4, 1)),
+    (0x17, ('A', 8, 1)),
+    (0x12, ('C', 0, 1)),
+    (0x19, ('C', 0, 0)),
+];
+
 #[test]
 fn knows_each_code(rt: HostRuntime) {
-    let kinds = [
-        (0x80, ('b', 0, 0)),
-        (0xa1, ('b', 1, 2)),
-        (0xff, ('b', 15, 7)),
-        (0x40, ('i', 0, 0)),
-        (0x7f, ('i', 63, 0)),
-        (0x20, ('s', 0, 0)),
-        (0x3f, ('s', 31, 0)),
-        (0x00, ('I', 1, 0)),
-        (0x01, ('I', 2, 0)),
-        (0x02, ('I', 4, 0)),
-        (0x03, ('I', 8, 0)),
-        (0x04, ('R', 1, 0)),
-        (0x05, ('R', 2, 0)),
-        (0x06, ('R', 4, 0)),
-        (0x14, ('R', 8, 0)),
-        (0x08, ('B', 4, 0)),
-        (0x13, ('B', 8, 0)),
-        (0x09, ('S', 1, 0)),
-        (0x0a, ('S', 4, 0)),
-        (0x15, ('S', 8, 0)),
-        (0x0b, ('D', 8, 0)),
-        (0x0c, ('D', 8, 1)),
-        (0x0d, ('A', 1, 0)),
-        (0x0f, ('A', 4, 0)),
-        (0x16, ('A', 8, 0)),
-        (0x0e, ('A', 1, 1)),
-        (0x07, ('A', 4, 1)),
-        (0x17, ('A', 8, 1)),
-        (0x12, ('C', 0, 1)),
-        (0x19, ('C', 0, 0)),
-    ];
-    for (code, want) in kinds {
-        assert!(rt; is_told(code, want));
+    for (code, want) in &KINDS {
+        assert!(rt; is_told(*code, *want));
     }
 }
 
@@ -78,58 +80,64 @@ fn fault(code: u8) -> char {
     }
 }
 
+static NO_TOKEN: [(u8, char); 5] = [
+    (0x10, 'p'),
+    (0x11, 'p'),
+    (0x18, 'c'),
+    (0x1a, 'b'),
+    (0x1f, 'b'),
+];
+
 #[test]
 fn knows_the_codes_of_no_token(rt: HostRuntime) {
-    for (code, want) in [
-        (0x10, 'p'),
-        (0x11, 'p'),
-        (0x18, 'c'),
-        (0x1a, 'b'),
-        (0x1f, 'b'),
-    ] {
-        assert!(rt; fault(code) == want);
+    for (code, want) in &NO_TOKEN {
+        assert!(rt; fault(*code) == *want);
     }
 }
 
 // From OCaml's `Marshal.to_string`.
+static INTEGERS: [(i64, &[u8]); 12] = [
+    (0, &[0x40]),
+    (63, &[0x7f]),
+    (64, &[0x00, 0x40]),
+    (-1, &[0x00, 0xff]),
+    (128, &[0x01, 0x00, 0x80]),
+    (-128, &[0x00, 0x80]),
+    (32768, &[0x02, 0x00, 0x00, 0x80, 0x00]),
+    (1073741823, &[0x02, 0x3f, 0xff, 0xff, 0xff]),
+    (1073741824, &[0x03, 0, 0, 0, 0, 0x40, 0, 0, 0]),
+    (-1073741824, &[0x02, 0xc0, 0, 0, 0]),
+    (
+        4611686018427387903,
+        &[0x03, 0x3f, 0xff, 0xff, 0xff, 0xff, 0xff, 0xff, 0xff],
+    ),
+    (-4611686018427387904, &[0x03, 0xc0, 0, 0, 0, 0, 0, 0, 0]),
+];
+
+// Whether the bytes that were spelled are these.
+fn is_spelled(spelled: ([u8; 9], usize), bytes: &[u8]) -> bool {
+    let (all, n) = spelled;
+    n <= all.len() && &all[..n] == bytes
+}
+
+fn is_integer_spelled(number: i64, bytes: &[u8]) -> bool {
+    (-4611686018427387904..4611686018427387904).contains(&number)
+        && is_spelled(spell_int(number), bytes)
+}
+
 #[test]
 fn spells_integers(rt: HostRuntime) {
-    let rows: [(i64, &[u8]); 12] = [
-        (0, &[0x40]),
-        (63, &[0x7f]),
-        (64, &[0x00, 0x40]),
-        (-1, &[0x00, 0xff]),
-        (128, &[0x01, 0x00, 0x80]),
-        (-128, &[0x00, 0x80]),
-        (32768, &[0x02, 0x00, 0x00, 0x80, 0x00]),
-        (1073741823, &[0x02, 0x3f, 0xff, 0xff, 0xff]),
-        (1073741824, &[0x03, 0, 0, 0, 0, 0x40, 0, 0, 0]),
-        (-1073741824, &[0x02, 0xc0, 0, 0, 0]),
-        (
-            4611686018427387903,
-            &[0x03, 0x3f, 0xff, 0xff, 0xff, 0xff, 0xff, 0xff, 0xff],
-        ),
-        (-4611686018427387904, &[0x03, 0xc0, 0, 0, 0, 0, 0, 0, 0]),
-    ];
-    for (number, bytes) in rows {
-        assert!(rt; (-4611686018427387904..4611686018427387904).contains(&number));
-        let (spelled, n) = spell_int(number);
-        assert!(rt; &spelled[..n] == bytes);
+    for (number, bytes) in &INTEGERS {
+        assert!(rt; is_integer_spelled(*number, bytes));
     }
 }
 
 // From OCaml's `Marshal.to_string`.
 #[test]
 fn spells_what_comes_before_a_content(rt: HostRuntime) {
-    let rows: [(([u8; 9], usize), &[u8]); 5] = [
-        (spell_block(0, 2), &[0xa0]),
-        (spell_block(1, 8), &[0x08, 0, 0, 0x20, 0x01]),
-        (spell_string_len(256), &[0x0a, 0, 0, 1, 0]),
-        (spell_double_array_len(2), &[0x0e, 0x02]),
-        (spell_shared(1), &[0x04, 0x01]),
-    ];
-    for ((spelled, n), bytes) in rows {
-        assert!(rt; n <= 9);
-        assert!(rt; &spelled[..n] == bytes);
-    }
+    assert!(rt; is_spelled(spell_block(0, 2), &[0xa0]));
+    assert!(rt; is_spelled(spell_block(1, 8), &[0x08, 0, 0, 0x20, 0x01]));
+    assert!(rt; is_spelled(spell_string_len(256), &[0x0a, 0, 0, 1, 0]));
+    assert!(rt; is_spelled(spell_double_array_len(2), &[0x0e, 0x02]));
+    assert!(rt; is_spelled(spell_shared(1), &[0x04, 0x01]));
 }

@@ -3,26 +3,27 @@
 use om_customs::{Custom, NativeStep, read_native, spell};
 
 // From OCaml's `Marshal.to_string`, after the header.
+static CUSTOMS: [(Custom, &[u8]); 4] = [
+    (
+        Custom::I32(-2),
+        &[0x19, 0x5f, 0x69, 0, 0xff, 0xff, 0xff, 0xfe],
+    ),
+    (
+        Custom::I64(5),
+        &[0x19, 0x5f, 0x6a, 0, 0, 0, 0, 0, 0, 0, 0, 5],
+    ),
+    (Custom::Native(5), &[0x19, 0x5f, 0x6e, 0, 1, 0, 0, 0, 5]),
+    (
+        Custom::Native(2147483648),
+        &[0x19, 0x5f, 0x6e, 0, 2, 0, 0, 0, 0, 0x80, 0, 0, 0],
+    ),
+];
+
 #[test]
 fn spells_customs(rt: HostRuntime) {
-    let rows: [(Custom, &[u8]); 4] = [
-        (
-            Custom::I32(-2),
-            &[0x19, 0x5f, 0x69, 0, 0xff, 0xff, 0xff, 0xfe],
-        ),
-        (
-            Custom::I64(5),
-            &[0x19, 0x5f, 0x6a, 0, 0, 0, 0, 0, 0, 0, 0, 5],
-        ),
-        (Custom::Native(5), &[0x19, 0x5f, 0x6e, 0, 1, 0, 0, 0, 5]),
-        (
-            Custom::Native(2147483648),
-            &[0x19, 0x5f, 0x6e, 0, 2, 0, 0, 0, 0, 0x80, 0, 0, 0],
-        ),
-    ];
-    for (custom, bytes) in rows {
-        let (spelled, n) = spell(custom);
-        assert!(rt; &spelled[..n] == bytes);
+    for (custom, bytes) in &CUSTOMS {
+        let (spelled, n) = spell(*custom);
+        assert!(rt; &spelled[..n] == *bytes);
     }
 }
 
@@ -38,19 +39,20 @@ fn told(step: NativeStep) -> (char, usize, i64) {
 
 // The data that OCaml's `Marshal.to_string` writes, some cut short and some with a byte after them;
 // and a kind that it never writes.
+static NATIVES: [(&[u8], (char, usize, i64)); 8] = [
+    (&[1, 0, 0, 0, 5], ('v', 0, 5)),
+    (&[1, 0xff, 0xff, 0xff, 0xfe, 7], ('v', 0, -2)),
+    (&[2, 0, 0, 0, 0, 0x80, 0, 0, 0], ('v', 0, 2147483648)),
+    (&[2, 0x80, 0, 0, 0, 0, 0, 0, 0], ('v', 0, i64::MIN)),
+    (&[], ('m', 1, 0)),
+    (&[1, 0, 0, 0], ('m', 1, 0)),
+    (&[2], ('m', 8, 0)),
+    (&[3, 0, 0, 0, 5], ('b', 3, 0)),
+];
+
 #[test]
 fn reads_nativeints(rt: HostRuntime) {
-    let rows: [(&[u8], (char, usize, i64)); 8] = [
-        (&[1, 0, 0, 0, 5], ('v', 0, 5)),
-        (&[1, 0xff, 0xff, 0xff, 0xfe, 7], ('v', 0, -2)),
-        (&[2, 0, 0, 0, 0, 0x80, 0, 0, 0], ('v', 0, 2147483648)),
-        (&[2, 0x80, 0, 0, 0, 0, 0, 0, 0], ('v', 0, i64::MIN)),
-        (&[], ('m', 1, 0)),
-        (&[1, 0, 0, 0], ('m', 1, 0)),
-        (&[2], ('m', 8, 0)),
-        (&[3, 0, 0, 0, 5], ('b', 3, 0)),
-    ];
-    for (bytes, want) in rows {
-        assert!(rt; told(read_native(bytes)) == want);
+    for (bytes, want) in &NATIVES {
+        assert!(rt; told(read_native(bytes)) == *want);
     }
 }

@@ -3,59 +3,72 @@
 use om_headers::{Head, HeaderStep, Measure, parse, spell, words_of};
 
 // OCaml's header of a list of two.
+static SMALL: [u8; 20] = [
+    0x84, 0x95, 0xa6, 0xbe, 0, 0, 0, 5, 0, 0, 0, 2, 0, 0, 0, 7, 0, 0, 0, 6,
+];
+
+// By hand: no value that a test can hold has a big header.
+static BIG: [u8; 32] = [
+    0x84, 0x95, 0xa6, 0xbf, 0, 0, 0, 0, 0, 0, 0, 1, 0, 0, 0, 3, 0, 0, 0, 0, 0, 0, 1, 0, 0, 0, 0, 0,
+    0, 0, 0, 9,
+];
+
+// Whether the bytes that were spelled are these.
+fn is_spelled(spelled: ([u8; 32], usize), bytes: &[u8]) -> bool {
+    let (all, n) = spelled;
+    n <= all.len() && &all[..n] == bytes
+}
+
+// Whether a small header that begins the bytes states these numbers.
+fn states(bytes: &[u8], length: u64, objects: u64, w32: u64, w64: u64) -> bool {
+    match parse(bytes) {
+        Ok(HeaderStep::Head(head)) => {
+            !head.big
+                && head.length == length
+                && head.objects == objects
+                && head.w32 == w32
+                && head.w64 == w64
+        }
+        _ => false,
+    }
+}
+
 #[test]
-fn a_small_header_is_ocamls(rt: HostRuntime) {
-    let wanted = [
-        0x84, 0x95, 0xa6, 0xbe, 0, 0, 0, 5, 0, 0, 0, 2, 0, 0, 0, 7, 0, 0, 0, 6,
-    ];
-    let (bytes, n) = spell(Head {
+fn headers_are_spelled_and_read(rt: HostRuntime) {
+    let small = Head {
         big: false,
         length: 5,
         objects: 2,
         w32: 7,
         w64: 6,
-    });
-    assert!(rt; &bytes[..n] == wanted.as_slice());
-    match parse(&wanted) {
-        Ok(HeaderStep::Head(head)) => {
-            assert!(rt; !head.big && head.length == 5 && head.objects == 2);
-            assert!(rt; head.w32 == 7 && head.w64 == 6);
-        }
-        _ => assert!(rt; false, "no header"),
-    }
-}
-
-// By hand: no value that a test can hold has a big header.
-#[test]
-fn a_big_header_is_spelled(rt: HostRuntime) {
-    let wanted = [
-        0x84, 0x95, 0xa6, 0xbf, 0, 0, 0, 0, 0, 0, 0, 1, 0, 0, 0, 3, 0, 0, 0, 0, 0, 0, 1, 0, 0, 0,
-        0, 0, 0, 0, 0, 9,
-    ];
-    let (bytes, n) = spell(Head {
+    };
+    assert!(rt; is_spelled(spell(small), &SMALL));
+    assert!(rt; states(&SMALL, 5, 2, 7, 6));
+    let big = Head {
         big: true,
         length: 4294967299,
         objects: 256,
         w32: 1,
         w64: 9,
-    });
-    assert!(rt; &bytes[..n] == wanted.as_slice());
+    };
+    assert!(rt; is_spelled(spell(big), &BIG));
 }
 
 // What the headers state that OCaml 4.13 writes for such a value alone.
+static SIZES: [(Measure, (u64, u64)); 8] = [
+    (Measure::Block(2), (3, 3)),
+    (Measure::Bytes(3), (2, 2)),
+    (Measure::Bytes(4), (3, 2)),
+    (Measure::Double, (3, 2)),
+    (Measure::Doubles(2), (5, 3)),
+    (Measure::Custom(4, 4), (3, 3)),
+    (Measure::Custom(8, 8), (4, 3)),
+    (Measure::Custom(4, 8), (3, 3)),
+];
+
 #[test]
 fn counts_words(rt: HostRuntime) {
-    let sizes = [
-        (Measure::Block(2), (3, 3)),
-        (Measure::Bytes(3), (2, 2)),
-        (Measure::Bytes(4), (3, 2)),
-        (Measure::Double, (3, 2)),
-        (Measure::Doubles(2), (5, 3)),
-        (Measure::Custom(4, 4), (3, 3)),
-        (Measure::Custom(8, 8), (4, 3)),
-        (Measure::Custom(4, 8), (3, 3)),
-    ];
-    for (measure, words) in sizes {
-        assert!(rt; words_of(measure) == words);
+    for (measure, words) in &SIZES {
+        assert!(rt; words_of(*measure) == *words);
     }
 }

@@ -6,27 +6,100 @@ use om_edge::{
     put_all,
 };
 use om_model::Memory;
+use std::alloc::{AllocError, Global};
 use std::fs::File;
 use std::io::{Error, ErrorKind, Read, Write};
-use std::process::Abort;
 use std::test::Fail;
 use std::{fs, io};
 
-// Takes with a buffer of two bytes: each call answers so, and these are the bytes.
-fn expect_taken<S: Source>(
-    rt: &impl Abort,
-    source: &mut S,
-    answers: &[Result<usize, Failed>],
-    bytes: &[u8],
-) {
+// The bytes after the first n, where these stand in the buffer's front.
+fn without_front<'a>(bytes: &'a [u8], buf: &[u8], n: usize) -> Option<&'a [u8]> {
+    if n > buf.len() {
+        return None;
+    }
+    bytes.strip_prefix(&buf[..n])
+}
+
+// Whether takes with a buffer of two bytes answer so, and give these bytes.
+fn gives<S: Source>(source: &mut S, answers: &[Result<usize, Failed>], bytes: &[u8]) -> bool {
     let mut rest = bytes;
     for answer in answers {
         let mut buf = [0; 2];
         let taken = source.take(&mut buf);
-        assert!(rt; taken == *answer);
-        rest = without_front(rt, rest, &buf, taken.unwrap_or(0));
+        match without_front(rest, &buf, taken.unwrap_or(0)) {
+            Some(behind) if taken == *answer => rest = behind,
+            _ => return false,
+        }
     }
-    assert!(rt; rest.is_empty());
+    rest.is_empty()
+}
+
+// The same of the file that was fetched last.
+fn gives_file<O: Opener>(files: &mut O, answers: &[Result<usize, Failed>], bytes: &[u8]) -> bool {
+    let mut rest = bytes;
+    for answer in answers {
+        let mut buf = [0; 2];
+        let taken = files.take(&mut buf);
+        match without_front(rest, &buf, taken.unwrap_or(0)) {
+            Some(behind) if taken == *answer => rest = behind,
+            _ => return false,
+        }
+    }
+    rest.is_empty()
+}
+
+// Whether puts of three bytes answer so.
+fn accepts<K: Sink>(sink: &mut K, answers: &[Result<usize, Failed>]) -> bool {
+    for answer in answers {
+        if sink.put(b"abc") != *answer {
+            return false;
+        }
+    }
+    true
+}
+
+// What a source over a reader gives, and how many of its calls fail.
+fn source_gives<R: Read + Drop>(
+    reader: R,
+    answers: &[Result<usize, Failed>],
+    bytes: &[u8],
+    faults: u64,
+) -> bool {
+    let mut source = StdSource::new(reader);
+    gives(&mut source, answers, bytes) && source.faults() == faults
+}
+
+// What a sink over a writer takes, and how many of its calls fail.
+fn sink_accepts<W: Write + Drop>(
+    writer: W,
+    answers: &[Result<usize, Failed>],
+    faults: u64,
+) -> bool {
+    let mut sink = StdSink::new(writer);
+    accepts(&mut sink, answers) && sink.faults() == faults
+}
+
+// What is put is in the file. One that is open for reading alone cannot be written, and one that is
+// open for writing alone cannot be read.
+#[test]
+fn a_file_is_a_sink_and_a_source(rt: HostRuntime) -> Result<(), Fail> {
+    assert!(rt; sink_accepts(File::create(&rt, "put.bytes")?, &[Ok(3), Ok(3)], 0));
+    let answers = [Ok(2), Ok(2), Ok(2), Ok(0)];
+    assert!(rt; source_gives(File::open(&rt, "put.bytes")?, &answers, b"abcabc", 0));
+    let failures = [Err(Failed), Err(Failed)];
+    assert!(rt; sink_accepts(File::open(&rt, "put.bytes")?, &failures, 2));
+    assert!(rt; source_gives(File::create(&rt, "put.bytes")?, &failures, b"", 2));
+    fs::remove_file(&rt, "put.bytes")?;
+    Ok(())
+}
+
+#[test]
+fn a_writer_that_takes_nothing_is_a_fault(rt: HostRuntime) {
+    let mut room = [0; 7];
+    let mut sink = StdSink::new(room.as_mut_slice());
+    assert!(rt; put_all(&mut sink, b"abc").is_ok());
+    assert!(rt; accepts(&mut sink, &[Ok(3), Ok(1), Err(Failed)]));
+    assert!(rt; sink.put(b"") == Ok(0) && sink.faults() == 1);
 }
 
 // What became of a fetch. Out of memory is an error of its own.
@@ -37,119 +110,72 @@ fn fetched(outcome: Result<(), OpenError>) -> Result<Result<(), OpenError>, Memo
     }
 }
 
-// Fetches a file, and takes as above.
-fn expect_file<O: Opener>(
-    rt: &impl Abort,
-    files: &mut O,
-    name: &str,
-    opened: Result<(), OpenError>,
-    answers: &[Result<usize, Failed>],
-    bytes: &[u8],
-) -> Result<(), Memory> {
-    assert!(rt; fetched(files.fetch(name))? == opened);
-    let mut rest = bytes;
-    for answer in answers {
-        let mut buf = [0; 2];
-        let taken = files.take(&mut buf);
-        assert!(rt; taken == *answer);
-        rest = without_front(rt, rest, &buf, taken.unwrap_or(0));
+/// A name, the outcome of its fetch, what is then answered to takes, and the bytes that they give.
+type Fetch = (
+    &'static str,
+    Result<(), OpenError>,
+    &'static [Result<usize, Failed>],
+    &'static [u8],
+);
+
+// A folder can be opened and not read.
+static ON_DISK: [Fetch; 4] = [
+    ("a.bytes", Ok(()), &[Ok(2)], b"ab"),
+    ("b.bytes", Err(OpenError::Failed), &[Ok(0)], b""),
+    (".", Ok(()), &[Err(Failed)], b""),
+    ("a.bytes", Ok(()), &[Ok(2), Ok(1)], b"abc"),
+];
+
+// A fetch that fails, and one of a file that is not there.
+static IN_MEMORY: [Fetch; 2] = [
+    ("a.ml", Err(OpenError::Failed), &[Ok(0)], b""),
+    ("b.ml", Err(OpenError::Missing), &[Ok(0)], b""),
+];
+
+// Whether all fetches answer so.
+fn fetches<O: Opener>(files: &mut O, all: &[Fetch]) -> Result<bool, Memory> {
+    for (name, opened, answers, bytes) in all {
+        if fetched(files.fetch(name))? != *opened || !gives_file(files, answers, bytes) {
+            return Ok(false);
+        }
     }
-    assert!(rt; rest.is_empty());
-    Ok(())
-}
-
-// The bytes after the first n, which stand in the buffer's front.
-fn without_front<'a>(rt: &impl Abort, bytes: &'a [u8], buf: &[u8], n: usize) -> &'a [u8] {
-    assert!(rt; n <= bytes.len() && n <= buf.len());
-    assert!(rt; bytes[..n] == buf[..n]);
-    &bytes[n..]
-}
-
-fn expect_put<K: Sink>(rt: &impl Abort, sink: &mut K, answers: &[Result<usize, Failed>]) {
-    for answer in answers {
-        assert!(rt; sink.put(b"abc") == *answer);
-    }
-}
-
-#[test]
-fn a_source_over_a_file_gives_its_bytes(rt: HostRuntime) -> Result<(), Fail> {
-    fs::write(&rt, "read.bytes", b"abc")?;
-    let mut source = StdSource::new(File::open(&rt, "read.bytes")?);
-    expect_taken(&rt, &mut source, &[Ok(2), Ok(1), Ok(0)], b"abc");
-    assert!(rt; source.faults() == 0);
-
-    // A file that is open for writing alone cannot be read.
-    let mut source = StdSource::new(File::create(&rt, "read.bytes")?);
-    expect_taken(&rt, &mut source, &[Err(Failed), Err(Failed)], b"");
-    assert!(rt; source.faults() == 2);
-    fs::remove_file(&rt, "read.bytes")?;
-    Ok(())
-}
-
-#[test]
-fn a_sink_over_a_file_keeps_its_bytes(rt: HostRuntime) -> Result<(), Fail> {
-    let mut sink = StdSink::new(File::create(&rt, "put.bytes")?);
-    expect_put(&rt, &mut sink, &[Ok(3)]);
-    assert!(rt; put_all(&mut sink, b"d").is_ok());
-    assert!(rt; sink.faults() == 0);
-
-    // A file that is open for reading alone has the bytes, and cannot be written.
-    let mut source = StdSource::new(File::open(&rt, "put.bytes")?);
-    expect_taken(&rt, &mut source, &[Ok(2), Ok(2), Ok(0)], b"abcd");
-    let mut sink = StdSink::new(File::open(&rt, "put.bytes")?);
-    expect_put(&rt, &mut sink, &[Err(Failed), Err(Failed)]);
-    assert!(rt; sink.faults() == 2);
-    fs::remove_file(&rt, "put.bytes")?;
-    Ok(())
-}
-
-#[test]
-fn a_writer_that_takes_nothing_is_a_fault(rt: HostRuntime) {
-    let mut room = [0; 4];
-    let mut sink = StdSink::new(room.as_mut_slice());
-    expect_put(&rt, &mut sink, &[Ok(3), Ok(1), Err(Failed)]);
-    assert!(rt; sink.put(b"") == Ok(0));
-    assert!(rt; sink.faults() == 1);
+    Ok(true)
 }
 
 #[test]
 fn files_on_the_disk_are_fetched_and_taken(rt: HostRuntime) -> Result<(), Fail> {
     fs::write(&rt, "a.bytes", b"abc")?;
     let mut files = DiskFiles::new(rt.alloc(), &rt);
-    expect_file(&rt, &mut files, "a.bytes", Ok(()), &[Ok(2)], b"ab")?;
-    let missing = Err(OpenError::Failed);
-    expect_file(&rt, &mut files, "b.bytes", missing, &[Ok(0)], b"")?;
-    // A folder can be opened and not read.
-    expect_file(&rt, &mut files, ".", Ok(()), &[Err(Failed)], b"")?;
-    expect_file(&rt, &mut files, "a.bytes", Ok(()), &[Ok(2), Ok(1)], b"abc")?;
+    assert!(rt; fetches(&mut files, &ON_DISK)?);
     assert!(rt; files.last_open_fault() == Some("b.bytes"));
     assert!(rt; files.open_faults() == 1 && files.read_faults() == 1);
-    fs::remove_file(&rt, "a.bytes")?;
+    assert!(rt; fs::remove_file(&rt, "a.bytes").is_ok());
     Ok(())
 }
 
-// A fetch that fails, and one of a file that is not there.
+// Files in memory of which there are none, and whose first fetch fails.
+fn no_files(alloc: Global) -> Result<MemFiles, AllocError> {
+    let failing = Vec::from_slice(alloc, &[0])?;
+    Ok(MemFiles::new(alloc, Vec::new(alloc), failing, Vec::new(alloc)))
+}
+
 #[test]
 fn files_in_memory_tell_which_fetch_failed(rt: HostRuntime) -> Result<(), Fail> {
-    let alloc = rt.alloc();
-    let failing = Vec::from_slice(alloc, &[0])?;
-    let mut files = MemFiles::new(alloc, Vec::new(alloc), failing, Vec::new(alloc));
-    assert!(rt; fetched(files.fetch("a.ml"))? == Err(OpenError::Failed));
-    assert!(rt; fetched(files.fetch("b.ml"))? == Err(OpenError::Missing));
+    let mut files = no_files(rt.alloc())?;
+    assert!(rt; fetches(&mut files, &IN_MEMORY)?);
     assert!(rt; files.last_open_fault() == Some("a.ml"));
     Ok(())
 }
 
 #[test]
 fn errors_convert_and_print(rt: HostRuntime) -> Result<(), Fail> {
-    let alloc = rt.alloc();
     let (missing, failed) = (OpenError::Missing, OpenError::Failed);
     let memory = OpenError::from(Memory);
-    let text = format!(in alloc; "{missing}, {failed}, {memory}")?;
-    assert!(rt; text.as_str() == "there is no such file, the file cannot be opened, out of memory");
-    let (fault, memory) = (WriteError::from(Failed), WriteError::from(Memory));
-    let text = format!(in alloc; "{fault}, {memory}")?;
-    assert!(rt; text.as_str() == "write fault, out of memory");
+    let (fault, full) = (WriteError::from(Failed), WriteError::from(Memory));
+    let text = format!(in rt.alloc(); "{missing}, {failed}, {memory}, {fault}, {full}")?;
+    let wanted = "there is no such file, the file cannot be opened, out of memory, write fault, \
+                  out of memory";
+    assert!(rt; text.as_str() == wanted);
     Ok(())
 }
 
@@ -193,10 +219,7 @@ impl Write for FailsOnce {
 
 #[test]
 fn the_call_fails_at_which_the_reader_or_the_writer_does(rt: HostRuntime) {
-    let mut source = StdSource::new(FailsOnce { is_first: true });
-    expect_taken(&rt, &mut source, &[Err(Failed), Ok(1), Ok(1)], b"xx");
-    assert!(rt; source.faults() == 1);
-    let mut sink = StdSink::new(FailsOnce { is_first: true });
-    expect_put(&rt, &mut sink, &[Err(Failed), Ok(1), Ok(1)]);
-    assert!(rt; sink.faults() == 1);
+    let answers = [Err(Failed), Ok(1), Ok(1)];
+    assert!(rt; source_gives(FailsOnce { is_first: true }, &answers, b"xx", 1));
+    assert!(rt; sink_accepts(FailsOnce { is_first: true }, &answers, 1));
 }

@@ -8,90 +8,89 @@ use om_model::Memory;
 use om_model::value::Val;
 use om_write::{Compat, Write32Error, write, write32};
 use std::alloc::Global;
-use std::process::Abort;
 use std::test::Fail;
 
-// Writes a text of 100,000 bytes to a sink with this room whose calls of these numbers fail, and
-// tells how many bytes it holds.
-fn written(
-    rt: &impl Abort,
-    alloc: Global,
-    room: usize,
-    failing: &[u64],
-    is_well: bool,
-) -> Result<usize, Memory> {
+// Whether a text of 100,000 bytes is written to a sink with this room whose call of this number
+// fails; how many bytes come to the sink, and how many of its calls fail.
+fn written(alloc: Global, room: usize, failing: u64) -> Result<(bool, usize, u64), Memory> {
     let mut heap = Heap::new(alloc);
     let text = heap.add_bytes(100_000)?;
-    let failing = Vec::from_slice(alloc, failing)?;
+    let failing = Vec::from_slice(alloc, &[failing])?;
     let mut sink = MemSink::new(alloc, room, failing)?;
     match write(alloc, &heap, Val::Ref(text), &mut sink) {
-        Err(WriteError::Memory) => return Err(Memory),
-        result => assert!(rt; result.is_ok() == is_well),
+        Err(WriteError::Memory) => Err(Memory),
+        result => Ok((result.is_ok(), sink.written().len(), sink.faults())),
     }
-    assert!(rt; sink.faults() == u64::from(!is_well));
-    Ok(sink.written().len())
 }
 
 // Calls of `put` that fail, and a sink that is full, also after a first call that did not fail.
 #[test]
 fn faults_are_told(rt: HostRuntime) -> Result<(), Fail> {
-    assert!(rt; written(&rt, rt.alloc(), 200_000, &[0], false)? == 0);
-    assert!(rt; written(&rt, rt.alloc(), 200_000, &[1], false)? < 100_025);
-    assert!(rt; written(&rt, rt.alloc(), 100_024, &[], false)? == 100_024);
-    assert!(rt; written(&rt, rt.alloc(), 100_025, &[], true)? == 100_025);
+    assert!(rt; written(rt.alloc(), 200_000, 0)? == (false, 0, 1));
+    let (is_well, bytes, faults) = written(rt.alloc(), 200_000, 1)?;
+    assert!(rt; !is_well && bytes < 100_025 && faults == 1);
+    assert!(rt; written(rt.alloc(), 100_024, 9)? == (false, 100_024, 1));
+    assert!(rt; written(rt.alloc(), 100_025, 9)? == (true, 100_025, 0));
     Ok(())
 }
 
-// Tells what is too large for 32 bits of a value that is.
-fn too_large(rt: &impl Abort, alloc: Global, heap: &Heap, k: u64) -> Result<Compat, Memory> {
-    assert!(rt; k < heap.count());
-    let mut sink = MemSink::new(alloc, 100, Vec::new(alloc))?;
-    let result = write32(alloc, heap, Val::Ref(k), &mut sink);
-    assert!(rt; sink.written().is_empty());
-    match result {
-        Err(Write32Error::Compat(compat)) => Ok(compat),
-        Err(Write32Error::Memory) => Err(Memory),
-        _ => panic!(rt; "it is too large"),
+/// An object of so many fields, bytes or doubles.
+#[derive(Clone, Copy)]
+enum Large {
+    Block,
+    Bytes,
+    Doubles,
+}
+
+// Adds a large object: one field, byte or double more than `extern.c` has on 32 bits.
+fn add_large(heap: &mut Heap, large: Large) -> Result<u64, Memory> {
+    match large {
+        Large::Block => heap.add_block(0, 0x40_0000),
+        Large::Bytes => heap.add_bytes(0xff_fffc),
+        Large::Doubles => heap.add_doubles(0x20_0000),
     }
 }
 
-// By hand: one field, byte or double more than `extern.c` has on 32 bits.
+// What is told of a value that is written for 32 bits, and of no other reason than its size.
+fn told(written: Result<(), Write32Error>) -> Result<(char, u64), Memory> {
+    match written {
+        Err(Write32Error::Memory) => Err(Memory),
+        Err(Write32Error::Compat(Compat::Block(size))) => Ok(('b', size)),
+        Err(Write32Error::Compat(Compat::Bytes(size))) => Ok(('s', size)),
+        Err(Write32Error::Compat(Compat::Doubles(size))) => Ok(('d', size)),
+        Err(Write32Error::Fault) => Ok(('f', 0)),
+        _ => Ok((' ', 0)),
+    }
+}
+
+// What is told of a large object that is written for 32 bits to a sink with room for so many bytes,
+// and how many bytes come to the sink.
+fn written32(alloc: Global, large: Large) -> Result<(char, u64, usize), Memory> {
+    let mut heap = Heap::new(alloc);
+    let object = add_large(&mut heap, large)?;
+    let mut sink = MemSink::new(alloc, 100, Vec::new(alloc))?;
+    if object >= heap.count() {
+        return Ok((' ', 0, 0));
+    }
+    let (why, size) = told(write32(alloc, &heap, Val::Ref(object), &mut sink))?;
+    Ok((why, size, sink.written().len()))
+}
+
+// By hand.
 #[test]
 fn the_size_of_what_is_too_large_is_told(rt: HostRuntime) -> Result<(), Fail> {
-    let mut heap = Heap::new(rt.alloc());
-    let block = heap.add_block(0, 0x40_0000)?;
-    let text = heap.add_bytes(0xff_fffc)?;
-    let doubles = heap.add_doubles(0x20_0000)?;
-    assert!(rt;
-        matches!(
-            too_large(&rt, rt.alloc(), &heap, block)?,
-            Compat::Block(0x40_0000)
-        )
-    );
-    assert!(rt;
-        matches!(
-            too_large(&rt, rt.alloc(), &heap, text)?,
-            Compat::Bytes(0xff_fffc)
-        )
-    );
-    assert!(rt;
-        matches!(
-            too_large(&rt, rt.alloc(), &heap, doubles)?,
-            Compat::Doubles(0x20_0000)
-        )
-    );
+    assert!(rt; written32(rt.alloc(), Large::Block)? == ('b', 0x40_0000, 0));
+    assert!(rt; written32(rt.alloc(), Large::Bytes)? == ('s', 0xff_fffc, 0));
+    assert!(rt; written32(rt.alloc(), Large::Doubles)? == ('d', 0x20_0000, 0));
     Ok(())
 }
 
+// A sink with room for the header alone.
 #[test]
 fn faults_are_told_on_32_bits(rt: HostRuntime) -> Result<(), Fail> {
     let alloc = rt.alloc();
-    let heap = Heap::new(alloc);
     let mut full = MemSink::new(alloc, 20, Vec::new(alloc))?;
-    match write32(alloc, &heap, Val::Int(1), &mut full) {
-        Err(Write32Error::Memory) => return Err(Fail::from(Memory)),
-        result => assert!(rt; matches!(result, Err(Write32Error::Fault))),
-    }
-    assert!(rt; full.faults() == 1);
+    let result = write32(alloc, &Heap::new(alloc), Val::Int(1), &mut full);
+    assert!(rt; told(result)? == ('f', 0) && full.faults() == 1);
     Ok(())
 }
