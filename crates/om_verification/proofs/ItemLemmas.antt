@@ -2,11 +2,12 @@
 use Rattle.std.proofs.Common.{◌≡◌, ◌<◌, ℕ, Bool, true, false, List, [], ◌∷◌, ◌++◌, length, Some, None, inl, inr, sym, ap, ◌∙◌, subst}
 use Rattle.std.specs.Prelude.{if◌then◌else◌, nat_lt, codes}
 use Rattle.om_model.specs.Bytes.{AreBytes}
-use Rattle.om_format.specs.Stream.{End, clean, refused, cut}
+use Rattle.om_model.specs.declared.refusal.ReadRefusal.{ReadRefusal}
+use Rattle.om_format.specs.Stream.{End, clean, refused, cut, IsTail}
 use Rattle.om_format.specs.Tree.{Tree}
 use Rattle.om_outcome.specs.Outcome.{Stop, value, uncertified_value, sections_left, Said, nothing_said, says, stops, line, Language}
 use Rattle.om_outcome.specs.RefusalText.{refusal_text, truncated_text}
-use Rattle.om_promises.specs.Commands.{Item, value as value_item}
+use Rattle.om_promises.specs.Commands.{Item, value as value_item, GoesOn}
 use Rattle.om_promises.specs.Lawful.{IsOnce, IsInner, AreLawfulAt}
 use Rattle.om_promises.proofs.LengthLemmas.{spelled_some}
 use Rattle.om_promises.proofs.ValueLemmas.{spell_after}
@@ -20,6 +21,52 @@ sections_inner :
     → stops stop ≡ (if left then stops sections_left else says nothing_said) → IsInner stop
 sections_inner true stop e = let is : stop ≡ sections_left = cc e in subst IsInner (sym is) tt
 sections_inner false stop e = absurd (cc e)
+
+module _ {T S : Type 0} (ShownBy : T → S → Tree → Shown → Type 0) (a : Verification T S) where
+  -- ---- what stays, and where more has to come
+
+  pub stop_stays :
+      (items : List Item) (bytes later : List ℕ) (stop : Stop)
+      → StopsHere ShownBy a items bytes stop → StopsHere ShownBy a items (bytes ++ later) stop
+  stop_stays items bytes later stop (inl h) = inl (record {
+    tree = h.tree;
+    more = h.more ++ later;
+    spelled = spell_after a.limit bytes h.more later (h.tree ∷ []) h.spelled;
+    reason = h.reason;
+    uncertified = h.uncertified;
+    is = h.is;
+  })
+  stop_stays items bytes later stop (inr h) = inr (record {
+    refusal = h.refusal;
+    tail = tail_after a.limit bytes later h.refusal h.tail;
+    is = h.is;
+  })
+
+  module _ {D E : Type 0} (language : Language D T E) (Reads : ReadsSections S) where
+    pub item_stays :
+        (bytes : List ℕ) (item : Item) (more later : List ℕ)
+        → IsFirstValue language a.limit bytes item more
+        → IsFirstValue language a.limit (bytes ++ later) item (more ++ later)
+    item_stays bytes item more later h = record {
+      tree = h.tree;
+      is = h.is;
+      spelled = spell_after a.limit bytes more later (h.tree ∷ []) h.spelled;
+    }
+
+    module _ (items : List Item) (rest : List ℕ) (are_bytes : AreBytes rest) (end : End)
+        (tail : IsTail a.limit rest end)
+        (fine : (refusal : ReadRefusal) → end ≡ refused refusal → ⊥) where
+      no_stop : (stop : Stop) → StopsHere ShownBy a items rest stop → ⊥
+      no_stop stop (inl c) = no_tail a.limit rest are_bytes c.tree c.more end c.spelled tail
+      no_stop stop (inr r) =
+          fine r.refusal (end_once a.limit rest are_bytes end (refused r.refusal) tail r.tail)
+
+      -- bytes that are no value, and are not refused
+      pub goes_on : GoesOn (verifying language Reads ShownBy) a items rest
+      goes_on = record {
+        no_stop = no_stop;
+        no_item = λ item more h. no_tail a.limit rest are_bytes h.tree more end h.spelled tail;
+      }
 
 module _ {T S : Type 0} (ShownBy : T → S → Tree → Shown → Type 0) (a : Verification T S)
     (once : (section : S) (tree : Tree) → IsOnce (ShownBy a.type section tree)) where
@@ -97,23 +144,6 @@ module _ {T S : Type 0} (ShownBy : T → S → Tree → Shown → Type 0) (a : V
   stop_once items bytes are_bytes stop other (inr h) (inr k) =
       refused_once bytes are_bytes (length items) stop other h k
 
-  stop_stays :
-      (items : List Item) (bytes later : List ℕ) (stop : Stop)
-      → StopsHere ShownBy a items bytes stop → StopsHere ShownBy a items (bytes ++ later) stop
-  stop_stays items bytes later stop (inl h) = inl (record {
-    tree = h.tree;
-    more = h.more ++ later;
-    spelled = spell_after a.limit bytes h.more later (h.tree ∷ []) h.spelled;
-    reason = h.reason;
-    uncertified = h.uncertified;
-    is = h.is;
-  })
-  stop_stays items bytes later stop (inr h) = inr (record {
-    refusal = h.refusal;
-    tail = tail_after a.limit bytes later h.refusal h.tail;
-    is = h.is;
-  })
-
   stop_inner :
       (items : List Item) (bytes : List ℕ) (stop : Stop) → StopsHere ShownBy a items bytes stop
       → IsInner stop
@@ -162,16 +192,6 @@ module _ {T S : Type 0} (ShownBy : T → S → Tree → Shown → Type 0) (a : V
         let s = h.spelled in
         (s.0, s.2 ∙ ap (λ m. s.0 ++ m) s.4, spelled_some a.limit s.0 h.tree s.3)
 
-    item_stays :
-        (bytes : List ℕ) (item : Item) (more later : List ℕ)
-        → IsFirstValue language a.limit bytes item more
-        → IsFirstValue language a.limit (bytes ++ later) item (more ++ later)
-    item_stays bytes item more later h = record {
-      tree = h.tree;
-      is = h.is;
-      spelled = spell_after a.limit bytes more later (h.tree ∷ []) h.spelled;
-    }
-
     said_apart :
         (items : List Item) (bytes : List ℕ) → AreBytes bytes
         → (item : Item) (more : List ℕ) (said : Said) (stop : Stop)
@@ -194,8 +214,8 @@ module _ {T S : Type 0} (ShownBy : T → S → Tree → Shown → Type 0) (a : V
       stops_once = stop_once;
       ends_once = end_reply_once;
       front = item_front;
-      item_stays = item_stays;
-      stop_stays = stop_stays;
+      item_stays = item_stays ShownBy a language Reads;
+      stop_stays = stop_stays ShownBy a;
       stops_inside = stop_inner;
       ends_inside = λ items bytes stop h. end_inner (length items) h.0 stop h.2;
       apart = said_apart;

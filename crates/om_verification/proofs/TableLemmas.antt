@@ -2,16 +2,15 @@
 use Rattle.std.proofs.Common.{◌≡◌, ◌⊎◌, ℕ, List, [], ◌∷◌, length, Some, Ok, Err, inl, inr, refl, sym, ap, ◌∙◌, subst}
 use Rattle.om_model.specs.Bytes.{AreBytes}
 use Rattle.om_model.specs.declared.refusal.ReadRefusal.{ReadRefusal}
-use Rattle.om_format.proofs.JudgementLaws.{one_judgement_lem}
 use Rattle.om_format.specs.Stream.{SpellAll, End, clean, refused, cut, IsTail}
 use Rattle.om_format.specs.Tree.{Tree}
 use Rattle.om_outcome.specs.declared.status.Status.{Status}
 use Rattle.om_outcome.specs.declared.status.Status.TheVariants.{Types, ReadFault, OpenFault, TooLong, Certificate}
 use Rattle.om_outcome.specs.Outcome.{Request, Stop, value, declarations, requested_type, certificate_line, uncertified_value, status_of, ending_of, Said, Reply, stops, Replies, replies, Language, ReadsFile, ReadsTypeOf}
 use Rattle.om_outcome.specs.RefusalText.{refusal_text, truncated_text}
-use Rattle.om_promises.specs.Commands.{Fetches, HoldStop, GoesOn}
+use Rattle.om_promises.specs.Commands.{Fetches, HoldStop}
 use Rattle.om_promises.specs.Promises.{HoldEnd}
-use Rattle.om_promises.proofs.StreamLemmas.{value_or_tail, streams_once, spell_bytes, spell_append}
+use Rattle.om_promises.proofs.StreamLemmas.{spell_bytes, spell_append}
 use Rattle.om_causes.specs.Causes.{HaveStops, HaveEnds, HaveBars, AreExact}
 use Rattle.om_commands.specs.Tasks.{items_of}
 use Rattle.om_commands.proofs.ItemLemmas.{items_length}
@@ -21,6 +20,7 @@ use Rattle.om_meanings.proofs.StageLemmas.{IsOfFile, file_status}
 use Rattle.om_meanings.proofs.StopLemmas.{spell_before}
 use Rattle.om_verification.specs.Verification.{Shown, Verification, IsUncertified, ComesUncertified, ComesRefused, StopsHere, EndsBy, Asked, typed_of, verified_by, ReadsSections, Wants, Finds, verifying}
 use Rattle.om_verification.specs.Meanings.{HoldsOfAll, HasSection, EndWith, StopWith, RefusesTypes, RefusesCertificate, IsUnread, Bar, certificate_tables}
+use Rattle.om_verification.proofs.ItemLemmas.{goes_on}
 use Rattle.om_verification.proofs.SaidLemmas.{AreSaid, all_have, finish_of, say_some, finish_said, says_first, say_first}
 
 module _ {D T E S : Type 0} (language : Language D T E) (Reads : ReadsSections S)
@@ -169,23 +169,6 @@ module _ {D T E S : Type 0} (language : Language D T E) (Reads : ReadsSections S
   module _ (a : Verification T S) (trees : List Tree) (rest : List ℕ) (are_bytes : AreBytes rest)
       (end : End) (tail : IsTail a.limit rest end)
       (fine : (refusal : ReadRefusal) → end ≡ refused refusal → ⊥) where
-    no_value : (tree : Tree) (more : List ℕ) → SpellAll a.limit rest (tree ∷ []) more → ⊥
-    no_value tree more s =
-        value_or_tail one_judgement_lem a.limit s.0 s.1 rest tree end are_bytes s.3 s.2 tail
-
-    no_stop : (stop : Stop) → StopsHere ShownBy a (items_of trees) rest stop → ⊥
-    no_stop stop (inl c) = no_value c.tree c.more c.spelled
-    no_stop stop (inr r) =
-        let once = streams_once one_judgement_lem a.limit rest [] [] end (refused r.refusal) are_bytes
-        (rest, refl, tail) (rest, refl, r.tail) in
-        fine r.refusal once.1
-
-    goes_on : GoesOn (verifying language Reads ShownBy) a (items_of trees) rest
-    goes_on = record {
-      no_stop = no_stop;
-      no_item = λ item more h. no_value h.tree more h.spelled;
-    }
-
     ended :
         (bytes : List ℕ) (all : Replies) → SpellAll a.limit bytes trees rest
         → AreSaid ShownBy a 0 trees all.said → EndsBy ShownBy a (length trees) end all.last
@@ -194,7 +177,7 @@ module _ {D T E S : Type 0} (language : Language D T E) (Reads : ReadsSections S
       items = items_of trees;
       rest = rest;
       first = says_first ShownBy a language Reads bytes trees all.said rest spelled told;
-      goes_on = goes_on;
+      goes_on = goes_on ShownBy a language Reads (items_of trees) rest are_bytes end tail fine;
       ends = (
         end,
         tail,
