@@ -42,6 +42,7 @@ is_memory statuses.WriteFault = inr (λ e. cc e)
 is_memory statuses.OpenFault = inr (λ e. cc e)
 is_memory statuses.TooLong = inr (λ e. cc e)
 is_memory statuses.Compat = inr (λ e. cc e)
+is_memory statuses.Certificate = inr (λ e. cc e)
 
 module _ {A : Type 0} (c : Commands A) (tables : Tables A) (exact : AreExact c tables)
     (words : List (List ℕ)) (call : Call) where

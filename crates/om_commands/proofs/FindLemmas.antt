@@ -12,7 +12,7 @@ use Rattle.om_commands.specs.Tasks.{by_turns, WantsFile, WantsScript, Wants, Fin
 use Rattle.om_commands.proofs.GivenLemmas.{IsGivenWork, work_given}
 
 -- what is read of a text, or the stop that tells its refusal, is one
-refusal_once :
+pub refusal_once :
     {X R : Type 0} (Reads : Result X R → Type 0) (stop : R → Stop)
     → IsOnce Reads → IsOnce (OrRefusal Reads stop)
 refusal_once Reads stop one (Ok x) (Ok y) h k =
@@ -30,14 +30,14 @@ abbrev pub IsRead : {X : Type 0} → List ℕ → Found → Result X Stop → Ty
 IsRead name found result = ((bytes : List ℕ) × (found ≡ opened (whole bytes)))
     ⊎ ((stop : Stop) × ReadsFile name found (Err stop) × (result ≡ Err stop))
 
-file_read :
+pub file_read :
     (name : List ℕ) (found : Found) (result : Result (List ℕ) Stop)
     → ReadsFile name found result → IsRead name found result
 file_read name found (Ok bytes) reads = inl (bytes, reads)
 file_read name found (Err stop) reads = inr (stop, reads, refl)
 
 -- a file that the first stage reads
-then_read :
+pub then_read :
     {X Y : Type 0} (name : List ℕ) (found : Found)
     (first : Result X Stop → Type 0) (next : X → Result Y Stop → Type 0)
     → ((given : Result X Stop) → first given → IsRead name found given)

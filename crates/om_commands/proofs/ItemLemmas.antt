@@ -30,19 +30,19 @@ items_once (t ∷ trees) (u ∷ others) e =
     let rest : items_of trees ≡ items_of others = cc e in
     ap (λ t. t ∷ trees) same ∙ ap (λ trees. u ∷ trees) (items_once trees others rest)
 
-items_length : (trees : List Tree) → length (items_of trees) ≡ length trees
+pub items_length : (trees : List Tree) → length (items_of trees) ≡ length trees
 items_length [] = refl
 items_length (t ∷ trees) = omega (arith, items_length trees)
 
 -- the value of an item is one
-tree_once : (item : Item) (t u : Tree) → item ≡ value_item t → item ≡ value_item u → t ≡ u
+pub tree_once : (item : Item) (t u : Tree) → item ≡ value_item t → item ≡ value_item u → t ≡ u
 tree_once item t u h k = cc
 
 -- ---- what is read of the bytes
 
 module _ (limit : ℕ) (bytes : List ℕ) (are_bytes : AreBytes bytes) where
   -- the first value is one, and so is the rest
-  value_once :
+  pub value_once :
       (t u : Tree) (more rest : List ℕ)
       → SpellAll limit bytes (t ∷ []) more → SpellAll limit bytes (u ∷ []) rest
       → (t ≡ u) × (more ≡ rest)
@@ -51,13 +51,13 @@ module _ (limit : ℕ) (bytes : List ℕ) (are_bytes : AreBytes bytes) where
       let both : t ∷ [] ≡ u ∷ [] = one.0 in
       (cc both, one.1)
 
-  end_once : (end other : End) → IsTail limit bytes end → IsTail limit bytes other → end ≡ other
+  pub end_once : (end other : End) → IsTail limit bytes end → IsTail limit bytes other → end ≡ other
   end_once end other h k =
       (streams_once one_judgement_lem limit bytes [] [] end other are_bytes
       (bytes, refl, h) (bytes, refl, k)).1
 
   -- where there is a value, no tail begins
-  no_tail :
+  pub no_tail :
       (t : Tree) (more : List ℕ) (end : End)
       → SpellAll limit bytes (t ∷ []) more → IsTail limit bytes end → ⊥
   no_tail t more end (first, after, same, spelled, rest) tail =
@@ -77,7 +77,7 @@ item_stays language a bytes item more later h = record {
 
 -- ---- what is said
 
-both_same : (said other : Said) → said.text ≡ other.text → said.well ≡ other.well → said ≡ other
+pub both_same : (said other : Said) → said.text ≡ other.text → said.well ≡ other.well → said ≡ other
 both_same said other text well =
     ap (λ text. record { text = text; well = said.well }) text
     ∙ ap (λ well. record { text = other.text; well = well }) well

@@ -7,13 +7,13 @@ use Rattle.om_promises.specs.LawfulLanguage.{IsLawful}
 use Rattle.om_commands.specs.Tasks.{HasPath, WantsFile, WantsScript, Wants, commands}
 use Rattle.om_commands.proofs.FindLemmas.{type_by, wanted_read}
 
-not_after : (turn later : ℕ) → turn < later → later ≡ 0 → ⊥
+pub not_after : (turn later : ℕ) → turn < later → later ≡ 0 → ⊥
 not_after turn later less e = omega arith
 
-not_between : (turn later : ℕ) → turn < later → turn ≡ 1 → later ≡ 1 → ⊥
+pub not_between : (turn later : ℕ) → turn < later → turn ≡ 1 → later ≡ 1 → ⊥
 not_between turn later less e f = omega arith
 
-is_before : (turn : ℕ) → turn ≡ 1 → 0 < turn
+pub is_before : (turn : ℕ) → turn ≡ 1 → 0 < turn
 is_before turn e = omega arith
 
 module _ {D T E : Type 0} (language : Language D T E) (lawful : IsLawful language) where
@@ -58,7 +58,7 @@ module _ {D T E : Type 0} (language : Language D T E) (lawful : IsLawful languag
   )
 
   -- where the type is read, FILE is
-  file_whole :
+  pub file_whole :
       (file : List ℕ → Found) (typed : List ℕ × List ℕ) (type : T)
       → ReadsTypeOf language file typed (Ok type)
       → (bytes : List ℕ) × (file typed.0 ≡ opened (whole bytes))

@@ -47,6 +47,7 @@ is_memory statuses.WriteFault = inr (λ e. cc e)
 is_memory statuses.OpenFault = inr (λ e. cc e)
 is_memory statuses.TooLong = inr (λ e. cc e)
 is_memory statuses.Compat = inr (λ e. cc e)
+is_memory statuses.Certificate = inr (λ e. cc e)
 
 module _ {D T E : Type 0} (language : Language D T E) (words : List (List ℕ)) (call : Call) where
   -- ---- a status has its cause

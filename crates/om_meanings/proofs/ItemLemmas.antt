@@ -7,7 +7,7 @@ use Rattle.om_promises.specs.Commands.{Item, value, Cut, AllSay, SaysFirst}
 use Rattle.om_commands.specs.Tasks.{items_of, commands}
 
 -- one item more
-one_more : (before : List Item) (item : Item) (k : ℕ)
+pub one_more : (before : List Item) (item : Item) (k : ℕ)
     → length before ≡ k → length (before ++ item ∷ []) ≡ suc k
 one_more before item k at =
     let all : length (before ++ item ∷ []) ≡ length before + length (item ∷ []) =

@@ -13,17 +13,17 @@ use Rattle.om_meanings.proofs.ItemLemmas.{AreSaid}
 
 -- ---- whether nothing is wrong
 
-both_true : (a b : Bool) → a && b ≡ true → (a ≡ true) × (b ≡ true)
+pub both_true : (a b : Bool) → a && b ≡ true → (a ≡ true) × (b ≡ true)
 both_true true true e = (refl, refl)
 both_true true false e = absurd (cc e)
 both_true false b e = absurd (cc e)
 
-and_false : (b : Bool) → b && false ≡ false
+pub and_false : (b : Bool) → b && false ≡ false
 and_false true = refl
 and_false false = refl
 
 -- the status where the run goes to its end
-said_status :
+pub said_status :
     (said : List Said) (last : Reply) (final : Said) (well : Bool) → last ≡ says final
     → all_well said && final.well ≡ well
     → (ending_of (replies said last)).status ≡ (if well then Well else No)

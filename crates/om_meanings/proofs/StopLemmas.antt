@@ -16,7 +16,7 @@ use Rattle.om_meanings.proofs.ItemLemmas.{AreSaid, says_first, say_first}
 use Rattle.om_meanings.proofs.SaidLemmas.{pass_of, pass_said, pass_more, say_compared}
 
 -- values before another one come before the bytes that it begins
-spell_before :
+pub spell_before :
     (limit : ℕ) (bytes : List ℕ) (trees more : List Tree) (rest : List ℕ)
     → SpellAll limit bytes (trees ++ more) rest
     → (middle : List ℕ) × SpellAll limit bytes trees middle × SpellAll limit middle more rest

@@ -23,6 +23,7 @@ pub data Saying : Type 0 where
 pub data OwnRequest : Type 0 where
   build : (file type : List ℕ) → OwnRequest
   generate : (number count : ℕ) → (type : List ℕ) → OwnRequest
+  verify : (file type certificate : List ℕ) → (limit : ℕ) → OwnRequest
 
 -- what is asked for, with the limit of words on 64 bits in a value where values are read
 pub data Request : Type 0 where

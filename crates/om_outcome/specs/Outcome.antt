@@ -4,7 +4,7 @@
 use Rattle.std.specs.Prelude.{ℕ, suc, ◌<◌, ◌≡◌, ◌==◌, ◌≢◌, ◌↔◌, ◌⊎◌, Bool, true, false, IsTrue, ◌&&◌, not, nat_lt, if◌then◌else◌, List, [], ◌∷◌, ◌++◌, length, filter, find, Option, Some, None, Result, Ok, Err, MatchResult, codes, decimal}
 use Rattle.om_outcome.specs.declared.status.Status.{Status}
 use Rattle.om_outcome.specs.declared.status.Status.TheVariants as statuses
-pub use Rattle.om_outcome.specs.CommandLine.{Saying, the_verdict, the_text, the_part, the_trees, Request, tell, get, edit, dump, compare, own, OwnRequest, build, generate, Asks, IsUsage, typed_by, path_of, script_of, limit_of}
+pub use Rattle.om_outcome.specs.CommandLine.{Saying, the_verdict, the_text, the_part, the_trees, Request, tell, get, edit, dump, compare, own, OwnRequest, build, generate, verify, Asks, IsUsage, typed_by, path_of, script_of, limit_of}
 use Rattle.om_outcome.specs.RefusalText.{refusal_text, truncated_text}
 use Rattle.om_format.specs.Iso.{Iso}
 use Rattle.om_format.specs.Tree.{Tree, root, objects_of}
@@ -66,6 +66,9 @@ pub data Stop : Type 0 where
   text_line : ℕ → List ℕ → Stop
   untyped_value : ℕ → List ℕ → Stop
   large_value : ℕ → List ℕ → Stop
+  certificate_line : ℕ → Stop
+  uncertified_value : ℕ → List ℕ → Stop
+  sections_left : Stop
   read_fault : Stop
   too_long : Stop
   out_of_memory : Stop
@@ -82,6 +85,9 @@ status_of (script_line number refusal) = statuses.Script
 status_of (text_line number refusal) = statuses.Script
 status_of (untyped_value number fault) = statuses.No
 status_of (large_value number refusal) = statuses.Compat
+status_of (certificate_line number) = statuses.Certificate
+status_of (uncertified_value number reason) = statuses.Certificate
+status_of sections_left = statuses.Certificate
 status_of read_fault = statuses.ReadFault
 status_of too_long = statuses.TooLong
 status_of out_of_memory = statuses.Memory
@@ -103,6 +109,10 @@ stop_text (script_line number refusal) =
 stop_text (text_line number refusal) = codes "text line " ++ decimal number ++ codes ": " ++ refusal
 stop_text (untyped_value number fault) = value_text number fault
 stop_text (large_value number refusal) = value_text number refusal
+stop_text (certificate_line number) =
+    codes "certificate line " ++ decimal number ++ codes ": Syntax"
+stop_text (uncertified_value number reason) = value_text number reason
+stop_text sections_left = codes "sections left"
 stop_text read_fault = codes "read fault"
 stop_text too_long = codes "input too long"
 stop_text out_of_memory = codes "out of memory"

@@ -1,7 +1,7 @@
 -- The numbers of the statuses.
 use Rattle.std.specs.Prelude.{ℕ}
 use Rattle.om_outcome.specs.declared.status.Status.{Status}
-use Rattle.om_outcome.specs.declared.status.Status.TheVariants.{Well, No, Usage, Types, Value, Script, ReadFault, WriteFault, OpenFault, Memory, TooLong, Compat}
+use Rattle.om_outcome.specs.declared.status.Status.TheVariants.{Well, No, Usage, Types, Value, Script, ReadFault, WriteFault, OpenFault, Memory, TooLong, Compat, Certificate}
 
 abbrev pub code_of : Status → ℕ
 code_of Well = 0
@@ -16,3 +16,4 @@ code_of OpenFault = 8
 code_of Memory = 9
 code_of TooLong = 10
 code_of Compat = 11
+code_of Certificate = 12

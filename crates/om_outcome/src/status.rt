@@ -30,6 +30,8 @@ pub enum Status {
     TooLong,
     /// A value is too large for a reader on 32 bits.
     Compat,
+    /// A certificate is none, or does not show of each value what it states.
+    Certificate,
 }
 
 impl Status {
@@ -50,6 +52,7 @@ impl Status {
             Status::Memory => 9,
             Status::TooLong => 10,
             Status::Compat => 11,
+            Status::Certificate => 12,
         }
     }
 }

@@ -34,6 +34,7 @@ is_memory statuses.WriteFault = inr (λ e. cc e)
 is_memory statuses.OpenFault = inr (λ e. cc e)
 is_memory statuses.TooLong = inr (λ e. cc e)
 is_memory statuses.Compat = inr (λ e. cc e)
+is_memory statuses.Certificate = inr (λ e. cc e)
 
 module _ {A : Type 0} (c : Commands A) (words : List (List ℕ)) (call : Call) (lawful : AreLawful c)
     (input : List ℕ) (files : List File) (well : IsWellRead call input files)

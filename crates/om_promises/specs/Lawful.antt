@@ -2,7 +2,7 @@
 -- bytes follow.
 use Rattle.std.specs.Prelude.{ℕ, ◌<◌, ◌≡◌, ◌⊎◌, List, ◌++◌, length, Result, Ok, Err}
 use Rattle.om_model.specs.Bytes.{AreBytes}
-use Rattle.om_outcome.specs.Outcome.{Found, opened, missing, whole, Request, Stop, usage, bad_path, not_two_values, cannot_open, declarations, requested_type, value, script_line, text_line, untyped_value, large_value, read_fault, too_long, out_of_memory, ReadsFile, Said, stops}
+use Rattle.om_outcome.specs.Outcome.{Found, opened, missing, whole, Request, Stop, usage, bad_path, not_two_values, cannot_open, declarations, requested_type, value, script_line, text_line, untyped_value, large_value, certificate_line, uncertified_value, sections_left, read_fault, too_long, out_of_memory, ReadsFile, Said, stops}
 use Rattle.om_promises.specs.Commands.{Item, Fetches, Commands}
 
 -- at most one answer
@@ -23,6 +23,9 @@ IsInner (script_line number refusal) = Unit {0}
 IsInner (text_line number refusal) = Unit {0}
 IsInner (untyped_value number fault) = Unit {0}
 IsInner (large_value number refusal) = Unit {0}
+IsInner (certificate_line number) = Unit {0}
+IsInner (uncertified_value number reason) = Unit {0}
+IsInner sections_left = Unit {0}
 IsInner read_fault = ⊥
 IsInner too_long = ⊥
 IsInner out_of_memory = ⊥

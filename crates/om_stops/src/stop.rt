@@ -2,7 +2,7 @@
 
 ghost use Rattle.std.specs.Prelude.{◌≡◌, ◌++◌, codes, decimal, IfOk, OnOk, string_bytes};
 ghost use Rattle.std.specs.Fmt.{signed_decimal};
-ghost use Rattle.om_outcome.specs.Outcome.{status_of, stop_text, err_line, value, value_text as text_of_value, script_line, text_line, large_value, cannot_open};
+ghost use Rattle.om_outcome.specs.Outcome.{status_of, stop_text, err_line, value, value_text as text_of_value, script_line, text_line, large_value, certificate_line, cannot_open};
 ghost use Rattle.om_outcome.specs.RefusalText.{refusal_text as text_of_refusal, truncated_text as text_of_cut};
 ghost use Rattle.om_edge.specs.State.{change};
 ghost use Rattle.om_stops.specs.Stops.{stop_of, declared_text, text_of_compat, Reports};
@@ -35,6 +35,9 @@ pub enum Stop<'a> {
     Cut(u64, u64),
     Untyped(u64, List<u8>),
     Large(u64, Compat),
+    Certificate(usize),
+    Uncertified(u64, List<u8>),
+    SectionsLeft,
     Script(usize, DeclFault),
     Edit(usize, List<u8>),
     NoValue(usize),
@@ -82,6 +85,7 @@ fn status(stop: &Stop) -> Status
         Stop::Refused(..) | Stop::Cut(..) => Status::Value,
         Stop::Untyped(..) => Status::No,
         Stop::Large(..) => Status::Compat,
+        Stop::Certificate(_) | Stop::Uncertified(..) | Stop::SectionsLeft => Status::Certificate,
         Stop::Script(..) | Stop::Edit(..) | Stop::NoValue(_) | Stop::Text(..) => Status::Script,
         Stop::ReadFault => Status::ReadFault,
         Stop::TooLong => Status::TooLong,
@@ -120,6 +124,15 @@ fn text_front(alloc: Global, number: u64) -> Result<String, AllocError>
         (λ text. string_bytes text ≡ codes "text line " ++ decimal number ++ codes ": ") }
 {
     format!(in alloc; "text line {number}: ")
+}
+
+// That a line is none of a certificate, by its number.
+fn certificate_text(alloc: Global, number: usize) -> Result<String, AllocError>
+    ensures { IfOk result
+        (λ text. string_bytes text
+        ≡ codes "certificate line " ++ decimal number ++ codes ": Syntax") }
+{
+    format!(in alloc; "certificate line {number}: Syntax")
 }
 
 // What is too large for a reader on 32 bits, with the digits of its number.
@@ -268,6 +281,15 @@ fn put_text_line(line: &mut Vec<u8>, alloc: Global, number: u64, text: &[u8]) ->
     put(line, text)
 }
 
+// Puts that a line is none of a certificate at the end.
+fn put_certificate(line: &mut Vec<u8>, alloc: Global, number: usize) -> Result<(), Memory>
+    ensures { OnOk result
+        (line.new.items ≡ line.old.items ++ stop_text (certificate_line number)) }
+{
+    let text = certificate_text(alloc, number)?;
+    put(line, text.as_bytes())
+}
+
 // Puts that a file cannot be opened at the end.
 fn put_name(line: &mut Vec<u8>, name: &str) -> Result<(), Memory>
     ensures { OnOk result (line.new.items ≡ line.old.items ++ stop_text (cannot_open name.now)) }
@@ -292,6 +314,9 @@ fn put_text(line: &mut Vec<u8>, alloc: Global, stop: &Stop) -> Result<(), Memory
         Stop::Cut(number, taken) => put_cut(line, alloc, *number, *taken),
         Stop::Untyped(number, text) => put_value(line, alloc, *number, text.as_slice()),
         Stop::Large(number, compat) => put_compat(line, alloc, *number, *compat),
+        Stop::Certificate(number) => put_certificate(line, alloc, *number),
+        Stop::Uncertified(number, reason) => put_value(line, alloc, *number, reason.as_slice()),
+        Stop::SectionsLeft => put(line, b"sections left"),
         Stop::Script(number, fault) => put_script_fault(line, alloc, *number, fault),
         Stop::Edit(number, text) => put_script(line, alloc, *number, text.as_slice()),
         Stop::NoValue(number) => put_script(line, alloc, *number, b"NoValue"),

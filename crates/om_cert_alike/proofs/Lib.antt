@@ -1,0 +1,2 @@
+pub mod OneListLemmas
+pub mod TableLemmas

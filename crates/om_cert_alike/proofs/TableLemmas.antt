@@ -1,0 +1,317 @@
+-- Tables of one list of types say the same of a section.
+use Rattle.std.proofs.Common.{ℕ, ◌≡◌, ◌∙◌, ◌<◌, ◌≤◌, ◌⊎◌, inl, inr, List, [], ◌∷◌, length, Option, Some, None, refl, sym, ap, ap₂, subst, arith}
+use Rattle.std.specs.Prelude.{slice_get, Contains, IsSomeAnd}
+use Rattle.std.specs.List.{flat_map}
+use Rattle.std.proofs.lemmas.List.{length-map}
+use Rattle.std.proofs.lemmas.Option.{none-some, slice_get_within, slice_get_past}
+use Rattle.om_model.proofs.Options.{none_or_some, IsSomeAnd-some, IsSomeAnd-at, Contains-none, slice_get_there}
+use Rattle.om_model.specs.declared.value.Val.{Val}
+use Rattle.om_model.specs.declared.value.Val.TheVariants as vals
+use Rattle.om_model.specs.declared.value.Obj.{Obj}
+use Rattle.om_types.specs.declared.decl.Decl.{Decl}
+use Rattle.om_types.specs.declared.fault.Fault.{Fault}
+use Rattle.om_types.specs.declared.fault.Fault.TheVariants as faults
+use Rattle.om_types.specs.Ty.{Ty}
+use Rattle.om_types.specs.Fault.{IsFault}
+use Rattle.om_types.specs.Fitting.{fields_of, or_none}
+use Rattle.om_types.specs.Reached.{IsWithoutRepeats, reached_from, IsReached}
+use Rattle.om_types.specs.Shape.{shape}
+use Rattle.om_types.specs.Table.{Table, with_parts, node_or_none, table_shapes, IsTableOf}
+use Rattle.om_types.specs.Typing.{field_at, IsListed, IsHeld, IsTyping}
+use Rattle.om_equal.proofs.NeedAgreement.{NeedsAgree, FieldsAgree}
+use Rattle.om_equal.proofs.TableLemmas.{fields_same, fits, fits_back, fit_known, need_known, mutable, mutable_back, fault_forth, fault_back}
+use Rattle.om_section.specs.declared.section.Section.{Section}
+use Rattle.om_section.specs.declared.section.Section.TheVariants as sections
+use Rattle.om_cert.specs.declared.verified.Why.{Why}
+use Rattle.om_cert.specs.declared.verified.Why.TheVariants.{Range, Unfit, Need, TwoTypes, Root, NotFault}
+use Rattle.om_cert.specs.declared.verified.Verified.{Verified}
+use Rattle.om_cert.specs.Accepted.{IsAccepted}
+use Rattle.om_cert.specs.Verified.{IsThere, LacksNeed, IsAtTwoTypes, IsWrong, IsWhy, IsVerified}
+use Rattle.om_cert.proofs.VerifiedLemmas.{one_answer}
+use Rattle.om_cert_alike.specs.Alike.{IsAnswerAt}
+use Rattle.om_cert_alike.proofs.OneListLemmas.{one_place, one_list}
+
+some_weaker :
+    {X : Type 0} (o : Option X) (P Q : X → Type 0) → ((x : X) → P x → Q x) → IsSomeAnd o P
+    → IsSomeAnd o Q
+some_weaker o P Q more holds =
+    let s = IsSomeAnd-some o P holds in IsSomeAnd-at o s.0 Q s.1 (more s.0 s.2)
+
+-- the type itself comes first
+first_is :
+    (decls : List Decl) (t : Ty) (types : List Ty) → IsReached decls t types
+    → slice_get types 0 ≡ Some t
+first_is decls t types reached = by reached.in_order where
+  by : IsWithoutRepeats [] (t ∷ flat_map (reached_from decls) types) types
+      → slice_get types 0 ≡ Some t
+  by (inl (again, h)) = absurd (Contains-none t again)
+  by (inr (new, rest, is, h)) = ap (λ l. slice_get l 0) is
+
+-- ---- numbers of one list
+
+module _ (types : List Ty)
+    (apart : (i j : ℕ) (u : Ty) → slice_get types i ≡ Some u → slice_get types j ≡ Some u → i ≡ j)
+  where
+    abbrev Of : ℕ → Ty → Type 0
+    Of i u = slice_get types i ≡ Some u
+
+    needs_one :
+        (ns ms : List (ℕ × ℕ)) (ts : List (ℕ × Ty)) → NeedsAgree Of ns ts → NeedsAgree Of ms ts
+        → ns ≡ ms
+    needs_one [] [] [] h k = refl
+    needs_one [] ms (t ∷ ts) h k = absurd h
+    needs_one (n ∷ ns) ms [] h k = absurd h
+    needs_one [] (m ∷ ms) [] h k = absurd k
+    needs_one (n ∷ ns) [] (t ∷ ts) h k = absurd k
+    needs_one (n ∷ ns) (m ∷ ms) (t ∷ ts) (e, of, h) (e', of', k) =
+        let first : n ≡ m = ap₂ (λ (i j : ℕ). (i, j)) (e ∙ sym e') (apart n.1 m.1 t.1 of of') in
+        ap₂ (λ x xs. x ∷ xs) first (needs_one ns ms ts h k)
+
+    pub fields_one :
+        (ns ms : Option (List (ℕ × ℕ))) (ts : Option (List (ℕ × Ty))) → FieldsAgree Of ns ts
+        → FieldsAgree Of ms ts → ns ≡ ms
+    fields_one None None None h k = refl
+    fields_one None ms (Some ts) h k = absurd h
+    fields_one (Some ns) ms None h k = absurd h
+    fields_one None (Some ms) None h k = absurd k
+    fields_one (Some ns) None (Some ts) h k = absurd k
+    fields_one (Some ns) (Some ms) (Some ts) h k = ap Some (needs_one ns ms ts h k)
+
+-- ---- from one table to another
+
+module _ (decls : List Decl) (types : List Ty) (table other : Table)
+    (made : IsTableOf decls types table) (again : IsTableOf decls types other)
+    (apart : (i j : ℕ) (u : Ty) → slice_get types i ≡ Some u → slice_get types j ≡ Some u → i ≡ j)
+    (graph : List Obj) where
+  fits_too :
+      (v : Val) (i : ℕ) → (table_shapes table).fits graph v i → (table_shapes other).fits graph v i
+  fits_too v i is =
+      let u = fit_known decls types table made graph v i is in
+      fits_back decls types other again graph v i u.0 u.1
+      (fits decls types table made graph v i u.0 u.1 is)
+
+  needs_too :
+      (v : Val) (i : ℕ) (need : ℕ × ℕ) → Contains ((table_shapes table).needs graph v i) need
+      → Contains ((table_shapes other).needs graph v i) need
+  needs_too v i need among =
+      let u = need_known decls types table made graph v i need.0 need.1 among in
+      let same : fields_of graph v (node_or_none (slice_get table.nodes i))
+      ≡ fields_of graph v (node_or_none (slice_get other.nodes i)) =
+      fields_one types apart _ _ (fields_of graph v (shape decls u.0))
+      (fields_same decls types table made graph v i u.0 u.1)
+      (fields_same decls types other again graph v i u.0 u.1) in
+      subst (λ fields. Contains (or_none fields) need) same among
+
+  mutable_too :
+      (o i : ℕ) → (table_shapes table).mutable graph o i → (table_shapes other).mutable graph o i
+  mutable_too o i is =
+      let u = fit_known decls types table made graph (vals.Ref o) i is.0 in
+      mutable_back decls types other again graph o i u.0 u.1
+      (mutable decls types table made graph o i u.0 u.1 is)
+
+  -- a number without a type has no class
+  no_class :
+      (classes : List ℕ) → length classes ≡ length types → (i : ℕ) → slice_get types i ≡ None
+      → slice_get classes i ≡ None
+  no_class classes many i none =
+      slice_get_past classes i (at_most (not_less i none)) where
+        not_less : (i : ℕ) → slice_get types i ≡ None → i < length types → ⊥
+        not_less i none less =
+            let u = slice_get_there types i less in none-some u.0 (sym none ∙ u.1)
+
+        at_most : (i < length types → ⊥) → length classes ≤ i
+        at_most not = omega (arith, many, not)
+
+  some_class :
+      (classes : List ℕ) → length classes ≡ length types → (i : ℕ) (u : Ty)
+      → slice_get types i ≡ Some u → (c : ℕ) × (slice_get classes i ≡ Some c)
+  some_class classes many i u of =
+      let within = slice_get_within types i u of in
+      slice_get_there classes i (omega (arith, within, many))
+
+  equal_too : (i j : ℕ) → (table_shapes table).equal i j → (table_shapes other).equal i j
+  equal_too i j same = by (none_or_some (slice_get types i)) (none_or_some (slice_get types j)) where
+    Found : ℕ → Type 0
+    Found k = (slice_get types k ≡ None) ⊎ ((u : Ty) × (slice_get types k ≡ Some u))
+
+    by : Found i → Found j → (table_shapes other).equal i j
+    by (inl none) (inl none') =
+        no_class other.classes again.many i none
+        ∙ sym (no_class other.classes again.many j none')
+    by (inl none) (inr (u, of)) =
+        let c = some_class table.classes made.many j u of in
+        absurd (none-some c.0 (sym (no_class table.classes made.many i none) ∙ (same ∙ c.1)))
+    by (inr (u, of)) (inl none) =
+        let c = some_class table.classes made.many i u of in
+        absurd (none-some c.0 (sym (no_class table.classes made.many j none) ∙ (sym same ∙ c.1)))
+    by (inr (u, of)) (inr (w, of')) =
+        again.equal_types i j u w of of' (made.same_class i j u w of of' same)
+
+  pub sizes_too : length table.nodes ≡ length other.nodes
+  sizes_too = size table made ∙ sym (size other again) where
+    size : (table : Table) → IsTableOf decls types table → length table.nodes ≡ length types
+    size table made =
+        sym (length-map table.nodes (with_parts (slice_get types)))
+        ∙ (ap length made.nodes
+        ∙ length-map types (λ t. with_parts Some (shape decls t)))
+
+  -- ---- what is held
+
+  listed_too :
+      (pairs : List (ℕ × ℕ)) (v : Val) (t : ℕ) → IsListed (table_shapes table) pairs v t
+      → IsListed (table_shapes other) pairs v t
+  listed_too pairs (vals.Int z) t h = tt
+  listed_too pairs (vals.Atom tag) t h = tt
+  listed_too pairs (vals.Ref o) t (u, among, same) = (u, among, equal_too u t same)
+
+  pub held_too :
+      (pairs : List (ℕ × ℕ)) (v : Val) (t : ℕ) → IsHeld (table_shapes table) graph pairs v t
+      → IsHeld (table_shapes other) graph pairs v t
+  held_too pairs v t h =
+      record { fits = fits_too v t h.fits; listed = listed_too pairs v t h.listed }
+
+  pub fault_too :
+      (t : Ty) → slice_get types 0 ≡ Some t → (root : Val) (fault : Fault)
+      → IsFault (table_shapes table) graph root 0 fault
+      → IsFault (table_shapes other) graph root 0 fault
+  fault_too t of root fault is =
+      fault_back decls types other again graph root 0 t of fault
+      (fault_forth decls types table made graph root 0 t of fault is)
+
+-- ---- both ways
+
+module _ (decls : List Decl) (types : List Ty)
+    (apart : (i j : ℕ) (u : Ty) → slice_get types i ≡ Some u → slice_get types j ≡ Some u → i ≡ j)
+    (graph : List Obj) (t : Ty) (first : slice_get types 0 ≡ Some t) (root : Val) where
+  module _ (table other : Table) (made : IsTableOf decls types table)
+      (again : IsTableOf decls types other) where
+    typing_too :
+        (pairs : List (ℕ × ℕ)) → IsTyping (table_shapes table) graph pairs
+        → IsTyping (table_shapes other) graph pairs
+    typing_too pairs h = record {
+      fits = λ o t among.
+          fits_too decls types table other made again apart graph (vals.Ref o) t (h.fits o t among);
+      held = λ o t i u among need.
+          some_weaker (field_at graph o i)
+          (λ v. IsHeld (table_shapes table) graph pairs v u)
+          (λ v. IsHeld (table_shapes other) graph pairs v u)
+          (λ v held. held_too decls types table other made again apart graph pairs v u held)
+          (h.held o t i u among
+          (needs_too decls types other table again made apart graph (vals.Ref o) t (i, u) need));
+      one_type = λ o t u among among' may.
+          equal_too decls types table other made again apart graph t u
+          (h.one_type o t u among among'
+          (mutable_too decls types other table again made apart graph o t may));
+    }
+
+    accepted_too :
+        (section : Section) → IsAccepted table graph root section
+        → IsAccepted other graph root section
+    accepted_too (sections.Pairs pairs) h = record {
+      typing = typing_too pairs h.typing;
+      held = held_too decls types table other made again apart graph pairs root 0 h.held;
+    }
+    accepted_too (sections.Misfit path) h =
+        fault_too decls types table other made again apart graph t first root (faults.Misfit path) h
+    accepted_too (sections.Clash one two) h =
+        fault_too decls types table other made again apart graph t first root (faults.Clash one two) h
+
+    -- ---- what is wrong
+
+    there_back : (pair : ℕ × ℕ) → IsThere other graph pair → IsThere table graph pair
+    there_back pair (one, two) =
+        let same = sizes_too decls types table other made again apart graph in
+        (one, omega (arith, two, same))
+
+    lacks_too :
+        (pairs : List (ℕ × ℕ)) (pair : ℕ × ℕ) (field : ℕ)
+        → LacksNeed table graph pairs pair field → LacksNeed other graph pairs pair field
+    lacks_too pairs pair field h = record {
+      type = h.type;
+      needed = needs_too decls types table other made again apart graph (vals.Ref pair.0) pair.1
+          (field, h.type) h.needed;
+      lacks = λ held. h.lacks (some_weaker (field_at graph pair.0 field)
+          (λ v. IsHeld (table_shapes other) graph pairs v h.type)
+          (λ v. IsHeld (table_shapes table) graph pairs v h.type)
+          (λ v held. held_too decls types other table again made apart graph pairs v h.type held)
+          held);
+    }
+
+    two_types_too :
+        (pairs : List (ℕ × ℕ)) (pair : ℕ × ℕ) → IsAtTwoTypes table graph pairs pair
+        → IsAtTwoTypes other graph pairs pair
+    two_types_too pairs pair h = record {
+      mutable = mutable_too decls types table other made again apart graph pair.0 pair.1 h.mutable;
+      other = h.other;
+      among = h.among;
+      unequal = λ same. h.unequal
+          (equal_too decls types other table again made apart graph pair.1 h.other same);
+    }
+
+    wrong_too :
+        (pairs : List (ℕ × ℕ)) (why : Why) → IsWrong table graph root pairs why
+        → IsWrong other graph root pairs why
+    wrong_too pairs (Range i) h =
+        some_weaker (slice_get pairs i) (λ pair. ¬ IsThere table graph pair)
+        (λ pair. ¬ IsThere other graph pair) (λ pair not there. not (there_back pair there)) h
+    wrong_too pairs (Unfit i) h =
+        some_weaker (slice_get pairs i)
+        (λ (pair : ℕ × ℕ). ¬ (table_shapes table).fits graph (vals.Ref pair.0) pair.1)
+        (λ (pair : ℕ × ℕ). ¬ (table_shapes other).fits graph (vals.Ref pair.0) pair.1)
+        (λ pair not fits. not
+        (fits_too decls types other table again made apart graph (vals.Ref pair.0) pair.1 fits)) h
+    wrong_too pairs (Need i field) h =
+        some_weaker (slice_get pairs i) (λ pair. LacksNeed table graph pairs pair field)
+        (λ pair. LacksNeed other graph pairs pair field)
+        (λ pair. lacks_too pairs pair field) h
+    wrong_too pairs (TwoTypes i) h =
+        some_weaker (slice_get pairs i) (λ pair. IsAtTwoTypes table graph pairs pair)
+        (λ pair. IsAtTwoTypes other graph pairs pair) (λ pair. two_types_too pairs pair) h
+    wrong_too pairs Root h = λ held.
+        h (held_too decls types other table again made apart graph pairs root 0 held)
+    wrong_too pairs NotFault h = absurd h
+
+    why_too :
+        (section : Section) (why : Why) → IsWhy table graph root section why
+        → IsWhy other graph root section why
+    why_too (sections.Pairs pairs) why h = wrong_too pairs why h
+    why_too (sections.Misfit path) why (is, not) = (
+      is,
+      λ fault. not (fault_too decls types other table again made apart graph t first root
+          (faults.Misfit path) fault),
+    )
+    why_too (sections.Clash one two) why (is, not) = (
+      is,
+      λ fault. not (fault_too decls types other table again made apart graph t first root
+          (faults.Clash one two) fault),
+    )
+
+  pub verified_too :
+      (table other : Table) (made : IsTableOf decls types table)
+      (again : IsTableOf decls types other) (section : Section) (answer : Verified)
+      → IsVerified table graph root section answer → IsVerified other graph root section answer
+  verified_too table other made again section answer (inl (accepted, is)) =
+      inl (accepted_too table other made again section accepted, is)
+  verified_too table other made again section answer (inr (why, f, is)) = inr (
+    why,
+    record {
+      is = why_too table other made again section why f.is;
+      first = λ else is_too. f.first else (why_too other table again made section else is_too);
+    },
+    is,
+  )
+
+-- a section has one answer
+pub answers_same :
+    (decls : List Decl) (t : Ty) (graph : List Obj) (root : Val) (section : Section)
+    (one other : Verified) → IsAnswerAt decls t graph root section one
+    → IsAnswerAt decls t graph root section other → one ≡ other
+answers_same decls t graph root section one other is its =
+    let same = one_list decls t its.types is.types its.reached is.reached in
+    let made : IsTableOf decls is.types its.table =
+    subst (λ types. IsTableOf decls types its.table) same its.made in
+    one_answer its.table graph root section one other
+    (verified_too decls is.types (one_place decls t is.types is.reached) graph t
+    (first_is decls t is.types is.reached) root is.table its.table is.made made section one
+    is.verified)
+    its.verified

@@ -1,0 +1,33 @@
+-- What a section shows of a value by one table of a type is what it shows by each.
+use Rattle.std.specs.Prelude.{◌≡◌, List}
+use Rattle.om_model.specs.declared.value.Val.{Val}
+use Rattle.om_model.specs.declared.value.Obj.{Obj}
+use Rattle.om_types.specs.declared.decl.Decl.{Decl}
+use Rattle.om_types.specs.Ty.{Ty}
+use Rattle.om_types.specs.Reached.{IsReached}
+use Rattle.om_types.specs.Table.{Table, IsTableOf}
+use Rattle.om_section.specs.declared.section.Section.{Section}
+use Rattle.om_cert.specs.declared.verified.Verified.{Verified}
+use Rattle.om_cert.specs.Verified.{IsVerified}
+
+-- the types that a type reaches are one list
+abbrev pub ReachedTypesAreOne : Type 0
+ReachedTypesAreOne =
+    (decls : List Decl) (t : Ty) (types others : List Ty) → IsReached decls t types
+    → IsReached decls t others → types ≡ others
+
+-- the answer to a section, by a table of the types that the type reaches
+pub record IsAnswerAt (decls : List Decl) (t : Ty) (graph : List Obj) (root : Val)
+    (section : Section) (answer : Verified) : Type 0 where
+  pub types : List Ty
+  pub reached : IsReached decls t types
+  pub table : Table
+  pub made : IsTableOf decls types table
+  pub verified : IsVerified table graph root section answer
+
+-- so a section has one answer at a type
+abbrev pub AnswersAtAreOne : Type 0
+AnswersAtAreOne =
+    (decls : List Decl) (t : Ty) (graph : List Obj) (root : Val) (section : Section)
+    (one other : Verified) → IsAnswerAt decls t graph root section one
+    → IsAnswerAt decls t graph root section other → one ≡ other

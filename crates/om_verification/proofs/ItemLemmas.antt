@@ -1,0 +1,222 @@
+-- What is said of a value, where the run stops and how the input ends are one, and stay.
+use Rattle.std.proofs.Common.{◌≡◌, ◌<◌, ℕ, Bool, true, false, List, [], ◌∷◌, ◌++◌, length, Some, None, inl, inr, sym, ap, ◌∙◌, subst}
+use Rattle.std.specs.Prelude.{if◌then◌else◌, nat_lt, codes}
+use Rattle.om_model.specs.Bytes.{AreBytes}
+use Rattle.om_model.specs.declared.refusal.ReadRefusal.{ReadRefusal}
+use Rattle.om_format.specs.Stream.{End, clean, refused, cut, IsTail}
+use Rattle.om_format.specs.Tree.{Tree}
+use Rattle.om_outcome.specs.Outcome.{Stop, value, uncertified_value, sections_left, Said, nothing_said, says, stops, line, Language}
+use Rattle.om_outcome.specs.RefusalText.{refusal_text, truncated_text}
+use Rattle.om_promises.specs.Commands.{Item, value as value_item, GoesOn}
+use Rattle.om_promises.specs.Lawful.{IsOnce, IsInner, AreLawfulAt}
+use Rattle.om_promises.proofs.LengthLemmas.{spelled_some}
+use Rattle.om_promises.proofs.ValueLemmas.{spell_after}
+use Rattle.om_commands.specs.Tasks.{IsFirstValue}
+use Rattle.om_commands.proofs.ItemLemmas.{tree_once, value_once, end_once, no_tail, both_same}
+use Rattle.om_commands.proofs.StayLemmas.{tail_after}
+use Rattle.om_verification.specs.Verification.{Shown, shows, rejects, Verification, IsShown, SaysOf, IsUncertified, ComesUncertified, ComesRefused, StopsHere, EndsBy, EndsHere, ReadsSections, verifying}
+
+sections_inner :
+    (left : Bool) (stop : Stop)
+    → stops stop ≡ (if left then stops sections_left else says nothing_said) → IsInner stop
+sections_inner true stop e = let is : stop ≡ sections_left = cc e in subst IsInner (sym is) tt
+sections_inner false stop e = absurd (cc e)
+
+module _ {T S : Type 0} (ShownBy : T → S → Tree → Shown → Type 0) (a : Verification T S) where
+  -- ---- what stays, and where more has to come
+
+  pub stop_stays :
+      (items : List Item) (bytes later : List ℕ) (stop : Stop)
+      → StopsHere ShownBy a items bytes stop → StopsHere ShownBy a items (bytes ++ later) stop
+  stop_stays items bytes later stop (inl h) = inl (record {
+    tree = h.tree;
+    more = h.more ++ later;
+    spelled = spell_after a.limit bytes h.more later (h.tree ∷ []) h.spelled;
+    reason = h.reason;
+    uncertified = h.uncertified;
+    is = h.is;
+  })
+  stop_stays items bytes later stop (inr h) = inr (record {
+    refusal = h.refusal;
+    tail = tail_after a.limit bytes later h.refusal h.tail;
+    is = h.is;
+  })
+
+  module _ {D E : Type 0} (language : Language D T E) (Reads : ReadsSections S) where
+    pub item_stays :
+        (bytes : List ℕ) (item : Item) (more later : List ℕ)
+        → IsFirstValue language a.limit bytes item more
+        → IsFirstValue language a.limit (bytes ++ later) item (more ++ later)
+    item_stays bytes item more later h = record {
+      tree = h.tree;
+      is = h.is;
+      spelled = spell_after a.limit bytes more later (h.tree ∷ []) h.spelled;
+    }
+
+    module _ (items : List Item) (rest : List ℕ) (are_bytes : AreBytes rest) (end : End)
+        (tail : IsTail a.limit rest end)
+        (fine : (refusal : ReadRefusal) → end ≡ refused refusal → ⊥) where
+      no_stop : (stop : Stop) → StopsHere ShownBy a items rest stop → ⊥
+      no_stop stop (inl c) = no_tail a.limit rest are_bytes c.tree c.more end c.spelled tail
+      no_stop stop (inr r) =
+          fine r.refusal (end_once a.limit rest are_bytes end (refused r.refusal) tail r.tail)
+
+      -- bytes that are no value, and are not refused
+      pub goes_on : GoesOn (verifying language Reads ShownBy) a items rest
+      goes_on = record {
+        no_stop = no_stop;
+        no_item = λ item more h. no_tail a.limit rest are_bytes h.tree more end h.spelled tail;
+      }
+
+module _ {T S : Type 0} (ShownBy : T → S → Tree → Shown → Type 0) (a : Verification T S)
+    (once : (section : S) (tree : Tree) → IsOnce (ShownBy a.type section tree)) where
+  -- ---- what a section shows
+
+  shown_once : (number : ℕ) (tree : Tree) → IsOnce (IsShown ShownBy a number tree)
+  shown_once number tree shown other h k =
+      let both : Some h.section ≡ Some k.section = sym h.has ∙ k.has in
+      let same : h.section ≡ k.section = cc both in
+      once k.section tree shown other (subst (λ s. ShownBy a.type s tree shown) same h.by) k.by
+
+  said_once : (items : List Item) (item : Item) → IsOnce (SaysOf ShownBy a items item)
+  said_once items item said other h k =
+      let same = tree_once item h.tree k.tree h.is k.is in
+      let one = shown_once (length items) k.tree (shows h.text said.well) (shows k.text other.well)
+      (subst (λ t. IsShown ShownBy a (length items) t (shows h.text said.well)) same h.shown)
+      k.shown in
+      let text : h.text ≡ k.text = cc one in
+      let well : said.well ≡ other.well = cc one in
+      both_same said other (h.said_is ∙ (ap line text ∙ sym k.said_is)) well
+
+  uncertified_once :
+      (number : ℕ) (tree : Tree) → IsOnce (IsUncertified ShownBy a number tree)
+  uncertified_once number tree reason other (inl (none, is)) (inl (none', is')) = is ∙ sym is'
+  uncertified_once number tree reason other (inl (none, is)) (inr (why, shown, is')) =
+      let never : None ≡ Some shown.section = sym none ∙ shown.has in absurd (cc never)
+  uncertified_once number tree reason other (inr (why, shown, is)) (inl (none, is')) =
+      let never : None ≡ Some shown.section = sym none ∙ shown.has in absurd (cc never)
+  uncertified_once number tree reason other (inr (why, shown, is)) (inr (why', shown', is')) =
+      let one = shown_once number tree (rejects why) (rejects why') shown shown' in
+      let same : why ≡ why' = cc one in
+      is ∙ (ap (λ w. codes "certificate " ++ w) same ∙ sym is')
+
+  -- a value that is certified has a section, which is not rejected
+  pub certified_or_not :
+      (number : ℕ) (tree : Tree) (text reason : List ℕ) (well : Bool)
+      → IsShown ShownBy a number tree (shows text well) → IsUncertified ShownBy a number tree reason
+      → ⊥
+  certified_or_not number tree text reason well shown (inl (none, is)) =
+      let never : None ≡ Some shown.section = sym none ∙ shown.has in cc never
+  certified_or_not number tree text reason well shown (inr (why, rejected, is)) =
+      cc (shown_once number tree (shows text well) (rejects why) shown rejected)
+
+  -- ---- where the run stops
+
+  module _ (bytes : List ℕ) (are_bytes : AreBytes bytes) (number : ℕ) where
+    comes_once : IsOnce (ComesUncertified ShownBy a number bytes)
+    comes_once stop other h k =
+        let same = (value_once a.limit bytes are_bytes h.tree k.tree h.more k.more h.spelled k.spelled).0 in
+        let one = uncertified_once number k.tree h.reason k.reason
+        (subst (λ t. IsUncertified ShownBy a number t h.reason) same h.uncertified) k.uncertified in
+        h.is ∙ (ap (uncertified_value number) one ∙ sym k.is)
+
+    refused_once : IsOnce (ComesRefused ShownBy a number bytes)
+    refused_once stop other h k =
+        let one = end_once a.limit bytes are_bytes (refused h.refusal) (refused k.refusal) h.tail k.tail in
+        let same : h.refusal ≡ k.refusal = cc one in
+        h.is ∙ (ap (λ r. value number (refusal_text r)) same ∙ sym k.is)
+
+    never_both :
+        (stop other : Stop) → ComesUncertified ShownBy a number bytes stop
+        → ComesRefused ShownBy a number bytes other → ⊥
+    never_both stop other h k =
+        no_tail a.limit bytes are_bytes h.tree h.more (refused k.refusal) h.spelled k.tail
+
+  stop_once :
+      (items : List Item) (bytes : List ℕ) → AreBytes bytes
+      → IsOnce (StopsHere ShownBy a items bytes)
+  stop_once items bytes are_bytes stop other (inl h) (inl k) =
+      comes_once bytes are_bytes (length items) stop other h k
+  stop_once items bytes are_bytes stop other (inl h) (inr k) =
+      absurd (never_both bytes are_bytes (length items) stop other h k)
+  stop_once items bytes are_bytes stop other (inr h) (inl k) =
+      absurd (never_both bytes are_bytes (length items) other stop k h)
+  stop_once items bytes are_bytes stop other (inr h) (inr k) =
+      refused_once bytes are_bytes (length items) stop other h k
+
+  stop_inner :
+      (items : List Item) (bytes : List ℕ) (stop : Stop) → StopsHere ShownBy a items bytes stop
+      → IsInner stop
+  stop_inner items bytes stop (inl h) = subst IsInner (sym h.is) tt
+  stop_inner items bytes stop (inr h) = subst IsInner (sym h.is) tt
+
+  -- ---- how the input ends
+
+  ends_once : (number : ℕ) (end : End) → IsOnce (EndsBy ShownBy a number end)
+  ends_once number clean last other h k = h ∙ sym k
+  ends_once number (refused refusal) last other h k = absurd h
+  ends_once number (cut n) last other h k = h ∙ sym k
+
+  end_reply_once :
+      (items : List Item) (bytes : List ℕ) → AreBytes bytes
+      → IsOnce (EndsHere ShownBy a items bytes)
+  end_reply_once items bytes are_bytes last other (end, tail, ends) (end', tail', ends') =
+      let same = end_once a.limit bytes are_bytes end end' tail tail' in
+      ends_once (length items) end' last other
+      (subst (λ e. EndsBy ShownBy a (length items) e last) same ends) ends'
+
+  end_inner :
+      (number : ℕ) (end : End) (stop : Stop) → EndsBy ShownBy a number end (stops stop)
+      → IsInner stop
+  end_inner number clean stop h = sections_inner (nat_lt number (length a.sections)) stop h
+  end_inner number (refused refusal) stop h = absurd h
+  end_inner number (cut n) stop h =
+      let is : stop ≡ value number (truncated_text n) = cc h in subst IsInner (sym is) tt
+
+  -- ---- the laws
+
+  module _ {D E : Type 0} (language : Language D T E) (Reads : ReadsSections S) where
+    item_once :
+        (bytes : List ℕ) → AreBytes bytes → (item other : Item) (more rest : List ℕ)
+        → IsFirstValue language a.limit bytes item more
+        → IsFirstValue language a.limit bytes other rest → (item ≡ other) × (more ≡ rest)
+    item_once bytes are_bytes item other more rest h k =
+        let one = value_once a.limit bytes are_bytes h.tree k.tree more rest h.spelled k.spelled in
+        (h.is ∙ (ap value_item one.0 ∙ sym k.is), one.1)
+
+    item_front :
+        (bytes : List ℕ) (item : Item) (more : List ℕ)
+        → IsFirstValue language a.limit bytes item more
+        → (first : List ℕ) × (bytes ≡ first ++ more) × (0 < length first)
+    item_front bytes item more h =
+        let s = h.spelled in
+        (s.0, s.2 ∙ ap (λ m. s.0 ++ m) s.4, spelled_some a.limit s.0 h.tree s.3)
+
+    said_apart :
+        (items : List Item) (bytes : List ℕ) → AreBytes bytes
+        → (item : Item) (more : List ℕ) (said : Said) (stop : Stop)
+        → IsFirstValue language a.limit bytes item more → SaysOf ShownBy a items item said
+        → StopsHere ShownBy a items bytes stop → ⊥
+    said_apart items bytes are_bytes item more said stop first told (inl h) =
+        let same = tree_once item told.tree first.tree told.is first.is in
+        let one = (value_once a.limit bytes are_bytes h.tree first.tree h.more more h.spelled
+        first.spelled).0 in
+        certified_or_not (length items) first.tree told.text h.reason said.well
+        (subst (λ t. IsShown ShownBy a (length items) t (shows told.text said.well)) same told.shown)
+        (subst (λ t. IsUncertified ShownBy a (length items) t h.reason) one h.uncertified)
+    said_apart items bytes are_bytes item more said stop first told (inr h) =
+        no_tail a.limit bytes are_bytes first.tree more (refused h.refusal) first.spelled h.tail
+
+    pub lawful_at : AreLawfulAt (verifying language Reads ShownBy) a
+    lawful_at = record {
+      first_once = item_once;
+      says_once = said_once;
+      stops_once = stop_once;
+      ends_once = end_reply_once;
+      front = item_front;
+      item_stays = item_stays ShownBy a language Reads;
+      stop_stays = stop_stays ShownBy a;
+      stops_inside = stop_inner;
+      ends_inside = λ items bytes stop h. end_inner (length items) h.0 stop h.2;
+      apart = said_apart;
+    }

@@ -1,0 +1,36 @@
+-- The command is lawful, where the language is, and what it reads is read in one way.
+use Rattle.std.proofs.Common.{◌≡◌, ◌⊎◌, ℕ, List, inl, inr}
+use Rattle.om_format.specs.Tree.{Tree}
+use Rattle.om_outcome.specs.Outcome.{Found, opened, whole, Language}
+use Rattle.om_promises.specs.Lawful.{IsWhole, AreLawful}
+use Rattle.om_promises.specs.LawfulLanguage.{IsLawful}
+use Rattle.om_verification.specs.Verification.{Shown, ReadsSections, verifying, AreReadOnce}
+use Rattle.om_verification.proofs.FindLemmas.{finds_once, wants_once, finds_by, wanted_read, finds_inside, found_given}
+use Rattle.om_verification.proofs.ItemLemmas.{lawful_at}
+
+-- a file that is read is whole
+whole_or :
+    {X : Type 0} (found : Found) → ((bytes : List ℕ) × (found ≡ opened (whole bytes))) ⊎ X
+    → IsWhole found ⊎ X
+whole_or found (inl read) = inl (inl read)
+whole_or found (inr stops) = inr stops
+
+pub verifying_lawful :
+    {D T E S : Type 0} (language : Language D T E) (Reads : ReadsSections S)
+    (ShownBy : T → S → Tree → Shown → Type 0) → IsLawful language
+    → AreReadOnce language Reads ShownBy → AreLawful (verifying language Reads ShownBy)
+verifying_lawful language Reads ShownBy lawful once = record {
+  wants_once = wants_once language Reads ShownBy lawful once.sections;
+  finds_once = finds_once language Reads ShownBy lawful once.sections;
+  by_wanted = finds_by language Reads ShownBy lawful once.sections;
+  reads_wanted = λ request files result finds turn name wants.
+      whole_or (files turn name)
+      (wanted_read language Reads ShownBy lawful once.sections request files result finds turn name
+      wants);
+  finds_inside = finds_inside language Reads ShownBy lawful once.sections;
+  at = λ a found.
+      lawful_at ShownBy a
+      (once.shown a.type
+      (found_given language Reads ShownBy lawful once.sections found.0 found.1 a found.2))
+      language Reads;
+}

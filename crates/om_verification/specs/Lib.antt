@@ -1,0 +1,3 @@
+pub mod Verification
+pub mod Meanings
+pub mod Laws

@@ -1,0 +1,157 @@
+-- The command that verifies a certificate of the values of the input, in the general form: an item
+-- is a value, and the section with its number shows something of it.
+use Rattle.std.specs.Prelude.{ℕ, ◌≡◌, ◌⊎◌, Bool, if◌then◌else◌, nat_lt, List, [], ◌∷◌, ◌++◌, length, slice_get, Option, Some, None, Result, Ok, codes}
+use Rattle.om_model.specs.declared.refusal.ReadRefusal.{ReadRefusal}
+use Rattle.om_format.specs.Stream.{SpellAll, End, clean, refused, cut, IsTail}
+use Rattle.om_format.specs.Tree.{Tree}
+use Rattle.om_outcome.specs.Outcome.{Found, Request, own, verify, Stop, value, certificate_line, uncertified_value, sections_left, Said, nothing_said, Reply, says, stops, line, Language, Then, OrRefusal, ReadsFile, ReadsTypeOf}
+use Rattle.om_outcome.specs.RefusalText.{refusal_text, truncated_text}
+use Rattle.om_promises.specs.Commands.{Item, value as value_item, Fetches, Commands}
+use Rattle.om_promises.specs.Lawful.{IsOnce}
+use Rattle.om_promises.specs.LawfulLanguage.{IsGiven}
+use Rattle.om_commands.specs.Tasks.{IsFirstValue}
+
+-- What a section shows of a value at a type: the line that is said of the value, which tells
+-- whether nothing is wrong with it; or the section is rejected, for a reason.
+pub data Shown : Type 0 where
+  shows : (line : List ℕ) → (well : Bool) → Shown
+  rejects : (reason : List ℕ) → Shown
+
+-- what is to be done: the values at the type are certified by the sections, in their order
+pub record Verification (T S : Type 0) : Type 0 where
+  pub type : T
+  pub sections : List S
+  pub limit : ℕ
+
+-- ---- the values
+
+module _ {T S : Type 0} (ShownBy : T → S → Tree → Shown → Type 0) (a : Verification T S) where
+  -- the section with the number shows this of the value
+  pub record IsShown (number : ℕ) (tree : Tree) (shown : Shown) : Type 0 where
+    pub section : S
+    pub has : slice_get a.sections number ≡ Some section
+    pub by : ShownBy a.type section tree shown
+
+  -- this is said of the next value
+  pub record SaysOf (items : List Item) (item : Item) (said : Said) : Type 0 where
+    pub tree : Tree
+    pub is : item ≡ value_item tree
+    pub text : List ℕ
+    pub shown : IsShown (length items) tree (shows text said.well)
+    pub said_is : said.text ≡ line text
+
+  -- the value has no section, or its section is rejected
+  abbrev pub IsUncertified : ℕ → Tree → List ℕ → Type 0
+  IsUncertified number tree reason =
+      ((slice_get a.sections number ≡ None) × (reason ≡ codes "no section"))
+      ⊎ ((why : List ℕ) × IsShown number tree (rejects why)
+      × (reason ≡ codes "certificate " ++ why))
+
+  -- a value comes, and is not certified
+  pub record ComesUncertified (number : ℕ) (bytes : List ℕ) (stop : Stop) : Type 0 where
+    pub tree : Tree
+    pub more : List ℕ
+    pub spelled : SpellAll a.limit bytes (tree ∷ []) more
+    pub reason : List ℕ
+    pub uncertified : IsUncertified number tree reason
+    pub is : stop ≡ uncertified_value number reason
+
+  -- what comes is refused
+  pub record ComesRefused (number : ℕ) (bytes : List ℕ) (stop : Stop) : Type 0 where
+    pub refusal : ReadRefusal
+    pub tail : IsTail a.limit bytes (refused refusal)
+    pub is : stop ≡ value number (refusal_text refusal)
+
+  -- after these values the run stops at these bytes
+  abbrev pub StopsHere : List Item → List ℕ → Stop → Type 0
+  StopsHere items bytes stop =
+      ComesUncertified (length items) bytes stop ⊎ ComesRefused (length items) bytes stop
+
+  -- after so many values sections may be left
+  abbrev pub ends_sections : ℕ → Reply
+  ends_sections number =
+      if nat_lt number (length a.sections) then stops sections_left else says nothing_said
+
+  -- the last reply, where the bytes end after so many values, or cut one more
+  abbrev pub EndsBy : ℕ → End → Reply → Type 0
+  EndsBy number clean last = last ≡ ends_sections number
+  EndsBy number (refused refusal) last = ⊥
+  EndsBy number (cut n) last = last ≡ stops (value number (truncated_text n))
+
+  abbrev pub EndsHere : List Item → List ℕ → Reply → Type 0
+  EndsHere items bytes last =
+      (end : End) × IsTail a.limit bytes end × EndsBy (length items) end last
+
+-- ---- the files
+
+-- FILE, TYPE and CERT, with the limit, where a certificate is to be verified
+pub record Asked : Type 0 where
+  pub file : List ℕ
+  pub type : List ℕ
+  pub certificate : List ℕ
+  pub limit : ℕ
+
+abbrev pub typed_of : Asked → List ℕ × List ℕ
+typed_of asked = (asked.file, asked.type)
+
+abbrev pub verified_by : Request → Option Asked
+verified_by (own (verify file type certificate limit)) =
+    Some (record { file = file; type = type; certificate = certificate; limit = limit })
+verified_by request = None
+
+-- a text is read as sections, or has a first faulty line
+abbrev pub ReadsSections : Type 0 → Type 1
+ReadsSections S = List ℕ → Result (List S) ℕ → Type 0
+
+-- CERT is opened and read, then its sections
+abbrev pub ReadsCertificateOf : {S : Type 0} → ReadsSections S → (List ℕ → Found) → List ℕ
+    → Result (List S) Stop → Type 0
+ReadsCertificateOf Reads files name =
+    Then (ReadsFile name (files name)) (λ text. OrRefusal (Reads text) certificate_line)
+
+-- a file of this name is wanted in the turn: FILE first, and CERT where FILE and TYPE are read
+abbrev pub WantedIn : {D T E : Type 0} → Language D T E → Fetches → Asked → ℕ → List ℕ → Type 0
+WantedIn {T = T} language files asked turn name =
+    ((turn ≡ 0) × (name ≡ asked.file))
+    ⊎ ((turn ≡ 1) × (name ≡ asked.certificate)
+    × (type : T) × ReadsTypeOf language (files 0) (typed_of asked) (Ok type))
+
+-- FILE and TYPE are read, then CERT
+abbrev pub VerifiesBy : {D T E S : Type 0} → Language D T E → ReadsSections S → Fetches → Asked
+    → Result (Verification T S) Stop → Type 0
+VerifiesBy language Reads files asked =
+    Then (ReadsTypeOf language (files 0) (typed_of asked)) (λ type.
+    Then (ReadsCertificateOf Reads (files 1) asked.certificate) (λ sections found.
+    found ≡ Ok (record { type = type; sections = sections; limit = asked.limit })))
+
+-- ---- the command
+
+module _ {D T E S : Type 0} (language : Language D T E) (Reads : ReadsSections S)
+    (ShownBy : T → S → Tree → Shown → Type 0) where
+  abbrev pub Wants : Request → Fetches → ℕ → List ℕ → Type 0
+  Wants request files turn name =
+      (asked : Asked) × (verified_by request ≡ Some asked)
+      × WantedIn language files asked turn name
+
+  abbrev pub Finds : Request → Fetches → Result (Verification T S) Stop → Type 0
+  Finds request files result =
+      (asked : Asked) × (verified_by request ≡ Some asked)
+      × VerifiesBy language Reads files asked result
+
+  abbrev pub verifying : Commands (Verification T S)
+  verifying = record {
+    Wants = Wants;
+    Finds = Finds;
+    Reads = λ a. Unit {0};
+    IsFirst = λ a. IsFirstValue language a.limit;
+    Says = SaysOf ShownBy;
+    Stops = StopsHere ShownBy;
+    Ends = EndsHere ShownBy;
+  }
+
+  -- a text is read in one way, and a section shows one thing of a value, at each type that some
+  -- texts are read as
+  pub record AreReadOnce : Type 0 where
+    pub sections : (text : List ℕ) → IsOnce (Reads text)
+    pub shown : (type : T) → IsGiven language type → (section : S) (tree : Tree)
+        → IsOnce (ShownBy type section tree)
