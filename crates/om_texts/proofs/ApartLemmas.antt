@@ -6,17 +6,9 @@ use Rattle.om_choice.specs.Choice.{IsIdleAt, AreApart}
 use Rattle.om_commands.specs.Tasks.{Wants, Finds, commands}
 use Rattle.om_texts.specs.Texts.{Built, built_by, building}
 
-module _ {D T E : Type 0} (language : Language D T E) (TextOf : T → List ℕ → Built → Type 0) where
-  pub texts_idle :
-      (request : Request) → built_by request ≡ None → IsIdleAt (building language TextOf) request
-  texts_idle request none = record {
-    unwanted = λ files turn name h. differ (name, h.1) h.2;
-    unfound = λ files result h. differ h.0 h.1;
-  } where
-    differ : (typed : List ℕ × List ℕ) → built_by request ≡ Some typed → ⊥
-    differ typed e = let never : None ≡ Some typed = sym none ∙ e in cc never
-
-  values_idle : (request : OwnRequest) → IsIdleAt (commands language) (own request)
+-- the commands on values are idle at each request that is of a set of its own
+module _ {D T E : Type 0} (language : Language D T E) where
+  pub values_idle : (request : OwnRequest) → IsIdleAt (commands language) (own request)
   values_idle request = record {
     unwanted = unwanted;
     unfound = unfound;
@@ -30,10 +22,20 @@ module _ {D T E : Type 0} (language : Language D T E) (TextOf : T → List ℕ �
         → Finds language (own request) files result → ⊥
     unfound files result (work, h, told) = h
 
+module _ {D T E : Type 0} (language : Language D T E) (TextOf : T → List ℕ → Built → Type 0) where
+  pub texts_idle :
+      (request : Request) → built_by request ≡ None → IsIdleAt (building language TextOf) request
+  texts_idle request none = record {
+    unwanted = λ files turn name h. differ (name, h.1) h.2;
+    unfound = λ files result h. differ h.0 h.1;
+  } where
+    differ : (typed : List ℕ × List ℕ) → built_by request ≡ Some typed → ⊥
+    differ typed e = let never : None ≡ Some typed = sym none ∙ e in cc never
+
   pub apart : AreApart (commands language) (building language TextOf)
   apart (tell saying f t most) = inr (texts_idle (tell saying f t most) refl)
   apart (get f t path most) = inr (texts_idle (get f t path most) refl)
   apart (edit f t script compat most) = inr (texts_idle (edit f t script compat most) refl)
   apart (dump most) = inr (texts_idle (dump most) refl)
   apart (compare most) = inr (texts_idle (compare most) refl)
-  apart (own request) = inl (values_idle request)
+  apart (own request) = inl (values_idle language request)
