@@ -7,3 +7,4 @@ pub mod CopyLemmas
 pub mod SaidLemmas
 pub mod PartLemmas
 pub mod TextLemmas
+pub mod ShownLemmas

@@ -4,6 +4,7 @@
 mod build;
 mod commands;
 mod edit;
+mod shown;
 mod top;
 mod values;
 mod verdict;
@@ -13,4 +14,5 @@ pub use commands::{
     all_commands_keep_promises, statuses_of_texts_have_causes, statuses_of_values_have_causes,
     values_have_one_outcome,
 };
+pub use shown::all_commands_build_shown_texts;
 pub use top::run;
