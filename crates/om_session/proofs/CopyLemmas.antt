@@ -28,17 +28,17 @@ use Rattle.om_commands.specs.Tasks.{items_of, commands}
 use Rattle.om_commands.proofs.FirstLemmas.{says_first, goes_on}
 
 -- what is said of a value
-abbrev said_of : Tree → Said
+abbrev pub said_of : Tree → Said
 said_of tree = record { text = canon tree; well = true }
 
-abbrev said_all : List Tree → Replies
+abbrev pub said_all : List Tree → Replies
 said_all trees = replies (map said_of trees) (says nothing_said)
 
-texts_are : (trees : List Tree) → (ending_of (said_all trees)).out ≡ concat (map canon trees)
+pub texts_are : (trees : List Tree) → (ending_of (said_all trees)).out ≡ concat (map canon trees)
 texts_are [] = refl
 texts_are (tree ∷ trees) = ap (λ text. canon tree ++ text) (texts_are trees)
 
-all_are_well : (trees : List Tree) → all_well (map said_of trees ++ nothing_said ∷ []) ≡ true
+pub all_are_well : (trees : List Tree) → all_well (map said_of trees ++ nothing_said ∷ []) ≡ true
 all_are_well [] = refl
 all_are_well (tree ∷ trees) = all_are_well trees
 

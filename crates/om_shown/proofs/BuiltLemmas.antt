@@ -28,24 +28,11 @@ use Rattle.om_texts.specs.Texts.{blank, made, put_bytes, building}
 use Rattle.om_texts.proofs.SaidLemmas.{texts}
 use Rattle.om_texts.proofs.TableLemmas.{goes_on}
 use Rattle.om_build.specs.Lines.{declared_texts}
+use Rattle.om_session.proofs.CopyLemmas.{said_all, texts_are, all_are_well}
 use Rattle.om_shown.specs.Shown.{HasPut, Shows, Builds, PutsCanonical, ShownTextsAreBuilt}
 use Rattle.om_shown.proofs.LineLemmas.{IsSoundOver, HasIt, text_of, IsBuilt, is_built}
 use Rattle.om_shown.proofs.ShownLemmas.{lines_of, AreShown, are_shown}
 use Rattle.om_shown.proofs.WellLemmas.{EndsWell, ends_well}
-
--- ---- what is said of the lines
-
-abbrev said_all : List Tree → Replies
-said_all trees = replies (map (λ tree. put_bytes (canon tree)) trees) (says nothing_said)
-
-texts_are : (trees : List Tree) → (ending_of (said_all trees)).out ≡ concat (map canon trees)
-texts_are [] = refl
-texts_are (tree ∷ trees) = ap (λ rest. canon tree ++ rest) (texts_are trees)
-
-all_are_well : (trees : List Tree)
-    → all_well (map (λ tree. put_bytes (canon tree)) trees ++ nothing_said ∷ []) ≡ true
-all_are_well [] = refl
-all_are_well (tree ∷ trees) = all_are_well trees
 
 module _ (t : TypeOver) where
   abbrev lines : List Tree → List Item

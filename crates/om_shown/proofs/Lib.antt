@@ -2,3 +2,4 @@ pub mod WellLemmas
 pub mod ShownLemmas
 pub mod LineLemmas
 pub mod BuiltLemmas
+pub mod AllLemmas

@@ -1,8 +1,9 @@
-//! The law. The function does nothing: what it ensures is the law.
+//! The laws. The functions do nothing: what each ensures is the law.
 
 ghost use Rattle.om_build.specs.Lines.{declared_texts};
 ghost use Rattle.om_commands.specs.Tasks.{commands};
 ghost use Rattle.om_declared.specs.Language.{declared_types};
+ghost use Rattle.om_session.specs.All.{all_commands};
 ghost use Rattle.om_shown.specs.Shown.{ShownTextsAreBuilt};
 ghost use Rattle.om_texts.specs.Texts.{building};
 
@@ -14,6 +15,7 @@ use om_declared::laws::{DeclaredTypes, declared_types_are_lawful};
 use om_edit::edits_have_one_answer;
 use om_path::{one_answer as one_path, one_script_answer};
 use om_rebuild::declared_texts_are_read_back;
+use om_session::all_commands_have_parts;
 use om_table::type_or_fault;
 use om_texts::laws::building_answers_once;
 
@@ -35,4 +37,13 @@ pub fn shown_texts_are_built()
     declared_texts_are_read_once();
     commands_keep_promises::<DeclaredTypes>();
     building_answers_once::<DeclaredTexts>();
+}
+
+/// Of two calls by all commands: what one of them shows, another one that takes it as its input
+/// builds.
+pub fn all_commands_build_shown_texts()
+    ensures { ShownTextsAreBuilt all_commands all_commands }
+{
+    all_commands_have_parts();
+    shown_texts_are_built();
 }
