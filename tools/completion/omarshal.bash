@@ -3,11 +3,11 @@ _omarshal() {
     local word=${COMP_WORDS[COMP_CWORD]} command=${COMP_WORDS[1]-} i place=0 skip=0 options=--limit
     COMPREPLY=()
     if [ "$COMP_CWORD" -eq 1 ]; then
-        mapfile -t COMPREPLY < <(compgen -W 'build check dump edit get same show trees' -- "$word")
+        mapfile -t COMPREPLY < <(compgen -W 'build check dump edit gen get same show trees' -- "$word")
         return
     fi
     case $command in
-    build) options= ;;
+    build | gen) options= ;;
     check | dump | get | same | show | trees) ;;
     edit) options='--limit --compat32' ;;
     *) return ;;

@@ -1,7 +1,7 @@
 -- All commands as one set: those on values, and each command that is a set of its own. A later set
 -- is added here.
 use Rattle.std.specs.Prelude.{ℕ, ◌⊎◌, List}
-use Rattle.om_outcome.specs.Outcome.{Request, own, build, Asks, Task}
+use Rattle.om_outcome.specs.Outcome.{Request, own, build, generate, Asks, Task}
 use Rattle.om_path.specs.declared.edits.ScriptLine.{ScriptLine}
 use Rattle.om_promises.specs.Account.{Account}
 use Rattle.om_promises.specs.Call.{Call}
@@ -10,24 +10,35 @@ use Rattle.om_promises.specs.Promises.{Promises}
 use Rattle.om_commands.specs.Tasks.{commands}
 use Rattle.om_choice.specs.Choice.{choice}
 use Rattle.om_texts.specs.Texts.{building}
+use Rattle.om_generation.specs.Generation.{Making, generation}
 use Rattle.om_build.specs.Lines.{declared_texts}
 use Rattle.om_declared.specs.Language.{TypeOver, declared_types}
 
--- the commands on values, and the one on texts
+-- the commands on values, the one on texts, and the one on a value that is made from a number
 abbrev pub on_values : Commands (Task TypeOver ScriptLine)
 on_values = commands declared_types
 
 abbrev pub on_texts : Commands TypeOver
 on_texts = building declared_types declared_texts
 
+abbrev pub on_made : Commands (Making TypeOver)
+on_made = generation declared_types
+
+-- what may be done with the input
+abbrev pub ActOnInput : Type 0
+ActOnInput = Task TypeOver ScriptLine ⊎ TypeOver
+
+abbrev pub on_input : Commands ActOnInput
+on_input = choice on_values on_texts
+
 -- what may be done, by one of them
 abbrev pub Act : Type 0
-Act = Task TypeOver ScriptLine ⊎ TypeOver
+Act = ActOnInput ⊎ Making TypeOver
 
 abbrev pub all_commands : Commands Act
-all_commands = choice on_values on_texts
+all_commands = choice on_input on_made
 
--- what is asked for is to be done with values, or with texts
+-- what is asked for is to be done with values, with texts, or with a value that is made
 abbrev pub IsOfValues : Request → Type 0
 IsOfValues (own request) = ⊥
 IsOfValues request = Unit {0}
@@ -36,13 +47,22 @@ abbrev pub IsOfTexts : Request → Type 0
 IsOfTexts (own (build file type)) = Unit {0}
 IsOfTexts request = ⊥
 
+abbrev pub IsOfMade : Request → Type 0
+IsOfMade (own (generate number count type)) = Unit {0}
+IsOfMade request = ⊥
+
 -- each request that the words ask for is such a one: so it is where they ask for nothing
 abbrev pub AskOnly : (Request → Type 0) → List (List ℕ) → Type 0
 AskOnly IsOf words = (request : Request) → Asks words request → IsOf request
 
--- for such words an account by the set is one by all, and what all promise is promised by the set
-pub record IsPart {A : Type 0} (c : Commands A) (IsOf : Request → Type 0) : Type 0 where
+-- for such words an account by the set is one by the whole, and what the whole promises is promised
+-- by the set
+pub record IsPartOf {A B : Type 0} (whole : Commands B) (c : Commands A) (IsOf : Request → Type 0)
+    : Type 0 where
   pub account : (words : List (List ℕ)) (call : Call) → AskOnly IsOf words
-      → Account c words call → Account all_commands words call
+      → Account c words call → Account whole words call
   pub promises : (words : List (List ℕ)) (call : Call) → AskOnly IsOf words
-      → Promises all_commands words call → Promises c words call
+      → Promises whole words call → Promises c words call
+
+abbrev pub IsPart : {A : Type 0} → Commands A → (Request → Type 0) → Type 0
+IsPart c IsOf = IsPartOf all_commands c IsOf

@@ -1,5 +1,5 @@
-//! The commands of the program: those on values at declared types, and the one on texts; and all of
-//! them as one set, with what follows from what is promised of a call.
+//! The commands of the program: those on values at declared types, the one on texts, and the one on a
+//! value that is made; and all of them as one set, with what follows from what is promised of a call.
 
 ghost use Rattle.om_causes.specs.Causes.{Causes as CausesBy};
 ghost use Rattle.om_commands.specs.Tasks.{commands};
@@ -8,17 +8,22 @@ ghost use Rattle.om_promises.specs.Causes.{OutsideCauses};
 ghost use Rattle.om_promises.specs.CommandLaws.{HaveOneOutcome, ArePromised, Follow};
 ghost use Rattle.om_promises.specs.Lawful.{AreLawful, AreInTurns};
 ghost use Rattle.om_declared.specs.Language.{declared_types};
-ghost use Rattle.om_session.specs.All.{on_values, on_texts, all_commands, IsOfValues, IsOfTexts, IsPart};
+ghost use Rattle.om_session.specs.All.{on_values, on_texts, on_made, all_commands, IsOfValues, IsOfTexts, IsOfMade, IsPart};
 ghost use Rattle.om_build.specs.Lines.{declared_texts};
 ghost use Rattle.om_texts.specs.Meanings.{texts_tables};
+ghost use Rattle.om_generation.specs.Meanings.{Causes as CausesOfMade};
 
 use om_build::laws::{DeclaredTexts, declared_texts_are_read_once};
 use om_choice::laws::{
-    Choice, choices_are_lawful, choices_promise_as_the_first, choices_promise_as_the_second,
-    choices_take_turns,
+    Choice, choices_are_apart, choices_are_idle, choices_are_lawful, choices_promise_as_the_first,
+    choices_promise_as_the_second, choices_take_turns,
 };
 use om_commands::laws::{OnValues, commands_answer_once, commands_are_lawful, commands_take_turns};
 use om_declared::laws::{DeclaredTypes, declared_types_are_lawful};
+use om_generation::laws::{
+    OnMade, causes_of_generation, generation_is_lawful, generation_stands_apart,
+    generation_stands_apart_from_texts, generation_takes_turns,
+};
 use om_meanings::laws::causes_of_statuses;
 use om_promises::laws::{files_in_turns, lawful_commands, promised, promises_of_commands};
 use om_texts::laws::{
@@ -29,7 +34,13 @@ type Values = OnValues<DeclaredTypes>;
 
 type Texts = OnTexts<DeclaredTexts>;
 
-/// Lawful commands of both kinds are lawful as one set, and take their files turn by turn.
+type Made = OnMade<DeclaredTypes>;
+
+type Input = Choice<Values, Texts>;
+
+type All = Choice<Input, Made>;
+
+/// Lawful commands of all kinds are lawful as one set, and take their files turn by turn.
 pub fn all_commands_are_lawful()
     ensures lawful { AreLawful all_commands }
     ensures turns { AreInTurns all_commands }
@@ -41,8 +52,15 @@ pub fn all_commands_are_lawful()
     building_is_lawful::<DeclaredTexts>();
     building_takes_turns::<DeclaredTexts>();
     building_stands_apart::<DeclaredTexts>();
+    generation_is_lawful::<DeclaredTypes>();
+    generation_takes_turns::<DeclaredTypes>();
+    generation_stands_apart::<DeclaredTypes>();
+    generation_stands_apart_from_texts::<DeclaredTexts, DeclaredTypes>();
     choices_are_lawful::<Values, Texts>();
     choices_take_turns::<Values, Texts>();
+    choices_are_apart::<Values, Texts, Made>();
+    choices_are_lawful::<Input, Made>();
+    choices_take_turns::<Input, Made>();
 }
 
 /// What is promised of a call follows from its account; and from that what the outside causes.
@@ -51,9 +69,9 @@ pub fn all_commands_keep_promises()
     ensures outside { Follow all_commands (OutsideCauses all_commands) }
 {
     all_commands_are_lawful();
-    promised::<Choice<Values, Texts>>();
-    promises_of_commands::<Choice<Values, Texts>>();
-    files_in_turns::<Choice<Values, Texts>>();
+    promised::<All>();
+    promises_of_commands::<All>();
+    files_in_turns::<All>();
 }
 
 /// Words, files and an input have one outcome.
@@ -61,7 +79,7 @@ pub fn all_commands_have_one_outcome()
     ensures { HaveOneOutcome all_commands }
 {
     all_commands_are_lawful();
-    lawful_commands::<Choice<Values, Texts>>();
+    lawful_commands::<All>();
 }
 
 /// So have they by the commands on values.
@@ -76,10 +94,15 @@ pub fn values_have_one_outcome()
 pub fn all_commands_have_parts()
     ensures values { IsPart on_values IsOfValues }
     ensures texts { IsPart on_texts IsOfTexts }
+    ensures made { IsPart on_made IsOfMade }
 {
     building_stands_apart::<DeclaredTexts>();
+    generation_stands_apart::<DeclaredTypes>();
+    choices_are_idle::<Values, Texts>();
     choices_promise_as_the_first::<Values, Texts>();
     choices_promise_as_the_second::<Values, Texts>();
+    choices_promise_as_the_first::<Input, Made>();
+    choices_promise_as_the_second::<Input, Made>();
 }
 
 /// What is promised of a call by the commands on values gives each status its cause, and to each
@@ -98,4 +121,12 @@ pub fn statuses_of_texts_have_causes()
     declared_types_are_lawful();
     declared_texts_are_read_once();
     causes_of_texts::<DeclaredTexts>();
+}
+
+/// And so does what is promised by the one on a value that is made.
+pub fn statuses_of_made_have_causes()
+    ensures { Follow on_made (CausesOfMade declared_types) }
+{
+    declared_types_are_lawful();
+    causes_of_generation::<DeclaredTypes>();
 }

@@ -20,6 +20,11 @@ returns-clause-causes_of_texts g c = λ only.
     let all = c.all_commands_keep_promises.ensures.account _ _ c.tells_bytes.ensures c.run_command.ensures in
     c.statuses_of_texts_have_causes.ensures _ _ c.tells_bytes.ensures (c.all_commands_have_parts.ensures.texts.promises _ _ only all)
 
+pub returns-clause-causes_of_made : goal.returns-clause-causes_of_made
+returns-clause-causes_of_made g c = λ only.
+    let all = c.all_commands_keep_promises.ensures.account _ _ c.tells_bytes.ensures c.run_command.ensures in
+    c.statuses_of_made_have_causes.ensures _ _ c.tells_bytes.ensures (c.all_commands_have_parts.ensures.made.promises _ _ only all)
+
 pub returns-clause-canonical : goal.returns-clause-canonical
 returns-clause-canonical g c =
     leaves_canonical c.values_have_one_outcome.ensures _ _ c.tells_bytes.ensures c.all_commands_have_parts.ensures.values
