@@ -28,8 +28,8 @@ TablesHaveTheVerdict =
     → (graph : List Obj) (root : Val) (verdict : TreeVerdict)
     → IsTableVerdict table graph root verdict ↔ IsVerdictOf decls graph root t verdict
 
--- Of a value that has its type the verdict is `sound` exactly where each set and each map in it is a
--- finite tree whose elements increase, whose nodes state their heights, and which is balanced.
+-- Of a value that has its type the verdict is `sound` exactly where each set and each map in it is
+-- a finite tree whose elements increase, whose nodes state their heights, and which is balanced.
 abbrev pub SoundVerdictsTellSearchTrees : Type 0
 SoundVerdictsTellSearchTrees =
     (decls : List Decl) (t : Ty) (types : List Ty) → AreWellFormed decls → IsSoundType decls t

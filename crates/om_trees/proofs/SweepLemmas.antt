@@ -1,5 +1,5 @@
 -- A sweep over nodes, and the words of their fields.
-use Rattle.std.proofs.Common.{ℕ, zero, suc, ◌≡◌, ◌≢◌, ◌<◌, ◌≤◌, ◌+◌, ◌∙◌, ◌⊎◌, ⊎_elim, inl, inr, Bool, true, false, ◌-◌, ◌^◌, List, [], ◌∷◌, length, set, replicate, Option, Some, None, refl, sym, ap, subst, arith}
+use Rattle.std.proofs.Common.{ℕ, zero, suc, ◌≡◌, ◌≢◌, ◌<◌, ◌≤◌, ◌+◌, ◌∙◌, ◌⊎◌, ⊎_elim, inl, inr, Bool, true, false, ◌-◌, ◌^◌, List, [], ◌∷◌, get_or, length, set, replicate, Option, Some, None, refl, sym, ap, subst, arith}
 use Rattle.std.specs.Prelude.{slice_get, slice_index, map, pos, nat_lt, if◌then◌else◌}
 use Rattle.std.proofs.lemmas.Bool.{cases_lt, ltb-true, ltb-false}
 use Rattle.std.proofs.lemmas.List.Elements.{All-contains}
@@ -18,6 +18,7 @@ use Rattle.om_trees.specs.declared.node.TreeKind.{TreeKind}
 use Rattle.om_trees.specs.declared.node.TreeKind.TheVariants as kinds
 use Rattle.om_trees.specs.declared.span.Settled.{Settled}
 use Rattle.om_trees.specs.Judgement.{rank_of, IsFaultAt, IsToldBefore, IsJudgement}
+use Rattle.om_trees.specs.Parts.{node_of, number_in}
 use Rattle.om_trees.specs.Span.{IsSettledAs}
 use Rattle.om_trees.specs.Sweep.{AreKnown, HasKind, IsGravest, replaced, graver, IsGravestFrom}
 use Rattle.om_trees.specs.TreeFault.{IsMiscounted, IsUnbalanced, IsDisordered}
@@ -58,6 +59,27 @@ module _ (graph : List Obj) (o i : ℕ) (inside : o < length graph)
       word_of-inj graph v (field_at graph o i) is_graph valid (field_valid is_graph)
       (sym named ∙ is ∙ ap (λ ws. slice_index ws i) are
       ∙ field_word-at graph (fields_of (object_at graph o)) i (vals.Int (pos 0)) short)
+
+-- the height of a node is in the field after its right part
+pub height_read : (values : List Val) (right : ℕ) → (right ≡ 2) ⊎ (right ≡ 3)
+    → right + 2 ≡ length values
+    → (node_of values).height ≡ number_in (get_or values (right + 1) (vals.Int (pos 0)))
+height_read [] right place size = absurd (omega (arith, size))
+height_read (a ∷ []) right place size = absurd (omega (arith, size))
+height_read (a ∷ b ∷ []) right place size =
+    absurd (⊎_elim (λ two. omega (arith, size, two)) (λ three. omega (arith, size, three)) place)
+height_read (a ∷ b ∷ c ∷ []) right place size =
+    absurd (⊎_elim (λ two. omega (arith, size, two)) (λ three. omega (arith, size, three)) place)
+height_read (a ∷ b ∷ c ∷ d ∷ []) right place size =
+    let e : 2 ≡ right = omega (arith, size) in
+    subst (λ n. number_in d
+    ≡ number_in (get_or (a ∷ b ∷ c ∷ d ∷ []) (n + 1) (vals.Int (pos 0)))) e refl
+height_read (a ∷ b ∷ c ∷ d ∷ x ∷ []) right place size =
+    let e : 3 ≡ right = omega (arith, size) in
+    subst (λ n. number_in x
+    ≡ number_in (get_or (a ∷ b ∷ c ∷ d ∷ x ∷ []) (n + 1) (vals.Int (pos 0)))) e refl
+height_read (a ∷ b ∷ c ∷ d ∷ x ∷ y ∷ more) right place size =
+    absurd (⊎_elim (λ two. omega (arith, size, two)) (λ three. omega (arith, size, three)) place)
 
 -- ---- what is settled
 

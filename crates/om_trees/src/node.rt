@@ -68,6 +68,60 @@ fn with_right_at(heap: &Heap, o: u64, right: u64) -> Node
     }
 }
 
+/// The element of the node that an object is.
+#[inline(always)]
+pub fn element_at(heap: &Heap, o: usize) -> Val
+    requires { o < length heap.now }
+    ensures element { result ≡ (parts.node_at heap.now o).element }
+    ensures valid { IsValue (length heap.now) result }
+{
+    match heap.kind(o as u64) {
+        Kind::Block(_, 4) => element_in(heap, o as u64, 2),
+        Kind::Block(_, 5) => element_in(heap, o as u64, 3),
+        _ => Val::Int(0),
+    }
+}
+
+/// The element of a block whose right part is in this field, and the height in the next one.
+#[inline(always)]
+fn element_in(heap: &Heap, o: u64, _right: u64) -> Val
+    requires object { o < length heap.now }
+    requires place { (_right ≡ 2) ⊎ (_right ≡ 3) }
+    requires last { _right + 2 ≡ length (fields_of (object_at heap.now o)) }
+    ensures element { result ≡ (node_of (fields_of (object_at heap.now o))).element }
+    ensures valid { IsValue (length heap.now) result }
+{
+    let words = heap.fields(o);
+    value_at(heap, o, words, 1)
+}
+
+/// The value that the node that an object is has for its height.
+#[inline(always)]
+fn height_at(heap: &Heap, o: usize) -> Val
+    requires { o < length heap.now }
+    ensures height { parts.number_in result ≡ (parts.node_at heap.now o).height }
+    ensures valid { IsValue (length heap.now) result }
+{
+    match heap.kind(o as u64) {
+        Kind::Block(_, 4) => height_in(heap, o as u64, 2),
+        Kind::Block(_, 5) => height_in(heap, o as u64, 3),
+        _ => Val::Int(0),
+    }
+}
+
+/// The same of a block whose right part is in this field, and the height in the next one.
+#[inline(always)]
+fn height_in(heap: &Heap, o: u64, right: u64) -> Val
+    requires object { o < length heap.now }
+    requires place { (right ≡ 2) ⊎ (right ≡ 3) }
+    requires last { right + 2 ≡ length (fields_of (object_at heap.now o)) }
+    ensures height { parts.number_in result ≡ (node_of (fields_of (object_at heap.now o))).height }
+    ensures valid { IsValue (length heap.now) result }
+{
+    let words = heap.fields(o);
+    value_at(heap, o, words, right as usize + 1)
+}
+
 /// Field i of a block whose fields have these words.
 #[inline(always)]
 fn value_at(heap: &Heap, o: u64, words: &[u64], i: usize) -> Val
@@ -100,7 +154,7 @@ pub fn height_of(heap: &Heap, v: Val) -> i64
     ensures small { IsInteger result }
 {
     match v {
-        Val::Ref(o) => node_at(heap, o as usize).height,
+        Val::Ref(o) => number_in(height_at(heap, o as usize)),
         _ => 0,
     }
 }

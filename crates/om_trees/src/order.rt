@@ -8,7 +8,7 @@ ghost use Rattle.om_trees.specs.Parts as parts;
 ghost use Rattle.om_trees.specs.Parts.{number, text, key_of, is_key_less, are_before};
 ghost use Rattle.om_trees.specs.TreeFault.{IsElementLess};
 
-use crate::node::{node_at, number_in};
+use crate::node::{element_at, number_in};
 use om_heap::{Heap, Kind};
 use om_model::value::Val;
 
@@ -18,7 +18,7 @@ pub fn is_element_less(heap: &Heap, o: usize, p: usize) -> bool
     requires second { p < length heap.now }
     ensures { IsTrue result ↔ IsElementLess heap.now o p }
 {
-    is_less(heap, node_at(heap, o).element, node_at(heap, p).element)
+    is_less(heap, element_at(heap, o), element_at(heap, p))
 }
 
 /// Whether a value is less than another one.
