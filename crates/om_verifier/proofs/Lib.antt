@@ -1,3 +1,4 @@
 pub mod OnceLemmas
 pub mod JudgeLemmas
 pub mod ReadLemmas
+pub mod FileLemmas

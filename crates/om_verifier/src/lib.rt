@@ -2,9 +2,11 @@
 //! type, and the command that reads the values as they come.
 #![tactic(auto)]
 
+mod files;
 mod judge;
 pub mod laws;
 mod reason;
 mod values;
 
+pub use files::find_certificate;
 pub use values::Certified;
