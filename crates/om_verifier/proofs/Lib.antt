@@ -1,0 +1,4 @@
+pub mod OnceLemmas
+pub mod JudgeLemmas
+pub mod ReadLemmas
+pub mod FileLemmas

@@ -1,0 +1,4 @@
+pub mod Shown
+pub mod Judged
+pub mod Reading
+pub mod Files

@@ -1,0 +1,81 @@
+-- What has been read of the values, and said of them by their sections, as their bytes come.
+use Rattle.std.specs.Prelude.{ℕ, ◌<◌, ◌≡◌, ◌≢◌, ◌⊎◌, Bool, List, [], ◌∷◌, ◌++◌, length, Result, Ok, Err}
+use Rattle.om_model.specs.declared.refusal.ReadRefusal.{ReadRefusal}
+use Rattle.om_model.specs.declared.refusal.ReadRefusal.TheVariants as refusals
+use Rattle.om_format.specs.Front.{IsFront}
+use Rattle.om_read.specs.declared.reader.Reader.{Reader}
+use Rattle.om_read.specs.Reader.{Leads, IsDone}
+use Rattle.om_section.specs.declared.section.Section.{Section}
+use Rattle.om_edge.specs.Sink.{Puts, PutsPart}
+use Rattle.om_edge.specs.State.{ByteState, Change}
+use Rattle.om_outcome.specs.RefusalText.{refusal_text}
+use Rattle.om_outcome.specs.Outcome.{value, out_of_memory, Said, all_well}
+use Rattle.om_stops.specs.declared.stop.Halt.{Halt}
+use Rattle.om_stops.specs.declared.stop.Halt.TheVariants as halts
+use Rattle.om_stops.specs.declared.stop.Stop.{Stop}
+use Rattle.om_stops.specs.Stops.{stop_of}
+use Rattle.om_promises.specs.Commands.{Item, Commands, SaysFirst}
+use Rattle.om_work.specs.Works.{AreSaid}
+use Rattle.om_declared.specs.Checked.{OrMemory}
+use Rattle.om_declared.specs.declared.types.Requested.{Requested}
+use Rattle.om_declared.specs.Language.{TypeOver, declared_types}
+use Rattle.om_declared.specs.Types.{type_over, IsReady}
+use Rattle.om_verification.specs.Verification.{Verification, ComesUncertified, verifying}
+use Rattle.om_verifier.specs.Shown.{reads_sections, declared_sections}
+
+-- the command at declared types
+abbrev pub on_certificates : Commands (Verification TypeOver Section)
+on_certificates = verifying declared_types reads_sections declared_sections
+
+-- what is done
+abbrev pub certified : Requested → List Section → ℕ → Verification TypeOver Section
+certified r sections limit =
+    record { type = type_over r; sections = sections; limit = limit }
+
+-- the stop of value k that is refused, where it is not for out of memory
+abbrev pub IsStopOf : ℕ → ReadRefusal → Stop → Type 0
+IsStopOf k refusal stop =
+    ((refusal ≡ refusals.Memory) × (stop_of stop ≡ out_of_memory))
+    ⊎ ((refusal ≢ refusals.Memory) × (stop_of stop ≡ value k (refusal_text refusal)))
+
+module _ (r : Requested) (sections : List Section) (limit : ℕ) (reader : Reader) (count : ℕ)
+    (well : Bool) (taken : List ℕ) (said : List Said) where
+  -- Of these bytes the reader has taken what comes after the values, a front of the next one; this
+  -- is said of the values.
+  pub record HasRead : Type 0 where
+    pub ready : IsReady r
+    pub items : List Item
+    pub front : List ℕ
+    pub first : SaysFirst on_certificates (certified r sections limit) taken items said front
+    pub is_front : IsFront limit front
+    pub leads : Leads limit front reader
+    pub counted : count ≡ length items
+    pub is_well : well ≡ all_well said
+
+  -- the same where the reader has taken all of the next one
+  pub record IsValueRead : Type 0 where
+    pub ready : IsReady r
+    pub items : List Item
+    pub whole : List ℕ
+    pub first : SaysFirst on_certificates (certified r sections limit) taken items said whole
+    pub some : 0 < length whole
+    pub leads : Leads limit whole reader
+    pub done : IsDone reader
+    pub counted : count ≡ length items
+    pub is_well : well ≡ all_well said
+
+-- What is said of the value that is there, after these, is put, and the reader waits for the next
+-- one; or the value is not certified, or memory ran out; or out failed.
+abbrev pub PutsNext : {U : Type 0} → Requested → List Section → ℕ → Reader → ℕ → Bool → List ℕ
+    → List Said → List Item → List ℕ → Change ByteState → Result U Halt → Type 0
+PutsNext r sections limit reader count well taken said items whole out (Ok unit) =
+    (next : Said) × HasRead r sections limit reader count well taken (said ++ next ∷ [])
+    × Puts out next.text
+PutsNext r sections limit reader count well taken said items whole out (Err (halts.Stop stop)) =
+    OrMemory (λ stop. ComesUncertified declared_sections (certified r sections limit)
+    (length items) whole (stop_of stop)) stop
+    × Puts out []
+PutsNext r sections limit reader count well taken said items whole out (Err halts.WriteFault) =
+    (next : Said)
+    × AreSaid on_certificates (certified r sections limit) taken (said ++ next ∷ [])
+    × PutsPart out next.text

@@ -1,0 +1,71 @@
+-- What a section of a certificate shows of a value at a declared type.
+use Rattle.std.specs.Prelude.{ℕ, ◌≡◌, true, false, List, ◌++◌, Result, Ok, Err, codes, decimal}
+use Rattle.om_model.specs.declared.value.Val.{Val}
+use Rattle.om_model.specs.declared.value.Obj.{Obj}
+use Rattle.om_types.specs.declared.fault.Fault.{Fault}
+use Rattle.om_types.specs.Equal.{declared_shapes}
+use Rattle.om_types.specs.Fault.{IsFault}
+use Rattle.om_types.specs.TypeText.{type_text}
+use Rattle.om_types.specs.Typing.{HasType}
+use Rattle.om_types.specs.VerdictText.{IsFaultText}
+use Rattle.om_format.specs.Tree.{Tree, root, objects_of}
+use Rattle.om_section.specs.declared.section.Section.{Section}
+use Rattle.om_section.specs.Format.{IsCertificate, IsSyntaxAt}
+use Rattle.om_cert.specs.declared.verified.Why.{Why}
+use Rattle.om_cert.specs.declared.verified.Why.TheVariants.{Range, Unfit, Need, TwoTypes, Root, NotFault}
+use Rattle.om_cert.specs.declared.verified.Verified.{Verified}
+use Rattle.om_cert.specs.declared.verified.Verified.TheVariants.{Yes, No, Rejected}
+use Rattle.om_cert_alike.specs.Alike.{IsAnswerAt}
+use Rattle.om_declared.specs.Language.{TypeOver}
+use Rattle.om_verification.specs.Verification.{Shown, shows, rejects}
+
+-- the text of a reason
+abbrev pub why_text : Why → List ℕ
+why_text (Range i) = codes "Range(" ++ decimal i ++ codes ")"
+why_text (Unfit i) = codes "Unfit(" ++ decimal i ++ codes ")"
+why_text (Need i field) = codes "Need(" ++ decimal i ++ codes ", " ++ decimal field ++ codes ")"
+why_text (TwoTypes i) = codes "TwoTypes(" ++ decimal i ++ codes ")"
+why_text Root = codes "Root"
+why_text NotFault = codes "NotFault"
+
+module _ (t : TypeOver) (section : Section) (graph : List Obj) (v : Val) where
+  -- by a table of the types that the type reaches, this is the answer to the section
+  abbrev pub Answers : Verified → Type 0
+  Answers = IsAnswerAt t.decls t.type graph v section
+
+  -- its pairs are accepted, and so the value has the type
+  pub record ShowsType (line : List ℕ) : Type 0 where
+    pub accepted : Answers Yes
+    pub has : HasType (declared_shapes t.decls) graph v t.type
+    pub is : line ≡ codes "yes"
+
+  -- Its paths are a fault, and so the value has not the type. Of several faults it may state any.
+  pub record ShowsFault (line : List ℕ) : Type 0 where
+    pub fault : Fault
+    pub accepted : Answers (No fault)
+    pub is_fault : IsFault (declared_shapes t.decls) graph v t.type fault
+    pub has_not : ¬ HasType (declared_shapes t.decls) graph v t.type
+    pub text : List ℕ
+    pub is_text : IsFaultText (declared_shapes t.decls) type_text graph v t.type fault text
+    pub is : line ≡ codes "no " ++ text
+
+  -- it is rejected, first for this reason
+  pub record IsRejected (reason : List ℕ) : Type 0 where
+    pub why : Why
+    pub rejected : Answers (Rejected why)
+    pub is : reason ≡ why_text why
+
+  abbrev pub IsShownAt : Shown → Type 0
+  IsShownAt (shows line true) = ShowsType line
+  IsShownAt (shows line false) = ShowsFault line
+  IsShownAt (rejects reason) = IsRejected reason
+
+-- what the section shows of the value of a tree
+abbrev pub declared_sections : TypeOver → Section → Tree → Shown → Type 0
+declared_sections t section tree shown =
+    IsShownAt t section (objects_of tree 0) (root tree 0) shown
+
+-- the text is the certificate of these sections, or this line is its first fault
+abbrev pub reads_sections : List ℕ → Result (List Section) ℕ → Type 0
+reads_sections text (Ok all) = IsCertificate text all
+reads_sections text (Err line) = IsSyntaxAt text line

@@ -1,0 +1,134 @@
+//! What the section with a number shows of a value.
+
+ghost use Rattle.std.specs.Prelude.{length, IfOk};
+ghost use Rattle.om_model.specs.Graph.{IsValue};
+ghost use Rattle.om_type_table.specs.Made.{table_of};
+ghost use Rattle.om_cert.specs.Verified.{IsVerified};
+ghost use Rattle.om_cert.specs.declared.verified.Verified.TheVariants.{No};
+ghost use Rattle.om_declared.specs.Types.{type_over, IsReady};
+ghost use Rattle.om_verifier.specs.Judged.{Judges, JudgesAt};
+
+use crate::reason::put_why;
+use om_cert::{Verified, Why, verify};
+use om_declared::Requested;
+use om_equal::table::tables_have_the_faults;
+use om_fault::fault_text;
+use om_fault::laws::texts_are_of_types;
+use om_heap::Heap;
+use om_model::Memory;
+use om_model::list::List;
+use om_model::value::Val;
+use om_section::Section;
+use om_stops::put::put;
+use om_table::{tables_decide, type_or_fault};
+use om_type_table::laws::tables_are_lawful;
+use om_types::fault::Fault;
+use std::alloc::Global;
+
+/// What is said of a value by its section, with its line feed, and whether nothing is wrong with
+/// the value; or why the value is not certified.
+#[derive(Drop)]
+pub enum Judged {
+    Line(List<u8>, bool),
+    Uncertified(List<u8>),
+}
+
+/// What the section with the number shows of a value, if there is one.
+pub fn judge(
+    alloc: Global,
+    heap: &Heap,
+    root: Val,
+    requested: &Requested,
+    sections: &[Section],
+    number: u64,
+) -> Result<Judged, Memory>
+    requires value { IsValue (length heap.now) root }
+    requires ready { IsReady requested.now }
+    ensures { IfOk result
+        (JudgesAt (type_over requested.now) sections.now number heap.now root) }
+{
+    if number >= sections.len() as u64 {
+        let mut reason = Vec::new(alloc);
+        put(&mut reason, b"no section")?;
+        return Ok(Judged::Uncertified(List::of(reason)));
+    }
+    judge_by(alloc, heap, root, requested, &sections[number as usize])
+}
+
+/// What a section shows of a value.
+fn judge_by(
+    alloc: Global,
+    heap: &Heap,
+    root: Val,
+    requested: &Requested,
+    section: &Section,
+) -> Result<Judged, Memory>
+    requires value { IsValue (length heap.now) root }
+    requires ready { IsReady requested.now }
+    ensures { IfOk result (Judges (type_over requested.now) section.now heap.now root) }
+{
+    tables_are_lawful();
+    let verified = verify(alloc, heap, root, &requested.table, section)?;
+    told(alloc, heap, root, requested, section, &verified)
+}
+
+/// What is said of a value by what came of its section.
+fn told(
+    alloc: Global,
+    heap: &Heap,
+    root: Val,
+    requested: &Requested,
+    section: &Section,
+    verified: &Verified,
+) -> Result<Judged, Memory>
+    requires value { IsValue (length heap.now) root }
+    requires ready { IsReady requested.now }
+    requires verified { IsVerified (table_of requested.now.table) heap.now root section.now
+        verified.now }
+    ensures { IfOk result (Judges (type_over requested.now) section.now heap.now root) }
+{
+    tables_are_lawful();
+    tables_decide();
+    match verified {
+        Verified::Yes => {
+            let mut text = Vec::new(alloc);
+            put(&mut text, b"yes\n")?;
+            Ok(Judged::Line(List::of(text), true))
+        }
+        Verified::No(fault) => told_fault(alloc, heap, root, requested, section, fault),
+        Verified::Rejected(why) => {
+            let mut text = Vec::new(alloc);
+            put(&mut text, b"certificate ")?;
+            put_why(&mut text, alloc, *why)?;
+            Ok(Judged::Uncertified(List::of(text)))
+        }
+    }
+}
+
+/// What is said of a value whose section states a fault.
+fn told_fault(
+    alloc: Global,
+    heap: &Heap,
+    root: Val,
+    requested: &Requested,
+    section: &Section,
+    fault: &Fault,
+) -> Result<Judged, Memory>
+    requires value { IsValue (length heap.now) root }
+    requires ready { IsReady requested.now }
+    requires verified { IsVerified (table_of requested.now.table) heap.now root section.now
+        (No fault.now) }
+    ensures { IfOk result (Judges (type_over requested.now) section.now heap.now root) }
+{
+    tables_are_lawful();
+    tables_decide();
+    tables_have_the_faults();
+    texts_are_of_types();
+    type_or_fault();
+    let why = fault_text(alloc, heap, root, &requested.table, fault)?;
+    let mut text = Vec::new(alloc);
+    put(&mut text, b"no ")?;
+    put(&mut text, why.as_slice())?;
+    put(&mut text, b"\n")?;
+    Ok(Judged::Line(List::of(text), false))
+}

@@ -1,0 +1,12 @@
+//! Certificates of the values of the input, verified: what a section shows of a value at a declared
+//! type, and the command that reads the values as they come.
+#![tactic(auto)]
+
+mod files;
+mod judge;
+pub mod laws;
+mod reason;
+mod values;
+
+pub use files::find_certificate;
+pub use values::Certified;
