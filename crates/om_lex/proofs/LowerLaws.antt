@@ -62,6 +62,7 @@ word_in_range name = by_key (keyword_of name)
     cased : (word : List ℕ) → in_range (cased_form word) ≡ true
     cased [] = refl
     cased (b ∷ bs) = elim (cases_Bool (starts_lower b)) [ inl e ↦ rw e refl | inr e ↦ rw e refl ]
+
     by_key : (o : Option Keyword) → in_range (reserved_or (cased_form name) o) ≡ true
     by_key None = cased name
     by_key (Some k) = refl

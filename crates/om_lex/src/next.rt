@@ -43,7 +43,8 @@ pub fn next_lexeme(alloc: Global, text: &[u8], from: usize) -> Result<Option<Lex
 /// The end of the separator, comment or lexeme at this place.
 fn step_over(alloc: Global, text: &[u8], at: usize) -> Result<usize, LexFault>
     requires { at < length text.now }
-    ensures over { (front : List Lexeme) → Reached text.now at front → StepsOn text.now front result }
+    ensures over { (front : List Lexeme) → Reached text.now at front
+        → StepsOn text.now front result }
     ensures end { IfOk result (λ end. (at < end) × (end ≤ length text.now)) }
 {
     match step_at(alloc, &text[at..]) {

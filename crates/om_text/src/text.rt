@@ -118,7 +118,9 @@ fn read(
         Ok(Some(placed)) => read_nodes(alloc, heap, table, line, &placed),
         Ok(None) => Ok(None),
         Err(PlacedFault::Lex(fault)) => Err(TextFault::Lex(fault)),
-        Err(PlacedFault::Syntax(byte)) => Err(TextFault::Literal(LiteralFault::Syntax(byte as u64))),
+        Err(PlacedFault::Syntax(byte)) => Err(TextFault::Literal(LiteralFault::Syntax(
+            byte as u64,
+        ))),
         Err(PlacedFault::TooLong) => read_long(alloc, heap, table, line),
         Err(PlacedFault::Memory) => Err(TextFault::Memory),
     }
