@@ -1,29 +1,25 @@
 -- What comes of a line, in code: its value, or why there is none; and its bytes, or a halt.
-use Rattle.std.proofs.Common.{ℕ, ◌≡◌, ◌≢◌, ◌+◌, Bool, false, List, [], length, Option, Some, None, Result, Ok, Err, inl, inr, refl, sym, ap, ◌∙◌, subst, arith}
+use Rattle.std.proofs.Common.{ℕ, ◌≡◌, ◌+◌, false, List, length, Option, Some, None, Result, Ok, Err, inl, inr, refl, sym, ap, ◌∙◌, subst, arith}
 use Rattle.std.specs.Prelude.{IsErrAnd}
 use Rattle.om_model.specs.declared.value.Val.{Val}
 use Rattle.om_model.specs.declared.value.Obj.{Obj}
-use Rattle.om_model.specs.Graph.{IsValue}
 use Rattle.om_format.specs.Canonical.{canon}
 use Rattle.om_format.specs.Iso.{IsTreeOf}
 use Rattle.om_format.specs.Compat.{TooLargeFor32, too_large_for_32}
 use Rattle.om_format.specs.Tree.{Tree}
-use Rattle.om_types.specs.Equal.{declared_shapes}
-use Rattle.om_types.specs.Typing.{HasType}
-use Rattle.om_outcome.specs.Outcome.{text_line, out_of_memory, Unedited, nothing_said}
-use Rattle.om_edge.specs.Sink.{Puts, PutsPart}
+use Rattle.om_outcome.specs.Outcome.{Unedited, nothing_said}
+use Rattle.om_edge.specs.Sink.{Puts}
 use Rattle.om_edge.specs.State.{ByteState, Change, change}
 use Rattle.om_promises.proofs.PutLemmas.{puts_nothing}
 use Rattle.om_stops.specs.declared.stop.Halt.{Halt}
 use Rattle.om_stops.specs.declared.stop.Halt.TheVariants as halts
 use Rattle.om_stops.specs.declared.stop.Stop.{Stop}
 use Rattle.om_stops.specs.declared.stop.Stop.TheVariants as stops
-use Rattle.om_stops.specs.Stops.{stop_of}
 use Rattle.om_text.specs.declared.text.TextFault.{TextFault}
 use Rattle.om_text.specs.declared.text.TextFault.TheVariants as faults
 use Rattle.om_text.specs.Text.{ReadsText}
 use Rattle.om_declared.specs.Bytes.{PutsBytes}
-use Rattle.om_declared.specs.Checked.{OrMemory, ChecksType}
+use Rattle.om_declared.specs.Checked.{ChecksType}
 use Rattle.om_declared.specs.Language.{bytes_for, AreBytesOf}
 use Rattle.om_declared.specs.Types.{type_over, IsReady}
 use Rattle.om_declared.specs.declared.types.Requested.{Requested}
@@ -116,10 +112,10 @@ module _ (r : Requested) (k : ℕ) (graph : List Obj) (root : Val) where
             → HaltsAtLine (type_over r) line number k (change out out) halt
         at halts.WriteFault never = absurd never
         at (halts.Stop stop) (inl memory) = (inl memory, puts_nothing out)
-        at (halts.Stop stop) (inr (text', why, told)) = (
+        at (halts.Stop stop) (inr (text', why, some_not, told)) = (
           inr (
             untyped text',
-            record { graph = graph; root = root; is_text = text; why = why },
+            record { graph = graph; root = root; is_text = text; why = why; some_not = some_not },
             told,
           ),
           puts_nothing out,
@@ -127,7 +123,7 @@ module _ (r : Requested) (k : ℕ) (graph : List Obj) (root : Val) where
 
   pub value_puts :
       (line : List ℕ) (number : ℕ) → IsText (type_over r) line (Ok (graph, root))
-      → HasType (declared_shapes r.decls) graph root r.ty
+      → ChecksType {U = Unit {0}} r k graph root (Ok tt)
       → (out : Change ByteState) (result : Result (Unit {0}) Halt)
       → PutsBytes false k graph root out result
       → PutsValue (type_over r) line number k out result
@@ -140,7 +136,8 @@ module _ (r : Requested) (k : ℕ) (graph : List Obj) (root : Val) where
               graph = graph;
               root = root;
               is_text = text;
-              has = has;
+              has = has.0;
+              each = has.1;
               tree = b.0;
               of = b.1;
               are = b.2;
@@ -155,7 +152,8 @@ module _ (r : Requested) (k : ℕ) (graph : List Obj) (root : Val) where
           graph = graph;
           root = root;
           is_text = text;
-          has = has;
+          has = has.0;
+          each = has.1;
           tree = b.0;
           of = b.1;
           are = b.2;

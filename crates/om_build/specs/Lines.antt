@@ -12,6 +12,7 @@ use Rattle.om_types.specs.Ty.{Ty}
 use Rattle.om_types.specs.TypeText.{type_text}
 use Rattle.om_types.specs.Typing.{HasType}
 use Rattle.om_types.specs.VerdictText.{IsNoLine}
+use Rattle.om_rigid.specs.Rigid.{HasEachInstance}
 use Rattle.om_format.specs.Canonical.{canon}
 use Rattle.om_format.specs.Iso.{IsTreeOf}
 use Rattle.om_format.specs.Tree.{Tree}
@@ -41,22 +42,26 @@ module _ (t : TypeOver) where
       pub some : lexemes ≢ []
       pub are : AreText lexemes (length line) answer
 
-    -- it is a text of a value that has the type, and these are the canonical bytes of it
+    -- it is a text of a value that has the type, and each closed instance of it, and these are the
+    -- canonical bytes of it
     pub record IsMade (bytes : List ℕ) : Type 0 where
       pub graph : List Obj
       pub root : Val
       pub is_text : IsText (Ok (graph, root))
       pub has : HasType (declared_shapes t.decls) graph root t.type
+      pub each : HasEachInstance t.decls graph root t.type
       pub tree : Tree
       pub of : IsTreeOf graph root tree
       pub are : bytes ≡ canon tree
 
-    -- it is one of a value that has not the type, and this is the line of the least fault
+    -- it is one of a value that has not the type, nor each closed instance of it, and this is the
+    -- line of the least fault
     pub record IsUntyped (fault : List ℕ) : Type 0 where
       pub graph : List Obj
       pub root : Val
       pub is_text : IsText (Ok (graph, root))
       pub why : IsNoLine (declared_shapes t.decls) type_text graph root t.type fault
+      pub some_not : ¬ HasEachInstance t.decls graph root t.type
 
     -- it has no lexemes, for a fault of the lexer, or they are no literal of the type
     abbrev pub IsRefused : List ℕ → Type 0

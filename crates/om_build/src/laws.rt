@@ -7,10 +7,7 @@ ghost use Rattle.om_declared.specs.Language.{TypeOver, declared_types};
 ghost use Rattle.om_texts.specs.Texts.{IsReadOnce};
 ghost use Rattle.om_build.specs.Lines.{declared_texts};
 
-use om_decl::laws::one_answer;
 use om_decl::told::{files_are_well_formed, types_are_sound};
-use om_edit::edits_have_one_answer;
-use om_path::{one_answer as one_path, one_script_answer};
 use om_table::type_or_fault;
 use om_texts::laws::Builds;
 
@@ -33,10 +30,6 @@ impl Builds for DeclaredTexts {
 pub fn declared_texts_are_read_once()
     ensures { IsReadOnce declared_types declared_texts }
 {
-    one_answer();
-    one_path();
-    one_script_answer();
-    edits_have_one_answer();
     files_are_well_formed();
     types_are_sound();
     type_or_fault();

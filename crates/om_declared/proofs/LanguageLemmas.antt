@@ -1,5 +1,5 @@
 -- What is read of a text is one thing, and a value has one line at a type that is read.
-use Rattle.std.proofs.Common.{◌≡◌, ℕ, Bool, false, List, Option, Some, None, Result, Ok, Err, inl, inr, sym, ap, ◌∙◌, subst}
+use Rattle.std.proofs.Common.{◌≡◌, ℕ, Bool, List, Option, Some, None, Result, Ok, Err, inl, inr, sym, ap, ◌∙◌, subst}
 use Rattle.om_model.specs.declared.value.Val.{Val}
 use Rattle.om_model.specs.declared.value.Obj.{Obj}
 use Rattle.om_types.specs.declared.decl.Decl.{Decl}
@@ -11,16 +11,9 @@ use Rattle.om_typing.proofs.OnceLemmas.{no_line_once}
 use Rattle.om_table.specs.TableDecides.{NeverBoth}
 use Rattle.om_table.proofs.FewLemmas.{few_not_many}
 use Rattle.om_format.specs.Tree.{Tree, root, objects_of}
-use Rattle.om_types.specs.Scope.{Rule, KeepsAll, BreaksInFile, BreaksInType}
-use Rattle.om_sites.specs.InFile.{file_places}
-use Rattle.om_sites.specs.InText.{in_texpr}
-use Rattle.om_grammar.specs.Grammar.{Kinds, file_kinds, texpr}
-use Rattle.om_grammar.specs.Depths.{file_ends, texpr_ends}
-use Rattle.om_grammar.specs.Refusals.{IsText, text_read, syntax_at, too_deep_at}
-use Rattle.om_parse.specs.Parsed.{kinds_of}
 use Rattle.om_parse.specs.Written.{declarations_of, type_of_texpr}
 use Rattle.om_decl.specs.Told.{FilesAreWellFormed, TypesAreSound}
-use Rattle.om_decl.specs.Answer.{Answer, accepted, no_lexemes, no_text, too_deep, broken, IsAnswer, IsFileAnswer, IsTypeAnswer, HasOneAnswer}
+use Rattle.om_decl.specs.Answer.{Answer, accepted, no_lexemes, no_text, too_deep, broken, IsFileAnswer, IsTypeAnswer, HasOneAnswer}
 use Rattle.om_decl.specs.Read.{IsDeclared, IsTypeOf}
 use Rattle.om_decl.specs.Text.{answer_text}
 use Rattle.om_path.specs.Answer as paths
@@ -35,6 +28,7 @@ use Rattle.om_format.specs.Compat.{too_large_for_32}
 use Rattle.om_path.specs.declared.fault.PathFault.{PathFault}
 use Rattle.om_trees.specs.Laws.{TreeVerdictsAreOne}
 use Rattle.om_outcome.specs.Outcome.{Said, Saying, the_verdict, the_text, the_part, the_trees, Unedited, untyped}
+use Rattle.om_declared.proofs.GivenLemmas.{given_sound}
 use Rattle.om_declared.specs.Language.{TypeOver, declared_types, ReadsPath, IsRefusal, ReachesFew, IsTooMuch, IsAccepted, IsToldOf, judged, IsTypeLine, IsBytesLine, AreBytesOf, AreBytesAfter, bytes_for, ReadsType, ReadsScript, script_refusal}
 use Rattle.om_promises.specs.LawfulLanguage.{IsGiven, IsLawful}
 
@@ -60,25 +54,6 @@ module _ {Tree : Type 0} (Is : List ℕ → Answer Tree → Type 0) (once : HasO
 
   refusals_once : (refusal other : List ℕ) → IsRefusal (Is text) refusal → IsRefusal (Is text) other → refusal ≡ other
   refusals_once refusal other r s = r.spelled ∙ (ap answer_text (once text r.answer s.answer r.is s.is) ∙ sym s.spelled)
-
--- ---- what is accepted
-
--- a tree that is accepted is that of some lexemes, and breaks no rule
-module _ {Tree : Type 0} (spelled : Tree → Kinds) (ends : Tree → List ℕ) (Breaks : Tree → Rule → ℕ → Type 0) (text : List ℕ) (tree : Tree) where
-  record IsKept : Type 0 where
-    lexemes : Kinds
-    reads : IsText spelled ends lexemes tree
-    keeps : KeepsAll (Breaks tree)
-
-  kept : IsAnswer spelled ends Breaks text (accepted tree) → IsKept
-  kept (Err fault, lexes, other) = absurd (cc other)
-  kept (Ok lexemes, lexes, (syntax_at k, is, other)) = absurd (cc other)
-  kept (Ok lexemes, lexes, (too_deep_at k, is, other)) = absurd (cc other)
-  kept (Ok lexemes, lexes, (text_read own, is, (same, keeps))) = record {
-    lexemes = kinds_of lexemes;
-    reads = subst (IsText spelled ends (kinds_of lexemes)) same is;
-    keeps = subst (λ t. KeepsAll (Breaks t)) same keeps;
-  }
 
 -- ---- paths
 
@@ -163,17 +138,6 @@ module _ (files_once : HasOneAnswer IsFileAnswer) (types_once : (decls : List De
   type_refusals decls text refusal other (inr r) (inl s) = absurd (never_refused (IsTypeAnswer decls) (types_once decls) text r.written.tree other r.written.answer s)
   type_refusals decls text refusal other (inr r) (inr s) = r.spelled ∙ sym s.spelled
 
-  -- declarations that are read are well-formed, and types over them sound
-  decls_well : (text : List ℕ) (decls : List Decl) → IsDeclared text decls → AreWellFormed decls
-  decls_well text decls d =
-      let k = kept file_kinds file_ends (λ tree. BreaksInFile (file_places tree)) text d.tree d.answer in
-      subst AreWellFormed (sym d.stand) (files_well k.lexemes d.tree k.reads k.keeps)
-
-  type_sound : (decls : List Decl) (text : List ℕ) (t : Ty) → AreWellFormed decls → IsTypeOf decls text t → IsSoundType decls t
-  type_sound decls text t well is =
-      let k = kept texpr texpr_ends (λ tree. BreaksInType decls (in_texpr 0 false tree)) text is.tree is.answer in
-      subst (IsSoundType decls) (sym is.stands) (types_sound decls is.tree well k.keeps)
-
   -- a value has the type or a fault, and not both
   module _ (t : TypeOver) (well : AreWellFormed t.decls) (sound : IsSoundType t.decls t.type) (few : ReachesFew t.decls t.type) (graph : List Obj) (v : Val) where
     -- one thing is told of a value that has the type
@@ -201,26 +165,14 @@ module _ (files_once : HasOneAnswer IsFileAnswer) (types_once : (decls : List De
     bytes_once lines compat answer other (inl is) (inr its) = absurd (never_both t.decls t.type few.types well sound few.reached graph v its.why.fault its.why.least.is_fault is.has)
     bytes_once lines compat answer other (inr is) (inl its) = absurd (never_both t.decls t.type few.types well sound few.reached graph v is.why.fault is.why.least.is_fault its.has)
 
-  -- a type that was read is sound over well-formed declarations, and reaches few types
-  pub record IsSoundOver (t : TypeOver) : Type 0 where
-    pub well : AreWellFormed t.decls
-    pub sound : IsSoundType t.decls t.type
-    pub few : ReachesFew t.decls t.type
-
-  pub given_sound : (t : TypeOver) → IsGiven declared_types t → IsSoundOver t
-  given_sound t (text, type, decls, declared, is) =
-      let well : AreWellFormed t.decls = subst AreWellFormed (sym is.over) (decls_well text decls declared) in
-      let written : IsTypeOf t.decls type t.type = subst (λ d. IsTypeOf d type t.type) (sym is.over) is.written in
-      record { well = well; sound = type_sound t.decls type t.type well written; few = subst (λ d. ReachesFew d t.type) (sym is.over) is.few }
-
   given_once : TreeVerdictsAreOne → (saying : Saying) (t : TypeOver) → IsGiven declared_types t → (tree : Tree) (line other : List ℕ) (one two : Bool)
       → IsTypeLine saying t (objects_of tree 0) (root tree 0) line one → IsTypeLine saying t (objects_of tree 0) (root tree 0) other two → (line ≡ other) × (one ≡ two)
   given_once verdicts_once saying t given tree =
-      let s = given_sound t given in lines_once t s.well s.sound s.few (objects_of tree 0) (root tree 0) verdicts_once saying
+      let s = given_sound files_well types_sound t given in lines_once t s.well s.sound s.few (objects_of tree 0) (root tree 0) verdicts_once saying
 
   edited_once : (t : TypeOver) → IsGiven declared_types t → (lines : List ScriptLine) (compat : Bool) (tree : Tree) (answer other : Result (List ℕ) Unedited)
       → IsBytesLine t lines compat (objects_of tree 0) (root tree 0) answer → IsBytesLine t lines compat (objects_of tree 0) (root tree 0) other → answer ≡ other
-  edited_once t given lines compat tree = let s = given_sound t given in bytes_once t s.well s.sound s.few (objects_of tree 0) (root tree 0) lines compat
+  edited_once t given lines compat tree = let s = given_sound files_well types_sound t given in bytes_once t s.well s.sound s.few (objects_of tree 0) (root tree 0) lines compat
 
   pub declared_lawful : TreeVerdictsAreOne → IsLawful declared_types
   declared_lawful verdicts_once = record {

@@ -24,7 +24,9 @@ use Rattle.om_check.specs.declared.verdict.Verdict.{Verdict}
 use Rattle.om_check.specs.declared.verdict.Verdict.TheVariants.{Yes, No}
 use Rattle.om_declared.specs.declared.types.Requested.{Requested}
 use Rattle.om_declared.specs.Types.{type_over, IsReady}
+use Rattle.om_rigid.specs.Rigid.{HasEachInstance}
 use Rattle.om_declared.specs.Verdict.{IsVerdictOf, PutsNo}
+use Rattle.om_declared.proofs.GivenLemmas.{ready_each, ready_some_not}
 
 module _ (r : Requested) (ready : IsReady r) where
   -- values can be checked by the table
@@ -49,17 +51,19 @@ module _ (r : Requested) (ready : IsReady r) where
     pub puts_no : TablesHaveTheLeastFault → TextsAreOfTypes → (fault : Fault) → IsVerdictOf r graph root (No fault) → (text : List ℕ)
         → IsFaultText (table_shapes (table_of r.table)) (text_at r.table) graph root 0 fault text → (old new : List ℕ) → new ≡ old ++ (codes "no " ++ text)
         → PutsNo (type_over r) graph root old new
-    puts_no same_faults same_texts fault least text is_text old new put = (
-      codes "no " ++ text,
-      record {
-        fault = fault;
-        text = text;
-        least = (same_faults r.decls (types_of r.table) (table_of r.table) ready.made.made graph root 0 r.ty is_first fault).0 least;
-        is_text = same_texts r.decls r.ty r.table ready.made graph root fault text is_text;
-        spelled = refl;
-      },
-      put,
-    )
+    puts_no same_faults same_texts fault least text is_text old new put =
+        let by_type = (same_faults r.decls (types_of r.table) (table_of r.table) ready.made.made graph root 0 r.ty is_first fault).0 least in (
+          codes "no " ++ text,
+          record {
+            fault = fault;
+            text = text;
+            least = by_type;
+            is_text = same_texts r.decls r.ty r.table ready.made graph root fault text is_text;
+            spelled = refl;
+          },
+          ready_some_not r ready graph root fault by_type.is_fault,
+          put,
+        )
 
   -- each number has names
   pub ready_names : length r.table.names ≡ length r.table.nodes
@@ -71,9 +75,11 @@ pub yes_typed : (r : Requested) (graph : List Obj) (root : Val) (verdict : Verdi
     → HasType (table_shapes (table_of r.table)) graph root 0
 yes_typed r graph root verdict is typing same = let has : IsVerdictOf r graph root (Yes typing) = subst (IsVerdictOf r graph root) same is in has.0
 
--- so it has the declared type
+-- so it has the declared type, and each closed instance of it
 pub yes_declared : (r : Requested) (ready : IsReady r) → TheRootIsFirst → TablesDecide → (graph : List Obj) (root : Val) (verdict : Verdict) → IsVerdictOf r graph root verdict → (typing : Typing) → verdict ≡ Yes typing
-    → HasType (declared_shapes r.decls) graph root r.ty
-yes_declared r ready root_first decide graph root verdict is typing same =
-    (decide r.decls r.ty (types_of r.table) (table_of r.table) (record { well = ready.well; sound = ready.sound; reached = ready.made.reached; made = ready.made.made }) graph root 0 r.ty
-    (root_first r.decls r.ty (types_of r.table) ready.made.reached)).0 (yes_typed r graph root verdict is typing same)
+    → HasType (declared_shapes r.decls) graph root r.ty × HasEachInstance r.decls graph root r.ty
+yes_declared r ready root_first decide graph root verdict is typing same = (has, ready_each r ready graph root has) where
+  has : HasType (declared_shapes r.decls) graph root r.ty
+  has =
+      (decide r.decls r.ty (types_of r.table) (table_of r.table) (record { well = ready.well; sound = ready.sound; reached = ready.made.reached; made = ready.made.made }) graph root 0 r.ty
+      (root_first r.decls r.ty (types_of r.table) ready.made.reached)).0 (yes_typed r graph root verdict is typing same)

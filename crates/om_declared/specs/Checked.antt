@@ -6,6 +6,7 @@ use Rattle.om_types.specs.Equal.{declared_shapes}
 use Rattle.om_types.specs.TypeText.{type_text}
 use Rattle.om_types.specs.Typing.{HasType}
 use Rattle.om_types.specs.VerdictText.{IsNoLine}
+use Rattle.om_rigid.specs.Rigid.{HasEachInstance}
 use Rattle.om_outcome.specs.Outcome.{untyped_value, out_of_memory}
 use Rattle.om_stops.specs.declared.stop.Halt.{Halt}
 use Rattle.om_stops.specs.declared.stop.Halt.TheVariants as halts
@@ -20,10 +21,11 @@ OrMemory Stops stop = (stop_of stop ≡ out_of_memory) ⊎ Stops stop
 abbrev pub IsUntypedStop : Requested → ℕ → List Obj → Val → Stop → Type 0
 IsUntypedStop r k graph v stop =
     (text : List ℕ) × IsNoLine (declared_shapes r.decls) type_text graph v r.ty text
-    × (stop_of stop ≡ untyped_value k text)
+    × (¬ HasEachInstance r.decls graph v r.ty) × (stop_of stop ≡ untyped_value k text)
 
--- value k has the type; or the run stops, since it has not
+-- value k has the type, and each closed instance of it; or the run stops, since it has not
 abbrev pub ChecksType : {U : Type 0} → Requested → ℕ → List Obj → Val → Result U Halt → Type 0
-ChecksType r k graph v (Ok unit) = HasType (declared_shapes r.decls) graph v r.ty
+ChecksType r k graph v (Ok unit) =
+    HasType (declared_shapes r.decls) graph v r.ty × HasEachInstance r.decls graph v r.ty
 ChecksType r k graph v (Err (halts.Stop stop)) = OrMemory (IsUntypedStop r k graph v) stop
 ChecksType r k graph v (Err halts.WriteFault) = ⊥

@@ -12,6 +12,7 @@ use Rattle.om_types.specs.Shape.{shape}
 use Rattle.om_types.specs.TypeText.{type_text}
 use Rattle.om_types.specs.Typing.{HasType}
 use Rattle.om_types.specs.VerdictText.{IsNoLine}
+use Rattle.om_rigid.specs.Rigid.{HasEachInstance}
 use Rattle.om_format.specs.Canonical.{canon}
 use Rattle.om_format.specs.Compat.{TooLargeFor32, too_large_for_32}
 use Rattle.om_format.specs.Iso.{IsTreeOf}
@@ -66,16 +67,19 @@ IsToldOf (the_part path) t graph v said =
 IsToldOf the_trees t graph v said =
     (verdict : TreeVerdict) × IsVerdictOf t.decls graph v t.type verdict × (said ≡ judged verdict)
 
--- the value has the type, and this is what is told of it
+-- the value has the type, and each closed instance of it, and this is what is told of it
 pub record IsTold (saying : Saying) (t : TypeOver) (graph : List Obj) (v : Val) (text : List ℕ)
     (well : Bool) : Type 0 where
   pub has : HasType (declared_shapes t.decls) graph v t.type
+  pub each : HasEachInstance t.decls graph v t.type
   pub told : IsToldOf saying t graph v (record { text = text; well = well })
 
--- the value has not the type, and this is the line of the least fault, whatever was asked for
+-- the value has not the type, nor each closed instance of it, and this is the line of the least
+-- fault, whatever was asked for
 pub record IsRefuted (t : TypeOver) (graph : List Obj) (v : Val) (text : List ℕ) (well : Bool)
     : Type 0 where
   pub why : IsNoLine (declared_shapes t.decls) type_text graph v t.type text
+  pub some_not : ¬ HasEachInstance t.decls graph v t.type
   pub is_well : well ≡ false
 
 -- the line of a value at a type, and whether nothing is wrong with it
@@ -107,20 +111,23 @@ AreBytesAfter compat (Ok edited) answer = AreBytesOf compat edited.0 edited.1 an
 AreBytesAfter compat (Err refused) answer =
     answer ≡ Err (refused_line refused.0 (reason_text type_text refused.1))
 
--- the value has the type, and these are the bytes of what the lines make of it
+-- the value has the type, and each closed instance of it, and these are the bytes of what the
+-- lines make of it
 pub record IsEdited (t : TypeOver) (lines : List ScriptLine) (compat : Bool) (graph : List Obj)
     (v : Val) (answer : Result (List ℕ) Unedited) : Type 0 where
   pub has : HasType (declared_shapes t.decls) graph v t.type
+  pub each : HasEachInstance t.decls graph v t.type
   pub edited : Edited Ty
   pub made : AreEdited (shape t.decls) (names_of t.decls) (Equal t.decls) t.type lines graph v
       edited
   pub bytes : AreBytesAfter compat edited answer
 
--- it has not
+-- it has not the type, nor each closed instance of it
 pub record IsUntyped (t : TypeOver) (graph : List Obj) (v : Val) (answer : Result (List ℕ) Unedited)
     : Type 0 where
   pub text : List ℕ
   pub why : IsNoLine (declared_shapes t.decls) type_text graph v t.type text
+  pub some_not : ¬ HasEachInstance t.decls graph v t.type
   pub is : answer ≡ Err (untyped text)
 
 -- what lines of a script make of a value at a type

@@ -6,6 +6,7 @@ use Rattle.om_types.specs.Equal.{declared_shapes}
 use Rattle.om_types.specs.TypeText.{type_text}
 use Rattle.om_types.specs.VerdictText.{IsNoLine}
 use Rattle.om_type_table.specs.Made.{table_of}
+use Rattle.om_rigid.specs.Rigid.{HasEachInstance}
 use Rattle.om_check.specs.Verdict.{IsVerdict}
 use Rattle.om_check.specs.declared.verdict.Verdict.{Verdict}
 use Rattle.om_declared.specs.declared.types.Requested.{Requested}
@@ -15,8 +16,9 @@ use Rattle.om_declared.specs.Language.{TypeOver}
 abbrev pub IsVerdictOf : Requested → List Obj → Val → Verdict → Type 0
 IsVerdictOf r graph root verdict = IsVerdict (table_of r.table) graph root verdict
 
--- the line of the least fault is put after another text
+-- the value has not each closed instance of the type, and the line of the least fault is put after
+-- another text
 abbrev pub PutsNo : TypeOver → List Obj → Val → List ℕ → List ℕ → Type 0
 PutsNo t graph root old new =
     (line : List ℕ) × IsNoLine (declared_shapes t.decls) type_text graph root t.type line
-    × (new ≡ old ++ line)
+    × (¬ HasEachInstance t.decls graph root t.type) × (new ≡ old ++ line)

@@ -9,7 +9,7 @@ use Rattle.om_format.specs.Canonical.{canon}
 use Rattle.om_format.specs.Compat.{TooLargeFor32, too_large_for_32}
 use Rattle.om_format.specs.Stream.{SpellAll, clean}
 use Rattle.om_format.specs.Tree.{Tree, root, objects_of}
-use Rattle.om_outcome.specs.Outcome.{edit, Stop, Said, nothing_said, says, Replies, replies, all_well, ending_of, edits, Task, task, AllSay, StopsAt, whole}
+use Rattle.om_outcome.specs.Outcome.{edit, Stop, Said, nothing_said, says, Replies, replies, all_well, ending_of, edits, Task, task, AllSay, StopsAt, fetches_of, whole}
 use Rattle.om_edge.specs.Files.{File, contents_of}
 use Rattle.om_edge.specs.Sink.{Puts}
 use Rattle.om_path.specs.declared.edits.ScriptLine.{ScriptLine}
@@ -19,12 +19,15 @@ use Rattle.om_session.proofs.PartLemmas.{only_this}
 use Rattle.om_session.specs.Copied.{IsCanonical, IsLeftAlone, LeavesCanonical}
 use Rattle.om_promises.specs.Given.{TellsBytes}
 use Rattle.om_declared.specs.Language.{TypeOver, declared_types, bytes_for, IsBytesLine}
+use Rattle.om_declared.proofs.GivenLemmas.{given_each}
+use Rattle.om_promises.specs.LawfulLanguage.{IsGiven}
 use Rattle.om_promises.specs.CommandLaws.{HaveOneOutcome}
 use Rattle.om_promises.specs.Commands.{Given, Answers, Outcome}
 use Rattle.om_promises.specs.Promises.{Promises, told_files}
 use Rattle.om_promises.proofs.LengthLemmas.{spelled_some}
 use Rattle.om_promises.proofs.StreamLemmas.{spell_bytes}
 use Rattle.om_commands.specs.Tasks.{items_of, commands}
+use Rattle.om_commands.proofs.GivenLemmas.{type_given}
 use Rattle.om_commands.proofs.FirstLemmas.{says_first, goes_on}
 
 -- what is said of a value
@@ -49,19 +52,6 @@ bytes_are false tree (Some large) fits = refl
 bytes_are true tree (Some large) fits = let never : ◌≡◌ {A = Option TooLargeFor32} (Some large) None = fits refl in absurd (cc never)
 
 module _ (t : TypeOver) (compat : Bool) (limit : ℕ) where
-  left_alone : (tree : Tree) → IsCanonical t compat limit tree → IsBytesLine t [] compat (objects_of tree 0) (root tree 0) (Ok (canon tree))
-  left_alone tree h =
-      inl (record {
-        has = h.has;
-        edited = Ok (objects_of tree 0, root tree 0);
-        made = refl;
-        bytes = (tree, own_tree tree h.spelled.spells.is_tree h.spelled.spells.refers_back, bytes_are compat tree (too_large_for_32 tree) h.fits);
-      })
-
-  all_say : (k : ℕ) (trees : List Tree) → AllByRecursion (IsCanonical t compat limit) trees → AllSay declared_types (edits t [] compat) k trees (map said_of trees)
-  all_say k [] h = tt
-  all_say k (tree ∷ trees) h = ((left_alone tree h.0, refl), all_say (suc k) trees h.1)
-
   spelled_all : (trees : List Tree) → AllByRecursion (IsCanonical t compat limit) trees → SpellAll limit (concat (map canon trees)) trees []
   spelled_all [] h = refl
   spelled_all (tree ∷ trees) h = (canon tree, concat (map canon trees), refl, h.0.spelled, spelled_all trees h.1)
@@ -78,25 +68,40 @@ module _ (t : TypeOver) (compat : Bool) (limit : ℕ) where
       let size : length {A = ℕ} [] ≡ length s.0 + length s.1 = ap length s.2 ∙ length-append s.0 s.1 in
       omega (arith, some, size)
 
-  reply : (trees : List Tree) → AllByRecursion (IsCanonical t compat limit) trees
-      → AreBytes (concat (map canon trees))
-      → Answers (commands declared_types) its_task (whole (concat (map canon trees))) (said_all trees)
-  reply trees h are_bytes =
-      let spelled = spelled_all trees h in
-      let none = spell_bytes limit (concat (map canon trees)) [] trees spelled are_bytes in
-      inl (
-        tt,
-        record {
-          items = items_of trees;
-          rest = [];
-          first = says_first declared_types its_task (concat (map canon trees)) trees (map said_of trees) []
-              (record { spelled = spelled; all_say = all_say 0 trees h });
-          last = inr (
-            goes_on declared_types its_task trees [] none clean refl (λ refusal e. cc e) (none_at_end trees),
-            record { trees = trees; are = refl; end = clean; tail = refl; ends = refl },
-          );
-        },
-      )
+  module _ (given : IsGiven declared_types t) where
+    left_alone : (tree : Tree) → IsCanonical t compat limit tree → IsBytesLine t [] compat (objects_of tree 0) (root tree 0) (Ok (canon tree))
+    left_alone tree h =
+        inl (record {
+          has = h.has;
+          each = given_each t given (objects_of tree 0) (root tree 0) h.has;
+          edited = Ok (objects_of tree 0, root tree 0);
+          made = refl;
+          bytes = (tree, own_tree tree h.spelled.spells.is_tree h.spelled.spells.refers_back, bytes_are compat tree (too_large_for_32 tree) h.fits);
+        })
+
+    all_say : (k : ℕ) (trees : List Tree) → AllByRecursion (IsCanonical t compat limit) trees → AllSay declared_types (edits t [] compat) k trees (map said_of trees)
+    all_say k [] h = tt
+    all_say k (tree ∷ trees) h = ((left_alone tree h.0, refl), all_say (suc k) trees h.1)
+
+    reply : (trees : List Tree) → AllByRecursion (IsCanonical t compat limit) trees
+        → AreBytes (concat (map canon trees))
+        → Answers (commands declared_types) its_task (whole (concat (map canon trees))) (said_all trees)
+    reply trees h are_bytes =
+        let spelled = spelled_all trees h in
+        let none = spell_bytes limit (concat (map canon trees)) [] trees spelled are_bytes in
+        inl (
+          tt,
+          record {
+            items = items_of trees;
+            rest = [];
+            first = says_first declared_types its_task (concat (map canon trees)) trees (map said_of trees) []
+                (record { spelled = spelled; all_say = all_say 0 trees h });
+            last = inr (
+              goes_on declared_types its_task trees [] none clean refl (λ refusal e. cc e) (none_at_end trees),
+              record { trees = trees; are = refl; end = clean; tail = refl; ends = refl },
+            );
+          },
+        )
 
 module _ (once : HaveOneOutcome (commands declared_types)) (words : List (List ℕ)) (call : Call)
     (tells : TellsBytes call.input) where
@@ -115,7 +120,7 @@ module _ (once : HaveOneOutcome (commands declared_types)) (words : List (List �
     ),
     subst (λ b. Answers (commands declared_types) (its_task is.type_is is.compat is.limit) (whole b) (said_all is.trees))
         (sym is.bytes)
-        (reply is.type_is is.compat is.limit is.trees is.canonical (subst AreBytes is.bytes are_bytes)),
+        (reply is.type_is is.compat is.limit (type_given declared_types (fetches_of (contents_of files)) is.file is.type is.type_is is.typed) is.trees is.canonical (subst AreBytes is.bytes are_bytes)),
   )
 
   -- where the words ask to edit, what all commands promise is promised by those on values

@@ -4,10 +4,8 @@ use Rattle.std.specs.Prelude.{filter, IsErrAnd, option_map, nat_lt, if◌then◌
 use Rattle.om_model.specs.declared.value.Val.{Val}
 use Rattle.om_model.specs.declared.value.Obj.{Obj}
 use Rattle.om_model.specs.Graph.{IsValue}
-use Rattle.om_types.specs.Equal.{declared_shapes}
 use Rattle.om_types.specs.Ty.{Ty}
 use Rattle.om_types.specs.TypeText.{type_text}
-use Rattle.om_types.specs.Typing.{HasType}
 use Rattle.om_fault.specs.Text.{text_at}
 use Rattle.om_format.specs.Tree.{Tree}
 use Rattle.om_edge.specs.State.{ByteState, Change, change}
@@ -161,9 +159,9 @@ module _ (e : Edits) (k : ℕ) (old : Value) where
     at : (halt : Halt) → ChecksType {U = Unit {0}} e.requested.now k old.heap old.root (Err halt) → PutsEdited {U = Unit {0}} e k old.heap old.root (change out out) (Err halt)
     at halts.WriteFault never = absurd never
     at (halts.Stop stop) (inl memory) = (inl memory, puts_nothing out)
-    at (halts.Stop stop) (inr (text, why, told)) = (inr (untyped text, inr (record { text = text; why = why; is = refl }), told), puts_nothing out)
+    at (halts.Stop stop) (inr (text, why, some_not, told)) = (inr (untyped text, inr (record { text = text; why = why; some_not = some_not; is = refl }), told), puts_nothing out)
 
-  module _ (has : HasType (declared_shapes e.requested.now.decls) old.heap old.root e.requested.now.ty) where
+  module _ (has : ChecksType {U = Unit {0}} e.requested.now k old.heap old.root (Ok tt)) where
     -- a line is refused, or memory ran out
     pub lines_halt : (new : Value) (out : ByteState) (halt : Halt) (result : Result (Unit {0}) Halt) → IsErrAnd result (λ h. h ≡ halt) → EditsLines {U = Unit {0}} e.requested.now k e.script.now.lines old new (Err halt)
         → PutsEdited e k old.heap old.root (change out out) result
@@ -173,14 +171,14 @@ module _ (e : Edits) (k : ℕ) (old : Value) where
       at halts.WriteFault never = absurd never
       at (halts.Stop stop) (inl memory) = (inl memory, puts_nothing out)
       at (halts.Stop stop) (inr (number, reason, refused, told)) =
-          (inr (refused_line number (reason_text type_text reason), inl (record { has = has; edited = Err (number, reason); made = refused; bytes = refl }), told), puts_nothing out)
+          (inr (refused_line number (reason_text type_text reason), inl (record { has = has.0; each = has.1; edited = Err (number, reason); made = refused; bytes = refl }), told), puts_nothing out)
 
     -- what the lines made is put
     pub edited_puts : (new : Value) → EditsAll e.requested.now k e.script.now.lines old new → (out : Change ByteState) (result : Result (Unit {0}) Halt) → PutsBytes e.compat k new.heap new.root out result
         → PutsEdited e k old.heap old.root out result
     edited_puts new all out result p = at result p where
       lifted : (answer : Result (List ℕ) Unedited) → AreBytesOf e.compat new.heap new.root answer → AnswersOf e k old.heap old.root answer
-      lifted answer bytes = inl (record { has = has; edited = Ok (new.heap, new.root); made = all.made; bytes = bytes })
+      lifted answer bytes = inl (record { has = has.0; each = has.1; edited = Ok (new.heap, new.root); made = all.made; bytes = bytes })
 
       at : (result : Result (Unit {0}) Halt) → PutsBytes e.compat k new.heap new.root out result → PutsEdited e k old.heap old.root out result
       at (Ok unit) (bytes, are, put) = (bytes, lifted (Ok bytes) are, put)

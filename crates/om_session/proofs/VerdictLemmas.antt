@@ -12,7 +12,6 @@ use Rattle.om_types.specs.Typing.{HasType}
 use Rattle.om_table.specs.TableDecides.{TheRootIsFirst, TablesDecide}
 use Rattle.om_type_table.specs.Made.{types_of, table_of}
 use Rattle.om_type_table.specs.Laws.{MadeAreLawful}
-use Rattle.om_check.specs.declared.verdict.Verdict.{Verdict}
 use Rattle.om_declared.specs.declared.types.Requested.{Requested}
 use Rattle.om_outcome.specs.Outcome as outcome
 use Rattle.om_show.specs.Laws.{RootsShowAlike, SameClass}
@@ -28,6 +27,7 @@ use Rattle.om_trees.specs.declared.verdict.TreeVerdict.{TreeVerdict}
 use Rattle.om_declared.specs.Types.{type_over, IsReady}
 use Rattle.om_session.specs.Verdict.{PutsLine, saying_of}
 use Rattle.om_session.proofs.TypedLemmas.{place_has_type}
+use Rattle.om_declared.proofs.GivenLemmas.{ready_each}
 use Rattle.om_declared.proofs.VerdictLemmas.{ready_lawful, is_first, made}
 use Rattle.om_declared.specs.Verdict.{PutsNo}
 
@@ -37,14 +37,12 @@ module _ (r : Requested) (ready : IsReady r) where
       -- what is told of a value that has the type is put after another text
       tells : (saying : outcome.Saying) (text : List ℕ) (well : Bool) → IsToldOf saying (type_over r) graph root (record { text = text; well = well })
           → (old new : List ℕ) → new ≡ old ++ text → PutsLine saying (type_over r) graph root old new well
-      tells saying text well told old new put = (
-        text,
-        inl (record {
-          has = (decide r.decls r.ty (types_of r.table) (table_of r.table) (made r ready root_first graph root) graph root 0 r.ty (is_first r ready root_first graph root)).0 has;
-          told = told;
-        }),
-        put,
-      )
+      tells saying text well told old new put =
+          let by_type = (decide r.decls r.ty (types_of r.table) (table_of r.table) (made r ready root_first graph root) graph root 0 r.ty (is_first r ready root_first graph root)).0 has in (
+            text,
+            inl (record { has = by_type; each = ready_each r ready graph root by_type; told = told }),
+            put,
+          )
 
       pub puts_yes : (saying : Saying) → saying ≡ sayings.Verdict → (old new : List ℕ) → new ≡ old ++ codes "yes" → PutsLine (saying_of saying) (type_over r) graph root old new true
       puts_yes saying is old new put =
@@ -102,4 +100,4 @@ module _ (r : Requested) (ready : IsReady r) where
 
 -- that line is said whatever was asked for
 pub no_line : (saying : outcome.Saying) (r : Requested) (graph : List Obj) (root : Val) (old new : List ℕ) → PutsNo (type_over r) graph root old new → PutsLine saying (type_over r) graph root old new false
-no_line saying r graph root old new (line, why, put) = (line, inr (record { why = why; is_well = refl }), put)
+no_line saying r graph root old new (line, why, some_not, put) = (line, inr (record { why = why; some_not = some_not; is_well = refl }), put)

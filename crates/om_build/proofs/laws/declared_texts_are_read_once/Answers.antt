@@ -1,13 +1,11 @@
-use Rattle.om_declared.proofs.LanguageLemmas.{IsSoundOver, given_sound}
+use Rattle.om_declared.proofs.GivenLemmas.{given_sound}
 use Rattle.om_declared.specs.Language.{TypeOver}
 use Rattle.om_build.proofs.OnceLemmas.{built_once}
 use Rattle.om_build.proofs.laws.declared_texts_are_read_once.Goals as goal
 
 pub returns : goal.returns
 returns c t given line =
-    let s = given_sound c.one_answer.ensures.files c.one_answer.ensures.types c.one_answer-2.ensures
-    c.one_script_answer.ensures c.edits_have_one_answer.ensures c.files_are_well_formed.ensures
-    c.types_are_sound.ensures c.type_or_fault.ensures.never_both t given in
+    let s = given_sound c.files_are_well_formed.ensures c.types_are_sound.ensures t given in
     built_once line t (λ graph root text has why.
     c.type_or_fault.ensures.never_both t.decls t.type s.few.types s.well s.sound s.few.reached graph
     root why.fault why.least.is_fault has)

@@ -1,0 +1,91 @@
+-- A type that was read is sound over well-formed declarations, so a value that has it has each closed instance of it.
+use Rattle.std.proofs.Common.{ℕ, false, List, Ok, Err, sym, subst}
+use Rattle.om_model.specs.declared.value.Val.{Val}
+use Rattle.om_model.specs.declared.value.Obj.{Obj}
+use Rattle.om_types.specs.declared.decl.Decl.{Decl}
+use Rattle.om_types.specs.declared.fault.Fault.{Fault}
+use Rattle.om_types.specs.Ty.{Ty}
+use Rattle.om_types.specs.Accepted.{AreWellFormed, IsSoundType}
+use Rattle.om_types.specs.Equal.{declared_shapes}
+use Rattle.om_types.specs.Fault.{IsFault}
+use Rattle.om_types.specs.Scope.{Rule, KeepsAll, BreaksInFile, BreaksInType}
+use Rattle.om_types.specs.Typing.{HasType}
+use Rattle.om_rigid.specs.Rigid.{HasEachInstance}
+use Rattle.om_rigid.proofs.StandLemmas.{stands_for_all, faults_are_of_instances}
+use Rattle.om_type_table.specs.Made.{types_of}
+use Rattle.om_sites.specs.InFile.{file_places}
+use Rattle.om_sites.specs.InText.{in_texpr}
+use Rattle.om_grammar.specs.Grammar.{Kinds, file_kinds, texpr}
+use Rattle.om_grammar.specs.Depths.{file_ends, texpr_ends}
+use Rattle.om_grammar.specs.Refusals.{IsText, text_read, syntax_at, too_deep_at}
+use Rattle.om_parse.specs.Parsed.{kinds_of}
+use Rattle.om_decl.specs.Told.{FilesAreWellFormed, TypesAreSound}
+use Rattle.om_decl.specs.Answer.{accepted, IsAnswer}
+use Rattle.om_decl.specs.Read.{IsDeclared, IsTypeOf}
+use Rattle.om_decl.proofs.FileLemmas.{files_well_formed}
+use Rattle.om_decl.proofs.SoundLemmas as sounds
+use Rattle.om_declared.specs.declared.types.Requested.{Requested}
+use Rattle.om_declared.specs.Language.{TypeOver, declared_types, ReachesFew}
+use Rattle.om_declared.specs.Types.{IsReady}
+use Rattle.om_promises.specs.LawfulLanguage.{IsGiven}
+
+-- ---- what is accepted
+
+-- a tree that is accepted is that of some lexemes, and breaks no rule
+module _ {Tree : Type 0} (spelled : Tree → Kinds) (ends : Tree → List ℕ) (Breaks : Tree → Rule → ℕ → Type 0) (text : List ℕ) (tree : Tree) where
+  record IsKept : Type 0 where
+    lexemes : Kinds
+    reads : IsText spelled ends lexemes tree
+    keeps : KeepsAll (Breaks tree)
+
+  kept : IsAnswer spelled ends Breaks text (accepted tree) → IsKept
+  kept (Err fault, lexes, other) = absurd (cc other)
+  kept (Ok lexemes, lexes, (syntax_at k, is, other)) = absurd (cc other)
+  kept (Ok lexemes, lexes, (too_deep_at k, is, other)) = absurd (cc other)
+  kept (Ok lexemes, lexes, (text_read own, is, (same, keeps))) = record {
+    lexemes = kinds_of lexemes;
+    reads = subst (IsText spelled ends (kinds_of lexemes)) same is;
+    keeps = subst (λ t. KeepsAll (Breaks t)) same keeps;
+  }
+
+-- ---- what was read
+
+module _ (files_well : FilesAreWellFormed) (types_sound : TypesAreSound) where
+  -- declarations that are read are well-formed, and types over them sound
+  decls_well : (text : List ℕ) (decls : List Decl) → IsDeclared text decls → AreWellFormed decls
+  decls_well text decls d =
+      let k = kept file_kinds file_ends (λ tree. BreaksInFile (file_places tree)) text d.tree d.answer in
+      subst AreWellFormed (sym d.stand) (files_well k.lexemes d.tree k.reads k.keeps)
+
+  type_sound : (decls : List Decl) (text : List ℕ) (t : Ty) → AreWellFormed decls → IsTypeOf decls text t → IsSoundType decls t
+  type_sound decls text t well is =
+      let k = kept texpr texpr_ends (λ tree. BreaksInType decls (in_texpr 0 false tree)) text is.tree is.answer in
+      subst (IsSoundType decls) (sym is.stands) (types_sound decls is.tree well k.keeps)
+
+  -- a type that was read is sound over well-formed declarations, and reaches few types
+  pub record IsSoundOver (t : TypeOver) : Type 0 where
+    pub well : AreWellFormed t.decls
+    pub sound : IsSoundType t.decls t.type
+    pub few : ReachesFew t.decls t.type
+
+  pub given_sound : (t : TypeOver) → IsGiven declared_types t → IsSoundOver t
+  given_sound t (text, type, decls, declared, is) =
+      let well : AreWellFormed t.decls = subst AreWellFormed (sym is.over) (decls_well text decls declared) in
+      let written : IsTypeOf t.decls type t.type = subst (λ d. IsTypeOf d type t.type) (sym is.over) is.written in
+      record { well = well; sound = type_sound t.decls type t.type well written; few = subst (λ d. ReachesFew d t.type) (sym is.over) is.few }
+
+-- ---- instances
+
+-- so a value that has it has each closed instance of it
+pub given_each : (t : TypeOver) → IsGiven declared_types t → (graph : List Obj) (v : Val) → HasType (declared_shapes t.decls) graph v t.type → HasEachInstance t.decls graph v t.type
+given_each t given graph v has =
+    let s = given_sound files_well_formed sounds.types_sound t given in
+    (stands_for_all t.decls t.type s.few.types s.well s.sound s.few.reached graph v).0 has
+
+module _ (r : Requested) (ready : IsReady r) (graph : List Obj) (v : Val) where
+  pub ready_each : HasType (declared_shapes r.decls) graph v r.ty → HasEachInstance r.decls graph v r.ty
+  ready_each has = (stands_for_all r.decls r.ty (types_of r.table) ready.well ready.sound ready.made.reached graph v).0 has
+
+  -- and one with a fault has not each
+  pub ready_some_not : (fault : Fault) → IsFault (declared_shapes r.decls) graph v r.ty fault → HasEachInstance r.decls graph v r.ty → ⊥
+  ready_some_not fault is each = faults_are_of_instances r.decls r.ty (types_of r.table) ready.well ready.sound ready.made.reached graph v fault is each
