@@ -9,8 +9,9 @@ then run by `rt try`, which proves nothing: the tests of om_tests, and om_confor
 output has to be the stored one. It is no static analysis: a function counts as called only where it was.
 
 Listed are the functions that are `pub`, methods among them, and the methods of `impl`s of traits and of traits themselves; with --all the
-private ones too. A law, a function whose body is empty, does nothing: laws are counted apart. What is not called and is not named in
-EXCEPTIONS with a reason is printed, and then the status is 1; it is 2 where nothing could be counted. What derives write is not counted.
+private ones too. A law does nothing: its body is empty, or it takes nothing and calls nothing but functions that take nothing. Laws are
+counted apart. What is not called and is not named in EXCEPTIONS with a reason is printed, and then the status is 1; it is 2 where nothing
+could be counted. What derives write is not counted.
 --keep leaves the copy with its functions and numbers in FOLDER. It needs `rt`, Python and a C compiler, and takes some minutes."""
 import argparse
 import array
@@ -35,7 +36,6 @@ EXCEPTIONS = [
     ('*::<* as From<Memory>>::from', 'called only where memory runs out'),
     ('om_reference::refusal::<Refusal as fmt::Debug>::fmt', 'prints a refusal with a number of more than 64 bits, and no answer has one'),
     ('om_tests::outside::edge::<FailsOnce as Write>::flush', 'the trait asks for it, and no test flushes'),
-    ('om_promises::example::example_has_one_outcome', 'a law: its body calls another law, which does nothing'),
     ('om_sites::texts::*', 'over a tree of the grammar that no caller can name: docs/DECISIONS.md, The gate'),
 ]
 
@@ -191,11 +191,18 @@ def read_items(source, blank, at, end, place, note):
             how = kind or ('pub' if is_public else 'private')
             function = Function(path[0], '::'.join([*path, *([owner] if owner else []), name[1]]), '', blank.count('\n', 0, found.start()) + 1, how)
             function.is_test = is_test
-            function.is_law = body is not None and not blank[body + 1:closing(blank, body)].strip()
+            function.is_law = body is not None and is_law(blank[name.end():body], blank[body + 1:closing(blank, body)])
             note(function, body)
         else:
             raise ValueError(f'{word!r} begins no item, in {"::".join(path)} line {blank.count(chr(10), 0, at) + 1}')
         is_public = is_test = False
+
+
+def is_law(head, body):
+    """Whether a function of this head and this body does nothing: what takes no argument changes nothing."""
+    if not body.strip():
+        return True
+    return re.match(r'(<[^(){}]*>)?\(\)', head) is not None and re.fullmatch(r'(\s*[\w:]+(<[^;()]*>)?\(\);)*\s*', body) is not None
 
 
 def end_of_head(text, at):

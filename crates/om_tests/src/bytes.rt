@@ -5,5 +5,4 @@ mod customs;
 mod hashes;
 mod headers;
 mod heaps;
-mod laws;
 mod readers;

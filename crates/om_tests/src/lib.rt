@@ -6,10 +6,10 @@
 #[cfg(test)]
 mod bytes;
 #[cfg(test)]
+mod laws;
+#[cfg(test)]
 mod outside;
 #[cfg(test)]
 mod syntax;
-#[cfg(test)]
-mod types;
 #[cfg(test)]
 mod values;

@@ -1,6 +1,11 @@
 //! Tests of what is said and done with values at types.
 
-mod beside;
+mod certificates;
 mod dumps;
+mod generated;
+mod given;
 mod leaves;
-mod typed;
+mod lines;
+mod passes;
+mod questions;
+mod trees;

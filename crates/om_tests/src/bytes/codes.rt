@@ -63,13 +63,6 @@ static KINDS: [(u8, (char, u8, u8)); 30] = [
     (0x19, ('C', 0, 0)),
 ];
 
-#[test]
-fn knows_each_code(rt: HostRuntime) {
-    for (code, want) in &KINDS {
-        assert!(rt; is_told(*code, *want));
-    }
-}
-
 // A letter for what is wrong with a code, if anything is.
 fn fault(code: u8) -> char {
     match code_kind(code) {
@@ -89,7 +82,10 @@ static NO_TOKEN: [(u8, char); 5] = [
 ];
 
 #[test]
-fn knows_the_codes_of_no_token(rt: HostRuntime) {
+fn knows_each_code(rt: HostRuntime) {
+    for (code, want) in &KINDS {
+        assert!(rt; is_told(*code, *want));
+    }
     for (code, want) in &NO_TOKEN {
         assert!(rt; fault(*code) == *want);
     }
@@ -125,16 +121,12 @@ fn is_integer_spelled(number: i64, bytes: &[u8]) -> bool {
         && is_spelled(spell_int(number), bytes)
 }
 
+// From OCaml's `Marshal.to_string`, as the integers.
 #[test]
-fn spells_integers(rt: HostRuntime) {
+fn spells_integers_and_what_comes_before_a_content(rt: HostRuntime) {
     for (number, bytes) in &INTEGERS {
         assert!(rt; is_integer_spelled(*number, bytes));
     }
-}
-
-// From OCaml's `Marshal.to_string`.
-#[test]
-fn spells_what_comes_before_a_content(rt: HostRuntime) {
     assert!(rt; is_spelled(spell_block(0, 2), &[0xa0]));
     assert!(rt; is_spelled(spell_block(1, 8), &[0x08, 0, 0, 0x20, 0x01]));
     assert!(rt; is_spelled(spell_string_len(256), &[0x0a, 0, 0, 1, 0]));

@@ -46,8 +46,9 @@ fn puts_words(heap: &mut Heap) -> Result<bool, Memory>
 
 #[test]
 fn contents_are_put_and_read(rt: HostRuntime) -> Result<(), Fail> {
-    assert!(rt; fills(&mut Heap::new(rt.alloc()))?);
-    assert!(rt; tells_words(&mut Heap::new(rt.alloc()))?);
-    assert!(rt; puts_words(&mut Heap::new(rt.alloc()))?);
+    let is_filled = fills(&mut Heap::new(rt.alloc()));
+    let are_told = tells_words(&mut Heap::new(rt.alloc()));
+    let are_put = puts_words(&mut Heap::new(rt.alloc()));
+    assert!(rt; is_filled? && are_told? && are_put?);
     Ok(())
 }

@@ -4,36 +4,41 @@
 use om_model::Memory;
 use om_model::refusal::ReadRefusal;
 use om_read::{Fed, Reader};
-use std::alloc::Global;
+use std::alloc::{AllocError, Global};
 use std::test::Fail;
 
-// A small header of these numbers, many times the same tokens, and an integer.
-fn repeated(alloc: Global, stated: [u32; 4], tokens: &[u8], times: u32) -> Result<Vec<u8>, Fail> {
-    let mut bytes = Vec::from_slice(alloc, &[0x84, 0x95, 0xa6, 0xbe])?;
+// Blocks nested 100,000 deep, and a list of as many cells: the numbers of a small header, and the
+// tokens that stand so many times before an integer.
+static DEEP: [([u32; 4], &[u8]); 2] = [
+    ([100_001, 100_000, 200_000, 200_000], b"\x90"),
+    ([200_001, 100_000, 300_000, 300_000], b"\xa0\x41"),
+];
+
+fn deep(alloc: Global, stated: [u32; 4], tokens: &[u8]) -> Result<Vec<u8>, AllocError> {
+    let mut bytes = Vec::from_slice(alloc, b"\x84\x95\xa6\xbe")?;
     for number in stated {
         bytes.extend_from_slice(&number.to_be_bytes())?;
     }
-    for _ in 0..times {
+    for _ in 0..100_000 {
         bytes.extend_from_slice(tokens)?;
     }
     bytes.push(0x40)?;
     Ok(bytes)
 }
 
-// Blocks nested 100,000 deep, and a list of as many cells.
-#[test]
-fn reads_deep_values(rt: HostRuntime) -> Result<(), Fail> {
-    let table: [([u32; 4], &[u8]); 2] = [
-        ([100_001, 100_000, 200_000, 200_000], &[0x90]),
-        ([200_001, 100_000, 300_000, 300_000], &[0xa0, 0x41]),
-    ];
-    for (stated, tokens) in table {
-        let bytes = repeated(rt.alloc(), stated, tokens, 100_000)?;
-        let mut reader = Reader::new(rt.alloc(), 300_000);
-        let fed = reader.feed(&bytes)?;
-        assert!(rt; fed.done && fed.taken == bytes.len());
+// Whether a reader takes all of the bytes, and is done.
+fn is_read(alloc: Global, bytes: &[u8]) -> Result<bool, Memory> {
+    let mut reader = Reader::new(alloc, 300_000);
+    match reader.feed(bytes) {
+        Ok(fed) => Ok(fed.done && fed.taken == bytes.len()),
+        Err(ReadRefusal::Memory) => Err(Memory),
+        Err(_) => Ok(false),
     }
-    Ok(())
+}
+
+fn is_deep_read(alloc: Global, stated: [u32; 4], tokens: &[u8]) -> Result<bool, Memory> {
+    let bytes = deep(alloc, stated, tokens)?;
+    is_read(alloc, bytes.as_slice())
 }
 
 // The place of a reference in a stream that counts no objects, if that is why it was refused.
@@ -45,15 +50,21 @@ fn uncounted(fed: Result<Fed, ReadRefusal>) -> Result<Option<u64>, Memory> {
     }
 }
 
+// The same of bytes that are fed twice to one reader.
+fn uncounted_twice(alloc: Global, bytes: &[u8]) -> Result<(Option<u64>, Option<u64>), Memory> {
+    let mut reader = Reader::new(alloc, 6);
+    match (uncounted(reader.feed(bytes)), uncounted(reader.feed(bytes))) {
+        (Ok(first), Ok(again)) => Ok((first, again)),
+        _ => Err(Memory),
+    }
+}
+
 #[test]
-fn keeps_a_refusal(rt: HostRuntime) -> Result<(), Fail> {
-    let bytes = [
-        0x84, 0x95, 0xa6, 0xbe, 0, 0, 0, 4, 0, 0, 0, 0, 0, 0, 0, 3, 0, 0, 0, 3, 0xa0, 0x41, 0x04,
-        0x01,
-    ];
-    let mut reader = Reader::new(rt.alloc(), 6);
-    let first = uncounted(reader.feed(&bytes))?;
-    let again = uncounted(reader.feed(&bytes))?;
-    assert!(rt; first == Some(22) && again == Some(22));
+fn deep_values_are_read_and_a_refusal_is_kept(rt: HostRuntime) -> Result<(), Fail> {
+    for (stated, tokens) in &DEEP {
+        assert!(rt; is_deep_read(rt.alloc(), *stated, tokens)?);
+    }
+    let bytes = b"\x84\x95\xa6\xbe\0\0\0\x04\0\0\0\0\0\0\0\x03\0\0\0\x03\xa0\x41\x04\x01";
+    assert!(rt; uncounted_twice(rt.alloc(), bytes)? == (Some(22), Some(22)));
     Ok(())
 }

@@ -6,7 +6,7 @@ use om_edge::{
     put_all,
 };
 use om_model::Memory;
-use std::alloc::{AllocError, Global};
+use std::alloc::Global;
 use std::fs::File;
 use std::io::{Error, ErrorKind, Read, Write};
 use std::test::Fail;
@@ -145,25 +145,33 @@ fn fetches<O: Opener>(files: &mut O, all: &[Fetch]) -> Result<bool, Memory> {
 #[test]
 fn files_on_the_disk_are_fetched_and_taken(rt: HostRuntime) -> Result<(), Fail> {
     fs::write(&rt, "a.bytes", b"abc")?;
-    let mut files = DiskFiles::new(rt.alloc(), &rt);
-    assert!(rt; fetches(&mut files, &ON_DISK)?);
-    assert!(rt; files.last_open_fault() == Some("b.bytes"));
-    assert!(rt; files.open_faults() == 1 && files.read_faults() == 1);
-    assert!(rt; fs::remove_file(&rt, "a.bytes").is_ok());
+    let (are_fetched, are_told) = {
+        let mut files = DiskFiles::new(rt.alloc(), &rt);
+        let are_fetched = fetches(&mut files, &ON_DISK);
+        let is_last = files.last_open_fault() == Some("b.bytes");
+        (
+            are_fetched,
+            is_last && files.open_faults() == 1 && files.read_faults() == 1,
+        )
+    };
+    assert!(rt; are_fetched? && are_told);
+    fs::remove_file(&rt, "a.bytes")?;
     Ok(())
 }
 
-// Files in memory of which there are none, and whose first fetch fails.
-fn no_files(alloc: Global) -> Result<MemFiles, AllocError> {
+// Whether files in memory, of which there are none and whose first fetch fails, answer so.
+fn are_in_memory(alloc: Global) -> Result<bool, Memory> {
     let failing = Vec::from_slice(alloc, &[0])?;
-    Ok(MemFiles::new(alloc, Vec::new(alloc), failing, Vec::new(alloc)))
+    let mut files = MemFiles::new(alloc, Vec::new(alloc), failing, Vec::new(alloc));
+    match fetches(&mut files, &IN_MEMORY) {
+        Ok(are_fetched) => Ok(are_fetched && files.last_open_fault() == Some("a.ml")),
+        Err(Memory) => Err(Memory),
+    }
 }
 
 #[test]
 fn files_in_memory_tell_which_fetch_failed(rt: HostRuntime) -> Result<(), Fail> {
-    let mut files = no_files(rt.alloc())?;
-    assert!(rt; fetches(&mut files, &IN_MEMORY)?);
-    assert!(rt; files.last_open_fault() == Some("a.ml"));
+    assert!(rt; are_in_memory(rt.alloc())?);
     Ok(())
 }
 

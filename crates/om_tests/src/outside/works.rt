@@ -1,75 +1,101 @@
 //! Small commands, run over an input and sinks in memory.
 
+ghost use Rattle.std.specs.Prelude.{◌<◌, length};
+
 use om_edge::{MemSink, MemSource};
 use om_model::Memory;
 use om_outcome::status::Status;
-use om_work_examples::{run_bytes, run_lines, run_telling};
+use om_work::Work;
+use om_work_examples::{Telling, run_bytes, run_lines, run_telling};
 use std::alloc::{AllocError, Global};
 use std::test::Fail;
 
 /// A small command: lines are said again, bytes up to one that is refused, or a text without input.
 #[derive(Clone, Copy)]
-enum Small<'a> {
+enum Small {
     Lines,
     Bytes(u8),
-    Telling(&'a [u8]),
+    Telling(&'static [u8]),
 }
 
 // An input that gives two bytes at a time.
 fn input_of(alloc: Global, text: &[u8]) -> Result<MemSource, AllocError> {
-    let mut bytes = Vec::new(alloc);
-    bytes.extend_from_slice(text)?;
+    let bytes = Vec::from_slice(alloc, text)?;
     Ok(MemSource::new(bytes, 2, Vec::new(alloc)))
 }
 
-// A status, unless memory ran out.
-fn told(status: Status) -> Result<Status, Memory> {
+// The code of a status, unless memory ran out.
+fn code(status: Status) -> Result<u8, Memory> {
     match status {
         Status::Memory => Err(Memory),
-        other => Ok(other),
+        other => Ok(other.code()),
     }
 }
 
+// Runs a command over an input, and answers the code of its status.
 fn run_small(
     alloc: Global,
-    small: Small<'_>,
-    input: &mut MemSource,
+    small: Small,
+    text: &[u8],
     out: &mut MemSink,
     err: &mut MemSink,
-) -> Result<Status, Memory> {
+) -> Result<u8, Memory> {
+    let mut input = input_of(alloc, text)?;
     match small {
-        Small::Lines => told(run_lines(alloc, input, out, err)),
-        Small::Bytes(refused) => told(run_bytes(alloc, refused, input, out, err)),
-        Small::Telling(text) => told(run_telling(alloc, text, input, out, err)),
+        Small::Lines => code(run_lines(alloc, &mut input, out, err)),
+        Small::Bytes(refused) => code(run_bytes(alloc, refused, &mut input, out, err)),
+        Small::Telling(told) => code(run_telling(alloc, told, &mut input, out, err)),
     }
 }
 
 // The code of the status, where out and err have these texts.
 fn code_of(
     alloc: Global,
-    small: Small<'_>,
+    small: Small,
     text: &[u8],
     said: &[u8],
     line: &[u8],
 ) -> Result<Option<u8>, Memory> {
-    let mut input = input_of(alloc, text)?;
     let mut out = MemSink::new(alloc, 100, Vec::new(alloc))?;
     let mut err = MemSink::new(alloc, 100, Vec::new(alloc))?;
-    let status = run_small(alloc, small, &mut input, &mut out, &mut err)?;
+    let code = run_small(alloc, small, text, &mut out, &mut err)?;
     if out.written() == said && err.written() == line {
-        Ok(Some(status.code()))
+        Ok(Some(code))
     } else {
         Ok(None)
     }
 }
 
-// By hand: the last line has no line feed, the third byte is refused, and of the third input nothing is taken.
+// A command, its input, what it says on out and on err, and the code of its status. By hand: the
+// last line has no line feed, the third byte is refused or none is, and of the last input nothing
+// is taken.
+static RUNS: [(Small, &[u8], &[u8], &[u8], u8); 4] = [
+    (Small::Lines, b"one\n\ntwo", b"one\n\ntwo\n", b"", 0),
+    (
+        Small::Bytes(b'c'),
+        b"abca",
+        b"ab",
+        b"omarshal: value 2: Compressed\n",
+        4,
+    ),
+    (Small::Bytes(b'x'), b"abca", b"abca", b"", 0),
+    (Small::Telling(b"told"), b"abca", b"told", b"", 0),
+];
+
+// Whether a command that reads nothing takes no byte of these, and says nothing.
+fn feeds_nothing(alloc: Global, in_hand: &[u8]) -> Result<bool, Memory>
+    requires { 0 < length in_hand.now }
+{
+    let mut out = MemSink::new(alloc, 100, Vec::new(alloc))?;
+    let fed = Telling { text: b"told" }.feed(alloc, in_hand, &mut out);
+    Ok(matches!(fed, Ok(0)) && out.written().is_empty())
+}
+
 #[test]
 fn small_commands_run(rt: HostRuntime) -> Result<(), Fail> {
-    let alloc = rt.alloc();
-    assert!(rt; code_of(alloc, Small::Lines, b"one\n\ntwo", b"one\n\ntwo\n", b"")? == Some(0));
-    let refused = b"omarshal: value 2: Compressed\n";
-    assert!(rt; code_of(alloc, Small::Bytes(b'c'), b"abca", b"ab", refused)? == Some(4));
-    assert!(rt; code_of(alloc, Small::Telling(b"told"), b"abca", b"told", b"")? == Some(0));
+    for (small, text, said, line, code) in &RUNS {
+        assert!(rt; code_of(rt.alloc(), *small, text, said, line)? == Some(*code));
+    }
+    assert!(rt; feeds_nothing(rt.alloc(), b"abc")?);
     Ok(())
 }

@@ -76,21 +76,23 @@ fn written32(alloc: Global, large: Large) -> Result<(char, u64, usize), Memory> 
     Ok((why, size, sink.written().len()))
 }
 
+// What is told of an integer that is written for 32 bits to a sink with room for the header alone,
+// and how many calls of the sink fail.
+fn told_of_full(alloc: Global) -> Result<(char, u64, u64), Memory> {
+    let mut full = MemSink::new(alloc, 20, Vec::new(alloc))?;
+    let written = write32(alloc, &Heap::new(alloc), Val::Int(1), &mut full);
+    match told(written) {
+        Ok((why, size)) => Ok((why, size, full.faults())),
+        Err(Memory) => Err(Memory),
+    }
+}
+
 // By hand.
 #[test]
-fn the_size_of_what_is_too_large_is_told(rt: HostRuntime) -> Result<(), Fail> {
+fn what_cannot_be_written_for_32_bits_is_told(rt: HostRuntime) -> Result<(), Fail> {
     assert!(rt; written32(rt.alloc(), Large::Block)? == ('b', 0x40_0000, 0));
     assert!(rt; written32(rt.alloc(), Large::Bytes)? == ('s', 0xff_fffc, 0));
     assert!(rt; written32(rt.alloc(), Large::Doubles)? == ('d', 0x20_0000, 0));
-    Ok(())
-}
-
-// A sink with room for the header alone.
-#[test]
-fn faults_are_told_on_32_bits(rt: HostRuntime) -> Result<(), Fail> {
-    let alloc = rt.alloc();
-    let mut full = MemSink::new(alloc, 20, Vec::new(alloc))?;
-    let result = write32(alloc, &Heap::new(alloc), Val::Int(1), &mut full);
-    assert!(rt; told(result)? == ('f', 0) && full.faults() == 1);
+    assert!(rt; told_of_full(rt.alloc())? == ('f', 0, 1));
     Ok(())
 }

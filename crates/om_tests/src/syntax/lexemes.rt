@@ -6,14 +6,14 @@ use om_model::Memory;
 use std::alloc::{AllocError, Global};
 use std::test::Fail;
 
-// A word and bytes as text.
-fn named(alloc: Global, word: &str, bytes: &[u8]) -> Result<String, AllocError> {
-    let mut text = String::from_str(alloc, word)?;
+// Puts a word and bytes.
+fn put_named(text: &mut String, word: &str, bytes: &[u8]) -> Result<(), AllocError> {
+    text.push_str(word)?;
     text.push(' ')?;
     for byte in bytes {
         text.push(char::from(*byte))?;
     }
-    Ok(text)
+    Ok(())
 }
 
 fn keyword_text(keyword: Keyword) -> &'static str {
@@ -48,64 +48,75 @@ fn symbol_text(symbol: Symbol) -> &'static str {
     }
 }
 
-fn integer_text(alloc: Global, integer: Integer) -> Result<String, AllocError> {
-    let sign = if integer.minus { "minus" } else { "plus" };
-    let value = integer.value;
-    let suffix = match integer.suffix {
+fn suffix_text(suffix: Suffix) -> &'static str {
+    match suffix {
         Suffix::Absent => "Absent",
         Suffix::Int32 => "Int32",
         Suffix::Int64 => "Int64",
         Suffix::Native => "Native",
-    };
-    format!(in alloc; "int {sign} {value} {suffix}")
+    }
 }
 
-// What a lexeme is, as text.
-fn kind_text(alloc: Global, kind: &LexemeKind) -> Result<String, AllocError> {
+fn put_integer(text: &mut String, integer: Integer) -> Result<(), AllocError> {
+    let sign = if integer.minus { "minus" } else { "plus" };
+    let value = integer.value;
+    let suffix = suffix_text(integer.suffix);
+    write!(text, "int {sign} {value} {suffix}")
+}
+
+// Puts what a lexeme is.
+fn put_kind(text: &mut String, kind: &LexemeKind) -> Result<(), AllocError> {
     match kind {
-        LexemeKind::Keyword(keyword) => String::from_str(alloc, keyword_text(*keyword)),
-        LexemeKind::Lower(name) => named(alloc, "lower", name.as_slice()),
-        LexemeKind::Upper(name) => named(alloc, "upper", name.as_slice()),
-        LexemeKind::Tag(name) => named(alloc, "tag", name.as_slice()),
-        LexemeKind::Variable(name) => named(alloc, "variable", name.as_slice()),
-        LexemeKind::Character(byte) => format!(in alloc; "char {byte}"),
-        LexemeKind::Integer(integer) => integer_text(alloc, *integer),
-        LexemeKind::Text(bytes) => named(alloc, "text", bytes.as_slice()),
-        LexemeKind::Double(bits) => format!(in alloc; "double {bits:016x}"),
-        LexemeKind::Symbol(symbol) => String::from_str(alloc, symbol_text(*symbol)),
+        LexemeKind::Keyword(keyword) => text.push_str(keyword_text(*keyword)),
+        LexemeKind::Lower(name) => put_named(text, "lower", name.as_slice()),
+        LexemeKind::Upper(name) => put_named(text, "upper", name.as_slice()),
+        LexemeKind::Tag(name) => put_named(text, "tag", name.as_slice()),
+        LexemeKind::Variable(name) => put_named(text, "variable", name.as_slice()),
+        LexemeKind::Character(byte) => write!(text, "char {byte}"),
+        LexemeKind::Integer(integer) => put_integer(text, *integer),
+        LexemeKind::Text(bytes) => put_named(text, "text", bytes.as_slice()),
+        LexemeKind::Double(bits) => write!(text, "double {bits:016x}"),
+        LexemeKind::Symbol(symbol) => text.push_str(symbol_text(*symbol)),
     }
 }
 
-// Lexemes as text, each with its first byte's place and its length.
-fn shown(alloc: Global, lexemes: &[Lexeme]) -> Result<String, AllocError> {
-    let mut text = String::new(alloc);
+// Puts lexemes, each with its first byte's place and its length.
+fn put_lexemes(text: &mut String, lexemes: &[Lexeme]) -> Result<(), AllocError> {
     for lexeme in lexemes {
-        let kind = kind_text(alloc, &lexeme.kind)?;
-        let first = lexeme.span.first;
-        let len = lexeme.span.len;
-        write!(&mut text, "{kind} @{first}+{len};")?;
+        put_kind(text, &lexeme.kind)?;
+        write!(text, " @{}+{};", lexeme.span.first, lexeme.span.len)?;
     }
-    Ok(text)
+    Ok(())
 }
 
-// A fault with its place.
-fn fault_text(alloc: Global, fault: LexFault) -> Result<String, Memory> {
-    let (name, place) = match fault {
-        LexFault::BadByte(place) => ("BadByte", place),
-        LexFault::OpenString(place) => ("OpenString", place),
-        LexFault::OpenComment(place) => ("OpenComment", place),
-        LexFault::TooBig(place) => ("TooBig", place),
-        LexFault::Memory => return Err(Memory),
-    };
-    Ok(format!(in alloc; "{name} {place}")?)
+// A fault's name and place, unless memory ran out.
+fn fault_told(fault: LexFault) -> Result<(&'static str, usize), Memory> {
+    match fault {
+        LexFault::BadByte(place) => Ok(("BadByte", place)),
+        LexFault::OpenString(place) => Ok(("OpenString", place)),
+        LexFault::OpenComment(place) => Ok(("OpenComment", place)),
+        LexFault::TooBig(place) => Ok(("TooBig", place)),
+        LexFault::Memory => Err(Memory),
+    }
 }
 
-// What becomes of a text.
-fn told(alloc: Global, text: &[u8]) -> Result<String, Memory> {
+// Puts what becomes of a text.
+fn put_told(alloc: Global, text: &[u8], told: &mut String) -> Result<(), Memory> {
     match tokens(alloc, text) {
-        Ok(lexemes) => Ok(shown(alloc, lexemes.as_slice())?),
-        Err(fault) => fault_text(alloc, fault),
+        Ok(lexemes) => put_lexemes(told, lexemes.as_slice())?,
+        Err(fault) => {
+            let (name, place) = fault_told(fault)?;
+            write!(told, "{name} {place}")?;
+        }
     }
+    Ok(())
+}
+
+// Whether this becomes of a text.
+fn is_told(alloc: Global, text: &[u8], want: &str) -> Result<bool, Memory> {
+    let mut told = String::new(alloc);
+    put_told(alloc, text, &mut told)?;
+    Ok(told.as_str() == want)
 }
 
 // The values and places that the lexer of OCaml 4.13.1 gives.
@@ -207,10 +218,10 @@ static OWN: [(&[u8], &str); 22] = [
 #[test]
 fn lexemes_and_faults(rt: HostRuntime) -> Result<(), Fail> {
     for (text, want) in &OCAMLS {
-        assert!(rt; told(rt.alloc(), text.as_bytes())?.as_str() == *want);
+        assert!(rt; is_told(rt.alloc(), text.as_bytes(), want)?);
     }
     for (text, want) in &OWN {
-        assert!(rt; told(rt.alloc(), text)?.as_str() == *want);
+        assert!(rt; is_told(rt.alloc(), text, want)?);
     }
     Ok(())
 }

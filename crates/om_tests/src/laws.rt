@@ -1,3 +1,5 @@
+//! Laws, which do nothing: each can be called.
+
 use om_accepted::{
     accepted_are_well_formed, accepted_types_are_sound, brackets_follow, names_follow, ranks_follow,
 };
@@ -7,10 +9,11 @@ use om_equal::classes::{
 use om_equal::equal::{equal_types_mean_the_same, heads_are_found};
 use om_equal::sound::{heads_commute_with_instances, reached_types_are_sound};
 use om_equal::table::tables_are_lawful;
+use om_same_type::{the_same_has_the_same_fault, the_same_has_the_same_types};
 use om_table::least_faults_have_least_ways;
 use om_typing::{checks_take_few_steps, searches_find_the_least};
+use om_work_examples::small_commands_tell_outside;
 
-// Laws that no run calls can be called.
 #[test]
 fn laws_are_called() {
     searches_find_the_least();
@@ -24,9 +27,12 @@ fn laws_are_called() {
     heads_commute_with_instances();
     tables_are_lawful();
     least_faults_have_least_ways();
+    the_same_has_the_same_types();
+    the_same_has_the_same_fault();
     ranks_follow();
     names_follow();
     brackets_follow();
     accepted_are_well_formed();
     accepted_types_are_sound();
+    small_commands_tell_outside();
 }

@@ -1,4 +1,4 @@
-use Rattle.om_tests.proofs.values.typed.table_over.Goals as goal
+use Rattle.om_tests.proofs.values.given.table_over.Goals as goal
 
 pub returns-in-Ok : goal.returns-in-Ok
 returns-in-Ok c =

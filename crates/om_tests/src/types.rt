@@ -1,3 +1,0 @@
-//! Tests of types, their shapes and tables.
-
-mod laws;

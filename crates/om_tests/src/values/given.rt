@@ -1,0 +1,69 @@
+//! The table of a type that a text names over declarations, and the value that bytes are.
+
+ghost use Rattle.std.specs.Prelude.{◌<◌, length, IfOk, IfSome};
+ghost use Rattle.om_model.specs.Graph.{IsValue};
+ghost use Rattle.om_type_table.specs.Made.{table_of, IsLawful};
+ghost use Rattle.om_types.specs.Accepted.{AreWellFormed, IsSoundType};
+
+use om_decl::{DeclFault, read_decls, read_type};
+use om_model::Memory;
+use om_read::{Reader, Value};
+use om_type_table::TypeTable;
+use om_type_table::laws::tables_are_lawful;
+use om_typeintern::{TypeFault, build};
+use om_types::decl::Decl;
+use om_types::ty::Ty;
+use std::alloc::Global;
+
+// What OCaml writes for [1; 2], with the objects from the outermost in.
+pub(crate) const LIST: &[u8] =
+    b"\x84\x95\xa6\xbe\0\0\0\x05\0\0\0\x02\0\0\0\x06\0\0\0\x06\xa0\x41\xa0\x42\x40";
+
+// The declaration of maps from strings, as the library of OCaml has it.
+pub(crate) const MAPS: &[u8] =
+    b"type 'a map = Empty | Node of {l: 'a map; v: string; d: 'a; r: 'a map; h: int}";
+
+// The table of a type over declarations.
+fn table_over(alloc: Global, decls: &[Decl], ty: &Ty) -> Result<Option<TypeTable>, Memory>
+    requires well { AreWellFormed decls.now }
+    requires sound { IsSoundType decls.now ty.now }
+    ensures { IfOk result (λ found. IfSome found (λ table. IsLawful (table_of table))) }
+{
+    tables_are_lawful();
+    match build(alloc, decls, ty) {
+        Ok(table) => Ok(Some(table)),
+        Err(TypeFault::Memory) => Err(Memory),
+        Err(_) => Ok(None),
+    }
+}
+
+// The table of a type over a text of declarations, if the texts are accepted.
+pub(crate) fn table_in(alloc: Global, file: &[u8], text: &[u8]) -> Result<Option<TypeTable>, Memory>
+    ensures { IfOk result (λ found. IfSome found (λ table. IsLawful (table_of table))) }
+{
+    let decls = match read_decls(alloc, file) {
+        Ok(decls) => decls,
+        Err(DeclFault::Memory) => return Err(Memory),
+        Err(_) => return Ok(None),
+    };
+    match read_type(alloc, decls.as_slice(), text) {
+        Ok(ty) => table_over(alloc, decls.as_slice(), &ty),
+        Err(DeclFault::Memory) => Err(Memory),
+        Err(_) => Ok(None),
+    }
+}
+
+// The value that the bytes are, if they are one.
+pub(crate) fn value_of(alloc: Global, bytes: &[u8]) -> Result<Option<Value>, Memory>
+    ensures { IfOk result
+        (λ found. IfSome found (λ value. IsValue (length value.heap) value.root)) }
+{
+    let mut reader = Reader::new(alloc, 1000);
+    let Ok(fed) = reader.feed(bytes) else {
+        return Err(Memory);
+    };
+    if !fed.done {
+        return Ok(None);
+    }
+    Ok(Some(reader.finish()))
+}

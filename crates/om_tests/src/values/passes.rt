@@ -1,0 +1,130 @@
+//! One look at bytes: whether they begin with a value of a type.
+
+use crate::values::given::{LIST, MAPS, table_in};
+use om_model::Memory;
+use om_pass::pass;
+use std::alloc::Global;
+use std::test::Fail;
+
+// How many bytes one look takes at a type.
+fn looked(alloc: Global, file: &[u8], text: &[u8], bytes: &[u8]) -> Result<Option<usize>, Memory> {
+    match table_in(alloc, file, text)? {
+        Some(table) => pass(alloc, &table, bytes, 1000),
+        None => Ok(None),
+    }
+}
+
+// What OCaml writes for a map from one to four by their names.
+const MAP: &[u8] =
+    b"\x84\x95\xa6\xbe\0\0\0\x24\0\0\0\x08\0\0\0\x22\0\0\0\x20\xd0\xd0\x40\x24four\x44\x40\x41\x23\
+    one\x41\xd0\xd0\x40\x25three\x43\x40\x41\x23two\x42\x40\x42\x43";
+
+// "ab", 1000000 and -1000000, the array of nothing, a pair whose parts are one "ab", and a pair of
+// one record of 1 and 2.
+const TEXT: &[u8] = b"\x84\x95\xa6\xbe\0\0\0\x03\0\0\0\x01\0\0\0\x02\0\0\0\x02\x22ab";
+
+const LARGE: &[u8] = b"\x84\x95\xa6\xbe\0\0\0\x05\0\0\0\0\0\0\0\0\0\0\0\0\x02\0\x0f\x42\x40";
+
+const NEGATIVE: &[u8] = b"\x84\x95\xa6\xbe\0\0\0\x05\0\0\0\0\0\0\0\0\0\0\0\0\x02\xff\xf0\xbd\xc0";
+
+const NOTHING: &[u8] = b"\x84\x95\xa6\xbe\0\0\0\x01\0\0\0\0\0\0\0\0\0\0\0\0\x80";
+
+const TEXTS: &[u8] = b"\x84\x95\xa6\xbe\0\0\0\x06\0\0\0\x02\0\0\0\x05\0\0\0\x05\xa0\x22ab\x04\x01";
+
+const RECORDS: &[u8] =
+    b"\x84\x95\xa6\xbe\0\0\0\x06\0\0\0\x02\0\0\0\x06\0\0\0\x06\xa0\xa0\x41\x42\x04\x01";
+
+// "ab", and twice one record of 1, this "ab" and the array of nothing.
+const MIXED: &[u8] =
+    b"\x84\x95\xa6\xbe\0\0\0\x0b\0\0\0\x03\0\0\0\x0a\0\0\0\x0a\xb0\x22ab\xb0\x41\x04\x02\x80\x04\
+    \x01";
+
+// What OCaml 4.13.1 writes for 1.5, [|1.; 2.; 3.|], 0x12345678l, 0x123456789abcdef0L, 1n and `Blue
+// 3.
+const DOUBLE: &[u8] =
+    b"\x84\x95\xa6\xbe\0\0\0\x09\0\0\0\x01\0\0\0\x03\0\0\0\x02\x0c\0\0\0\0\0\0\xf8\x3f";
+
+const DOUBLES: &[u8] =
+    b"\x84\x95\xa6\xbe\0\0\0\x1a\0\0\0\x01\0\0\0\x07\0\0\0\x04\x0e\x03\0\0\0\0\0\0\xf0\x3f\0\0\0\0\
+    \0\0\0\x40\0\0\0\0\0\0\x08\x40";
+
+const INT32: &[u8] =
+    b"\x84\x95\xa6\xbe\0\0\0\x08\0\0\0\x01\0\0\0\x03\0\0\0\x03\x19_i\0\x12\x34\x56x";
+
+const INT64: &[u8] =
+    b"\x84\x95\xa6\xbe\0\0\0\x0c\0\0\0\x01\0\0\0\x04\0\0\0\x03\x19_j\0\x12\x34\x56x\x9a\xbc\xde\
+    \xf0";
+
+const NATIVE: &[u8] =
+    b"\x84\x95\xa6\xbe\0\0\0\x09\0\0\0\x01\0\0\0\x03\0\0\0\x03\x19_n\0\x01\0\0\0\x01";
+
+const BLUE: &[u8] =
+    b"\x84\x95\xa6\xbe\0\0\0\x07\0\0\0\x01\0\0\0\x03\0\0\0\x03\xa0\x02\x2b\xf2\x6e\xba\x43";
+
+// TYPE, bytes, and how many of them are the value, where they are one of the type and one look
+// shows it.
+static LOOKS: [(&[u8], &[u8], Option<usize>); 21] = [
+    (b"int list", LIST, Some(25)),
+    (b"bool list", LIST, None),
+    (b"string", TEXT, Some(23)),
+    (b"int", TEXT, None),
+    (b"int", LARGE, Some(25)),
+    (b"int", NEGATIVE, Some(25)),
+    (b"char", LARGE, None),
+    (b"int array", NOTHING, Some(21)),
+    (b"int list", NOTHING, None),
+    (b"float", DOUBLE, Some(29)),
+    (b"int32", DOUBLE, None),
+    (b"float array", DOUBLES, Some(46)),
+    (b"int array", DOUBLES, None),
+    (b"int32", INT32, Some(28)),
+    (b"int64", INT32, None),
+    (b"int64", INT64, Some(32)),
+    (b"nativeint", NATIVE, Some(29)),
+    (b"int32", NATIVE, None),
+    (b"[ `Red | `Blue of int ]", BLUE, Some(27)),
+    (b"[ `Red of int | `Blue ]", BLUE, None),
+    (b"string * string", TEXTS, Some(26)),
+];
+
+// FILE, TYPE, bytes, and the same. A record that is met at two types is shown where it is mutable
+// at neither.
+static LOOKS_OVER: [(&[u8], &[u8], &[u8], Option<usize>); 6] = [
+    (MAPS, b"int map", MAP, Some(56)),
+    (MAPS, b"string map", MAP, None),
+    (
+        b"type t = {a: int; b: int} type u = {c: int; d: int}",
+        b"t * u",
+        RECORDS,
+        Some(26),
+    ),
+    (
+        b"type t = {a: int; b: int} type u = {c: int; mutable d: int}",
+        b"t * u",
+        RECORDS,
+        None,
+    ),
+    (
+        b"type t = {a: int; b: string; c: int array} type u = {d: int; e: string; f: int array}",
+        b"string * t * u",
+        MIXED,
+        Some(31),
+    ),
+    (
+        b"type t = {a: int; b: string; c: int array} type u = {d: int; e: t; f: int array}",
+        b"string * t * u",
+        MIXED,
+        None,
+    ),
+];
+
+#[test]
+fn one_look_types_a_value(rt: HostRuntime) -> Result<(), Fail> {
+    for (text, bytes, want) in &LOOKS {
+        assert!(rt; looked(rt.alloc(), b"", text, bytes)? == *want);
+    }
+    for (file, text, bytes, want) in &LOOKS_OVER {
+        assert!(rt; looked(rt.alloc(), file, text, bytes)? == *want);
+    }
+    Ok(())
+}
