@@ -12,24 +12,31 @@ use Rattle.om_same_type.specs.SameType.{DeclaredTypesAreKept, DeclaredLinesAreKe
 use Rattle.om_outcome.specs.Outcome.{Said, the_verdict, line}
 use Rattle.om_declared.specs.declared.types.Requested.{Requested}
 use Rattle.om_declared.specs.Language.{TypeOver, IsTypeLine, declared_types}
-use Rattle.om_declared.specs.Types.{type_over}
+use Rattle.om_declared.specs.Types.{type_over, IsReady}
+use Rattle.om_declared.proofs.GivenLemmas.{ready_each, ready_some_not}
 use Rattle.om_generate.specs.Generated.{generated}
 use Rattle.om_generate.specs.Line.{generated_text}
 use Rattle.om_generation.specs.Generation.{IsMadeLine}
 use Rattle.om_generator.specs.Lines.{making_of, IsGraphLine}
 
-module _ (types : DeclaredTypesAreKept) (lines : DeclaredLinesAreKept) (t : TypeOver) where
+module _ (types : DeclaredTypesAreKept) (lines : DeclaredLinesAreKept) (r : Requested)
+    (ready : IsReady r) where
+  abbrev t : TypeOver
+  t = type_over r
+
   verdict_kept :
       (g h : List Obj) (v w : Val) (text : List ℕ) (well : Bool) → Iso g v h w
       → IsTypeLine the_verdict t g v text well → IsTypeLine the_verdict t h w text well
-  verdict_kept g h v w text well same (inl told) = inl (record {
-    has = types t.decls g h v w t.type same told.has;
-    told = told.told;
-  })
-  verdict_kept g h v w text well same (inr no_line) = inr (record {
-    why = lines t.decls type_text g h v w t.type text same no_line.why;
-    is_well = no_line.is_well;
-  })
+  verdict_kept g h v w text well same (inl told) =
+      let has = types t.decls g h v w t.type same told.has in
+      inl (record { has = has; each = ready_each r ready h w has; told = told.told })
+  verdict_kept g h v w text well same (inr no_line) =
+      let why = lines t.decls type_text g h v w t.type text same no_line.why in
+      inr (record {
+        why = why;
+        some_not = ready_some_not r ready h w why.fault why.least.is_fault;
+        is_well = no_line.is_well;
+      })
 
   pub graph_line :
       (g : List Obj) (v : Val) → IsHeap g → IsValue (length g) v

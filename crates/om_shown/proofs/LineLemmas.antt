@@ -18,6 +18,7 @@ use Rattle.om_types.specs.Equal.{declared_shapes}
 use Rattle.om_types.specs.Names.{names_of}
 use Rattle.om_types.specs.Shape.{shape}
 use Rattle.om_types.specs.Typing.{HasType}
+use Rattle.om_rigid.proofs.StandLemmas.{stands_for_all}
 use Rattle.om_show.specs.Shown.{shown_text}
 use Rattle.om_readback.specs.ReadBack.{IsReadBack}
 use Rattle.om_rebuild.specs.Laws.{DeclaredTextsAreReadBack}
@@ -117,6 +118,8 @@ module _ (t : TypeOver) where
               are = (b.literal, b.spelled, record { labels = b.labels; read = b.reads 0 });
             };
             has = has;
+            each = (stands_for_all t.decls t.type sound.few.types sound.well sound.sound
+            sound.few.reached (objects_of tree 0) (root tree 0)).0 has;
             tree = tree;
             of = own_tree tree is_tree back;
             are = refl;

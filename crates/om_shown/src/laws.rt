@@ -9,14 +9,10 @@ ghost use Rattle.om_texts.specs.Texts.{building};
 
 use om_build::laws::{DeclaredTexts, declared_texts_are_read_once};
 use om_commands::laws::commands_keep_promises;
-use om_decl::laws::one_answer;
 use om_decl::told::{files_are_well_formed, types_are_sound};
 use om_declared::laws::{DeclaredTypes, declared_types_are_lawful};
-use om_edit::edits_have_one_answer;
-use om_path::{one_answer as one_path, one_script_answer};
 use om_rebuild::declared_texts_are_read_back;
 use om_session::all_commands_have_parts;
-use om_table::type_or_fault;
 use om_texts::laws::building_answers_once;
 
 /// Where all is promised of a call by the commands on values, and of one by the command on texts:
@@ -25,13 +21,8 @@ pub fn shown_texts_are_built()
     ensures { ShownTextsAreBuilt (commands declared_types)
         (building declared_types declared_texts) }
 {
-    one_answer();
-    one_path();
-    one_script_answer();
-    edits_have_one_answer();
     files_are_well_formed();
     types_are_sound();
-    type_or_fault();
     declared_texts_are_read_back();
     declared_types_are_lawful();
     declared_texts_are_read_once();

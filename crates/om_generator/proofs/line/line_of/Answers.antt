@@ -1,5 +1,4 @@
 use Rattle.std.proofs.Common.{◌∙◌, ap}
-use Rattle.om_declared.specs.Types.{type_over}
 use Rattle.om_generate.specs.Line.{generated_text}
 use Rattle.om_generator.proofs.LineLemmas.{graph_line}
 use Rattle.om_generator.proofs.line.line_of.Goals as goal
@@ -7,7 +6,7 @@ use Rattle.om_generator.proofs.line.line_of.Goals as goal
 pub returns : goal.returns
 returns c =
     graph_line c.the_same_has_the_same_types.ensures.declared c.the_same_has_the_same_line.ensures
-    (type_over c.args.requested.now) c.args.heap.now c.args.root c.count-graph.ensures.heap
+    c.args.requested.now c.requires.ready c.args.heap.now c.args.root c.count-graph.ensures.heap
     c.requires.value c.in_ok-verdict.verdict.text.items c.in_ok-verdict.verdict.well
     c.in_ok-verdict.ensures c.in_ok-text.text.items c.put.new.text.items
     (λ tree is.

@@ -1,4 +1,4 @@
-use Rattle.om_declared.proofs.LanguageLemmas.{given_sound}
+use Rattle.om_declared.proofs.GivenLemmas.{given_sound}
 use Rattle.om_shown.proofs.BuiltLemmas.{shown_texts_are_built}
 use Rattle.om_shown.proofs.laws.shown_texts_are_built.Goals as goal
 
@@ -7,7 +7,5 @@ returns c =
     shown_texts_are_built c.commands_keep_promises.ensures.as_told
     c.building_answers_once.ensures.outcome
     c.declared_texts_are_read_back.ensures (λ t given.
-    let s = given_sound c.one_answer.ensures.files c.one_answer.ensures.types c.one_answer-2.ensures
-    c.one_script_answer.ensures c.edits_have_one_answer.ensures c.files_are_well_formed.ensures
-    c.types_are_sound.ensures c.type_or_fault.ensures.never_both t given in
+    let s = given_sound c.files_are_well_formed.ensures c.types_are_sound.ensures t given in
     record { well = s.well; sound = s.sound; few = s.few })
