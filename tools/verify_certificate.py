@@ -1,18 +1,17 @@
-"""Verifies a certificate of marshalled values: an independent verifier, which searches nothing.
+"""Verifies a certificate of marshalled values (docs/CERTIFICATES.md): an independent verifier, which searches nothing.
 
     python3 verify_certificate.py FILE TYPE CERT < stream
 
-FILE holds type declarations. Section k of CERT has to show of value k of the stream that it has TYPE, or that it has
-not (docs/CERTIFICATES.md). A line for each value says `yes`, or `no` and the stated fault. Status 0: each is `yes`;
-1: some is `no`; 2: FILE or TYPE is refused; 4: the stream is; 12: CERT is no certificate, a section is rejected, or
-there are not as many sections as values.
-
-It shares nothing with omarshal: values and types are read by value_has_type.py beside it.
+Section k of CERT has to show that value k has TYPE over the declarations of FILE, or that it has not. A line for each
+value says `yes`, or `no` and the stated fault. Status 0: each is `yes`; 1: some is `no`; 2: FILE or TYPE is refused;
+4: the stream is; 12: CERT is no certificate, a section is rejected, or there are not as many sections as values. It
+shares nothing with omarshal: values and types are read by value_has_type.py beside it.
 """
 import re
 import sys
 
-from value_has_type import (Declarations, Input, Parser, Refused, Types, fit, parts_of, read_value, refuse_if, text_of)
+from value_has_type import (Declarations, Input, Refused, Types, fit, parts_of, read_type, read_value, refuse_if,
+                            text_of)
 
 NUMBER = r"(0|[1-9][0-9]*)"
 PATH = r"(\.|(?:\.(?:0|[1-9][0-9]*))+)"
@@ -21,19 +20,17 @@ PATH = r"(\.|(?:\.(?:0|[1-9][0-9]*))+)"
 class Table:
     """The types that a type reaches, numbered in the order in which they are met; equal ones have one class."""
 
-    def __init__(self, declarations, root):
-        known = Types(declarations, root)
-        self.types, numbers = [root], {root: 0}
+    def __init__(self, root, known):
+        self.types, self.numbers, self.shapes = [root], {root: 0}, known.shapes
         for form in self.types:
             for part in Types.named_by(known.shapes[form]) + parts_of(known.heads[form]):
-                if part not in numbers:
-                    numbers[part] = len(self.types)
+                if part not in self.numbers:
+                    self.numbers[part] = len(self.types)
                     self.types.append(part)
-        self.numbers, self.shapes = numbers, known.shapes
         self.classes = [known.classes[form] for form in self.types]
 
     def fit(self, value, t, objects):
-        """Whether the value fits type t, whether it is mutable there, and its needs by fields."""
+        """Whether the value fits type t, whether it is mutable there, and the types of its fields by number."""
         good, mutable, needs = fit(self.shapes[self.types[t]], value, objects)
         return good, good and mutable, {i: self.numbers[form] for i, form in sorted(needs.items())} if good else {}
 
@@ -41,41 +38,32 @@ class Table:
 def read_sections(data):
     """The sections: a list of pairs, or a tuple of the paths of a fault."""
     lines = data.decode("latin-1").split("\n")
-    rest, sections, at = lines.pop(), [], 0
-
-    def line():
-        nonlocal at
-        at += 1
-        if at > len(lines):
-            raise SyntaxError
-        return lines[at - 1]
-
-    def number(text):
-        if int(text) >= 2 ** 63:
-            raise SyntaxError
-        return int(text)
-
-    try:
-        while at < len(lines) or rest:
-            head = re.fullmatch(rf"value {len(sections)} (?:(yes)|misfit {PATH}|clash {PATH} {PATH})", line())
-            if not head:
-                raise SyntaxError
-            paths = tuple(tuple(number(step) for step in path.split(".") if step) for path in head.groups()[1:] if path)
-            pairs = []
-            while (text := line()) != "end":
-                pair = re.fullmatch(rf"pair {NUMBER} {NUMBER}", text)
-                if not head[1] or not pair:
-                    raise SyntaxError
-                pairs.append((number(pair[1]), number(pair[2])))
-                if pairs[-2:-1] >= pairs[-1:]:
-                    raise SyntaxError
-            sections.append(pairs if head[1] else paths)
-    except SyntaxError:
-        raise Refused(12, f"certificate line {at}: Syntax") from None
+    rest, sections, begun = lines.pop(), [], None
+    for at, line in enumerate(lines, 1):
+        good = all(len(number) < 20 and int(number) < 2 ** 63 for number in re.findall("[0-9]+", line))
+        if begun is None:
+            head = re.fullmatch(rf"value {len(sections)} (?:(yes)|misfit {PATH}|clash {PATH} {PATH})", line)
+            if good and head:
+                paths = [path.split(".") for path in head.groups()[1:] if path]
+                begun = [] if head[1] else tuple(tuple(int(step) for step in path if step) for path in paths)
+            good = good and head
+        elif line == "end":
+            sections.append(begun)
+            begun = None
+        else:
+            pair = re.fullmatch(rf"pair {NUMBER} {NUMBER}", line)
+            pair = good and pair and isinstance(begun, list) and (int(pair[1]), int(pair[2]))
+            good = pair and begun[-1:] < [pair]
+            if good:
+                begun.append(pair)
+        if not good:
+            raise Refused(12, f"certificate line {at}: Syntax")
+    if begun is not None or rest:
+        raise Refused(12, f"certificate line {len(lines) + 1}: Syntax")
     return sections
 
 
-def pairs_rejected(table, root, objects, pairs):
+def rejected(table, root, objects, pairs):
     """The first reason why the pairs do not justify one another, or do not hold the root."""
     for i, (o, t) in enumerate(pairs):
         if o >= len(objects) or t >= len(table.types):
@@ -111,40 +99,31 @@ def place(table, root, objects, path):
     return value, t
 
 
-def path_text(path):
-    return "." + ".".join(map(str, path))
-
-
 def fault_text(table, root, objects, paths):
     """The text of the stated fault, or None where the paths are none."""
     ends = [place(table, root, objects, path) for path in paths]
     if None in ends:
         return None
-    texts = [text_of(table.types[t]) for _, t in ends]
     (value, t), (other, u) = ends[0], ends[-1]
+    where = " and ".join("." + ".".join(map(str, path)) for path in paths)
     if len(paths) == 1:
         thing = objects[value[1]] if value[0] == "ref" else value
-        kinds = {"block": lambda: f"block {thing[1]} of {len(thing[2])}", "floats": lambda: f"float array of {thing[1]}",
-                 "int": lambda: f"int {thing[1]}", "atom": lambda: f"atom {thing[1]}"}
-        found = kinds.get(thing[0], lambda: thing[0])()
-        fits = table.fit(value, t, objects)[0]
-        return None if fits else f"{path_text(paths[0])}: expected {texts[0]}, found {found}"
+        number = {"block": f" {thing[1]} of {len(thing[-1])}" if thing[0] == "block" else "",
+                  "floats": f" array of {thing[1]}", "int": f" {thing[1]}", "atom": f" {thing[1]}"}.get(thing[0], "")
+        found = thing[0].replace("floats", "float") + number
+        return None if table.fit(value, t, objects)[0] else f"{where}: expected {text_of(table.types[t])}, found {found}"
     in_order = (len(paths[0]), paths[0]) < (len(paths[1]), paths[1])
     clash = value[0] == "ref" and value == other and table.classes[t] != table.classes[u]
+    types = " and ".join(text_of(table.types[s]) for s in (t, u))
     mutable = clash and any(table.fit(value, s, objects)[1] for s in (t, u))
-    where = " and ".join(map(path_text, paths))
-    return f"{where}: {texts[0]} and {texts[1]} share a mutable object" if in_order and mutable else None
+    return f"{where}: {types} share a mutable object" if in_order and mutable else None
 
 
 def main(words):
     refuse_if(len(words) != 3, "FILE TYPE CERT")
     with open(words[0], encoding="latin-1") as file:
         declarations = Declarations(file.read())
-    parser = Parser(words[1])
-    form = parser.type()
-    refuse_if(parser.rest, f"more than a type: {words[1]}")
-    declarations.check_type(form, [])
-    table = Table(declarations, form)
+    table = Table(*read_type(declarations, words[1]))
     with open(words[2], "rb") as file:
         sections = read_sections(file.read())
     stream, status, k = Input(sys.stdin.buffer.read()), 0, 0
@@ -153,10 +132,10 @@ def main(words):
         if k == len(sections):
             raise Refused(12, f"value {k}: no section")
         if isinstance(sections[k], list):
-            text, why = "yes", pairs_rejected(table, root, objects, sections[k])
+            text, why = "yes", rejected(table, root, objects, sections[k])
         else:
-            text = fault_text(table, root, objects, sections[k])
-            text, why, status = f"no {text}", text is None and "NotFault", max(status, 1)
+            fault = fault_text(table, root, objects, sections[k])
+            text, why, status = f"no {fault}", None if fault else "NotFault", 1
         if why:
             raise Refused(12, f"value {k}: certificate {why}")
         print(text)

@@ -97,15 +97,21 @@ pub fn verifying_keeps_promises<V: Verifies>()
     ensures meant { let c = verifying V.language V.Reads V.ShownBy in Follow c (AreMeant c) }
     ensures as_told { let c = verifying V.language V.Reads V.ShownBy in Follow c (AreAsTold c) }
     ensures read_fault { Follow (verifying V.language V.Reads V.ShownBy) (λ words. OnlyReadFault) }
-    ensures write_fault { Follow (verifying V.language V.Reads V.ShownBy) (λ words. OnlyWriteFault) }
-    ensures open_fault { let c = verifying V.language V.Reads V.ShownBy in Follow c (OnlyOpenFault c) }
+    ensures write_fault { Follow (verifying V.language V.Reads V.ShownBy)
+        (λ words. OnlyWriteFault) }
+    ensures open_fault { let c = verifying V.language V.Reads V.ShownBy in
+        Follow c (OnlyOpenFault c) }
     ensures missing { let c = verifying V.language V.Reads V.ShownBy in Follow c (IfMissing c) }
     ensures too_long { let c = verifying V.language V.Reads V.ShownBy in Follow c (OnlyTooLong c) }
-    ensures file_too_long { let c = verifying V.language V.Reads V.ShownBy in Follow c (IfFileTooLong c) }
-    ensures input_too_long { let c = verifying V.language V.Reads V.ShownBy in Follow c (IfInputTooLong c) }
-    ensures input_fails { let c = verifying V.language V.Reads V.ShownBy in Follow c (IfInputFails c) }
+    ensures file_too_long { let c = verifying V.language V.Reads V.ShownBy in
+        Follow c (IfFileTooLong c) }
+    ensures input_too_long { let c = verifying V.language V.Reads V.ShownBy in
+        Follow c (IfInputTooLong c) }
+    ensures input_fails { let c = verifying V.language V.Reads V.ShownBy in
+        Follow c (IfInputFails c) }
     ensures memory { let c = verifying V.language V.Reads V.ShownBy in Follow c (IfMemory c) }
-    ensures write_fault_by { let c = verifying V.language V.Reads V.ShownBy in Follow c (IfWriteFault c) }
+    ensures write_fault_by { let c = verifying V.language V.Reads V.ShownBy in
+        Follow c (IfWriteFault c) }
     ensures decided { let c = verifying V.language V.Reads V.ShownBy in Follow c (IsDecided c) }
     ensures exact { let c = verifying V.language V.Reads V.ShownBy in Follow c (IsExact c) }
     ensures complete { let c = verifying V.language V.Reads V.ShownBy in Follow c (IsComplete c) }

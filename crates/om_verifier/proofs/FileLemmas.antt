@@ -1,5 +1,5 @@
 -- What a CERT is read as.
-use Rattle.std.proofs.Common.{◌≡◌, ◌⊎◌, ℕ, List, Some, Ok, Err, inl, inr, refl, ap}
+use Rattle.std.proofs.Common.{◌≡◌, ℕ, List, Some, Ok, Err, inl, inr, refl, ap}
 use Rattle.om_section.specs.declared.read.CertFault.{CertFault}
 use Rattle.om_section.specs.declared.read.CertFault.TheVariants.{Syntax, Memory}
 use Rattle.om_section.specs.declared.section.Section.{Section}

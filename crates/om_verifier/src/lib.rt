@@ -2,11 +2,13 @@
 //! type, and the command that reads the values as they come.
 #![tactic(auto)]
 
+mod command;
 mod files;
 mod judge;
 pub mod laws;
 mod reason;
 mod values;
 
+pub use command::verify;
 pub use files::find_certificate;
 pub use values::Certified;

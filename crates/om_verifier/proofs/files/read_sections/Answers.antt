@@ -1,4 +1,4 @@
-use Rattle.std.proofs.Common.{Ok, Err, ap, subst}
+use Rattle.std.proofs.Common.{ap, subst}
 use Rattle.om_outcome.specs.Outcome.{fault_of}
 use Rattle.om_section.specs.Format.{IsCertificate}
 use Rattle.om_section.specs.Reading.{IsFaultOf}

@@ -1,0 +1,173 @@
+-- The account of a call that verifies a certificate, from what its files gave.
+use Rattle.std.proofs.Common.{◌≡◌, ◌⊎◌, ◌<◌, ℕ, zero, suc, List, Ok, Err, inl, inr, refl, subst, arith}
+use Rattle.om_outcome.specs.declared.status.Status.{Status}
+use Rattle.om_outcome.specs.Outcome.{Found, unfetched, Request, own, verify, Asks, out_of_memory}
+use Rattle.om_edge.specs.State.{ByteState, FilesState, Change, change}
+use Rattle.om_section.specs.declared.section.Section.{Section}
+use Rattle.om_stops.specs.declared.stop.Stop.{Stop}
+use Rattle.om_stops.specs.Stops.{stop_of, Reports}
+use Rattle.om_promises.specs.Account.{IsWanted, FetchesIn, FetchesFor, Account}
+use Rattle.om_promises.specs.Call.{call}
+use Rattle.om_promises.specs.Commands.{Fetches, Prepares}
+use Rattle.om_promises.specs.Given.{Fetched}
+use Rattle.om_declared.specs.declared.types.Requested.{Requested}
+use Rattle.om_declared.specs.Types.{type_over, GivesType}
+use Rattle.om_work.specs.Reported.{HasAccount}
+use Rattle.om_work.proofs.StopLemmas.{WantsInTurns, stop_account}
+use Rattle.om_verification.specs.Verification.{Asked}
+use Rattle.om_verifier.specs.Asked.{AsksToVerify}
+use Rattle.om_verifier.specs.Files.{GivesCertificate}
+use Rattle.om_verifier.specs.Reading.{on_certificates, certified}
+
+-- what came of the first turn and of the second one
+abbrev two_found : Found → Found → ℕ → List ℕ → Found
+two_found first second zero name = first
+two_found first second (suc turn) name = second
+
+-- FILE and CERT are wanted in two turns
+pub wanted_soon : WantsInTurns 2 on_certificates
+wanted_soon request files turn name (asked, is, inl (first, e)) = omega (arith, first)
+wanted_soon request files turn name (asked, is, inr (second, e, type, reads)) =
+    omega (arith, second)
+
+module _ (words : List (List ℕ)) (found : Fetches) where
+  -- two turns, one after the other
+  new_fetches :
+      (before between after : FilesState)
+      → FetchesIn on_certificates words (change before between) found 0
+      → FetchesIn on_certificates words (change between after) found 1
+      → FetchesFor on_certificates words (change before after) found
+  new_fetches before between after first second = record {
+    turns = 2;
+    state = state;
+    begins = refl;
+    ends = refl;
+    each = each;
+    all = λ turn name w. wanted_soon w.request found turn name w.wants;
+  } where
+    state : ℕ → FilesState
+    state zero = before
+    state (suc zero) = between
+    state (suc (suc n)) = after
+
+    each : (turn : ℕ) → turn < 2
+        → FetchesIn on_certificates words (change (state turn) (state (suc turn))) found turn
+    each zero less = first
+    each (suc zero) less = second
+    each (suc (suc n)) less = absurd (omega (arith, less))
+
+-- FILE or TYPE is not read
+module _ (words : List (List ℕ)) (file type certificate : List ℕ) (limit : ℕ)
+    (asks : Asks words (own (verify file type certificate limit))) (files : Change FilesState)
+    (found : Found) (fetched : Fetched files file found) where
+  abbrev asked : Asked
+  asked = record { file = file; type = type; certificate = certificate; limit = limit }
+
+  abbrev request : Request
+  request = own (verify file type certificate limit)
+
+  abbrev file_found : Fetches
+  file_found = two_found found unfetched
+
+  wanted : IsWanted on_certificates words file_found 0 file
+  wanted = record { request = request; asks = asks; wants = (asked, refl, inl (refl, refl)) }
+
+  fetches : FetchesFor on_certificates words files file_found
+  fetches =
+      new_fetches words file_found files.before files.after files.after (inl (file, wanted, fetched))
+      (inr (refl, λ name is. refl))
+
+  gives_stop :
+      (stop : Stop) → GivesType file type found (Err stop)
+      → Prepares on_certificates words file_found (Err (stop_of stop))
+      ⊎ (stop_of stop ≡ out_of_memory)
+  gives_stop stop (inl reads) =
+      inl (Ok request, asks, (asked, refl, (Err (stop_of stop), reads, refl)))
+  gives_stop stop (inr memory) = inr memory
+
+  pub no_type_account :
+      (stop : Stop) → GivesType file type found (Err stop) → (input out : ByteState)
+      (err : Change ByteState) (status : Status) → Reports (stop_of stop) err status
+      → Account on_certificates words (call (change input input) files (change out out) err status)
+  no_type_account stop gives input out err status r =
+      stop_account on_certificates words file_found input out files fetches err status (stop_of stop)
+      (gives_stop stop gives) r
+
+-- they are, and CERT comes next
+module _ (words : List (List ℕ)) (r : Requested) (certificate : List ℕ) (limit : ℕ)
+    (a b c : FilesState) (asks : AsksToVerify words r certificate limit (change a b)) (found : Found)
+    (fetched : Fetched (change b c) certificate found) where
+  abbrev both_found : Fetches
+  both_found = two_found asks.found found
+
+  abbrev asked_of : Asked
+  asked_of =
+      record { file = asks.file; type = asks.type; certificate = certificate; limit = limit }
+
+  abbrev request_of : Request
+  request_of = own (verify asks.file asks.type certificate limit)
+
+  file_wanted : IsWanted on_certificates words both_found 0 asks.file
+  file_wanted = record {
+    request = request_of;
+    asks = asks.asks;
+    wants = (asked_of, refl, inl (refl, refl));
+  }
+
+  certificate_wanted : IsWanted on_certificates words both_found 1 certificate
+  certificate_wanted = record {
+    request = request_of;
+    asks = asks.asks;
+    wants = (asked_of, refl, inr (refl, refl, type_over r, asks.gives.0));
+  }
+
+  both_fetched : FetchesFor on_certificates words (change a c) both_found
+  both_fetched =
+      new_fetches words both_found a b c (inl (asks.file, file_wanted, asks.fetched))
+      (inl (certificate, certificate_wanted, fetched))
+
+  stop_given :
+      (stop : Stop) → GivesCertificate certificate found (Err stop)
+      → Prepares on_certificates words both_found (Err (stop_of stop))
+      ⊎ (stop_of stop ≡ out_of_memory)
+  stop_given stop (inl reads) =
+      inl (
+        Ok request_of,
+        asks.asks,
+        (asked_of, refl, (Ok (type_over r), asks.gives.0, (Err (stop_of stop), reads, refl))),
+      )
+  stop_given stop (inr memory) = inr memory
+
+  -- there are no sections
+  pub no_sections_account :
+      (stop : Stop) → GivesCertificate certificate found (Err stop) → (input out : ByteState)
+      (err : Change ByteState) (status : Status) → Reports (stop_of stop) err status
+      → Account on_certificates words
+      (call (change input input) (change a c) (change out out) err status)
+  no_sections_account stop gives input out err status reports =
+      stop_account on_certificates words both_found input out (change a c) both_fetched err status
+      (stop_of stop) (stop_given stop gives) reports
+
+  -- the values are verified
+  pub sections_account :
+      (sections : List Section) → GivesCertificate certificate found (Ok sections)
+      → (input out err : Change ByteState) (status : Status)
+      → HasAccount on_certificates (certified r sections limit) input out err status
+      → Account on_certificates words (call input (change a c) out err status)
+  sections_account sections gives input out err status does =
+      does words both_found (change a c) both_fetched (
+        Ok request_of,
+        asks.asks,
+        (asked_of, refl, (Ok (type_over r), asks.gives.0, (Ok sections, gives, refl))),
+      )
+
+-- for equal types, sections and limits
+pub account_same :
+    (r s : Requested) (all others : List Section) (limit most : ℕ)
+    (input out err : Change ByteState) (status : Status) → r ≡ s → all ≡ others → limit ≡ most
+    → HasAccount on_certificates (certified r all limit) input out err status
+    → HasAccount on_certificates (certified s others most) input out err status
+account_same r s all others limit most input out err status e f g h =
+    subst (λ s. HasAccount on_certificates (certified s others most) input out err status) e
+    (subst (λ o. HasAccount on_certificates (certified r o most) input out err status) f
+    (subst (λ m. HasAccount on_certificates (certified r all m) input out err status) g h))

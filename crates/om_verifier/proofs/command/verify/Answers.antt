@@ -1,0 +1,25 @@
+use Rattle.om_edge.specs.State.{change}
+use Rattle.om_verifier.proofs.AccountLemmas.{no_type_account}
+use Rattle.om_verifier.proofs.command.verify.Goals as goal
+
+pub returns-in-Ok : goal.returns-in-Ok
+returns-in-Ok g c = λ words asks.
+    let found = c.in-Ok.ensures in
+    c.verify_over.ensures words (g.O.Opener.state c.args.files.now) (record {
+      file = c.args.file.now;
+      type = c.args.type_text.now;
+      asks = asks;
+      found = found.0;
+      fetched = found.1;
+      gives = found.2;
+    })
+
+pub returns-in-Err : goal.returns-in-Err
+returns-in-Err g c = λ words asks.
+    let found = c.in-Err.ensures in
+    no_type_account words c.args.file.now c.args.type_text.now c.args.certificate.now c.args.limit
+    asks (change (g.O.Opener.state c.args.files.now) (g.O.Opener.state c.find_type.new.files)) found.0
+    found.1 c.in-Err.stop found.2 (g.S.Source.state c.args.input.now)
+    (g.K.Sink.state c.args.out.now)
+    (change (g.E.Sink.state c.args.err.now) (g.E.Sink.state c.report_stop.new.err))
+    c.report_stop.result c.report_stop.ensures

@@ -1,0 +1,132 @@
+//! `verify`: the files, then the values by their sections, and the account of the call.
+
+ghost use Rattle.std.specs.Prelude.{List, ℕ};
+ghost use Rattle.om_outcome.specs.Outcome.{Asks, own, verify as verify_of};
+ghost use Rattle.om_edge.specs.State.{FilesState, change};
+ghost use Rattle.om_promises.specs.Account.{Account};
+ghost use Rattle.om_promises.specs.Call.{call};
+ghost use Rattle.om_work.specs.Reported.{HasAccount};
+ghost use Rattle.om_declared.specs.Types.{IsReady};
+ghost use Rattle.om_verifier.specs.Asked.{AsksToVerify};
+ghost use Rattle.om_verifier.specs.Reading.{on_certificates, certified};
+
+use crate::files::find_certificate;
+use crate::values::Certified;
+use om_declared::{Requested, find_type};
+use om_edge::{Opener, Sink, Source};
+use om_outcome::status::Status;
+use om_section::Section;
+use om_stops::stop::report_stop;
+use om_work::run_reported;
+use std::alloc::Global;
+
+// Verifies the values by the sections, at the type.
+fn verify_values<S: Source, K: Sink, E: Sink>(
+    alloc: Global,
+    requested: &Requested,
+    sections: &[Section],
+    limit: u64,
+    input: &mut S,
+    out: &mut K,
+    err: &mut E,
+) -> Status
+    requires { IsReady requested.now }
+    ensures { HasAccount on_certificates (certified requested.now sections.now limit)
+        (change (S.state input.old) (S.state input.new))
+        (change (K.state out.old) (K.state out.new)) (change (E.state err.old) (E.state err.new))
+        result }
+{
+    let mut work = Certified::new(alloc, requested, sections, limit);
+    run_reported(alloc, &mut work, input, out, err)
+}
+
+// Reads CERT, and verifies the values.
+fn verify_by<S: Source, O: Opener, K: Sink, E: Sink>(
+    alloc: Global,
+    requested: &Requested,
+    certificate: &str,
+    limit: u64,
+    input: &mut S,
+    files: &mut O,
+    out: &mut K,
+    err: &mut E,
+) -> Status
+    requires { IsReady requested.now }
+    ensures { (words : List (List ℕ)) (before : FilesState)
+        → AsksToVerify words requested.now certificate.now limit
+        (change before (O.state files.old))
+        → Account on_certificates words
+        (call (change (S.state input.old) (S.state input.new))
+        (change before (O.state files.new)) (change (K.state out.old) (K.state out.new))
+        (change (E.state err.old) (E.state err.new)) result) }
+{
+    match find_certificate(alloc, files, certificate) {
+        Ok(sections) => verify_values(
+            alloc,
+            requested,
+            sections.as_slice(),
+            limit,
+            input,
+            out,
+            err,
+        ),
+        Err(stop) => report_stop(alloc, err, &stop),
+    }
+}
+
+// Reads CERT, and verifies the values at the type that a FILE and a TYPE gave.
+fn verify_over<S: Source, O: Opener, K: Sink, E: Sink>(
+    alloc: Global,
+    requested: Requested,
+    certificate: &str,
+    limit: u64,
+    input: &mut S,
+    files: &mut O,
+    out: &mut K,
+    err: &mut E,
+) -> Status
+    requires { IsReady requested }
+    ensures { (words : List (List ℕ)) (before : FilesState)
+        → AsksToVerify words requested certificate.now limit (change before (O.state files.old))
+        → Account on_certificates words
+        (call (change (S.state input.old) (S.state input.new))
+        (change before (O.state files.new)) (change (K.state out.old) (K.state out.new))
+        (change (E.state err.old) (E.state err.new)) result) }
+{
+    verify_by(
+        alloc,
+        &requested,
+        certificate,
+        limit,
+        input,
+        files,
+        out,
+        err,
+    )
+}
+
+/// Reads FILE and TYPE, then CERT, and verifies the values.
+pub fn verify<S: Source, O: Opener, K: Sink, E: Sink>(
+    alloc: Global,
+    file: &str,
+    type_text: &str,
+    certificate: &str,
+    limit: u64,
+    input: &mut S,
+    files: &mut O,
+    out: &mut K,
+    err: &mut E,
+) -> Status
+    ensures { (words : List (List ℕ))
+        → Asks words (own (verify_of file.now type_text.now certificate.now limit))
+        → Account on_certificates words
+        (call (change (S.state input.old) (S.state input.new))
+        (change (O.state files.old) (O.state files.new))
+        (change (K.state out.old) (K.state out.new))
+        (change (E.state err.old) (E.state err.new)) result) }
+{
+    match find_type(alloc, files, file, type_text) {
+        Ok(requested) => verify_over(alloc, requested, certificate, limit, input, files, out, err),
+        Err(stop) => report_stop(alloc, err, &stop),
+    }
+}
