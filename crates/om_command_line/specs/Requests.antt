@@ -29,6 +29,8 @@ request_of (requests.Trees file type limit) =
 request_of (requests.Dump limit) = outcome.dump limit
 request_of (requests.Same limit) = outcome.compare limit
 request_of (requests.Build file type) = outcome.own (outcome.build file.now type.now)
+request_of (requests.Verify file type certificate limit) =
+    outcome.own (outcome.verify file.now type.now certificate.now limit)
 request_of (requests.Generate n count type) = outcome.own (outcome.generate n count type.now)
 
 -- the arguments of a command

@@ -46,11 +46,13 @@ const PATH: Argument<'static> = Argument::Word("PATH");
 
 const SCRIPT: Argument<'static> = Argument::Word("SCRIPT");
 
+const CERT: Argument<'static> = Argument::Word("CERT");
+
 const NUMBER: Argument<'static> = Argument::Number("NUMBER", GREATEST_NUMBER);
 
 const COUNT: Argument<'static> = Argument::Number("COUNT", GREATEST_COUNT);
 
-static FORMS: [Form<'static>; 9] = [
+static FORMS: [Form<'static>; 10] = [
     ("check", &[LIMIT, FILE, TYPE]),
     ("show", &[LIMIT, FILE, TYPE]),
     ("get", &[LIMIT, FILE, TYPE, PATH]),
@@ -59,6 +61,7 @@ static FORMS: [Form<'static>; 9] = [
     ("dump", &[LIMIT]),
     ("same", &[LIMIT]),
     ("build", &[FILE, TYPE]),
+    ("verify", &[LIMIT, FILE, TYPE, CERT]),
     ("gen", &[NUMBER, COUNT, TYPE]),
 ];
 

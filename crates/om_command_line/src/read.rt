@@ -61,6 +61,13 @@ pub enum Request<'a> {
         file: &'a str,
         type_text: &'a str,
     },
+    /// Whether a certificate shows of each value whether it has the type.
+    Verify {
+        file: &'a str,
+        type_text: &'a str,
+        certificate: &'a str,
+        limit: u64,
+    },
     /// What is said of the value that is made from a number, with so many items, at the type.
     Generate {
         number: u64,
@@ -147,6 +154,12 @@ fn request_by<'a>(command: &str, arguments: &ArgMatches<'a>) -> Option<Request<'
         "dump" => Some(Request::Dump { limit }),
         "same" => Some(Request::Same { limit }),
         "build" => Some(Request::Build { file, type_text }),
+        "verify" => Some(Request::Verify {
+            file,
+            type_text,
+            certificate: word(arguments, "CERT"),
+            limit,
+        }),
         "gen" => Some(Request::Generate {
             number: number(arguments, "NUMBER"),
             count: number(arguments, "COUNT"),

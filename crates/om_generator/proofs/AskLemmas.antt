@@ -51,9 +51,12 @@ all_ranged = (
               (
                 λ rows request h. subst IsRanged h.2.2 tt,
                 (
-                  λ rows request h.
-                      subst IsRanged h.2.2.2 (below_number h.0 h.1.4, h.2.1.4),
-                  tt,
+                  λ rows request h. subst IsRanged h.2.2.2.2 tt,
+                  (
+                    λ rows request h.
+                        subst IsRanged h.2.2.2 (below_number h.0 h.1.4, h.2.1.4),
+                    tt,
+                  ),
                 ),
               ),
             ),

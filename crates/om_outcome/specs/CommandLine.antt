@@ -132,6 +132,8 @@ forms =
     ∷ row (codes "dump") (limit_option ∷ []) dump
     ∷ row (codes "same") (limit_option ∷ []) compare
     ∷ row (codes "build") (file_and_type []) (λ file type. own (build file type))
+    ∷ row (codes "verify") (typed (wanted (codes "CERT") ∷ []))
+    (λ n file type certificate. own (verify file type certificate n))
     ∷ row (codes "gen")
     (number (codes "NUMBER") greatest_number ∷ number (codes "COUNT") greatest_count
     ∷ wanted (codes "TYPE") ∷ [])

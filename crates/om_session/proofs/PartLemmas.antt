@@ -1,19 +1,23 @@
 -- Each set of commands is a part of all: no request is for two of them.
 use Rattle.std.proofs.Common.{◌≡◌, ◌⊎◌, ◌<◌, ℕ, List, None, inl, inr, refl, subst, arith}
-use Rattle.om_outcome.specs.Outcome.{Request, tell, get, edit, dump, compare, own, build, generate, Asks, OwnRequest}
+use Rattle.om_outcome.specs.Outcome.{Request, tell, get, edit, dump, compare, own, build, generate, verify, Asks}
 use Rattle.om_promises.specs.Call.{Call}
-use Rattle.om_promises.specs.Commands.{Commands, Fetches}
+use Rattle.om_promises.specs.Commands.{Commands}
 use Rattle.om_promises.specs.Account.{Account}
 use Rattle.om_choice.specs.Choice.{choice, IsIdleAt, AreIdleTogether, AskNothingOf, HaveAccountsOfFirst, PromiseAsFirst, HaveAccountsOfSecond, PromiseAsSecond}
 use Rattle.om_texts.specs.Texts.{built_by}
 use Rattle.om_texts.specs.Laws.{IsIdleElsewhere as TextsIdleElsewhere}
+use Rattle.om_texts.proofs.ApartLemmas.{values_idle}
 use Rattle.om_generation.specs.Generation.{generated_by}
 use Rattle.om_generation.specs.Laws.{IsIdleElsewhere as MadeIdleElsewhere}
+use Rattle.om_verification.specs.Verification.{verified_by}
+use Rattle.om_verification.specs.Laws.{IsIdleElsewhere as CertificatesIdleElsewhere}
+use Rattle.om_verifier.specs.Shown.{reads_sections, declared_sections}
 use Rattle.om_build.specs.Lines.{declared_texts}
 use Rattle.om_declared.specs.Language.{declared_types}
 use Rattle.om_command_line.proofs.RequestLemmas.{one_request}
 use Rattle.om_work.proofs.StopLemmas.{WantsInTurns}
-use Rattle.om_session.specs.All.{on_values, on_texts, on_made, on_input, all_commands, IsOfValues, IsOfTexts, IsOfMade, AskOnly, IsPartOf, IsPart}
+use Rattle.om_session.specs.All.{on_values, on_texts, on_certificates, on_made, on_values_or_texts, on_input, all_commands, IsOfValues, IsOfTexts, IsOfCertificates, IsOfMade, AskOnly, IsPartOf, IsPart}
 
 -- ---- a part of a choice is a part of all
 
@@ -48,66 +52,92 @@ part_of_part c d e IsOf inner outer = record {
 -- ---- what is asked of one set is not asked of another
 
 of_values_others : (request : Request) → IsOfValues request
-    → (built_by request ≡ None) × (generated_by request ≡ None)
-of_values_others (tell saying file type limit) of = (refl, refl)
-of_values_others (get file type path limit) of = (refl, refl)
-of_values_others (edit file type script compat limit) of = (refl, refl)
-of_values_others (dump limit) of = (refl, refl)
-of_values_others (compare limit) of = (refl, refl)
+    → (built_by request ≡ None) × (verified_by request ≡ None) × (generated_by request ≡ None)
+of_values_others (tell saying file type limit) of = (refl, refl, refl)
+of_values_others (get file type path limit) of = (refl, refl, refl)
+of_values_others (edit file type script compat limit) of = (refl, refl, refl)
+of_values_others (dump limit) of = (refl, refl, refl)
+of_values_others (compare limit) of = (refl, refl, refl)
 of_values_others (own request) of = absurd of
 
--- those on values are idle at what is asked of a set of its own
-values_idle : (request : OwnRequest) → IsIdleAt on_values (own request)
-values_idle request = record {
-  unwanted = λ files turn name w. unwanted files turn name w;
-  unfound = λ files result h. absurd h.1;
-} where
-  unwanted : (files : Fetches) (turn : ℕ) (name : List ℕ) → on_values.Wants (own request) files turn name → ⊥
-  unwanted files turn name (inl (first, w)) = let e = w.typed in absurd (cc e)
-  unwanted files turn name (inr (second, w)) = let e = w.scripted in absurd (cc e)
-
 of_texts_others : (request : Request) → IsOfTexts request
-    → IsIdleAt on_values request × (generated_by request ≡ None)
-of_texts_others (own (build file type)) of = (values_idle (build file type), refl)
+    → IsIdleAt on_values request × (verified_by request ≡ None) × (generated_by request ≡ None)
+of_texts_others (own (build file type)) of =
+    (values_idle declared_types (build file type), refl, refl)
 of_texts_others request of = absurd of
 
+of_certificates_others : (request : Request) → IsOfCertificates request
+    → IsIdleAt on_values request × (built_by request ≡ None) × (generated_by request ≡ None)
+of_certificates_others (own (verify file type certificate limit)) of =
+    (values_idle declared_types (verify file type certificate limit), refl, refl)
+of_certificates_others request of = absurd of
+
 of_made_others : (request : Request) → IsOfMade request
-    → IsIdleAt on_values request × (built_by request ≡ None)
+    → IsIdleAt on_values request × (built_by request ≡ None) × (verified_by request ≡ None)
 of_made_others (own (generate number count type)) of =
-    (values_idle (generate number count type), refl)
+    (values_idle declared_types (generate number count type), refl, refl)
 of_made_others request of = absurd of
 
--- ---- the three sets
+-- ---- the four sets
 
 module _ (texts_idle : TextsIdleElsewhere declared_types declared_texts)
+    (certificates_idle : CertificatesIdleElsewhere declared_types reads_sections declared_sections)
     (made_idle : MadeIdleElsewhere declared_types) where
-  module _ (accounts : HaveAccountsOfFirst on_input on_made)
-      (promise : PromiseAsFirst on_input on_made) where
-    pub values_part : HaveAccountsOfFirst on_values on_texts → PromiseAsFirst on_values on_texts
-        → IsPart on_values IsOfValues
-    values_part inner_accounts inner_promise =
-        part_of_part on_values on_input all_commands IsOfValues
-        (first_part on_values on_texts IsOfValues
-            (λ request of. texts_idle request (of_values_others request of).0) inner_accounts inner_promise)
-        (first_part on_input on_made IsOfValues
-            (λ request of. made_idle request (of_values_others request of).1) accounts promise)
+  module _ (outer_accounts : HaveAccountsOfFirst on_input on_made)
+      (outer : PromiseAsFirst on_input on_made) where
+    module _ (middle_accounts : HaveAccountsOfFirst on_values_or_texts on_certificates)
+        (middle : PromiseAsFirst on_values_or_texts on_certificates) where
+      -- a part of those on values or texts is a part of all
+      part_of_all : {A : Type 0} (c : Commands A) (IsOf : Request → Type 0)
+          → ((request : Request) → IsOf request
+          → (verified_by request ≡ None) × (generated_by request ≡ None))
+          → IsPartOf on_values_or_texts c IsOf → IsPart c IsOf
+      part_of_all c IsOf others part =
+          part_of_part c on_input all_commands IsOf
+          (part_of_part c on_values_or_texts on_input IsOf part
+              (first_part on_values_or_texts on_certificates IsOf
+              (λ request of. certificates_idle request (others request of).0) middle_accounts middle))
+          (first_part on_input on_made IsOf
+              (λ request of. made_idle request (others request of).1) outer_accounts outer)
 
-    pub texts_part : HaveAccountsOfSecond on_values on_texts → PromiseAsSecond on_values on_texts
-        → IsPart on_texts IsOfTexts
-    texts_part inner_accounts inner_promise =
-        part_of_part on_texts on_input all_commands IsOfTexts
-        (second_part on_values on_texts IsOfTexts
-            (λ request of. (of_texts_others request of).0) inner_accounts inner_promise)
-        (first_part on_input on_made IsOfTexts
-            (λ request of. made_idle request (of_texts_others request of).1) accounts promise)
+      pub values_part : HaveAccountsOfFirst on_values on_texts → PromiseAsFirst on_values on_texts
+          → IsPart on_values IsOfValues
+      values_part accounts promise =
+          part_of_all on_values IsOfValues (λ request of. (of_values_others request of).1)
+          (first_part on_values on_texts IsOfValues
+          (λ request of. texts_idle request (of_values_others request of).0) accounts promise)
 
-  pub made_part : AreIdleTogether on_values on_texts → HaveAccountsOfSecond on_input on_made
+      pub texts_part : HaveAccountsOfSecond on_values on_texts
+          → PromiseAsSecond on_values on_texts → IsPart on_texts IsOfTexts
+      texts_part accounts promise =
+          part_of_all on_texts IsOfTexts (λ request of. (of_texts_others request of).1)
+          (second_part on_values on_texts IsOfTexts
+          (λ request of. (of_texts_others request of).0) accounts promise)
+
+    pub certificates_part : AreIdleTogether on_values on_texts
+        → HaveAccountsOfSecond on_values_or_texts on_certificates
+        → PromiseAsSecond on_values_or_texts on_certificates
+        → IsPart on_certificates IsOfCertificates
+    certificates_part together accounts promise =
+        part_of_part on_certificates on_input all_commands IsOfCertificates
+        (second_part on_values_or_texts on_certificates IsOfCertificates
+            (λ request of.
+            let others = of_certificates_others request of in
+            together request others.0 (texts_idle request others.1))
+            accounts promise)
+        (first_part on_input on_made IsOfCertificates
+            (λ request of. made_idle request (of_certificates_others request of).2) outer_accounts
+            outer)
+
+  pub made_part : AreIdleTogether on_values on_texts
+      → AreIdleTogether on_values_or_texts on_certificates → HaveAccountsOfSecond on_input on_made
       → PromiseAsSecond on_input on_made → IsPart on_made IsOfMade
-  made_part together accounts promise =
+  made_part inner together accounts promise =
       second_part on_input on_made IsOfMade
       (λ request of.
       let others = of_made_others request of in
-      together request others.0 (texts_idle request others.1))
+      together request (inner request others.0 (texts_idle request others.1))
+      (certificates_idle request others.2))
       accounts promise
 
 -- words ask for one request at most
@@ -129,6 +159,11 @@ values_in_turns request files turn name (inl (first, w)) = omega (arith, first)
 values_in_turns request files turn name (inr (second, w)) = omega (arith, second)
 
 pub all_in_turns : WantsInTurns 2 all_commands
-all_in_turns request files turn name (inl (inl w)) = values_in_turns request files turn name w
-all_in_turns request files turn name (inl (inr (first, type, asked))) = omega (arith, first)
+all_in_turns request files turn name (inl (inl (inl w))) =
+    values_in_turns request files turn name w
+all_in_turns request files turn name (inl (inl (inr (first, type, asked)))) = omega (arith, first)
+all_in_turns request files turn name (inl (inr (asked, is, inl (first, named)))) =
+    omega (arith, first)
+all_in_turns request files turn name (inl (inr (asked, is, inr (second, named, typed)))) =
+    omega (arith, second)
 all_in_turns request files turn name (inr never) = absurd never

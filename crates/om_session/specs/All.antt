@@ -1,7 +1,8 @@
 -- All commands as one set: those on values, and each command that is a set of its own. A later set
 -- is added here.
 use Rattle.std.specs.Prelude.{ℕ, ◌⊎◌, List}
-use Rattle.om_outcome.specs.Outcome.{Request, own, build, generate, Asks, Task}
+use Rattle.om_section.specs.declared.section.Section.{Section}
+use Rattle.om_outcome.specs.Outcome.{Request, own, build, generate, verify, Asks, Task}
 use Rattle.om_path.specs.declared.edits.ScriptLine.{ScriptLine}
 use Rattle.om_promises.specs.Account.{Account}
 use Rattle.om_promises.specs.Call.{Call}
@@ -11,8 +12,10 @@ use Rattle.om_commands.specs.Tasks.{commands}
 use Rattle.om_choice.specs.Choice.{choice}
 use Rattle.om_texts.specs.Texts.{building}
 use Rattle.om_generation.specs.Generation.{Making, generation}
+use Rattle.om_verification.specs.Verification.{Verification}
 use Rattle.om_build.specs.Lines.{declared_texts}
 use Rattle.om_declared.specs.Language.{TypeOver, declared_types}
+pub use Rattle.om_verifier.specs.Reading.{on_certificates}
 
 -- the commands on values, the one on texts, and the one on a value that is made from a number
 abbrev pub on_values : Commands (Task TypeOver ScriptLine)
@@ -24,12 +27,19 @@ on_texts = building declared_types declared_texts
 abbrev pub on_made : Commands (Making TypeOver)
 on_made = generation declared_types
 
+-- what may be done with values or texts
+abbrev pub ActOnValuesOrTexts : Type 0
+ActOnValuesOrTexts = Task TypeOver ScriptLine ⊎ TypeOver
+
+abbrev pub on_values_or_texts : Commands ActOnValuesOrTexts
+on_values_or_texts = choice on_values on_texts
+
 -- what may be done with the input
 abbrev pub ActOnInput : Type 0
-ActOnInput = Task TypeOver ScriptLine ⊎ TypeOver
+ActOnInput = ActOnValuesOrTexts ⊎ Verification TypeOver Section
 
 abbrev pub on_input : Commands ActOnInput
-on_input = choice on_values on_texts
+on_input = choice on_values_or_texts on_certificates
 
 -- what may be done, by one of them
 abbrev pub Act : Type 0
@@ -38,7 +48,8 @@ Act = ActOnInput ⊎ Making TypeOver
 abbrev pub all_commands : Commands Act
 all_commands = choice on_input on_made
 
--- what is asked for is to be done with values, with texts, or with a value that is made
+-- what is asked for is to be done with values, with texts, with values and their certificate, or
+-- with a value that is made
 abbrev pub IsOfValues : Request → Type 0
 IsOfValues (own request) = ⊥
 IsOfValues request = Unit {0}
@@ -46,6 +57,10 @@ IsOfValues request = Unit {0}
 abbrev pub IsOfTexts : Request → Type 0
 IsOfTexts (own (build file type)) = Unit {0}
 IsOfTexts request = ⊥
+
+abbrev pub IsOfCertificates : Request → Type 0
+IsOfCertificates (own (verify file type certificate limit)) = Unit {0}
+IsOfCertificates request = ⊥
 
 abbrev pub IsOfMade : Request → Type 0
 IsOfMade (own (generate number count type)) = Unit {0}

@@ -1,5 +1,6 @@
-//! The commands of the program: those on values at declared types, the one on texts, and the one on a
-//! value that is made; and all of them as one set, with what follows from what is promised of a call.
+//! The commands of the program: those on values at declared types, the one on texts, the one that
+//! verifies certificates, and the one on a value that is made; and all of them as one set, with what
+//! follows from what is promised of a call.
 
 ghost use Rattle.om_causes.specs.Causes.{Causes as CausesBy};
 ghost use Rattle.om_commands.specs.Tasks.{commands};
@@ -8,10 +9,12 @@ ghost use Rattle.om_promises.specs.Causes.{OutsideCauses};
 ghost use Rattle.om_promises.specs.CommandLaws.{HaveOneOutcome, ArePromised, Follow};
 ghost use Rattle.om_promises.specs.Lawful.{AreLawful, AreInTurns};
 ghost use Rattle.om_declared.specs.Language.{declared_types};
-ghost use Rattle.om_session.specs.All.{on_values, on_texts, on_made, all_commands, IsOfValues, IsOfTexts, IsOfMade, IsPart};
+ghost use Rattle.om_session.specs.All.{on_values, on_texts, on_made, on_certificates, all_commands, IsOfValues, IsOfTexts, IsOfMade, IsOfCertificates, IsPart};
 ghost use Rattle.om_build.specs.Lines.{declared_texts};
 ghost use Rattle.om_texts.specs.Meanings.{texts_tables};
 ghost use Rattle.om_generation.specs.Meanings.{Causes as CausesOfMade};
+ghost use Rattle.om_verification.specs.Meanings.{certificate_tables};
+ghost use Rattle.om_verifier.specs.Shown.{reads_sections, declared_sections};
 
 use om_build::laws::{DeclaredTexts, declared_texts_are_read_once};
 use om_choice::laws::{
@@ -29,6 +32,11 @@ use om_promises::laws::{files_in_turns, lawful_commands, promised, promises_of_c
 use om_texts::laws::{
     OnTexts, building_is_lawful, building_stands_apart, building_takes_turns, causes_of_texts,
 };
+use om_verification::laws::{
+    OnCertificates, causes_of_certificates, verifying_is_lawful, verifying_stands_apart,
+    verifying_stands_apart_from_made, verifying_stands_apart_from_texts, verifying_takes_turns,
+};
+use om_verifier::laws::{DeclaredSections, declared_sections_are_read_once};
 
 type Values = OnValues<DeclaredTypes>;
 
@@ -36,7 +44,11 @@ type Texts = OnTexts<DeclaredTexts>;
 
 type Made = OnMade<DeclaredTypes>;
 
-type Input = Choice<Values, Texts>;
+type Certificates = OnCertificates<DeclaredSections>;
+
+type ValuesOrTexts = Choice<Values, Texts>;
+
+type Input = Choice<ValuesOrTexts, Certificates>;
 
 type All = Choice<Input, Made>;
 
@@ -47,18 +59,28 @@ pub fn all_commands_are_lawful()
 {
     declared_types_are_lawful();
     declared_texts_are_read_once();
+    declared_sections_are_read_once();
     commands_are_lawful::<DeclaredTypes>();
     commands_take_turns::<DeclaredTypes>();
     building_is_lawful::<DeclaredTexts>();
     building_takes_turns::<DeclaredTexts>();
     building_stands_apart::<DeclaredTexts>();
+    verifying_is_lawful::<DeclaredSections>();
+    verifying_takes_turns::<DeclaredSections>();
+    verifying_stands_apart::<DeclaredSections>();
+    verifying_stands_apart_from_texts::<DeclaredTexts, DeclaredSections>();
+    verifying_stands_apart_from_made::<DeclaredSections, DeclaredTypes>();
     generation_is_lawful::<DeclaredTypes>();
     generation_takes_turns::<DeclaredTypes>();
     generation_stands_apart::<DeclaredTypes>();
     generation_stands_apart_from_texts::<DeclaredTexts, DeclaredTypes>();
     choices_are_lawful::<Values, Texts>();
     choices_take_turns::<Values, Texts>();
+    choices_are_apart::<Values, Texts, Certificates>();
+    choices_are_lawful::<ValuesOrTexts, Certificates>();
+    choices_take_turns::<ValuesOrTexts, Certificates>();
     choices_are_apart::<Values, Texts, Made>();
+    choices_are_apart::<ValuesOrTexts, Certificates, Made>();
     choices_are_lawful::<Input, Made>();
     choices_take_turns::<Input, Made>();
 }
@@ -94,13 +116,18 @@ pub fn values_have_one_outcome()
 pub fn all_commands_have_parts()
     ensures values { IsPart on_values IsOfValues }
     ensures texts { IsPart on_texts IsOfTexts }
+    ensures certificates { IsPart on_certificates IsOfCertificates }
     ensures made { IsPart on_made IsOfMade }
 {
     building_stands_apart::<DeclaredTexts>();
+    verifying_stands_apart::<DeclaredSections>();
     generation_stands_apart::<DeclaredTypes>();
     choices_are_idle::<Values, Texts>();
+    choices_are_idle::<ValuesOrTexts, Certificates>();
     choices_promise_as_the_first::<Values, Texts>();
     choices_promise_as_the_second::<Values, Texts>();
+    choices_promise_as_the_first::<ValuesOrTexts, Certificates>();
+    choices_promise_as_the_second::<ValuesOrTexts, Certificates>();
     choices_promise_as_the_first::<Input, Made>();
     choices_promise_as_the_second::<Input, Made>();
 }
@@ -121,6 +148,16 @@ pub fn statuses_of_texts_have_causes()
     declared_types_are_lawful();
     declared_texts_are_read_once();
     causes_of_texts::<DeclaredTexts>();
+}
+
+/// And so does what is promised by the one that verifies certificates.
+pub fn statuses_of_certificates_have_causes()
+    ensures { Follow on_certificates (CausesBy on_certificates
+        (certificate_tables declared_types reads_sections declared_sections)) }
+{
+    declared_types_are_lawful();
+    declared_sections_are_read_once();
+    causes_of_certificates::<DeclaredSections>();
 }
 
 /// And so does what is promised by the one on a value that is made.

@@ -16,7 +16,9 @@ ghost use Rattle.om_causes.specs.Causes.{Causes as CausesBy};
 ghost use Rattle.om_texts.specs.Meanings.{texts_tables};
 ghost use Rattle.om_build.specs.Lines.{declared_texts};
 ghost use Rattle.om_generation.specs.Meanings.{Causes as CausesOfMade};
-ghost use Rattle.om_session.specs.All.{on_texts, all_commands, IsOfValues, IsOfTexts, IsOfMade, AskOnly};
+ghost use Rattle.om_verification.specs.Meanings.{certificate_tables};
+ghost use Rattle.om_verifier.specs.Shown.{reads_sections, declared_sections};
+ghost use Rattle.om_session.specs.All.{on_texts, on_certificates, all_commands, IsOfValues, IsOfTexts, IsOfMade, IsOfCertificates, AskOnly};
 ghost use Rattle.om_work.specs.Reported.{HasAccount};
 ghost use Rattle.om_session.specs.Telling.{AsksToTell, AsksToEdit};
 ghost use Rattle.om_declared.specs.Types.{IsReady};
@@ -27,8 +29,9 @@ ghost use Rattle.om_stops.specs.Stops.{stop_of, Reports};
 
 use crate::build::build;
 use crate::commands::{
-    all_commands_have_parts, all_commands_keep_promises, statuses_of_made_have_causes,
-    statuses_of_texts_have_causes, statuses_of_values_have_causes, values_have_one_outcome,
+    all_commands_have_parts, all_commands_keep_promises, statuses_of_certificates_have_causes,
+    statuses_of_made_have_causes, statuses_of_texts_have_causes, statuses_of_values_have_causes,
+    values_have_one_outcome,
 };
 use crate::edit::Edits;
 use crate::values::{Job, Progress};
@@ -40,6 +43,7 @@ use om_generator::run_generation;
 use om_outcome::status::Status;
 use om_path::{Script, read_path};
 use om_stops::stop::{Stop, report_stop};
+use om_verifier::verify;
 use om_work::run_reported;
 use std::alloc::Global;
 
@@ -343,6 +347,14 @@ fn run_request<S: Source, O: Opener, K: Sink, E: Sink>(
         ),
         Request::Same { limit } => take_values(alloc, Job::Compare(limit), input, out, err),
         Request::Build { file, type_text } => build(alloc, file, type_text, input, files, out, err),
+        Request::Verify {
+            file,
+            type_text,
+            certificate,
+            limit,
+        } => verify(
+            alloc, file, type_text, certificate, limit, input, files, out, err,
+        ),
         Request::Generate {
             number,
             count,
@@ -404,6 +416,13 @@ pub fn run<S: Source, O: Opener, K: Sink, E: Sink>(
         (change (O.state files.old) (O.state files.new))
         (change (K.state out.old) (K.state out.new))
         (change (E.state err.old) (E.state err.new)) result) }
+    ensures causes_of_certificates { AskOnly IsOfCertificates (texts words.now)
+        → CausesBy on_certificates
+        (certificate_tables declared_types reads_sections declared_sections) (texts words.now)
+        (call (change (S.state input.old) (S.state input.new))
+        (change (O.state files.old) (O.state files.new))
+        (change (K.state out.old) (K.state out.new))
+        (change (E.state err.old) (E.state err.new)) result) }
     ensures causes_of_made { AskOnly IsOfMade (texts words.now)
         → CausesOfMade declared_types (texts words.now)
         (call (change (S.state input.old) (S.state input.new))
@@ -422,6 +441,7 @@ pub fn run<S: Source, O: Opener, K: Sink, E: Sink>(
     values_have_one_outcome();
     statuses_of_values_have_causes();
     statuses_of_texts_have_causes();
+    statuses_of_certificates_have_causes();
     statuses_of_made_have_causes();
     run_command(alloc, words, input, files, out, err)
 }
