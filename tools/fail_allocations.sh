@@ -3,7 +3,7 @@
 # asks for so many, and passes, or returns the error that memory ran out. One that fails by an assertion, a fault or another error
 # answered wrongly: it is printed, and the status is then 1.
 #
-#   tools/fail_allocations.sh [N ..]      by default 1 2 3 5 8 13 21 34 55 100 200 300 391 392
+#   tools/fail_allocations.sh [N ..]      by default 1 2 3 5 8 13 21 34 55 100 200 300 1000 3000 10000
 #
 # A line for each N counts the tests. It ends at the first N at which every test passes, since the greater ones say no more; where
 # there is none, it says so, and the status is 1 where the numbers are not given. Each N is one build by `rt try`, which proves
@@ -12,7 +12,7 @@ set -u
 cd "$(dirname "$0")/../crates/om_tests" || exit 2
 command -v rt >/dev/null || { echo 'fail_allocations: the command rt is missing, so nothing was tried' >&2; exit 2; }
 numbers=("$@")
-[ $# -gt 0 ] || numbers=(1 2 3 5 8 13 21 34 55 100 200 300 391 392)
+[ $# -gt 0 ] || numbers=(1 2 3 5 8 13 21 34 55 100 200 300 1000 3000 10000)
 told=$(mktemp) || exit 2
 trap 'rm -f "$told"' EXIT
 trap 'exit 130' INT TERM

@@ -83,9 +83,9 @@ fn sink_accepts<W: Write + Drop>(
 // open for writing alone cannot be read.
 #[test]
 fn a_file_is_a_sink_and_a_source(rt: HostRuntime) -> Result<(), Fail> {
-    assert!(rt; sink_accepts(File::create(&rt, "put.bytes")?, &[Ok(3), Ok(3)], 0));
-    let answers = [Ok(2), Ok(2), Ok(2), Ok(0)];
-    assert!(rt; source_gives(File::open(&rt, "put.bytes")?, &answers, b"abcabc", 0));
+    assert!(rt; sink_accepts(File::create(&rt, "put.bytes")?, &[Ok(3), Ok(3), Ok(3)], 0));
+    let answers = [Ok(2), Ok(2), Ok(2), Ok(2), Ok(1), Ok(0)];
+    assert!(rt; source_gives(File::open(&rt, "put.bytes")?, &answers, b"abcabcabc", 0));
     let failures = [Err(Failed), Err(Failed)];
     assert!(rt; sink_accepts(File::open(&rt, "put.bytes")?, &failures, 2));
     assert!(rt; source_gives(File::create(&rt, "put.bytes")?, &failures, b"", 2));

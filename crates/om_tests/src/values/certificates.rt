@@ -66,9 +66,15 @@ static ANSWERS: [(&[u8], &[u8], &[u8], Question<'static>, Answer); 14] = [
         Shown(b"value 0 yes\npair 0 0\npair 1 1\npair 1 2\nend\n"),
         ("two types", 1, 0),
     ),
-    (b"", b"int list", LIST, MetLast(b".1"), ("met", 1, 0)),
-    (b"", b"int list", LIST, MetLast(b"."), ("nothing", 0, 0)),
-    (b"", b"bool list", LIST, MetLast(b".1"), ("nothing", 0, 0)),
+    (b"", b"int list", LIST, MetLast(2, b".1"), ("met", 1, 0)),
+    (b"", b"int list", LIST, MetLast(2, b"."), ("nothing", 0, 0)),
+    (
+        b"",
+        b"bool list",
+        LIST,
+        MetLast(2, b".1"),
+        ("nothing", 0, 0),
+    ),
     (b"", b"int list", LIST, Grafted(b".1"), ("objects", 4, 0)),
     (b"", b"int list", LIST, Grafted(b".0"), ("refused", 2, 0)),
 ];

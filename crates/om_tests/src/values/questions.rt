@@ -25,8 +25,8 @@ pub(crate) enum Question<'a> {
     Certified,
     /// What the first section of this certificate shows.
     Shown(&'a [u8]),
-    /// Which object is met last, and at which type, if it is at this path.
-    MetLast(&'a [u8]),
+    /// Which object is met last of so many, and at which type, if it is at this path.
+    MetLast(usize, &'a [u8]),
     /// How many objects there are once a copy of the whole stands at this path.
     Grafted(&'a [u8]),
 }
@@ -99,12 +99,12 @@ fn is_path(alloc: Global, path: &Path, text: &[u8]) -> Result<bool, Memory> {
     Ok(own.as_slice() == text)
 }
 
-// The last of what is met, if it is at this path.
-fn last_of(alloc: Global, all: &AllMet, text: &[u8]) -> Result<Answer, Memory>
+// The last of what is met, if there are so many, and it is at this path.
+fn last_of(alloc: Global, all: &AllMet, many: usize, text: &[u8]) -> Result<Answer, Memory>
     requires { AreOrdered all.now }
 {
     let n = all.len();
-    if n == 0 {
+    if n == 0 || n != many {
         return Ok(NOTHING);
     }
     let path = all.path(alloc, n - 1)?;
@@ -115,7 +115,13 @@ fn last_of(alloc: Global, all: &AllMet, text: &[u8]) -> Result<Answer, Memory>
     Ok(("met", object, ty as u64))
 }
 
-fn met_last(alloc: Global, table: &TypeTable, value: &Value, text: &[u8]) -> Result<Answer, Memory>
+fn met_last(
+    alloc: Global,
+    table: &TypeTable,
+    value: &Value,
+    many: usize,
+    text: &[u8],
+) -> Result<Answer, Memory>
     requires value { IsValue (length value.now.heap) value.now.root }
     requires lawful { IsLawful (table_of table.now) }
 {
@@ -123,7 +129,7 @@ fn met_last(alloc: Global, table: &TypeTable, value: &Value, text: &[u8]) -> Res
     match check(alloc, &value.heap, value.root, table, &mut steps)? {
         Verdict::Yes(_) => {
             let all = met(alloc, &value.heap, value.root, table)?;
-            last_of(alloc, &all, text)
+            last_of(alloc, &all, many, text)
         }
         Verdict::No(_) => Ok(NOTHING),
     }
@@ -192,7 +198,7 @@ fn answer_at(
     match question {
         Question::Certified => certified(alloc, table, value),
         Question::Shown(certificate) => shown(alloc, table, value, certificate),
-        Question::MetLast(text) => met_last(alloc, table, value, text),
+        Question::MetLast(many, text) => met_last(alloc, table, value, many, text),
         Question::Grafted(text) => grafted(alloc, table, value, bytes, text),
     }
 }
