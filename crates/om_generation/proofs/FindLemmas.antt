@@ -55,10 +55,10 @@ module _ {D T E : Type 0} (language : Language D T E) where
         (text : List ℕ) (stop : Stop) → ReadsItemType language text (Err stop) → IsInner stop
     item_type_inside text stop h =
         by (type_inside language lawful items_file ([], text) stop (as_typed text (Err stop) h))
-        where
-          by : ComesOf language lawful [] (opened (whole item_declarations)) stop → IsInner stop
-          by (inl inner) = inner
-          by (inr fault) = let never : None ≡ Some stop = fault in absurd (cc never)
+      where
+        by : ComesOf language lawful [] (opened (whole item_declarations)) stop → IsInner stop
+        by (inl inner) = inner
+        by (inr fault) = let never : None ≡ Some stop = fault in absurd (cc never)
 
     -- what is found of what is asked for
     abbrev FindsMaking : Asked → Result (Making T) Stop → Type 0

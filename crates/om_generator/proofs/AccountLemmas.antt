@@ -1,10 +1,10 @@
 -- The account of a call: a stop before the value is made, and the value.
-use Rattle.std.proofs.Common.{◌≡◌, ◌⊎◌, ◌<◌, ℕ, List, [], Ok, Err, inl, inr, refl, sym, ◌∙◌, subst, arith}
+use Rattle.std.proofs.Common.{◌≡◌, ◌⊎◌, ℕ, List, [], Ok, Err, inl, inr, refl, ◌∙◌, subst, arith}
 use Rattle.om_outcome.specs.declared.status.Status.{Status}
-use Rattle.om_outcome.specs.Outcome.{Found, unfetched, nothing, Stop, out_of_memory, stops as stops_reply, stopped, ending_of, own, generate, Asks}
+use Rattle.om_outcome.specs.Outcome.{unfetched, nothing, Stop, out_of_memory, stops as stops_reply, stopped, ending_of, own, generate, Asks}
 use Rattle.om_edge.specs.State.{ByteState, FilesState, Change, change}
-use Rattle.om_promises.specs.Call.{Call, call}
-use Rattle.om_promises.specs.Account.{FetchesFor, MayBe, Account}
+use Rattle.om_promises.specs.Call.{call}
+use Rattle.om_promises.specs.Account.{FetchesFor, Account}
 use Rattle.om_promises.specs.Commands.{Fetches, Given, Prepares, RunReplies}
 use Rattle.om_promises.specs.Outside.{PutsLine}
 use Rattle.om_promises.proofs.PutLemmas.{puts_nothing}

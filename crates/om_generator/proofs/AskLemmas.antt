@@ -1,9 +1,9 @@
 -- The words ask for numbers in their ranges alone.
-use Rattle.std.proofs.Common.{◌≡◌, ◌^◌, ◌<◌, ◌≤◌, ℕ, List, [], ◌∷◌, Bool, true, false, Option, Some, None, refl, sym, subst, arith}
-use Rattle.std.specs.Prelude.{find, codes, if◌then◌else◌}
+use Rattle.std.proofs.Common.{◌≡◌, ◌^◌, ◌<◌, ◌≤◌, ℕ, List, [], ◌∷◌, Bool, true, false, Some, subst, arith}
+use Rattle.std.specs.Prelude.{find, if◌then◌else◌}
 use Rattle.std.specs.Str.{bytes_eq}
 use Rattle.clap.specs.Words.{Row}
-use Rattle.om_outcome.specs.CommandLine.{Request, tell, get, edit, dump, compare, own, OwnRequest, build, generate, Form, forms, form_of, HasArguments, Asks}
+use Rattle.om_outcome.specs.CommandLine.{Request, own, generate, Form, forms, HasArguments, Asks}
 
 -- what is asked for is in range
 abbrev IsRanged : Request → Type 0

@@ -1,7 +1,7 @@
 -- The command takes nothing, and its last reply is the line.
-use Rattle.std.proofs.Common.{◌≡◌, ◌⊎◌, ℕ, List, [], ◌∷◌, Bool, true, Result, Ok, Err, inl, inr, refl, sym, ap, ◌∙◌, subst}
+use Rattle.std.proofs.Common.{◌≡◌, ℕ, List, [], Bool, true, Result, Ok, Err, inr, refl, sym, subst}
 use Rattle.std.specs.Prelude.{◌&&◌}
-use Rattle.om_outcome.specs.Outcome.{Said, all_well, out_of_memory}
+use Rattle.om_outcome.specs.Outcome.{Said}
 use Rattle.om_edge.specs.Sink.{Puts, PutsPart}
 use Rattle.om_edge.specs.State.{ByteState, Change, change}
 use Rattle.om_stops.specs.declared.stop.Halt.{Halt}

@@ -1,6 +1,6 @@
 -- TYPE over the declarations of the items is read as over a file that holds them.
-use Rattle.std.proofs.Common.{◌≡◌, ◌⊎◌, ℕ, List, Some, None, Result, Ok, Err, inl, inr, sym, ◌∙◌, ap, subst}
-use Rattle.om_outcome.specs.Outcome.{opened, whole, Taken, Stop, declarations, requested_type, out_of_memory, Then, OrRefusal, ReadsTypeOf}
+use Rattle.std.proofs.Common.{◌≡◌, ℕ, List, Some, None, Result, Ok, Err, inl, inr, sym, ◌∙◌, ap, subst}
+use Rattle.om_outcome.specs.Outcome.{opened, whole, Taken, Stop, declarations, requested_type, Then, OrRefusal, ReadsTypeOf}
 use Rattle.om_stops.specs.declared.stop.Stop as codes
 use Rattle.om_stops.specs.Stops.{stop_of}
 use Rattle.om_declared.specs.declared.types.Requested.{Requested}

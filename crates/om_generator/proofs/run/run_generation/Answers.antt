@@ -12,7 +12,7 @@ returns-then-number-gt-GREATEST_NUMBER-clause-account g c = λ words asks files.
     let low : c.args.number < 2 ^ 31 = r.0 in
     let few : c.args.count ≤ 1000000 = r.1 in
     let never : ⊥ = elim c.then-number-gt-GREATEST_NUMBER.branch [
-      then-number-gt-GREATEST_NUMBER-via-then-number-gt-GREATEST_NUMBER w ↦ omega arith
+      | then-number-gt-GREATEST_NUMBER-via-then-number-gt-GREATEST_NUMBER w ↦ omega arith
       | then-number-gt-GREATEST_NUMBER-via-else-number-gt-GREATEST_NUMBER+then-count-gt-GREATEST_COUNT
           w ↦ omega arith
     ] in
