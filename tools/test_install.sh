@@ -37,13 +37,14 @@ completes() {
 . "$work/prefix/share/bash-completion/completions/omarshal"
 mkdir "$work/files" && cd "$work/files" && : >shop.types && : >shop.script
 completes 'same show' s
-completes 'build check dump edit get same show trees' ''
+completes 'build check dump edit gen get same show trees verify' ''
 completes 'shop.script shop.types' build ''
 completes '' build -
 completes 'shop.script shop.types' check ''
 completes 'shop.types' show shop.t
 completes '' check shop.types ''
 completes 'shop.script' edit --limit 5 shop.types int shop.s
+completes 'shop.script' verify shop.types int shop.s
 completes '--compat32 --limit' edit --
 completes '--limit' check shop.types --
 completes '' same ''

@@ -1,14 +1,14 @@
-# Completion of omarshal for bash: its commands, its options, and files where FILE and SCRIPT stand.
+# Completion of omarshal for bash: its commands, its options, and files where FILE, SCRIPT and CERT stand.
 _omarshal() {
     local word=${COMP_WORDS[COMP_CWORD]} command=${COMP_WORDS[1]-} i place=0 skip=0 options=--limit
     COMPREPLY=()
     if [ "$COMP_CWORD" -eq 1 ]; then
-        mapfile -t COMPREPLY < <(compgen -W 'build check dump edit gen get same show trees' -- "$word")
+        mapfile -t COMPREPLY < <(compgen -W 'build check dump edit gen get same show trees verify' -- "$word")
         return
     fi
     case $command in
     build | gen) options= ;;
-    check | dump | get | same | show | trees) ;;
+    check | dump | get | same | show | trees | verify) ;;
     edit) options='--limit --compat32' ;;
     *) return ;;
     esac
@@ -22,7 +22,7 @@ _omarshal() {
     -*) mapfile -t COMPREPLY < <(compgen -W "$options" -- "$word") ;;
     *)
         case $command-$place in
-        build-0 | check-0 | show-0 | trees-0 | get-0 | edit-0 | edit-2) mapfile -t COMPREPLY < <(compgen -f -- "$word") ;;
+        build-0 | check-0 | show-0 | trees-0 | get-0 | edit-0 | edit-2 | verify-0 | verify-2) mapfile -t COMPREPLY < <(compgen -f -- "$word") ;;
         esac
         ;;
     esac
