@@ -29,6 +29,19 @@ printf '\x84\x95\xa6\xbe\0\0\0\x0d\0\0\0\x03\0\0\0\x0f\0\0\0\x0f\xc0\xc0\x40\x41
 printf '\x84\x95\xa6\xbe\0\0\0\x05\0\0\0\x01\0\0\0\x05\0\0\0\x05\xc0\x40\x41\x40\x42' >>trees
 # A text of each kind of line: one with a comment, a blank one, one that has no line feed at its end.
 printf '::(1, ::(2, [])) (* two *)\n\n#0=::(3, [])' >texts
+# A certificate of three times the list, the last section of which states a fault that is none.
+cat >certificate <<'END'
+value 0 yes
+pair 0 0
+pair 1 0
+end
+value 1 yes
+pair 0 0
+pair 1 0
+end
+value 2 misfit .0
+end
+END
 printf '0 set .1 = ::(7, [])\n2 link .1.1 = .\n2 unshare .\n' >script
 
 wrong=0
@@ -62,6 +75,7 @@ refuse get get types t .1
 refuse edit edit types t script
 refuse dump dump
 refuse same same
+refuse verify verify types t certificate
 input=trees
 refuse trees trees types tree
 input=texts

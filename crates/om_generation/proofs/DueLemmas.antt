@@ -248,6 +248,7 @@ module _ {D T E : Type 0} (language : Language D T E) where
         open_fault = not_due has statuses.OpenFault said8 due8;
         too_long = not_due has statuses.TooLong said10 due10;
         compat = not_due has statuses.Compat said11 due11;
+        certificate = not_due has statuses.Certificate said12 due12;
       } where
         said4 : IsUnsaid statuses.Value → ⊥
         said4 (inl e) = cc e
@@ -296,6 +297,14 @@ module _ {D T E : Type 0} (language : Language D T E) where
         due11 : IsDue language words statuses.Compat → ⊥
         due11 (inl h) = let e = h.1 in cc e
         due11 (inr h) = h.2
+
+        said12 : IsUnsaid statuses.Certificate → ⊥
+        said12 (inl e) = cc e
+        said12 (inr e) = cc e
+
+        due12 : IsDue language words statuses.Certificate → ⊥
+        due12 (inl h) = let e = h.1 in cc e
+        due12 (inr h) = h.2
 
       -- ---- the line
 

@@ -1,5 +1,5 @@
 pub mod FindLemmas
 pub mod LawfulLemmas
-pub mod ApartLemmas
+pub mod IdleLemmas
 pub mod DueLemmas
 pub mod LeavesLemmas

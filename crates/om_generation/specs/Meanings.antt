@@ -9,7 +9,7 @@
 -- comes, whatever the input and the files are.
 use Rattle.std.specs.Prelude.{ℕ, ◌≡◌, ◌≢◌, ◌↔◌, ◌⊎◌, Bool, true, false, List, Some, Ok}
 use Rattle.om_outcome.specs.declared.status.Status.{Status}
-use Rattle.om_outcome.specs.declared.status.Status.TheVariants.{Well, No, Usage, Types, Value, Script, ReadFault, OpenFault, TooLong, Compat}
+use Rattle.om_outcome.specs.declared.status.Status.TheVariants.{Well, No, Usage, Types, Value, Script, ReadFault, OpenFault, TooLong, Compat, Certificate}
 use Rattle.om_outcome.specs.Outcome.{nothing, Request, Asks, IsUsage, Said, Language}
 use Rattle.om_edge.specs.Sink.{Puts}
 use Rattle.om_generate.specs.Generated.{item_declarations}
@@ -59,7 +59,7 @@ module _ {D T E : Type 0} (language : Language D T E) where
         → (asked : Asked) × AskFor asked × (said : Said) × IsToldOf asked said
         × Puts call.out said.text
 
--- 4, 5, 6, 8, 10 and 11 never come
+-- 4, 5, 6, 8, 10, 11 and 12 never come
 pub record AreNever (call : Call) : Type 0 where
   pub value : call.status ≢ Value
   pub script : call.status ≢ Script
@@ -67,6 +67,7 @@ pub record AreNever (call : Call) : Type 0 where
   pub open_fault : call.status ≢ OpenFault
   pub too_long : call.status ≢ TooLong
   pub compat : call.status ≢ Compat
+  pub certificate : call.status ≢ Certificate
 
 -- no file is fetched, and nothing is taken of the input
 pub record LeavesOutside (call : Call) : Type 0 where

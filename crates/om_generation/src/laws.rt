@@ -6,16 +6,12 @@ ghost use Rattle.om_promises.specs.Lawful.{AreLawful, AreInTurns};
 ghost use Rattle.om_promises.specs.LawfulLanguage.{IsLawful};
 ghost use Rattle.om_promises.specs.Outside.{OnlyReadFault, OnlyWriteFault};
 ghost use Rattle.om_promises.specs.Promises.{IfStop, IfEnd, IfUsage};
-ghost use Rattle.om_choice.specs.Choice.{AreApart};
-ghost use Rattle.om_commands.specs.Tasks.{commands};
 ghost use Rattle.om_generation.specs.Generation.{Making, generation};
 ghost use Rattle.om_generation.specs.Laws.{IsIdleElsewhere};
 ghost use Rattle.om_generation.specs.Meanings.{Causes};
-ghost use Rattle.om_texts.specs.Texts.{building};
 
 use om_commands::laws::Speaks;
 use om_promises::laws::{Act, files_in_turns, lawful_commands, promised, promises_of_commands};
-use om_texts::laws::Builds;
 use std::marker::PhantomData;
 
 /// The command on a value that is made from a number, in a language.
@@ -83,16 +79,9 @@ pub fn generation_keeps_promises<L: Speaks>()
     files_in_turns::<OnMade<L>>();
 }
 
-/// It is idle at each request that is not its own. So no request is for the commands on values and
-/// for this one.
-pub fn generation_stands_apart<L: Speaks>()
-    ensures idle { IsIdleElsewhere L.language }
-    ensures apart { AreApart (commands L.language) (generation L.language) }
-{}
-
-/// Nor is one for the command on texts and for this one.
-pub fn generation_stands_apart_from_texts<B: Builds, L: Speaks>()
-    ensures { AreApart (building B.language B.TextOf) (generation L.language) }
+/// It is idle at each request that is not its own.
+pub fn generation_is_idle_elsewhere<L: Speaks>()
+    ensures { IsIdleElsewhere L.language }
 {}
 
 /// What is promised of a call gives it exactly the status that its words and TYPE have, unless

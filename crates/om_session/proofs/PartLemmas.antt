@@ -95,10 +95,10 @@ module _ (texts_idle : TextsIdleElsewhere declared_types declared_texts)
       part_of_all c IsOf others part =
           part_of_part c on_input all_commands IsOf
           (part_of_part c on_values_or_texts on_input IsOf part
-              (first_part on_values_or_texts on_certificates IsOf
-              (λ request of. certificates_idle request (others request of).0) middle_accounts middle))
+          (first_part on_values_or_texts on_certificates IsOf
+          (λ request of. certificates_idle request (others request of).0) middle_accounts middle))
           (first_part on_input on_made IsOf
-              (λ request of. made_idle request (others request of).1) outer_accounts outer)
+          (λ request of. made_idle request (others request of).1) outer_accounts outer)
 
       pub values_part : HaveAccountsOfFirst on_values on_texts → PromiseAsFirst on_values on_texts
           → IsPart on_values IsOfValues
@@ -121,13 +121,13 @@ module _ (texts_idle : TextsIdleElsewhere declared_types declared_texts)
     certificates_part together accounts promise =
         part_of_part on_certificates on_input all_commands IsOfCertificates
         (second_part on_values_or_texts on_certificates IsOfCertificates
-            (λ request of.
-            let others = of_certificates_others request of in
-            together request others.0 (texts_idle request others.1))
-            accounts promise)
+        (λ request of.
+        let others = of_certificates_others request of in
+        together request others.0 (texts_idle request others.1))
+        accounts promise)
         (first_part on_input on_made IsOfCertificates
-            (λ request of. made_idle request (of_certificates_others request of).2) outer_accounts
-            outer)
+        (λ request of. made_idle request (of_certificates_others request of).2) outer_accounts
+        outer)
 
   pub made_part : AreIdleTogether on_values on_texts
       → AreIdleTogether on_values_or_texts on_certificates → HaveAccountsOfSecond on_input on_made

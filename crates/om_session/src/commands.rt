@@ -16,6 +16,10 @@ ghost use Rattle.om_generation.specs.Meanings.{Causes as CausesOfMade};
 ghost use Rattle.om_verification.specs.Meanings.{certificate_tables};
 ghost use Rattle.om_verifier.specs.Shown.{reads_sections, declared_sections};
 
+use om_apart::laws::{
+    certificates_stand_apart, certificates_stand_apart_from_made,
+    certificates_stand_apart_from_texts, made_stands_apart, made_stands_apart_from_texts,
+};
 use om_build::laws::{DeclaredTexts, declared_texts_are_read_once};
 use om_choice::laws::{
     Choice, choices_are_apart, choices_are_idle, choices_are_lawful, choices_promise_as_the_first,
@@ -24,8 +28,8 @@ use om_choice::laws::{
 use om_commands::laws::{OnValues, commands_answer_once, commands_are_lawful, commands_take_turns};
 use om_declared::laws::{DeclaredTypes, declared_types_are_lawful};
 use om_generation::laws::{
-    OnMade, causes_of_generation, generation_is_lawful, generation_stands_apart,
-    generation_stands_apart_from_texts, generation_takes_turns,
+    OnMade, causes_of_generation, generation_is_idle_elsewhere, generation_is_lawful,
+    generation_takes_turns,
 };
 use om_meanings::laws::causes_of_statuses;
 use om_promises::laws::{files_in_turns, lawful_commands, promised, promises_of_commands};
@@ -33,8 +37,8 @@ use om_texts::laws::{
     OnTexts, building_is_lawful, building_stands_apart, building_takes_turns, causes_of_texts,
 };
 use om_verification::laws::{
-    OnCertificates, causes_of_certificates, verifying_is_lawful, verifying_stands_apart,
-    verifying_stands_apart_from_made, verifying_stands_apart_from_texts, verifying_takes_turns,
+    OnCertificates, causes_of_certificates, verifying_is_idle_elsewhere, verifying_is_lawful,
+    verifying_takes_turns,
 };
 use om_verifier::laws::{DeclaredSections, declared_sections_are_read_once};
 
@@ -67,13 +71,13 @@ pub fn all_commands_are_lawful()
     building_stands_apart::<DeclaredTexts>();
     verifying_is_lawful::<DeclaredSections>();
     verifying_takes_turns::<DeclaredSections>();
-    verifying_stands_apart::<DeclaredSections>();
-    verifying_stands_apart_from_texts::<DeclaredTexts, DeclaredSections>();
-    verifying_stands_apart_from_made::<DeclaredSections, DeclaredTypes>();
+    certificates_stand_apart::<DeclaredSections>();
+    certificates_stand_apart_from_texts::<DeclaredTexts, DeclaredSections>();
+    certificates_stand_apart_from_made::<DeclaredSections, DeclaredTypes>();
     generation_is_lawful::<DeclaredTypes>();
     generation_takes_turns::<DeclaredTypes>();
-    generation_stands_apart::<DeclaredTypes>();
-    generation_stands_apart_from_texts::<DeclaredTexts, DeclaredTypes>();
+    made_stands_apart::<DeclaredTypes>();
+    made_stands_apart_from_texts::<DeclaredTexts, DeclaredTypes>();
     choices_are_lawful::<Values, Texts>();
     choices_take_turns::<Values, Texts>();
     choices_are_apart::<Values, Texts, Certificates>();
@@ -120,8 +124,8 @@ pub fn all_commands_have_parts()
     ensures made { IsPart on_made IsOfMade }
 {
     building_stands_apart::<DeclaredTexts>();
-    verifying_stands_apart::<DeclaredSections>();
-    generation_stands_apart::<DeclaredTypes>();
+    verifying_is_idle_elsewhere::<DeclaredSections>();
+    generation_is_idle_elsewhere::<DeclaredTypes>();
     choices_are_idle::<Values, Texts>();
     choices_are_idle::<ValuesOrTexts, Certificates>();
     choices_promise_as_the_first::<Values, Texts>();

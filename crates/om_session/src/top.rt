@@ -353,7 +353,15 @@ fn run_request<S: Source, O: Opener, K: Sink, E: Sink>(
             certificate,
             limit,
         } => verify(
-            alloc, file, type_text, certificate, limit, input, files, out, err,
+            alloc,
+            file,
+            type_text,
+            certificate,
+            limit,
+            input,
+            files,
+            out,
+            err,
         ),
         Request::Generate {
             number,

@@ -119,7 +119,7 @@ module _ (t : TypeOver) where
             };
             has = has;
             each = (stands_for_all t.decls t.type sound.few.types sound.well sound.sound
-            sound.few.reached (objects_of tree 0) (root tree 0)).0 has;
+                sound.few.reached (objects_of tree 0) (root tree 0)).0 has;
             tree = tree;
             of = own_tree tree is_tree back;
             are = refl;

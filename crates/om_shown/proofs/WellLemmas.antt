@@ -1,7 +1,7 @@
 -- A call that ended well put what an outcome of what may have been given puts, and that is well.
 use Rattle.std.proofs.Common.{◌≡◌, ◌⊎◌, ℕ, List, inl, inr, sym, ap, ◌∙◌}
 use Rattle.om_outcome.specs.declared.status.Status.TheVariants as statuses
-use Rattle.om_outcome.specs.Outcome.{Stop, usage, bad_path, not_two_values, cannot_open, declarations, requested_type, value, script_line, text_line, untyped_value, large_value, read_fault, too_long, out_of_memory, status_of, ending_of, stops, Replies, replies, stopped}
+use Rattle.om_outcome.specs.Outcome.{Stop, usage, bad_path, not_two_values, cannot_open, declarations, requested_type, value, script_line, text_line, untyped_value, large_value, certificate_line, uncertified_value, sections_left, read_fault, too_long, out_of_memory, status_of, ending_of, stops, Replies, replies, stopped}
 use Rattle.om_edge.specs.Sink.{Puts}
 use Rattle.om_promises.specs.Account.{MayBe, Completes, Breaks, Account}
 use Rattle.om_promises.specs.Call.{Call}
@@ -22,6 +22,9 @@ stop_not_well (script_line number refusal) e = cc e
 stop_not_well (text_line number refusal) e = cc e
 stop_not_well (untyped_value number fault) e = cc e
 stop_not_well (large_value number refusal) e = cc e
+stop_not_well (certificate_line number) e = cc e
+stop_not_well (uncertified_value number reason) e = cc e
+stop_not_well sections_left e = cc e
 stop_not_well read_fault e = cc e
 stop_not_well too_long e = cc e
 stop_not_well out_of_memory e = cc e

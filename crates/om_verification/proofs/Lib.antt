@@ -3,5 +3,5 @@ pub mod FindLemmas
 pub mod LawfulLemmas
 pub mod SaidLemmas
 pub mod TableLemmas
-pub mod ApartLemmas
+pub mod IdleLemmas
 pub mod NeverLemmas

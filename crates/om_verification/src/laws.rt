@@ -10,18 +10,12 @@ ghost use Rattle.om_promises.specs.LawfulLanguage.{IsLawful};
 ghost use Rattle.om_promises.specs.Outside.{OnlyReadFault, OnlyWriteFault};
 ghost use Rattle.om_promises.specs.Promises.{IfStop, IfEnd, IfUsage};
 ghost use Rattle.om_causes.specs.Causes.{AreExact, Causes};
-ghost use Rattle.om_choice.specs.Choice.{AreApart};
-ghost use Rattle.om_commands.specs.Tasks.{commands};
-ghost use Rattle.om_generation.specs.Generation.{generation};
-ghost use Rattle.om_texts.specs.Texts.{building};
 ghost use Rattle.om_verification.specs.Laws.{IsIdleElsewhere};
 ghost use Rattle.om_verification.specs.Meanings.{certificate_tables, IsNeverEdited};
 ghost use Rattle.om_verification.specs.Verification.{Shown, Verification, ReadsSections, verifying, AreReadOnce};
 
 use om_causes::laws::{Meant, causes_of_tables};
-use om_commands::laws::Speaks;
 use om_promises::laws::{Act, files_in_turns, lawful_commands, promised, promises_of_commands};
-use om_texts::laws::Builds;
 use std::marker::PhantomData;
 
 /// What texts are read as: declarations, types, lines of scripts, and the sections of a
@@ -127,22 +121,9 @@ pub fn verifying_keeps_promises<V: Verifies>()
     files_in_turns::<OnCertificates<V>>();
 }
 
-/// No request is for the commands on values and for this one, which is idle at each request that is
-/// not its own.
-pub fn verifying_stands_apart<V: Verifies>()
-    ensures idle { IsIdleElsewhere V.language V.Reads V.ShownBy }
-    ensures apart { AreApart (commands V.language) (verifying V.language V.Reads V.ShownBy) }
-{}
-
-/// Nor is one for the command on texts and for this one.
-pub fn verifying_stands_apart_from_texts<B: Builds, V: Verifies>()
-    ensures { AreApart (building B.language B.TextOf)
-        (verifying V.language V.Reads V.ShownBy) }
-{}
-
-/// Nor for this one and for the command on a value that is made.
-pub fn verifying_stands_apart_from_made<V: Verifies, L: Speaks>()
-    ensures { AreApart (verifying V.language V.Reads V.ShownBy) (generation L.language) }
+/// It is idle at each request that is not its own.
+pub fn verifying_is_idle_elsewhere<V: Verifies>()
+    ensures { IsIdleElsewhere V.language V.Reads V.ShownBy }
 {}
 
 /// The tables are exact: what stops a run, and how an input ends, by its values and their sections;

@@ -27,6 +27,7 @@ use Rattle.om_outcome.specs.Outcome.{line}
 use Rattle.om_declared.specs.declared.types.Requested.{Requested}
 use Rattle.om_declared.specs.Language.{TypeOver}
 use Rattle.om_declared.specs.Types.{type_over, IsReady}
+use Rattle.om_declared.proofs.GivenLemmas.{ready_each, ready_some_not}
 use Rattle.om_declared.proofs.VerdictLemmas.{ready_lawful, is_first, made}
 use Rattle.om_verifier.specs.declared.judge.Judged.{Judged}
 use Rattle.om_verifier.specs.declared.judge.Judged.TheVariants.{Line, Uncertified}
@@ -74,15 +75,17 @@ module _ (r : Requested) (ready : IsReady r) (graph : List Obj) (root : Val) (se
         → Judges (type_over r) section graph root (Line text true)
     judged_yes decide verified same is text spelled =
         let yes : IsVerified (table_of r.table) graph root section Yes =
-        subst (IsVerified (table_of r.table) graph root section) same is in (
+        subst (IsVerified (table_of r.table) graph root section) same is in
+        let has = (decide r.decls r.ty (types_of r.table) (table_of r.table)
+        (made r ready root_first graph root) graph root 0 r.ty
+        (is_first r ready root_first graph root)).0
+        (shown_is_so (table_of r.table) (ready_lawful r ready lawful).lawful graph root section
+        Yes yes) in (
           codes "yes",
           record {
             accepted = answer_at Yes yes;
-            has = (decide r.decls r.ty (types_of r.table) (table_of r.table)
-                (made r ready root_first graph root) graph root 0 r.ty
-                (is_first r ready root_first graph root)).0
-                (shown_is_so (table_of r.table) (ready_lawful r ready lawful).lawful graph root section
-                Yes yes);
+            has = has;
+            each = ready_each r ready graph root has;
             is = refl;
           },
           spelled,
@@ -106,6 +109,7 @@ module _ (r : Requested) (ready : IsReady r) (graph : List Obj) (root : Val) (se
             is_fault = declared;
             has_not = never r.decls r.ty (types_of r.table) ready.well ready.sound ready.made.reached
                 graph root fault declared;
+            some_not = ready_some_not r ready graph root fault declared;
             text = why;
             is_text = of_types r.decls r.ty r.table ready.made graph root fault why is_text;
             is = refl;

@@ -8,6 +8,7 @@ use Rattle.om_types.specs.Fault.{IsFault}
 use Rattle.om_types.specs.TypeText.{type_text}
 use Rattle.om_types.specs.Typing.{HasType}
 use Rattle.om_types.specs.VerdictText.{IsFaultText}
+use Rattle.om_rigid.specs.Rigid.{HasEachInstance}
 use Rattle.om_format.specs.Tree.{Tree, root, objects_of}
 use Rattle.om_section.specs.declared.section.Section.{Section}
 use Rattle.om_section.specs.Format.{IsCertificate, IsSyntaxAt}
@@ -33,18 +34,21 @@ module _ (t : TypeOver) (section : Section) (graph : List Obj) (v : Val) where
   abbrev pub Answers : Verified → Type 0
   Answers = IsAnswerAt t.decls t.type graph v section
 
-  -- its pairs are accepted, and so the value has the type
+  -- its pairs are accepted, and so the value has the type, and each closed instance of it
   pub record ShowsType (line : List ℕ) : Type 0 where
     pub accepted : Answers Yes
     pub has : HasType (declared_shapes t.decls) graph v t.type
+    pub each : HasEachInstance t.decls graph v t.type
     pub is : line ≡ codes "yes"
 
-  -- Its paths are a fault, and so the value has not the type. Of several faults it may state any.
+  -- Its paths are a fault, and so the value has not the type, nor each closed instance of it. Of
+  -- several faults it may state any.
   pub record ShowsFault (line : List ℕ) : Type 0 where
     pub fault : Fault
     pub accepted : Answers (No fault)
     pub is_fault : IsFault (declared_shapes t.decls) graph v t.type fault
     pub has_not : ¬ HasType (declared_shapes t.decls) graph v t.type
+    pub some_not : ¬ HasEachInstance t.decls graph v t.type
     pub text : List ℕ
     pub is_text : IsFaultText (declared_shapes t.decls) type_text graph v t.type fault text
     pub is : line ≡ codes "no " ++ text

@@ -3,30 +3,30 @@ use Rattle.om_session.proofs.commands.all_commands_have_parts.Goals as goal
 
 pub returns-clause-values : goal.returns-clause-values
 returns-clause-values c =
-    values_part c.building_stands_apart.ensures.idle c.verifying_stands_apart.ensures.idle
-    c.generation_stands_apart.ensures.idle
+    values_part c.building_stands_apart.ensures.idle c.verifying_is_idle_elsewhere.ensures
+    c.generation_is_idle_elsewhere.ensures
     c.choices_promise_as_the_first-3.ensures.account c.choices_promise_as_the_first-3.ensures.promises
     c.choices_promise_as_the_first-2.ensures.account c.choices_promise_as_the_first-2.ensures.promises
     c.choices_promise_as_the_first.ensures.account c.choices_promise_as_the_first.ensures.promises
 
 pub returns-clause-texts : goal.returns-clause-texts
 returns-clause-texts c =
-    texts_part c.building_stands_apart.ensures.idle c.verifying_stands_apart.ensures.idle
-    c.generation_stands_apart.ensures.idle
+    texts_part c.building_stands_apart.ensures.idle c.verifying_is_idle_elsewhere.ensures
+    c.generation_is_idle_elsewhere.ensures
     c.choices_promise_as_the_first-3.ensures.account c.choices_promise_as_the_first-3.ensures.promises
     c.choices_promise_as_the_first-2.ensures.account c.choices_promise_as_the_first-2.ensures.promises
     c.choices_promise_as_the_second.ensures.account c.choices_promise_as_the_second.ensures.promises
 
 pub returns-clause-certificates : goal.returns-clause-certificates
 returns-clause-certificates c =
-    certificates_part c.building_stands_apart.ensures.idle c.verifying_stands_apart.ensures.idle
-    c.generation_stands_apart.ensures.idle
+    certificates_part c.building_stands_apart.ensures.idle c.verifying_is_idle_elsewhere.ensures
+    c.generation_is_idle_elsewhere.ensures
     c.choices_promise_as_the_first-3.ensures.account c.choices_promise_as_the_first-3.ensures.promises
     c.choices_are_idle.ensures
     c.choices_promise_as_the_second-2.ensures.account c.choices_promise_as_the_second-2.ensures.promises
 
 pub returns-clause-made : goal.returns-clause-made
 returns-clause-made c =
-    made_part c.building_stands_apart.ensures.idle c.verifying_stands_apart.ensures.idle
-    c.generation_stands_apart.ensures.idle c.choices_are_idle.ensures c.choices_are_idle-2.ensures
+    made_part c.building_stands_apart.ensures.idle c.verifying_is_idle_elsewhere.ensures
+    c.generation_is_idle_elsewhere.ensures c.choices_are_idle.ensures c.choices_are_idle-2.ensures
     c.choices_promise_as_the_second-3.ensures.account c.choices_promise_as_the_second-3.ensures.promises

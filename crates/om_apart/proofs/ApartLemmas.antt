@@ -1,0 +1,88 @@
+-- No request is for two sets of commands: one of the two is idle at it.
+use Rattle.std.proofs.Common.{List, inl, inr, refl}
+use Rattle.om_format.specs.Tree.{Tree}
+use Rattle.om_outcome.specs.Outcome.{Request, tell, get, edit, dump, compare, own, build, generate, verify, Language}
+use Rattle.om_choice.specs.Choice.{AreApart}
+use Rattle.om_commands.specs.Tasks.{commands}
+use Rattle.om_texts.specs.Texts.{Built, building}
+use Rattle.om_texts.proofs.ApartLemmas.{values_idle, texts_idle}
+use Rattle.om_generation.specs.Generation.{generation}
+use Rattle.om_generation.proofs.IdleLemmas.{generation_idle}
+use Rattle.om_verification.specs.Verification.{Shown, ReadsSections, verifying}
+use Rattle.om_verification.proofs.IdleLemmas.{certificates_idle}
+
+module _ {D T E : Type 0} (language : Language D T E) where
+  pub made_apart : AreApart (commands language) (generation language)
+  made_apart (tell saying f t most) = inr (generation_idle language (tell saying f t most) refl)
+  made_apart (get f t path most) = inr (generation_idle language (get f t path most) refl)
+  made_apart (edit f t script compat most) = inr (generation_idle language (edit f t script compat most) refl)
+  made_apart (dump most) = inr (generation_idle language (dump most) refl)
+  made_apart (compare most) = inr (generation_idle language (compare most) refl)
+  made_apart (own request) = inl (values_idle language request)
+
+  -- no request is for the texts and for this
+  pub made_apart_from_texts :
+      {D' T' E' : Type 0} (other : Language D' T' E') (TextOf : T' → List ℕ → Built → Type 0)
+      → AreApart (building other TextOf) (generation language)
+  made_apart_from_texts other TextOf (own (build f t)) = inr (generation_idle language (own (build f t)) refl)
+  made_apart_from_texts other TextOf (own (generate n count t)) =
+      inl (texts_idle other TextOf (own (generate n count t)) refl)
+  made_apart_from_texts other TextOf (own (verify f t certificate most)) =
+      inl (texts_idle other TextOf (own (verify f t certificate most)) refl)
+  made_apart_from_texts other TextOf (tell saying f t most) =
+      inr (generation_idle language (tell saying f t most) refl)
+  made_apart_from_texts other TextOf (get f t path most) =
+      inr (generation_idle language (get f t path most) refl)
+  made_apart_from_texts other TextOf (edit f t script compat most) =
+      inr (generation_idle language (edit f t script compat most) refl)
+  made_apart_from_texts other TextOf (dump most) = inr (generation_idle language (dump most) refl)
+  made_apart_from_texts other TextOf (compare most) = inr (generation_idle language (compare most) refl)
+
+module _ {D T E S : Type 0} (language : Language D T E) (Reads : ReadsSections S)
+    (ShownBy : T → S → Tree → Shown → Type 0) where
+  pub certificates_apart : AreApart (commands language) (verifying language Reads ShownBy)
+  certificates_apart (tell saying f t most) = inr (certificates_idle language Reads ShownBy (tell saying f t most) refl)
+  certificates_apart (get f t path most) = inr (certificates_idle language Reads ShownBy (get f t path most) refl)
+  certificates_apart (edit f t script compat most) = inr (certificates_idle language Reads ShownBy (edit f t script compat most) refl)
+  certificates_apart (dump most) = inr (certificates_idle language Reads ShownBy (dump most) refl)
+  certificates_apart (compare most) = inr (certificates_idle language Reads ShownBy (compare most) refl)
+  certificates_apart (own request) = inl (values_idle language request)
+
+  -- no request is for the texts and for this, nor for this and for a value that is made
+  pub certificates_apart_from_texts :
+      {D' T' E' : Type 0} (other : Language D' T' E') (TextOf : T' → List ℕ → Built → Type 0)
+      → AreApart (building other TextOf) (verifying language Reads ShownBy)
+  certificates_apart_from_texts other TextOf (own (verify f t certificate most)) =
+      inl (texts_idle other TextOf (own (verify f t certificate most)) refl)
+  certificates_apart_from_texts other TextOf (own (build f t)) = inr (certificates_idle language Reads ShownBy (own (build f t)) refl)
+  certificates_apart_from_texts other TextOf (own (generate n count t)) =
+      inr (certificates_idle language Reads ShownBy (own (generate n count t)) refl)
+  certificates_apart_from_texts other TextOf (tell saying f t most) =
+      inr (certificates_idle language Reads ShownBy (tell saying f t most) refl)
+  certificates_apart_from_texts other TextOf (get f t path most) =
+      inr (certificates_idle language Reads ShownBy (get f t path most) refl)
+  certificates_apart_from_texts other TextOf (edit f t script compat most) =
+      inr (certificates_idle language Reads ShownBy (edit f t script compat most) refl)
+  certificates_apart_from_texts other TextOf (dump most) =
+      inr (certificates_idle language Reads ShownBy (dump most) refl)
+  certificates_apart_from_texts other TextOf (compare most) =
+      inr (certificates_idle language Reads ShownBy (compare most) refl)
+
+  pub certificates_apart_from_made :
+      {D' T' E' : Type 0} (other : Language D' T' E')
+      → AreApart (verifying language Reads ShownBy) (generation other)
+  certificates_apart_from_made other (own (generate n count t)) =
+      inl (certificates_idle language Reads ShownBy (own (generate n count t)) refl)
+  certificates_apart_from_made other (own (verify f t certificate most)) =
+      inr (generation_idle other (own (verify f t certificate most)) refl)
+  certificates_apart_from_made other (own (build f t)) = inr (generation_idle other (own (build f t)) refl)
+  certificates_apart_from_made other (tell saying f t most) =
+      inr (generation_idle other (tell saying f t most) refl)
+  certificates_apart_from_made other (get f t path most) =
+      inr (generation_idle other (get f t path most) refl)
+  certificates_apart_from_made other (edit f t script compat most) =
+      inr (generation_idle other (edit f t script compat most) refl)
+  certificates_apart_from_made other (dump most) =
+      inr (generation_idle other (dump most) refl)
+  certificates_apart_from_made other (compare most) =
+      inr (generation_idle other (compare most) refl)

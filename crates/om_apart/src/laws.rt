@@ -1,0 +1,37 @@
+//! The laws. Each function does nothing: what it ensures is the law.
+
+ghost use Rattle.om_choice.specs.Choice.{AreApart};
+ghost use Rattle.om_commands.specs.Tasks.{commands};
+ghost use Rattle.om_generation.specs.Generation.{generation};
+ghost use Rattle.om_texts.specs.Texts.{building};
+ghost use Rattle.om_verification.specs.Verification.{verifying};
+
+use om_commands::laws::Speaks;
+use om_texts::laws::Builds;
+use om_verification::laws::Verifies;
+
+/// No request is for the commands on values and for the one on a value that is made.
+pub fn made_stands_apart<L: Speaks>()
+    ensures { AreApart (commands L.language) (generation L.language) }
+{}
+
+/// Nor for the one on texts and for that.
+pub fn made_stands_apart_from_texts<B: Builds, L: Speaks>()
+    ensures { AreApart (building B.language B.TextOf) (generation L.language) }
+{}
+
+/// No request is for the commands on values and for the one that verifies certificates.
+pub fn certificates_stand_apart<V: Verifies>()
+    ensures { AreApart (commands V.language) (verifying V.language V.Reads V.ShownBy) }
+{}
+
+/// Nor for the one on texts and for that.
+pub fn certificates_stand_apart_from_texts<B: Builds, V: Verifies>()
+    ensures { AreApart (building B.language B.TextOf)
+        (verifying V.language V.Reads V.ShownBy) }
+{}
+
+/// Nor for that and for the one on a value that is made.
+pub fn certificates_stand_apart_from_made<V: Verifies, L: Speaks>()
+    ensures { AreApart (verifying V.language V.Reads V.ShownBy) (generation L.language) }
+{}
