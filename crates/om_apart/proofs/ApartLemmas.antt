@@ -1,5 +1,5 @@
 -- No request is for two sets of commands: one of the two is idle at it.
-use Rattle.std.proofs.Common.{List, inl, inr, refl}
+use Rattle.std.proofs.Common.{ℕ, List, inl, inr, refl}
 use Rattle.om_format.specs.Tree.{Tree}
 use Rattle.om_outcome.specs.Outcome.{Request, tell, get, edit, dump, compare, own, build, generate, verify, Language}
 use Rattle.om_choice.specs.Choice.{AreApart}
