@@ -147,13 +147,13 @@ module _ {A : Type 0} (c : Commands A) (tables : Tables A) where
     -- ---- all of it
 
     pub record Causes (call : Call) : Type 0 where
-      -- 0 to 5, 8 and 11: the status is caused by the words, the files or the whole input
+      -- 0 to 5, 8, 11 and 12: the status is caused by the words, the files or the whole input
       pub only : OnlyCaused call
       -- 2 comes where the words ask for nothing, or badly
       pub bad_words : IfBadWords call
-      -- 3, 5 or 8 comes where files that are told are refused, or missing
+      -- 3, 5, 8 or 12 comes where files that are told are refused, or missing
       pub barred : IfBarred call
-      -- 0, 1, 2, 4, 5 or 11 comes where an input that is told shows it
+      -- 0, 1, 2, 4, 5, 11 or 12 comes where an input that is told shows it
       pub shown : IfShown call
       -- unless memory ran out, an honest call has a status exactly where it is due
       pub due : HasWhatIsDue call

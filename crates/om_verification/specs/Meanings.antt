@@ -7,12 +7,14 @@
 --   2   the words ask for nothing
 --   3   what FILE holds is refused, or TYPE (`Bar`)
 --   4   a value is refused (`HoldRefusal`) or cut (`AreCut`), and all before it have their sections
+--   6   FILE, or CERT in its turn, is not read to its end (`Bar`)
 --   8   FILE could not be opened, or CERT in its turn (`Bar`)
+--   10  FILE, or CERT in its turn, has 2^48 bytes or more (`Bar`)
 --   12  what CERT holds is no certificate (`Bar`); a value has no section, or its section is
 --       rejected (`HoldBreak`); or sections are left at the end (`Finish`)
 --
--- No other comes of the values or the files. What 6, 7, 9 and 10 mean, and the faults of files, is
--- the same for all commands: it stands in om_promises.
+-- Neither the values nor the files cause another. What 6, 7, 9 and 10 mean of the input, of out and
+-- of memory is the same for all commands: it stands in om_promises.
 use Rattle.std.specs.Prelude.{ℕ, suc, ◌<◌, ◌≡◌, ◌≢◌, ◌⊎◌, Bool, true, false, List, [], ◌∷◌, ◌++◌, length, Some, Ok, Err}
 use Rattle.om_model.specs.declared.refusal.ReadRefusal.{ReadRefusal}
 use Rattle.om_format.specs.Stream.{SpellAll, refused, cut, IsTail}
