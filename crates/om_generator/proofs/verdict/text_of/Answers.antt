@@ -1,17 +1,15 @@
 use Rattle.std.proofs.Common.{◌∙◌, ◌++◌, ap}
 use Rattle.std.specs.Prelude.{codes}
 use Rattle.om_declared.specs.Types.{type_over}
-use Rattle.om_declared.proofs.GivenLemmas.{ready_each}
 use Rattle.om_declared.proofs.VerdictLemmas.{yes_declared}
 use Rattle.om_generator.proofs.VerdictLemmas.{puts_yes}
 use Rattle.om_generator.proofs.verdict.text_of.Goals as goal
 
 pub returns-in_ok-put-in-Yes : goal.returns-in_ok-put-in-Yes
 returns-in_ok-put-in-Yes c =
-    let has = yes_declared c.args.requested.now c.requires.ready c.tables_decide.ensures.root
+    let both = yes_declared c.args.requested.now c.requires.ready c.tables_decide.ensures.root
     c.tables_decide.ensures.decide c.args.heap.now c.args.root c.args.verdict.now
     c.requires.verdict _ c.in-Yes.is in
-    puts_yes (type_over c.args.requested.now) c.args.heap.now c.args.root has
-    (ready_each c.args.requested.now c.requires.ready c.args.heap.now c.args.root has)
+    puts_yes (type_over c.args.requested.now) c.args.heap.now c.args.root both.0 both.1
     c.put.new.text.items
     (c.in_ok-put-in-Yes.ensures ∙ ap (λ old. old ++ codes "yes") c.new-text.ensures.items)
