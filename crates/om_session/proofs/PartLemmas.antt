@@ -103,14 +103,14 @@ module _ (texts_idle : TextsIdleElsewhere declared_types declared_texts)
       pub values_part : HaveAccountsOfFirst on_values on_texts → PromiseAsFirst on_values on_texts
           → IsPart on_values IsOfValues
       values_part accounts promise =
-          part_of_all on_values IsOfValues (λ request of. (of_values_others request of).1)
+          part_of_all on_values IsOfValues (λ request of. let o = of_values_others request of in (o.1, o.2))
           (first_part on_values on_texts IsOfValues
           (λ request of. texts_idle request (of_values_others request of).0) accounts promise)
 
       pub texts_part : HaveAccountsOfSecond on_values on_texts
           → PromiseAsSecond on_values on_texts → IsPart on_texts IsOfTexts
       texts_part accounts promise =
-          part_of_all on_texts IsOfTexts (λ request of. (of_texts_others request of).1)
+          part_of_all on_texts IsOfTexts (λ request of. let o = of_texts_others request of in (o.1, o.2))
           (second_part on_values on_texts IsOfTexts
           (λ request of. (of_texts_others request of).0) accounts promise)
 
@@ -164,6 +164,6 @@ all_in_turns request files turn name (inl (inl (inl w))) =
 all_in_turns request files turn name (inl (inl (inr (first, type, asked)))) = omega (arith, first)
 all_in_turns request files turn name (inl (inr (asked, is, inl (first, named)))) =
     omega (arith, first)
-all_in_turns request files turn name (inl (inr (asked, is, inr (second, named, typed)))) =
+all_in_turns request files turn name (inl (inr (asked, is, inr (second, named, type, typed)))) =
     omega (arith, second)
 all_in_turns request files turn name (inr never) = absurd never
