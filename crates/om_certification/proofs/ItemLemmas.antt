@@ -1,0 +1,110 @@
+-- What is said of a value, where the run stops and how the input ends are one, and stay.
+use Rattle.std.proofs.Common.{◌≡◌, ◌<◌, ℕ, List, [], ◌∷◌, ◌++◌, length, sym, ap, ◌∙◌, subst}
+use Rattle.om_model.specs.Bytes.{AreBytes}
+use Rattle.om_format.specs.Stream.{End, clean, refused, cut}
+use Rattle.std.specs.Prelude.{Option}
+use Rattle.om_format.specs.Tree.{Tree}
+use Rattle.om_outcome.specs.Outcome.{Request, Stop, value, stops, Language}
+use Rattle.om_outcome.specs.RefusalText.{refusal_text, truncated_text}
+use Rattle.om_promises.specs.Commands.{Item, value as value_item}
+use Rattle.om_promises.specs.Lawful.{IsOnce, IsInner, AreLawfulAt}
+use Rattle.om_promises.proofs.LengthLemmas.{spelled_some}
+use Rattle.om_promises.proofs.ValueLemmas.{spell_after}
+use Rattle.om_commands.specs.Tasks.{IsFirstValue}
+use Rattle.om_commands.proofs.ItemLemmas.{tree_once, value_once, end_once, no_tail}
+use Rattle.om_commands.proofs.StayLemmas.{tail_after}
+use Rattle.om_certification.specs.Certification.{Certification, SaysSections, SaysOf, StopsHere, EndsBy, EndsHere, Asked, certifying}
+
+module _ {T : Type 0} (SectionOf : SaysSections T) (a : Certification T) where
+  stop_stays :
+      (items : List Item) (bytes later : List ℕ) (stop : Stop)
+      → StopsHere SectionOf a items bytes stop → StopsHere SectionOf a items (bytes ++ later) stop
+  stop_stays items bytes later stop h = record {
+    refusal = h.refusal;
+    tail = tail_after a.limit bytes later h.refusal h.tail;
+    is = h.is;
+  }
+
+  stop_once :
+      (items : List Item) (bytes : List ℕ) → AreBytes bytes
+      → IsOnce (StopsHere SectionOf a items bytes)
+  stop_once items bytes are_bytes stop other h k =
+      let one = end_once a.limit bytes are_bytes (refused h.refusal) (refused k.refusal) h.tail k.tail in
+      let same : h.refusal ≡ k.refusal = cc one in
+      h.is ∙ (ap (λ r. value (length items) (refusal_text r)) same ∙ sym k.is)
+
+  stop_inner :
+      (items : List Item) (bytes : List ℕ) (stop : Stop) → StopsHere SectionOf a items bytes stop
+      → IsInner stop
+  stop_inner items bytes stop h = subst IsInner (sym h.is) tt
+
+  ends_once : (number : ℕ) (end : End) → IsOnce (EndsBy SectionOf a number end)
+  ends_once number clean last other h k = h ∙ sym k
+  ends_once number (refused refusal) last other h k = absurd h
+  ends_once number (cut n) last other h k = h ∙ sym k
+
+  end_reply_once :
+      (items : List Item) (bytes : List ℕ) → AreBytes bytes
+      → IsOnce (EndsHere SectionOf a items bytes)
+  end_reply_once items bytes are_bytes last other (end, tail, ends) (end', tail', ends') =
+      let same = end_once a.limit bytes are_bytes end end' tail tail' in
+      ends_once (length items) end' last other
+      (subst (λ e. EndsBy SectionOf a (length items) e last) same ends) ends'
+
+  end_inner :
+      (number : ℕ) (end : End) (stop : Stop) → EndsBy SectionOf a number end (stops stop)
+      → IsInner stop
+  end_inner number clean stop h = absurd (cc h)
+  end_inner number (refused refusal) stop h = absurd h
+  end_inner number (cut n) stop h =
+      let is : stop ≡ value number (truncated_text n) = cc h in subst IsInner (sym is) tt
+
+  module _ {D E : Type 0} (language : Language D T E) (asked_of : Request → Option Asked)
+      (once : (number : ℕ) (tree : Tree) → IsOnce (SectionOf a.type number tree)) where
+    said_once : (items : List Item) (item : Item) → IsOnce (SaysOf SectionOf a items item)
+    said_once items item said other h k =
+        let same = tree_once item h.tree k.tree h.is k.is in
+        once (length items) k.tree said other
+        (subst (λ t. SectionOf a.type (length items) t said) same h.section) k.section
+
+    item_once :
+        (bytes : List ℕ) → AreBytes bytes → (item other : Item) (more rest : List ℕ)
+        → IsFirstValue language a.limit bytes item more
+        → IsFirstValue language a.limit bytes other rest
+        → (item ≡ other) × (more ≡ rest)
+    item_once bytes are_bytes item other more rest h k =
+        let one = value_once a.limit bytes are_bytes h.tree k.tree more rest h.spelled k.spelled in
+        (h.is ∙ (ap value_item one.0 ∙ sym k.is), one.1)
+
+    item_front :
+        (bytes : List ℕ) (item : Item) (more : List ℕ)
+        → IsFirstValue language a.limit bytes item more
+        → (first : List ℕ) × (bytes ≡ first ++ more) × (0 < length first)
+    item_front bytes item more h =
+        let s = h.spelled in
+        (s.0, s.2 ∙ ap (λ m. s.0 ++ m) s.4, spelled_some a.limit s.0 h.tree s.3)
+
+    item_stays :
+        (bytes : List ℕ) (item : Item) (more later : List ℕ)
+        → IsFirstValue language a.limit bytes item more
+        → IsFirstValue language a.limit (bytes ++ later) item (more ++ later)
+    item_stays bytes item more later h = record {
+      tree = h.tree;
+      is = h.is;
+      spelled = spell_after a.limit bytes more later (h.tree ∷ []) h.spelled;
+    }
+
+    pub lawful_at : AreLawfulAt (certifying language asked_of SectionOf) a
+    lawful_at = record {
+      first_once = item_once;
+      says_once = said_once;
+      stops_once = stop_once;
+      ends_once = end_reply_once;
+      front = item_front;
+      item_stays = item_stays;
+      stop_stays = stop_stays;
+      stops_inside = stop_inner;
+      ends_inside = λ items bytes stop h. end_inner (length items) h.0 stop h.2;
+      apart = λ items bytes are_bytes item more said stop first told h.
+          no_tail a.limit bytes are_bytes first.tree more (refused h.refusal) first.spelled h.tail;
+    }

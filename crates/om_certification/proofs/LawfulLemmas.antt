@@ -1,0 +1,165 @@
+-- The command is lawful, where the language is, and one section is said of a value.
+use Rattle.std.proofs.Common.{◌≡◌, ◌⊎◌, ◌<◌, ℕ, List, Some, Result, Ok, Err, inl, inr, refl, sym, ap, ◌∙◌, subst, arith}
+use Rattle.std.specs.Prelude.{Option}
+use Rattle.om_outcome.specs.Outcome.{Found, opened, whole, Request, Stop, Language, ReadsTypeOf}
+use Rattle.om_promises.specs.Commands.{Fetches}
+use Rattle.om_promises.specs.Lawful.{IsOnce, IsInner, IsWhole, FailsAtFile, AreLawful, AreInTurns}
+use Rattle.om_promises.specs.LawfulLanguage.{IsGiven, IsLawful}
+use Rattle.om_promises.proofs.OnceLemmas.{Then_once}
+use Rattle.om_commands.specs.Tasks.{by_turns}
+use Rattle.om_commands.proofs.FindLemmas.{IsRead, then_read, type_once, type_by, type_read, ComesOf, type_inside}
+use Rattle.om_commands.proofs.GivenLemmas.{type_given}
+use Rattle.om_certification.specs.Certification.{Certification, SaysSections, Asked, typed_of, CertifiesBy, Wants, Finds, certifying, AreCertifiedOnce}
+use Rattle.om_certification.proofs.ItemLemmas.{lawful_at}
+
+-- a file that is read is whole
+whole_or :
+    {X : Type 0} (found : Found) → ((bytes : List ℕ) × (found ≡ opened (whole bytes))) ⊎ X
+    → IsWhole found ⊎ X
+whole_or found (inl read) = inl (inl read)
+whole_or found (inr stops) = inr stops
+
+none_later : (turn later : ℕ) → turn < later → later ≡ 0 → ⊥
+none_later turn later less e = omega arith
+
+-- the words ask for one certificate
+asked_same : (one other : Option Asked) (x y : Asked) → one ≡ Some x → one ≡ Some y → x ≡ y
+asked_same one other x y h k = let both : Some x ≡ Some y = sym h ∙ k in cc both
+
+module _ {D T E : Type 0} (language : Language D T E) (asked_of : Request → Option Asked)
+    (SectionOf : SaysSections T) (lawful : IsLawful language) where
+  asked_once :
+      (request : Request) (one other : Asked) → asked_of request ≡ Some one
+      → asked_of request ≡ Some other → one ≡ other
+  asked_once request = asked_same (asked_of request) (asked_of request)
+
+  -- ---- what is found is one, by the file that is wanted
+
+  abbrev done : Asked → T → Result (Certification T) Stop → Type 0
+  done asked type found = found ≡ Ok (record { type = type; limit = asked.limit })
+
+  certifies_once : (files : Fetches) (asked : Asked) → IsOnce (CertifiesBy language files asked)
+  certifies_once files asked =
+      Then_once (ReadsTypeOf language (files 0) (typed_of asked)) (done asked)
+      (type_once language lawful (files 0) (typed_of asked)) (λ type found other h k. h ∙ sym k)
+
+  finds_once :
+      (request : Request) (files : Fetches)
+      → IsOnce (Finds language asked_of SectionOf request files)
+  finds_once request files result other (asked, is, h) (asked', is', k) =
+      let same = asked_once request asked asked' is is' in
+      certifies_once files asked' result other
+      (subst (λ a. CertifiesBy language files a result) same h) k
+
+  wants_file :
+      (request : Request) (files : Fetches) (asked : Asked) → asked_of request ≡ Some asked
+      → Wants language asked_of SectionOf request files 0 asked.file
+  wants_file request files asked is = (asked, is, refl, refl)
+
+  wants_once :
+      (request : Request) (files : Fetches) (turn : ℕ)
+      → IsOnce (Wants language asked_of SectionOf request files turn)
+  wants_once request files turn name other (asked, is, now, e) (asked', is', now', e') =
+      e ∙ (ap (λ a. a.file) (asked_once request asked asked' is is') ∙ sym e')
+
+  by_wanted :
+      (request : Request) (files others : Fetches) (result : Result (Certification T) Stop)
+      → ((turn : ℕ) (name : List ℕ) → Wants language asked_of SectionOf request files turn name
+      → files turn name ≡ others turn name)
+      → Finds language asked_of SectionOf request files result
+      → Finds language asked_of SectionOf request others result
+  by_wanted request files others result same (asked, is, (type, reads, next)) = (
+    asked,
+    is,
+    (
+      type,
+      type_by language lawful (files 0) (others 0) (typed_of asked) type
+          (same 0 asked.file (wants_file request files asked is)) reads,
+      next,
+    ),
+  )
+
+  -- ---- it is read, or stops the run
+
+  certified_read :
+      (files : Fetches) (asked : Asked) (result : Result (Certification T) Stop)
+      → CertifiesBy language files asked result → IsRead asked.file (files 0 asked.file) result
+  certified_read files asked =
+      then_read asked.file (files 0 asked.file) (ReadsTypeOf language (files 0) (typed_of asked))
+      (done asked) (type_read language lawful (files 0) (typed_of asked))
+
+  wanted_read :
+      (request : Request) (files : Fetches) (result : Result (Certification T) Stop)
+      → Finds language asked_of SectionOf request files result → (turn : ℕ) (name : List ℕ)
+      → Wants language asked_of SectionOf request files turn name
+      → IsRead name (files turn name) result
+  wanted_read request files result (asked, is, h) turn name (asked', is', now, e) =
+      let file : asked.file ≡ name = ap (λ a. a.file) (asked_once request asked asked' is is') ∙ sym e in
+      subst (λ t. IsRead name (files t name) result) (sym now)
+      (subst (λ n. IsRead n (files 0 n) result) file (certified_read files asked result h))
+
+  -- ---- a stop of the outside comes of it
+
+  abbrev IsInside : Request → Fetches → Stop → Type 0
+  IsInside request files stop =
+      IsInner stop ⊎ FailsAtFile (certifying language asked_of SectionOf) request files (Err stop)
+
+  at_file :
+      (request : Request) (files : Fetches) (stop : Stop) (asked : Asked)
+      → asked_of request ≡ Some asked
+      → ComesOf language lawful asked.file (files 0 asked.file) stop → IsInside request files stop
+  at_file request files stop asked is (inl inner) = inl inner
+  at_file request files stop asked is (inr fault) = inr (record {
+    turn = 0;
+    name = asked.file;
+    wants = wants_file request files asked is;
+    stop = stop;
+    fault = fault;
+    is = refl;
+  })
+
+  finds_inside :
+      (request : Request) (files : Fetches) (stop : Stop)
+      → Finds language asked_of SectionOf request files (Err stop) → IsInside request files stop
+  finds_inside request files stop (asked, is, (Err s, reads, e)) =
+      let same : s ≡ stop = cc e in
+      at_file request files stop asked is
+      (subst (ComesOf language lawful asked.file (files 0 asked.file)) same
+      (type_inside language lawful (files 0) (typed_of asked) s reads))
+  finds_inside request files stop (asked, is, (Ok type, reads, e)) = absurd (cc e)
+
+  -- ---- the type was read
+
+  found_given :
+      (request : Request) (files : Fetches) (a : Certification T)
+      → Finds language asked_of SectionOf request files (Ok a) → IsGiven language a.type
+  found_given request files a (asked, is, (Err s, reads, e)) = absurd (cc e)
+  found_given request files a (asked, is, (Ok type, reads, e)) =
+      let same : a ≡ record { type = type; limit = asked.limit } = cc e in
+      subst (λ a. IsGiven language a.type) (sym same)
+      (type_given language (by_turns files) asked.file asked.type type reads)
+
+  -- ---- the laws
+
+  pub certifying_lawful :
+      AreCertifiedOnce language asked_of SectionOf
+      → AreLawful (certifying language asked_of SectionOf)
+  certifying_lawful once = record {
+    wants_once = wants_once;
+    finds_once = finds_once;
+    by_wanted = by_wanted;
+    reads_wanted = λ request files result finds turn name wants.
+        whole_or (files turn name) (wanted_read request files result finds turn name wants);
+    finds_inside = finds_inside;
+    at = λ a found.
+        lawful_at SectionOf a language asked_of
+        (once a.type (found_given found.0 found.1 a found.2));
+  }
+
+  pub certifying_turns : AreInTurns (certifying language asked_of SectionOf)
+  certifying_turns = record {
+    by_earlier = λ request files others turn name same h. h;
+    reads = wanted_read;
+    after_read = λ request files turn later name other less h k.
+        absurd (none_later turn later less k.2);
+  }

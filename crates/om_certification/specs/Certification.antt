@@ -1,0 +1,94 @@
+-- The command that writes a certificate of the values of the input, in the general form: an item
+-- is a value, and its section is said of it, by its number. Which words ask for it is a parameter.
+use Rattle.std.specs.Prelude.{ℕ, ◌≡◌, List, length, Option, Some, Result, Ok}
+use Rattle.om_model.specs.declared.refusal.ReadRefusal.{ReadRefusal}
+use Rattle.om_format.specs.Stream.{End, clean, refused, cut, IsTail}
+use Rattle.om_format.specs.Tree.{Tree}
+use Rattle.om_outcome.specs.Outcome.{Request, Stop, value, Said, nothing_said, Reply, says, stops, Language, Then, ReadsTypeOf}
+use Rattle.om_outcome.specs.RefusalText.{refusal_text, truncated_text}
+use Rattle.om_promises.specs.Commands.{Item, value as value_item, Fetches, Commands}
+use Rattle.om_promises.specs.Lawful.{IsOnce}
+use Rattle.om_promises.specs.LawfulLanguage.{IsGiven}
+use Rattle.om_commands.specs.Tasks.{IsFirstValue}
+
+-- what is to be done: the values at the type are certified
+pub record Certification (T : Type 0) : Type 0 where
+  pub type : T
+  pub limit : ℕ
+
+-- the section that is said of a value at a type, by its number, and whether it is of a yes
+abbrev pub SaysSections : Type 0 → Type 1
+SaysSections T = T → ℕ → Tree → Said → Type 0
+
+-- ---- the values
+
+module _ {T : Type 0} (SectionOf : SaysSections T) (a : Certification T) where
+  -- this is said of the next value
+  pub record SaysOf (items : List Item) (item : Item) (said : Said) : Type 0 where
+    pub tree : Tree
+    pub is : item ≡ value_item tree
+    pub section : SectionOf a.type (length items) tree said
+
+  -- after these values what comes is refused
+  pub record StopsHere (items : List Item) (bytes : List ℕ) (stop : Stop) : Type 0 where
+    pub refusal : ReadRefusal
+    pub tail : IsTail a.limit bytes (refused refusal)
+    pub is : stop ≡ value (length items) (refusal_text refusal)
+
+  -- the last reply, where the bytes end after so many values, or cut one more
+  abbrev pub EndsBy : ℕ → End → Reply → Type 0
+  EndsBy number clean last = last ≡ says nothing_said
+  EndsBy number (refused refusal) last = ⊥
+  EndsBy number (cut n) last = last ≡ stops (value number (truncated_text n))
+
+  abbrev pub EndsHere : List Item → List ℕ → Reply → Type 0
+  EndsHere items bytes last =
+      (end : End) × IsTail a.limit bytes end × EndsBy (length items) end last
+
+-- ---- the files
+
+-- FILE and TYPE, with the limit, where values are to be certified
+pub record Asked : Type 0 where
+  pub file : List ℕ
+  pub type : List ℕ
+  pub limit : ℕ
+
+abbrev pub typed_of : Asked → List ℕ × List ℕ
+typed_of asked = (asked.file, asked.type)
+
+-- FILE and TYPE are read
+abbrev pub CertifiesBy : {D T E : Type 0} → Language D T E → Fetches → Asked
+    → Result (Certification T) Stop → Type 0
+CertifiesBy language files asked =
+    Then (ReadsTypeOf language (files 0) (typed_of asked)) (λ type found.
+    found ≡ Ok (record { type = type; limit = asked.limit }))
+
+-- ---- the command
+
+module _ {D T E : Type 0} (language : Language D T E) (asked_of : Request → Option Asked)
+    (SectionOf : SaysSections T) where
+  -- FILE is wanted, in the first turn
+  abbrev pub Wants : Request → Fetches → ℕ → List ℕ → Type 0
+  Wants request files turn name =
+      (asked : Asked) × (asked_of request ≡ Some asked) × (turn ≡ 0) × (name ≡ asked.file)
+
+  abbrev pub Finds : Request → Fetches → Result (Certification T) Stop → Type 0
+  Finds request files result =
+      (asked : Asked) × (asked_of request ≡ Some asked) × CertifiesBy language files asked result
+
+  abbrev pub certifying : Commands (Certification T)
+  certifying = record {
+    Wants = Wants;
+    Finds = Finds;
+    Reads = λ a. Unit {0};
+    IsFirst = λ a. IsFirstValue language a.limit;
+    Says = SaysOf SectionOf;
+    Stops = StopsHere SectionOf;
+    Ends = EndsHere SectionOf;
+  }
+
+  -- one section is said of a value, at each type that some texts are read as
+  abbrev pub AreCertifiedOnce : Type 0
+  AreCertifiedOnce =
+      (type : T) → IsGiven language type → (number : ℕ) (tree : Tree)
+      → IsOnce (SectionOf type number tree)

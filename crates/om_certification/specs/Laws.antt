@@ -1,0 +1,12 @@
+-- The laws on the command that writes certificates.
+use Rattle.std.specs.Prelude.{◌≡◌, Option, None}
+use Rattle.om_outcome.specs.Outcome.{Request, Language}
+use Rattle.om_choice.specs.Choice.{IsIdleAt}
+use Rattle.om_certification.specs.Certification.{Asked, SaysSections, certifying}
+
+-- it is idle at each request that is not its own
+abbrev pub IsIdleElsewhere : {D T E : Type 0} → Language D T E → (Request → Option Asked)
+    → SaysSections T → Type 0
+IsIdleElsewhere language asked_of SectionOf =
+    (request : Request) → asked_of request ≡ None
+    → IsIdleAt (certifying language asked_of SectionOf) request

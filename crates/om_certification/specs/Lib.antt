@@ -1,0 +1,2 @@
+pub mod Certification
+pub mod Laws
