@@ -1,0 +1,86 @@
+-- What `check --cert` put is the certificate of `verify`: of the same input, at the same FILE and
+-- TYPE, it is accepted, and the lines of `check` come out.
+use Rattle.std.specs.Prelude.{ℕ, ◌≡◌, ◌≢◌, ◌⊎◌, List, [], ◌++◌, Option, Some, Ok}
+use Rattle.om_types.specs.declared.decl.Decl.{Decl}
+use Rattle.om_format.specs.Stream.{SpellAll}
+use Rattle.om_format.specs.Tree.{Tree}
+use Rattle.om_outcome.specs.declared.status.Status.TheVariants.{Well, No, Memory}
+use Rattle.om_outcome.specs.Outcome.{Request, own, verify, Asks, the_verdict, tells, Said, texts_of, AllSay}
+use Rattle.om_edge.specs.Files.{File, contents_of}
+use Rattle.om_edge.specs.Sink.{Puts}
+use Rattle.om_promises.specs.Call.{Call}
+use Rattle.om_promises.specs.Commands.{Commands}
+use Rattle.om_promises.specs.CommandLaws.{Follow}
+use Rattle.om_promises.specs.Outside.{IsHonest}
+use Rattle.om_declared.specs.Language.{TypeOver, ReadsDeclarations, ReadsType, declared_types}
+use Rattle.om_certification.specs.Certification.{Asked}
+
+-- out is told, and the call put this there
+pub record HasPut (call : Call) (text : List ℕ) : Type 0 where
+  pub before : List ℕ
+  pub had : call.out.before.bytes ≡ Some before
+  pub has : call.out.after.bytes ≡ Some (before ++ text)
+
+-- The words ask to certify the values of the input at FILE and TYPE, each under the limit, and the
+-- call went to the input's end; its input, what FILE holds, and what it put on out are told.
+pub record Certifies (asked_of : Request → Option Asked) (words : List (List ℕ)) (call : Call)
+    (asked : Asked) (contents input certificate : List ℕ) : Type 0 where
+  pub request : Request
+  pub asks : Asks words request
+  pub is_asked : asked_of request ≡ Some asked
+  pub ended : (call.status ≡ Well) ⊎ (call.status ≡ No)
+  pub files : List File
+  pub map : call.files.before.map ≡ Some files
+  pub holds : contents_of files asked.file ≡ Some contents
+  pub input_is : call.input.before.bytes ≡ Some input
+  pub puts : HasPut call certificate
+
+-- The words ask to verify a certificate of the values of this input at the same FILE and TYPE, and
+-- under the same limit. FILE holds what it held, and CERT what was put. No call on the outside
+-- failed, nothing is too long, and memory did not run out.
+pub record Verifies (words : List (List ℕ)) (call : Call) (asked : Asked)
+    (contents input certificate : List ℕ) : Type 0 where
+  pub name : List ℕ
+  pub asks : Asks words (own (verify asked.file asked.type name asked.limit))
+  pub files : List File
+  pub holds : contents_of files asked.file ≡ Some contents
+  pub has : contents_of files name ≡ Some certificate
+  pub honest : IsHonest call input files
+  pub suffices : call.status ≢ Memory
+
+-- what FILE holds and TYPE are this type
+pub record AreReadAs (contents type : List ℕ) (t : TypeOver) : Type 0 where
+  pub decls : List Decl
+  pub declared : ReadsDeclarations contents (Ok decls)
+  pub written : ReadsType decls type (Ok t)
+
+-- The input is values, one after another, each under the limit; the later call put the lines of
+-- `check` on each, in this order, and ended as the first one.
+pub record ConfirmsAll (asked : Asked) (contents input : List ℕ) (call later : Call)
+    : Type 0 where
+  pub type : TypeOver
+  pub read : AreReadAs contents asked.type type
+  pub trees : List Tree
+  pub values : SpellAll asked.limit input trees []
+  pub said : List Said
+  pub lines : AllSay declared_types (tells the_verdict type) 0 trees said
+  pub out : Puts later.out (texts_of said)
+  pub err : Puts later.err []
+  pub status : later.status ≡ call.status
+
+-- of two calls, each with its words: where the first one certifies values, and the second one
+-- verifies what was put, it is accepted
+abbrev pub VerifiesWhatWasPut : (Request → Option Asked) → List (List ℕ) → Call → List (List ℕ)
+    → Call → Type 0
+VerifiesWhatWasPut asked_of words call later_words later =
+    (asked : Asked) (contents input certificate : List ℕ)
+    → Certifies asked_of words call asked contents input certificate
+    → Verifies later_words later asked contents input certificate
+    → ConfirmsAll asked contents input call later
+
+-- so it is of each two calls of which all is promised, by commands that certify and by those that
+-- verify
+abbrev pub PutCertificatesAreAccepted : {A B : Type 0} → (Request → Option Asked) → Commands A
+    → Commands B → Type 0
+PutCertificatesAreAccepted asked_of c d =
+    Follow c (λ words call. Follow d (VerifiesWhatWasPut asked_of words call))

@@ -1,0 +1,3 @@
+//! What `check --cert` put is the certificate of `verify`: of the same input, at the same FILE and
+//! TYPE, it is accepted, and says what `check` says. This is the definition of the law.
+#![tactic(auto)]

@@ -1,0 +1,67 @@
+-- The section that is said of a value at a declared type.
+use Rattle.std.specs.Prelude.{ℕ, ◌≡◌, Bool, true, false, List, Option}
+use Rattle.om_model.specs.declared.value.Val.{Val}
+use Rattle.om_model.specs.declared.value.Obj.{Obj}
+use Rattle.om_types.specs.declared.fault.Fault.{Fault}
+use Rattle.om_types.specs.declared.fault.Fault.TheVariants as faults
+use Rattle.om_types.specs.Equal.{declared_shapes}
+use Rattle.om_types.specs.LeastFault.{IsLeastFault}
+use Rattle.om_types.specs.Reached.{IsReached}
+use Rattle.om_types.specs.Table.{Table, IsTableOf}
+use Rattle.om_types.specs.Ty.{Ty}
+use Rattle.om_types.specs.Typing.{HasType}
+use Rattle.om_rigid.specs.Rigid.{HasEachInstance}
+use Rattle.om_format.specs.Tree.{root, objects_of}
+use Rattle.om_section.specs.declared.section.Section.{Section}
+use Rattle.om_section.specs.declared.section.Section.TheVariants as sections
+use Rattle.om_section.specs.Format.{section_text}
+use Rattle.om_cert.specs.Normal.{AreReached}
+use Rattle.om_outcome.specs.Outcome.{Request, Said}
+use Rattle.om_promises.specs.Commands.{Commands}
+use Rattle.om_declared.specs.Language.{TypeOver, declared_types}
+use Rattle.om_certification.specs.Certification.{Asked, Certification, SaysSections, certifying}
+
+module _ (t : TypeOver) (graph : List Obj) (v : Val) where
+  -- The value has the type, and each closed instance of it; and by a table of the types that the
+  -- type reaches these are the pairs that paths reach, each at the least number of its class, in a
+  -- section's order.
+  pub record CertifiesType (pairs : List (ℕ × ℕ)) : Type 0 where
+    pub has : HasType (declared_shapes t.decls) graph v t.type
+    pub each : HasEachInstance t.decls graph v t.type
+    pub types : List Ty
+    pub reached : IsReached t.decls t.type types
+    pub table : Table
+    pub made : IsTableOf t.decls types table
+    pub are : AreReached table graph v pairs
+
+  -- The value has not the type, nor each closed instance of it, and this is its least fault.
+  pub record CertifiesFault (fault : Fault) : Type 0 where
+    pub least : IsLeastFault (declared_shapes t.decls) graph v t.type fault
+    pub some_not : ¬ HasEachInstance t.decls graph v t.type
+
+  -- the section of the value
+  abbrev pub IsSectionOf : Section → Type 0
+  IsSectionOf (sections.Pairs pairs) = CertifiesType pairs
+  IsSectionOf (sections.Misfit path) = CertifiesFault (faults.Misfit path)
+  IsSectionOf (sections.Clash first second) = CertifiesFault (faults.Clash first second)
+
+-- whether the section is of a value that has the type
+abbrev pub is_yes : Section → Bool
+is_yes (sections.Pairs pairs) = true
+is_yes (sections.Misfit path) = false
+is_yes (sections.Clash first second) = false
+
+-- the text of a section with its number, and whether nothing is wrong with its value
+abbrev pub section_said : ℕ → Section → Said
+section_said number section =
+    record { text = section_text number section; well = is_yes section }
+
+-- the section is said of the value of a tree
+abbrev pub declared_certificates : SaysSections TypeOver
+declared_certificates t number tree said =
+    (section : Section) × IsSectionOf t (objects_of tree 0) (root tree 0) section
+    × (said ≡ section_said number section)
+
+-- the command at declared types
+abbrev pub on_certified : (Request → Option Asked) → Commands (Certification TypeOver)
+on_certified asked_of = certifying declared_types asked_of declared_certificates

@@ -1,0 +1,2 @@
+//! `check --cert` on the values of the input at a declared type: what section is said of a value.
+#![tactic(auto)]
