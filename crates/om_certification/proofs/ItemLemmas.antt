@@ -1,12 +1,13 @@
 -- What is said of a value, where the run stops and how the input ends are one, and stay.
 use Rattle.std.proofs.Common.{◌≡◌, ◌<◌, ℕ, List, [], ◌∷◌, ◌++◌, length, sym, ap, ◌∙◌, subst}
 use Rattle.om_model.specs.Bytes.{AreBytes}
-use Rattle.om_format.specs.Stream.{End, clean, refused, cut}
+use Rattle.om_model.specs.declared.refusal.ReadRefusal.{ReadRefusal}
+use Rattle.om_format.specs.Stream.{End, clean, refused, cut, IsTail}
 use Rattle.std.specs.Prelude.{Option}
 use Rattle.om_format.specs.Tree.{Tree}
 use Rattle.om_outcome.specs.Outcome.{Request, Stop, value, stops, Language}
 use Rattle.om_outcome.specs.RefusalText.{refusal_text, truncated_text}
-use Rattle.om_promises.specs.Commands.{Item, value as value_item}
+use Rattle.om_promises.specs.Commands.{Item, value as value_item, GoesOn}
 use Rattle.om_promises.specs.Lawful.{IsOnce, IsInner, AreLawfulAt}
 use Rattle.om_promises.proofs.LengthLemmas.{spelled_some}
 use Rattle.om_promises.proofs.ValueLemmas.{spell_after}
@@ -58,6 +59,18 @@ module _ {T : Type 0} (SectionOf : SaysSections T) (a : Certification T) where
   end_inner number (refused refusal) stop h = absurd h
   end_inner number (cut n) stop h =
       let is : stop ≡ value number (truncated_text n) = cc h in subst IsInner (sym is) tt
+
+  module _ {D E : Type 0} (language : Language D T E) (asked_of : Request → Option Asked) where
+    module _ (items : List Item) (rest : List ℕ) (are_bytes : AreBytes rest) (end : End)
+        (tail : IsTail a.limit rest end)
+        (fine : (refusal : ReadRefusal) → end ≡ refused refusal → ⊥) where
+      -- bytes that are no value, and are not refused
+      pub goes_on : GoesOn (certifying language asked_of SectionOf) a items rest
+      goes_on = record {
+        no_stop = λ stop r.
+            fine r.refusal (end_once a.limit rest are_bytes end (refused r.refusal) tail r.tail);
+        no_item = λ item more h. no_tail a.limit rest are_bytes h.tree more end h.spelled tail;
+      }
 
   module _ {D E : Type 0} (language : Language D T E) (asked_of : Request → Option Asked)
       (once : (number : ℕ) (tree : Tree) → IsOnce (SectionOf a.type number tree)) where

@@ -1,3 +1,6 @@
 pub mod ItemLemmas
 pub mod LawfulLemmas
 pub mod IdleLemmas
+pub mod SaidLemmas
+pub mod TableLemmas
+pub mod NeverLemmas

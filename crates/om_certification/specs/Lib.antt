@@ -1,2 +1,3 @@
 pub mod Certification
 pub mod Laws
+pub mod Meanings
