@@ -1,2 +1,3 @@
 pub mod OneListLemmas
 pub mod TableLemmas
+pub mod ReachedLemmas

@@ -38,7 +38,7 @@ some_weaker o P Q more holds =
     let s = IsSomeAnd-some o P holds in IsSomeAnd-at o s.0 Q s.1 (more s.0 s.2)
 
 -- the type itself comes first
-first_is :
+pub first_is :
     (decls : List Decl) (t : Ty) (types : List Ty) → IsReached decls t types
     → slice_get types 0 ≡ Some t
 first_is decls t types reached = by reached.in_order where
@@ -129,7 +129,7 @@ module _ (decls : List Decl) (types : List Ty) (table other : Table)
       let within = slice_get_within types i u of in
       slice_get_there classes i (omega (arith, within, many))
 
-  equal_too : (i j : ℕ) → (table_shapes table).equal i j → (table_shapes other).equal i j
+  pub equal_too : (i j : ℕ) → (table_shapes table).equal i j → (table_shapes other).equal i j
   equal_too i j same = by (none_or_some (slice_get types i)) (none_or_some (slice_get types j)) where
     Found : ℕ → Type 0
     Found k = (slice_get types k ≡ None) ⊎ ((u : Ty) × (slice_get types k ≡ Some u))

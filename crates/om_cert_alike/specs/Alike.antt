@@ -1,5 +1,6 @@
--- What a section shows of a value by one table of a type is what it shows by each.
-use Rattle.std.specs.Prelude.{◌≡◌, List}
+-- What a section shows of a value by one table of a type is what it shows by each; and the pairs
+-- that paths reach are one list by each.
+use Rattle.std.specs.Prelude.{ℕ, ◌≡◌, List}
 use Rattle.om_model.specs.declared.value.Val.{Val}
 use Rattle.om_model.specs.declared.value.Obj.{Obj}
 use Rattle.om_types.specs.declared.decl.Decl.{Decl}
@@ -8,6 +9,7 @@ use Rattle.om_types.specs.Reached.{IsReached}
 use Rattle.om_types.specs.Table.{Table, IsTableOf}
 use Rattle.om_section.specs.declared.section.Section.{Section}
 use Rattle.om_cert.specs.declared.verified.Verified.{Verified}
+use Rattle.om_cert.specs.Normal.{AreReached}
 use Rattle.om_cert.specs.Verified.{IsVerified}
 
 -- the types that a type reaches are one list
@@ -31,3 +33,19 @@ AnswersAtAreOne =
     (decls : List Decl) (t : Ty) (graph : List Obj) (root : Val) (section : Section)
     (one other : Verified) → IsAnswerAt decls t graph root section one
     → IsAnswerAt decls t graph root section other → one ≡ other
+
+-- these are the pairs that paths reach, by a table of the types that the type reaches
+pub record AreReachedAt (decls : List Decl) (t : Ty) (graph : List Obj) (root : Val)
+    (pairs : List (ℕ × ℕ)) : Type 0 where
+  pub types : List Ty
+  pub reached : IsReached decls t types
+  pub table : Table
+  pub made : IsTableOf decls types table
+  pub are : AreReached table graph root pairs
+
+-- so they are one list
+abbrev pub ReachedPairsAreOne : Type 0
+ReachedPairsAreOne =
+    (decls : List Decl) (t : Ty) (graph : List Obj) (root : Val) (pairs others : List (ℕ × ℕ))
+    → AreReachedAt decls t graph root pairs → AreReachedAt decls t graph root others
+    → pairs ≡ others
