@@ -6,16 +6,13 @@ use Rattle.om_types.specs.declared.fault.Fault.{Fault}
 use Rattle.om_types.specs.declared.fault.Fault.TheVariants as faults
 use Rattle.om_types.specs.Equal.{declared_shapes}
 use Rattle.om_types.specs.LeastFault.{IsLeastFault}
-use Rattle.om_types.specs.Reached.{IsReached}
-use Rattle.om_types.specs.Table.{Table, IsTableOf}
-use Rattle.om_types.specs.Ty.{Ty}
 use Rattle.om_types.specs.Typing.{HasType}
 use Rattle.om_rigid.specs.Rigid.{HasEachInstance}
 use Rattle.om_format.specs.Tree.{root, objects_of}
 use Rattle.om_section.specs.declared.section.Section.{Section}
 use Rattle.om_section.specs.declared.section.Section.TheVariants as sections
 use Rattle.om_section.specs.Format.{section_text}
-use Rattle.om_cert.specs.Normal.{AreReached}
+use Rattle.om_cert_alike.specs.Alike.{AreReachedAt}
 use Rattle.om_outcome.specs.Outcome.{Request, Said}
 use Rattle.om_promises.specs.Commands.{Commands}
 use Rattle.om_declared.specs.Language.{TypeOver, declared_types}
@@ -28,11 +25,7 @@ module _ (t : TypeOver) (graph : List Obj) (v : Val) where
   pub record CertifiesType (pairs : List (ℕ × ℕ)) : Type 0 where
     pub has : HasType (declared_shapes t.decls) graph v t.type
     pub each : HasEachInstance t.decls graph v t.type
-    pub types : List Ty
-    pub reached : IsReached t.decls t.type types
-    pub table : Table
-    pub made : IsTableOf t.decls types table
-    pub are : AreReached table graph v pairs
+    pub are : AreReachedAt t.decls t.type graph v pairs
 
   -- The value has not the type, nor each closed instance of it, and this is its least fault.
   pub record CertifiesFault (fault : Fault) : Type 0 where
@@ -56,11 +49,15 @@ abbrev pub section_said : ℕ → Section → Said
 section_said number section =
     record { text = section_text number section; well = is_yes section }
 
--- the section is said of the value of a tree
+-- this is said of the value: its section, with its number
+abbrev pub SaysSection : TypeOver → ℕ → List Obj → Val → Said → Type 0
+SaysSection t number graph v said =
+    (section : Section) × IsSectionOf t graph v section × (said ≡ section_said number section)
+
+-- and so of the value of a tree
 abbrev pub declared_certificates : SaysSections TypeOver
 declared_certificates t number tree said =
-    (section : Section) × IsSectionOf t (objects_of tree 0) (root tree 0) section
-    × (said ≡ section_said number section)
+    SaysSection t number (objects_of tree 0) (root tree 0) said
 
 -- the command at declared types
 abbrev pub on_certified : (Request → Option Asked) → Commands (Certification TypeOver)
