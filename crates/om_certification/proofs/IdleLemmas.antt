@@ -5,14 +5,14 @@ use Rattle.om_outcome.specs.Outcome.{Request, Language}
 use Rattle.om_choice.specs.Choice.{IsIdleAt}
 use Rattle.om_certification.specs.Certification.{Asked, SaysSections, certifying}
 
-module _ {D T E : Type 0} (language : Language D T E) (asked_of : Request → Option Asked)
+module _ {D T E : Type 0} (language : Language D T E)
     (SectionOf : SaysSections T) where
   pub certifying_idle :
-      (request : Request) → asked_of request ≡ None
-      → IsIdleAt (certifying language asked_of SectionOf) request
+      (request : Request) → certified_by request ≡ None
+      → IsIdleAt (certifying language SectionOf) request
   certifying_idle request none = record {
     unwanted = λ files turn name h. differ h.0 h.1;
     unfound = λ files result h. differ h.0 h.1;
   } where
-    differ : (asked : Asked) → asked_of request ≡ Some asked → ⊥
+    differ : (asked : Asked) → certified_by request ≡ Some asked → ⊥
     differ asked e = let never : None ≡ Some asked = sym none ∙ e in cc never

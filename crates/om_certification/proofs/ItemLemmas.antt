@@ -60,19 +60,19 @@ module _ {T : Type 0} (SectionOf : SaysSections T) (a : Certification T) where
   end_inner number (cut n) stop h =
       let is : stop ≡ value number (truncated_text n) = cc h in subst IsInner (sym is) tt
 
-  module _ {D E : Type 0} (language : Language D T E) (asked_of : Request → Option Asked) where
+  module _ {D E : Type 0} (language : Language D T E) where
     module _ (items : List Item) (rest : List ℕ) (are_bytes : AreBytes rest) (end : End)
         (tail : IsTail a.limit rest end)
         (fine : (refusal : ReadRefusal) → end ≡ refused refusal → ⊥) where
       -- bytes that are no value, and are not refused
-      pub goes_on : GoesOn (certifying language asked_of SectionOf) a items rest
+      pub goes_on : GoesOn (certifying language SectionOf) a items rest
       goes_on = record {
         no_stop = λ stop r.
             fine r.refusal (end_once a.limit rest are_bytes end (refused r.refusal) tail r.tail);
         no_item = λ item more h. no_tail a.limit rest are_bytes h.tree more end h.spelled tail;
       }
 
-  module _ {D E : Type 0} (language : Language D T E) (asked_of : Request → Option Asked)
+  module _ {D E : Type 0} (language : Language D T E)
       (once : (number : ℕ) (tree : Tree) → IsOnce (SectionOf a.type number tree)) where
     said_once : (items : List Item) (item : Item) → IsOnce (SaysOf SectionOf a items item)
     said_once items item said other h k =
@@ -107,7 +107,7 @@ module _ {T : Type 0} (SectionOf : SaysSections T) (a : Certification T) where
       spelled = spell_after a.limit bytes more later (h.tree ∷ []) h.spelled;
     }
 
-    pub lawful_at : AreLawfulAt (certifying language asked_of SectionOf) a
+    pub lawful_at : AreLawfulAt (certifying language SectionOf) a
     lawful_at = record {
       first_once = item_once;
       says_once = said_once;

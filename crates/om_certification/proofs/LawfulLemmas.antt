@@ -26,12 +26,12 @@ none_later turn later less e = omega arith
 asked_same : (one other : Option Asked) (x y : Asked) → one ≡ Some x → one ≡ Some y → x ≡ y
 asked_same one other x y h k = let both : Some x ≡ Some y = sym h ∙ k in cc both
 
-module _ {D T E : Type 0} (language : Language D T E) (asked_of : Request → Option Asked)
+module _ {D T E : Type 0} (language : Language D T E)
     (SectionOf : SaysSections T) (lawful : IsLawful language) where
   asked_once :
-      (request : Request) (one other : Asked) → asked_of request ≡ Some one
-      → asked_of request ≡ Some other → one ≡ other
-  asked_once request = asked_same (asked_of request) (asked_of request)
+      (request : Request) (one other : Asked) → certified_by request ≡ Some one
+      → certified_by request ≡ Some other → one ≡ other
+  asked_once request = asked_same (certified_by request) (certified_by request)
 
   -- ---- what is found is one, by the file that is wanted
 
@@ -45,29 +45,29 @@ module _ {D T E : Type 0} (language : Language D T E) (asked_of : Request → Op
 
   finds_once :
       (request : Request) (files : Fetches)
-      → IsOnce (Finds language asked_of SectionOf request files)
+      → IsOnce (Finds language SectionOf request files)
   finds_once request files result other (asked, is, h) (asked', is', k) =
       let same = asked_once request asked asked' is is' in
       certifies_once files asked' result other
       (subst (λ a. CertifiesBy language files a result) same h) k
 
   wants_file :
-      (request : Request) (files : Fetches) (asked : Asked) → asked_of request ≡ Some asked
-      → Wants language asked_of SectionOf request files 0 asked.file
+      (request : Request) (files : Fetches) (asked : Asked) → certified_by request ≡ Some asked
+      → Wants language SectionOf request files 0 asked.file
   wants_file request files asked is = (asked, is, refl, refl)
 
   wants_once :
       (request : Request) (files : Fetches) (turn : ℕ)
-      → IsOnce (Wants language asked_of SectionOf request files turn)
+      → IsOnce (Wants language SectionOf request files turn)
   wants_once request files turn name other (asked, is, now, e) (asked', is', now', e') =
       e ∙ (ap (λ a. a.file) (asked_once request asked asked' is is') ∙ sym e')
 
   by_wanted :
       (request : Request) (files others : Fetches) (result : Result (Certification T) Stop)
-      → ((turn : ℕ) (name : List ℕ) → Wants language asked_of SectionOf request files turn name
+      → ((turn : ℕ) (name : List ℕ) → Wants language SectionOf request files turn name
       → files turn name ≡ others turn name)
-      → Finds language asked_of SectionOf request files result
-      → Finds language asked_of SectionOf request others result
+      → Finds language SectionOf request files result
+      → Finds language SectionOf request others result
   by_wanted request files others result same (asked, is, (type, reads, next)) = (
     asked,
     is,
@@ -90,8 +90,8 @@ module _ {D T E : Type 0} (language : Language D T E) (asked_of : Request → Op
 
   wanted_read :
       (request : Request) (files : Fetches) (result : Result (Certification T) Stop)
-      → Finds language asked_of SectionOf request files result → (turn : ℕ) (name : List ℕ)
-      → Wants language asked_of SectionOf request files turn name
+      → Finds language SectionOf request files result → (turn : ℕ) (name : List ℕ)
+      → Wants language SectionOf request files turn name
       → IsRead name (files turn name) result
   wanted_read request files result (asked, is, h) turn name (asked', is', now, e) =
       let file : asked.file ≡ name = ap (λ a. a.file) (asked_once request asked asked' is is') ∙ sym e in
@@ -102,11 +102,11 @@ module _ {D T E : Type 0} (language : Language D T E) (asked_of : Request → Op
 
   abbrev IsInside : Request → Fetches → Stop → Type 0
   IsInside request files stop =
-      IsInner stop ⊎ FailsAtFile (certifying language asked_of SectionOf) request files (Err stop)
+      IsInner stop ⊎ FailsAtFile (certifying language SectionOf) request files (Err stop)
 
   at_file :
       (request : Request) (files : Fetches) (stop : Stop) (asked : Asked)
-      → asked_of request ≡ Some asked
+      → certified_by request ≡ Some asked
       → ComesOf language lawful asked.file (files 0 asked.file) stop → IsInside request files stop
   at_file request files stop asked is (inl inner) = inl inner
   at_file request files stop asked is (inr fault) = inr (record {
@@ -120,7 +120,7 @@ module _ {D T E : Type 0} (language : Language D T E) (asked_of : Request → Op
 
   finds_inside :
       (request : Request) (files : Fetches) (stop : Stop)
-      → Finds language asked_of SectionOf request files (Err stop) → IsInside request files stop
+      → Finds language SectionOf request files (Err stop) → IsInside request files stop
   finds_inside request files stop (asked, is, (Err s, reads, e)) =
       let same : s ≡ stop = cc e in
       at_file request files stop asked is
@@ -132,7 +132,7 @@ module _ {D T E : Type 0} (language : Language D T E) (asked_of : Request → Op
 
   found_given :
       (request : Request) (files : Fetches) (a : Certification T)
-      → Finds language asked_of SectionOf request files (Ok a) → IsGiven language a.type
+      → Finds language SectionOf request files (Ok a) → IsGiven language a.type
   found_given request files a (asked, is, (Err s, reads, e)) = absurd (cc e)
   found_given request files a (asked, is, (Ok type, reads, e)) =
       let same : a ≡ record { type = type; limit = asked.limit } = cc e in
@@ -142,8 +142,8 @@ module _ {D T E : Type 0} (language : Language D T E) (asked_of : Request → Op
   -- ---- the laws
 
   pub certifying_lawful :
-      AreCertifiedOnce language asked_of SectionOf
-      → AreLawful (certifying language asked_of SectionOf)
+      AreCertifiedOnce language SectionOf
+      → AreLawful (certifying language SectionOf)
   certifying_lawful once = record {
     wants_once = wants_once;
     finds_once = finds_once;
@@ -152,11 +152,11 @@ module _ {D T E : Type 0} (language : Language D T E) (asked_of : Request → Op
         whole_or (files turn name) (wanted_read request files result finds turn name wants);
     finds_inside = finds_inside;
     at = λ a found.
-        lawful_at SectionOf a language asked_of
+        lawful_at SectionOf a language
         (once a.type (found_given found.0 found.1 a found.2));
   }
 
-  pub certifying_turns : AreInTurns (certifying language asked_of SectionOf)
+  pub certifying_turns : AreInTurns (certifying language SectionOf)
   certifying_turns = record {
     by_earlier = λ request files others turn name same h. h;
     reads = wanted_read;

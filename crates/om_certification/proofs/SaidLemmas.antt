@@ -133,10 +133,10 @@ module _ {T : Type 0} (SectionOf : SaysSections T) (a : Certification T) where
 
   -- ---- values as items
 
-  module _ {D E : Type 0} (language : Language D T E) (asked_of : Request → Option Asked) where
+  module _ {D E : Type 0} (language : Language D T E) where
     cut_of :
         (bytes : List ℕ) (trees : List Tree) (rest : List ℕ) → SpellAll a.limit bytes trees rest
-        → Cut (certifying language asked_of SectionOf) a bytes (items_of trees) rest
+        → Cut (certifying language SectionOf) a bytes (items_of trees) rest
     cut_of bytes [] rest same = same
     cut_of bytes (tree ∷ trees) rest (first, more, same, spelled, all) = (
       more,
@@ -146,7 +146,7 @@ module _ {T : Type 0} (SectionOf : SaysSections T) (a : Certification T) where
 
     spelled_of :
         (bytes : List ℕ) (items : List Item) (rest : List ℕ)
-        → Cut (certifying language asked_of SectionOf) a bytes items rest
+        → Cut (certifying language SectionOf) a bytes items rest
         → (trees : List Tree) × (items ≡ items_of trees) × SpellAll a.limit bytes trees rest
     spelled_of bytes [] rest same = ([], refl, same)
     spelled_of bytes (item ∷ items) rest (more, is, cut) =
@@ -160,7 +160,7 @@ module _ {T : Type 0} (SectionOf : SaysSections T) (a : Certification T) where
     say_of :
         (before : List Item) (k : ℕ) → length before ≡ k → (trees : List Tree) (said : List Said)
         → AreSaid k trees said
-        → AllSay (certifying language asked_of SectionOf) a before (items_of trees) said
+        → AllSay (certifying language SectionOf) a before (items_of trees) said
     say_of before k at [] [] h = tt
     say_of before k at [] (s ∷ said) h = absurd h
     say_of before k at (t ∷ trees) [] h = absurd h
@@ -175,7 +175,7 @@ module _ {T : Type 0} (SectionOf : SaysSections T) (a : Certification T) where
 
     told_of :
         (before : List Item) (k : ℕ) → length before ≡ k → (trees : List Tree) (said : List Said)
-        → AllSay (certifying language asked_of SectionOf) a before (items_of trees) said
+        → AllSay (certifying language SectionOf) a before (items_of trees) said
         → AreSaid k trees said
     told_of before k at [] [] h = tt
     told_of before k at [] (s ∷ said) h = absurd h
@@ -192,7 +192,7 @@ module _ {T : Type 0} (SectionOf : SaysSections T) (a : Certification T) where
     pub says_first :
         (bytes : List ℕ) (trees : List Tree) (said : List Said) (rest : List ℕ)
         → SpellAll a.limit bytes trees rest → AreSaid 0 trees said
-        → SaysFirst (certifying language asked_of SectionOf) a bytes (items_of trees) said rest
+        → SaysFirst (certifying language SectionOf) a bytes (items_of trees) said rest
     says_first bytes trees said rest spelled say = record {
       cut = cut_of bytes trees rest spelled;
       all_say = say_of [] 0 refl trees said say;
@@ -201,11 +201,11 @@ module _ {T : Type 0} (SectionOf : SaysSections T) (a : Certification T) where
     -- the first items, as values
     pub say_first :
         (bytes : List ℕ) (items : List Item) (said : List Said) (rest : List ℕ)
-        → SaysFirst (certifying language asked_of SectionOf) a bytes items said rest
+        → SaysFirst (certifying language SectionOf) a bytes items said rest
         → (trees : List Tree) × (items ≡ items_of trees) × SpellAll a.limit bytes trees rest
         × AreSaid 0 trees said
     say_first bytes items said rest h =
         let s = spelled_of bytes items rest h.cut in
-        let say = subst (λ items. AllSay (certifying language asked_of SectionOf) a [] items said) s.1
+        let say = subst (λ items. AllSay (certifying language SectionOf) a [] items said) s.1
         h.all_say in
         (s.0, s.1, s.2, told_of [] 0 refl s.0 said say)

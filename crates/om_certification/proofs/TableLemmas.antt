@@ -23,18 +23,18 @@ use Rattle.om_certification.specs.Meanings.{EndWith, StopWith, RefusesTypes, IsU
 use Rattle.om_certification.proofs.ItemLemmas.{goes_on}
 use Rattle.om_certification.proofs.SaidLemmas.{AreSaid, all_have, finish_of, say_some, finish_said, says_first, say_first}
 
-module _ {D T E : Type 0} (language : Language D T E) (asked_of : Request → Option Asked)
+module _ {D T E : Type 0} (language : Language D T E)
     (SectionOf : SaysSections T) where
   -- ---- a stop is one of the table
 
   abbrev Stopping : Certification T → List ℕ → Stop → Type 0
-  Stopping a bytes stop = HoldStop (certifying language asked_of SectionOf) a bytes stop
+  Stopping a bytes stop = HoldStop (certifying language SectionOf) a bytes stop
 
   stop_with :
       (a : Certification T) (bytes : List ℕ) (stop : Stop) → Stopping a bytes stop
       → StopWith SectionOf a bytes (status_of stop)
   stop_with a bytes stop h =
-      let values = say_first SectionOf a language asked_of bytes h.items h.said h.rest h.first in (
+      let values = say_first SectionOf a language bytes h.items h.said h.rest h.first in (
         ap status_of h.at.is,
         record {
           trees = values.0;
@@ -63,14 +63,14 @@ module _ {D T E : Type 0} (language : Language D T E) (asked_of : Request → Op
           items = items_of h.trees;
           said = s.0;
           rest = h.rest;
-          first = says_first SectionOf a language asked_of bytes h.trees s.0 h.rest h.spelled s.1;
+          first = says_first SectionOf a language bytes h.trees s.0 h.rest h.spelled s.1;
           at = record { refusal = h.refusal; tail = h.tail; is = refl };
         },
       )
 
   have_stops :
-      HaveStops (certifying language asked_of SectionOf)
-      (certifying_tables language asked_of SectionOf)
+      HaveStops (certifying language SectionOf)
+      (certifying_tables language SectionOf)
   have_stops a bytes status = (
     λ h. subst (StopWith SectionOf a bytes) h.1 (stop_with a bytes h.0 h.2),
     stop_held a bytes status,
@@ -79,7 +79,7 @@ module _ {D T E : Type 0} (language : Language D T E) (asked_of : Request → Op
   -- ---- an end is one of the table
 
   abbrev Ending : Certification T → List ℕ → Replies → Type 0
-  Ending a bytes all = HoldEnd (certifying language asked_of SectionOf) a bytes all.said all.last
+  Ending a bytes all = HoldEnd (certifying language SectionOf) a bytes all.said all.last
 
   end_row :
       (a : Certification T) (bytes : List ℕ) (trees : List Tree) (said : List Said)
@@ -113,7 +113,7 @@ module _ {D T E : Type 0} (language : Language D T E) (asked_of : Request → Op
       (subst (λ n. EndsBy SectionOf a n h.ends.0 all.last) number h.ends.2) where
         values : (trees : List Tree) × (h.items ≡ items_of trees)
             × SpellAll a.limit bytes trees h.rest × AreSaid SectionOf a 0 trees all.said
-        values = say_first SectionOf a language asked_of bytes h.items all.said h.rest h.first
+        values = say_first SectionOf a language bytes h.items all.said h.rest h.first
 
         number : length h.items ≡ length values.0
         number = ap length values.1 ∙ items_length values.0
@@ -130,8 +130,8 @@ module _ {D T E : Type 0} (language : Language D T E) (asked_of : Request → Op
     ended bytes all spelled told ends = record {
       items = items_of trees;
       rest = rest;
-      first = says_first SectionOf a language asked_of bytes trees all.said rest spelled told;
-      goes_on = goes_on SectionOf a language asked_of (items_of trees) rest are_bytes end tail fine;
+      first = says_first SectionOf a language bytes trees all.said rest spelled told;
+      goes_on = goes_on SectionOf a language (items_of trees) rest are_bytes end tail fine;
       ends = (
         end,
         tail,
@@ -165,8 +165,8 @@ module _ {D T E : Type 0} (language : Language D T E) (asked_of : Request → Op
       )
 
   have_ends :
-      HaveEnds (certifying language asked_of SectionOf)
-      (certifying_tables language asked_of SectionOf)
+      HaveEnds (certifying language SectionOf)
+      (certifying_tables language SectionOf)
   have_ends a bytes status are_bytes = (
     λ h. subst (EndWith SectionOf a bytes) h.1 (end_with a bytes h.0 h.2),
     end_held a bytes status are_bytes,
@@ -176,28 +176,28 @@ module _ {D T E : Type 0} (language : Language D T E) (asked_of : Request → Op
 
   module _ (request : Request) (files : Fetches) where
     abbrev BarBy : Stop → Type 0
-    BarBy stop = Bar language asked_of SectionOf request files (status_of stop)
+    BarBy stop = Bar language SectionOf request files (status_of stop)
 
     unread :
-        (turn : ℕ) (name : List ℕ) → Wants language asked_of SectionOf request files turn name
+        (turn : ℕ) (name : List ℕ) → Wants language SectionOf request files turn name
         → (stop : Stop) → ReadsFile name (files turn name) (Err stop) → BarBy stop
     unread turn name wants stop fault =
         by (status_of stop) refl (file_status name (files turn name) stop fault) where
           so : (status : Status) → status_of stop ≡ status
-              → IsUnread language asked_of SectionOf request files status
+              → IsUnread language SectionOf request files status
           so status is =
               record { turn = turn; name = name; wants = wants; stop = stop; fault = fault; is = is }
 
           by : (status : Status) → status_of stop ≡ status → IsOfFile status
-              → Bar language asked_of SectionOf request files status
+              → Bar language SectionOf request files status
           by status is (inl e) =
-              subst (Bar language asked_of SectionOf request files) (sym e) (so ReadFault (is ∙ e))
+              subst (Bar language SectionOf request files) (sym e) (so ReadFault (is ∙ e))
           by status is (inr (inl e)) =
-              subst (Bar language asked_of SectionOf request files) (sym e) (so OpenFault (is ∙ e))
+              subst (Bar language SectionOf request files) (sym e) (so OpenFault (is ∙ e))
           by status is (inr (inr e)) =
-              subst (Bar language asked_of SectionOf request files) (sym e) (so TooLong (is ∙ e))
+              subst (Bar language SectionOf request files) (sym e) (so TooLong (is ∙ e))
 
-    module _ (asked : Asked) (is_asked : asked_of request ≡ Some asked) where
+    module _ (asked : Asked) (is_asked : certified_by request ≡ Some asked) where
       type_bar :
           (stop : Stop) → ReadsTypeOf language (files 0) (typed_of asked) (Err stop) → BarBy stop
       type_bar stop (Err s, fault, is) =
@@ -221,7 +221,7 @@ module _ {D T E : Type 0} (language : Language D T E) (asked_of : Request → Op
             is_refused = inr (d, refusal, reads, refuses);
           })
 
-    bar_of : (stop : Stop) → Finds language asked_of SectionOf request files (Err stop) → BarBy stop
+    bar_of : (stop : Stop) → Finds language SectionOf request files (Err stop) → BarBy stop
     bar_of stop (asked, is, (Err s, reads, e)) =
         let same : s ≡ stop = cc e in subst BarBy same (type_bar asked is s reads)
     bar_of stop (asked, is, (Ok type, reads, e)) = absurd (cc e)
@@ -230,16 +230,16 @@ module _ {D T E : Type 0} (language : Language D T E) (asked_of : Request → Op
     abbrev HasStopBefore : Status → Type 0
     HasStopBefore status =
         (stop : Stop) × (status_of stop ≡ status)
-        × Finds language asked_of SectionOf request files (Err stop)
+        × Finds language SectionOf request files (Err stop)
 
     -- FILE or TYPE stops it
     by_type :
-        (asked : Asked) → asked_of request ≡ Some asked → (stop : Stop)
+        (asked : Asked) → certified_by request ≡ Some asked → (stop : Stop)
         → ReadsTypeOf language (files 0) (typed_of asked) (Err stop)
-        → Finds language asked_of SectionOf request files (Err stop)
+        → Finds language SectionOf request files (Err stop)
     by_type asked is stop reads = (asked, is, (Err stop, reads, refl))
 
-    types_found : RefusesTypes language asked_of SectionOf request files → HasStopBefore Types
+    types_found : RefusesTypes language SectionOf request files → HasStopBefore Types
     types_found r = by r.is_refused where
       by : IsRefusedType language r.text r.asked.type → HasStopBefore Types
       by (inl (refusal, refuses)) = (
@@ -256,11 +256,11 @@ module _ {D T E : Type 0} (language : Language D T E) (asked_of : Request → Op
       )
 
     unread_found :
-        (status : Status) → IsUnread language asked_of SectionOf request files status
+        (status : Status) → IsUnread language SectionOf request files status
         → HasStopBefore status
     unread_found status u = (u.stop, u.is, by u.wants) where
-      by : Wants language asked_of SectionOf request files u.turn u.name
-          → Finds language asked_of SectionOf request files (Err u.stop)
+      by : Wants language SectionOf request files u.turn u.name
+          → Finds language SectionOf request files (Err u.stop)
       by (asked, is, now, name) =
           by_type asked is u.stop (
             Err u.stop,
@@ -270,7 +270,7 @@ module _ {D T E : Type 0} (language : Language D T E) (asked_of : Request → Op
           )
 
     bar_found :
-        (status : Status) → Bar language asked_of SectionOf request files status
+        (status : Status) → Bar language SectionOf request files status
         → HasStopBefore status
     bar_found Types h = types_found h
     bar_found ReadFault h = unread_found ReadFault h
@@ -279,16 +279,16 @@ module _ {D T E : Type 0} (language : Language D T E) (asked_of : Request → Op
     bar_found status h = absurd h
 
   have_bars :
-      HaveBars (certifying language asked_of SectionOf)
-      (certifying_tables language asked_of SectionOf)
+      HaveBars (certifying language SectionOf)
+      (certifying_tables language SectionOf)
   have_bars request files status = (
-    λ h. subst (Bar language asked_of SectionOf request files) h.1 (bar_of request files h.0 h.2),
+    λ h. subst (Bar language SectionOf request files) h.1 (bar_of request files h.0 h.2),
     bar_found request files status,
   )
 
   pub exact :
-      AreExact (certifying language asked_of SectionOf)
-      (certifying_tables language asked_of SectionOf)
+      AreExact (certifying language SectionOf)
+      (certifying_tables language SectionOf)
   exact = record {
     read = λ a. tt;
     stops = have_stops;

@@ -1,10 +1,10 @@
 -- The command that writes a certificate of the values of the input, in the general form: an item
--- is a value, and its section is said of it, by its number. Which words ask for it is a parameter.
-use Rattle.std.specs.Prelude.{ℕ, ◌≡◌, List, length, Option, Some, Result, Ok}
+-- is a value, and its section is said of it, by its number.
+use Rattle.std.specs.Prelude.{ℕ, ◌≡◌, List, length, Option, None, Some, Result, Ok}
 use Rattle.om_model.specs.declared.refusal.ReadRefusal.{ReadRefusal}
 use Rattle.om_format.specs.Stream.{End, clean, refused, cut, IsTail}
 use Rattle.om_format.specs.Tree.{Tree}
-use Rattle.om_outcome.specs.Outcome.{Request, Stop, value, Said, nothing_said, Reply, says, stops, Language, Then, ReadsTypeOf}
+use Rattle.om_outcome.specs.Outcome.{Request, own, certify, Stop, value, Said, nothing_said, Reply, says, stops, Language, Then, ReadsTypeOf}
 use Rattle.om_outcome.specs.RefusalText.{refusal_text, truncated_text}
 use Rattle.om_promises.specs.Commands.{Item, value as value_item, Fetches, Commands}
 use Rattle.om_promises.specs.Lawful.{IsOnce}
@@ -53,6 +53,11 @@ pub record Asked : Type 0 where
   pub type : List ℕ
   pub limit : ℕ
 
+abbrev pub certified_by : Request → Option Asked
+certified_by (own (certify file type limit)) =
+    Some (record { file = file; type = type; limit = limit })
+certified_by request = None
+
 abbrev pub typed_of : Asked → List ℕ × List ℕ
 typed_of asked = (asked.file, asked.type)
 
@@ -65,16 +70,16 @@ CertifiesBy language files asked =
 
 -- ---- the command
 
-module _ {D T E : Type 0} (language : Language D T E) (asked_of : Request → Option Asked)
+module _ {D T E : Type 0} (language : Language D T E)
     (SectionOf : SaysSections T) where
   -- FILE is wanted, in the first turn
   abbrev pub Wants : Request → Fetches → ℕ → List ℕ → Type 0
   Wants request files turn name =
-      (asked : Asked) × (asked_of request ≡ Some asked) × (turn ≡ 0) × (name ≡ asked.file)
+      (asked : Asked) × (certified_by request ≡ Some asked) × (turn ≡ 0) × (name ≡ asked.file)
 
   abbrev pub Finds : Request → Fetches → Result (Certification T) Stop → Type 0
   Finds request files result =
-      (asked : Asked) × (asked_of request ≡ Some asked) × CertifiesBy language files asked result
+      (asked : Asked) × (certified_by request ≡ Some asked) × CertifiesBy language files asked result
 
   abbrev pub certifying : Commands (Certification T)
   certifying = record {

@@ -7,6 +7,6 @@ use Rattle.om_certification.specs.Certification.{Asked, SaysSections, certifying
 -- it is idle at each request that is not its own
 abbrev pub IsIdleElsewhere : {D T E : Type 0} → Language D T E → (Request → Option Asked)
     → SaysSections T → Type 0
-IsIdleElsewhere language asked_of SectionOf =
-    (request : Request) → asked_of request ≡ None
-    → IsIdleAt (certifying language asked_of SectionOf) request
+IsIdleElsewhere language SectionOf =
+    (request : Request) → certified_by request ≡ None
+    → IsIdleAt (certifying language SectionOf) request

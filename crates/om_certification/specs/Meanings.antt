@@ -81,12 +81,12 @@ module _ {T : Type 0} (SectionOf : SaysSections T) (a : Certification T) where
   abbrev pub StopWith : List ℕ → Status → Type 0
   StopWith bytes status = (status ≡ Value) × HoldRefusal bytes
 
-module _ {D T E : Type 0} (language : Language D T E) (asked_of : Request → Option Asked)
+module _ {D T E : Type 0} (language : Language D T E)
     (SectionOf : SaysSections T) where
   -- FILE is read, and what it holds is refused, or TYPE
   pub record RefusesTypes (request : Request) (files : Fetches) : Type 0 where
     pub asked : Asked
-    pub is_asked : asked_of request ≡ Some asked
+    pub is_asked : certified_by request ≡ Some asked
     pub text : List ℕ
     pub read : files 0 asked.file ≡ opened (whole text)
     pub is_refused : IsRefusedType language text asked.type
@@ -95,7 +95,7 @@ module _ {D T E : Type 0} (language : Language D T E) (asked_of : Request → Op
   pub record IsUnread (request : Request) (files : Fetches) (status : Status) : Type 0 where
     pub turn : ℕ
     pub name : List ℕ
-    pub wants : Wants language asked_of SectionOf request files turn name
+    pub wants : Wants language SectionOf request files turn name
     pub stop : Stop
     pub fault : ReadsFile name (files turn name) (Err stop)
     pub is : status_of stop ≡ status

@@ -1,7 +1,6 @@
 //! The laws. Each function does nothing: what it ensures is the law.
 
-ghost use Rattle.std.specs.Prelude.{Option};
-ghost use Rattle.om_outcome.specs.Outcome.{Language, Request};
+ghost use Rattle.om_outcome.specs.Outcome.{Language};
 ghost use Rattle.om_promises.specs.CommandLaws.{HaveOneOutcome, HaveOneStop, StopsStay, StopsAreLast, ArePromised, Follow};
 ghost use Rattle.om_promises.specs.Causes.{AreAsTold, AreMeant, IfWords, IfFiles, OnlyOpenFault, IfMissing, OnlyTooLong, IfFileTooLong, IfInputTooLong, IfInputFails, IfMemory, IfWriteFault, IsDecided, IsExact, IsComplete};
 ghost use Rattle.om_promises.specs.Lawful.{AreLawful, AreInTurns};
@@ -11,14 +10,14 @@ ghost use Rattle.om_promises.specs.Promises.{IfStop, IfEnd, IfUsage};
 ghost use Rattle.om_causes.specs.Causes.{AreExact, Causes};
 ghost use Rattle.om_certification.specs.Laws.{IsIdleElsewhere};
 ghost use Rattle.om_certification.specs.Meanings.{certifying_tables, IsNeverRejected};
-ghost use Rattle.om_certification.specs.Certification.{Asked, Certification, SaysSections, certifying, AreCertifiedOnce};
+ghost use Rattle.om_certification.specs.Certification.{Certification, SaysSections, certifying, AreCertifiedOnce};
 
 use om_causes::laws::{Meant, causes_of_tables};
 use om_promises::laws::{Act, files_in_turns, lawful_commands, promised, promises_of_commands};
 use std::marker::PhantomData;
 
-/// What texts are read as: declarations, types, and lines of scripts; which requests are to
-/// certify values; and what section is said of a value at a type.
+/// What texts are read as: declarations, types, and lines of scripts; and what section is said of a
+/// value at a type.
 pub trait Certifies {
     ghost declarations: { Type 0 };
 
@@ -27,8 +26,6 @@ pub trait Certifies {
     ghost lines: { Type 0 };
 
     ghost language: { Language declarations types lines };
-
-    ghost asked_of: { Request → Option Asked };
 
     ghost SectionOf: { SaysSections types };
 }
@@ -39,39 +36,39 @@ pub struct OnCertified<V>(PhantomData<V>);
 impl<V: Certifies> Act for OnCertified<V> {
     ghost acts = { Certification V.types };
 
-    ghost commands = { certifying V.language V.asked_of V.SectionOf };
+    ghost commands = { certifying V.language V.SectionOf };
 }
 
 impl<V: Certifies> Meant for OnCertified<V> {
     ghost acts = { Certification V.types };
 
-    ghost commands = { certifying V.language V.asked_of V.SectionOf };
+    ghost commands = { certifying V.language V.SectionOf };
 
-    ghost tables = { certifying_tables V.language V.asked_of V.SectionOf };
+    ghost tables = { certifying_tables V.language V.SectionOf };
 }
 
 /// The command is lawful, where the language is, and one section is said of a value.
 pub fn certifying_is_lawful<V: Certifies>()
     requires language { IsLawful V.language }
-    requires once { AreCertifiedOnce V.language V.asked_of V.SectionOf }
-    ensures { AreLawful (certifying V.language V.asked_of V.SectionOf) }
+    requires once { AreCertifiedOnce V.language V.SectionOf }
+    ensures { AreLawful (certifying V.language V.SectionOf) }
 {}
 
 /// It takes its file in the first turn.
 pub fn certifying_takes_turns<V: Certifies>()
     requires language { IsLawful V.language }
-    ensures { AreInTurns (certifying V.language V.asked_of V.SectionOf) }
+    ensures { AreInTurns (certifying V.language V.SectionOf) }
 {}
 
 /// So words, files and an input have one outcome, and the input holds one stop at most, which stays
 /// and comes last.
 pub fn certifying_answers_once<V: Certifies>()
     requires language { IsLawful V.language }
-    requires once { AreCertifiedOnce V.language V.asked_of V.SectionOf }
-    ensures outcome { HaveOneOutcome (certifying V.language V.asked_of V.SectionOf) }
-    ensures stop { HaveOneStop (certifying V.language V.asked_of V.SectionOf) }
-    ensures stays { StopsStay (certifying V.language V.asked_of V.SectionOf) }
-    ensures last { StopsAreLast (certifying V.language V.asked_of V.SectionOf) }
+    requires once { AreCertifiedOnce V.language V.SectionOf }
+    ensures outcome { HaveOneOutcome (certifying V.language V.SectionOf) }
+    ensures stop { HaveOneStop (certifying V.language V.SectionOf) }
+    ensures stays { StopsStay (certifying V.language V.SectionOf) }
+    ensures last { StopsAreLast (certifying V.language V.SectionOf) }
 {
     certifying_is_lawful::<V>();
     lawful_commands::<OnCertified<V>>();
@@ -80,39 +77,39 @@ pub fn certifying_answers_once<V: Certifies>()
 /// What is promised of a call follows from its account, and from that all else.
 pub fn certifying_keeps_promises<V: Certifies>()
     requires language { IsLawful V.language }
-    requires once { AreCertifiedOnce V.language V.asked_of V.SectionOf }
-    ensures account { ArePromised (certifying V.language V.asked_of V.SectionOf) }
-    ensures stop { let c = certifying V.language V.asked_of V.SectionOf in Follow c (IfStop c) }
-    ensures end { let c = certifying V.language V.asked_of V.SectionOf in Follow c (IfEnd c) }
-    ensures usage { let c = certifying V.language V.asked_of V.SectionOf in Follow c (IfUsage c) }
-    ensures words { let c = certifying V.language V.asked_of V.SectionOf in Follow c (IfWords c) }
-    ensures files { let c = certifying V.language V.asked_of V.SectionOf in Follow c (IfFiles c) }
-    ensures meant { let c = certifying V.language V.asked_of V.SectionOf in Follow c (AreMeant c) }
-    ensures as_told { let c = certifying V.language V.asked_of V.SectionOf in
+    requires once { AreCertifiedOnce V.language V.SectionOf }
+    ensures account { ArePromised (certifying V.language V.SectionOf) }
+    ensures stop { let c = certifying V.language V.SectionOf in Follow c (IfStop c) }
+    ensures end { let c = certifying V.language V.SectionOf in Follow c (IfEnd c) }
+    ensures usage { let c = certifying V.language V.SectionOf in Follow c (IfUsage c) }
+    ensures words { let c = certifying V.language V.SectionOf in Follow c (IfWords c) }
+    ensures files { let c = certifying V.language V.SectionOf in Follow c (IfFiles c) }
+    ensures meant { let c = certifying V.language V.SectionOf in Follow c (AreMeant c) }
+    ensures as_told { let c = certifying V.language V.SectionOf in
         Follow c (AreAsTold c) }
-    ensures read_fault { Follow (certifying V.language V.asked_of V.SectionOf)
+    ensures read_fault { Follow (certifying V.language V.SectionOf)
         (λ words. OnlyReadFault) }
-    ensures write_fault { Follow (certifying V.language V.asked_of V.SectionOf)
+    ensures write_fault { Follow (certifying V.language V.SectionOf)
         (λ words. OnlyWriteFault) }
-    ensures open_fault { let c = certifying V.language V.asked_of V.SectionOf in
+    ensures open_fault { let c = certifying V.language V.SectionOf in
         Follow c (OnlyOpenFault c) }
-    ensures missing { let c = certifying V.language V.asked_of V.SectionOf in
+    ensures missing { let c = certifying V.language V.SectionOf in
         Follow c (IfMissing c) }
-    ensures too_long { let c = certifying V.language V.asked_of V.SectionOf in
+    ensures too_long { let c = certifying V.language V.SectionOf in
         Follow c (OnlyTooLong c) }
-    ensures file_too_long { let c = certifying V.language V.asked_of V.SectionOf in
+    ensures file_too_long { let c = certifying V.language V.SectionOf in
         Follow c (IfFileTooLong c) }
-    ensures input_too_long { let c = certifying V.language V.asked_of V.SectionOf in
+    ensures input_too_long { let c = certifying V.language V.SectionOf in
         Follow c (IfInputTooLong c) }
-    ensures input_fails { let c = certifying V.language V.asked_of V.SectionOf in
+    ensures input_fails { let c = certifying V.language V.SectionOf in
         Follow c (IfInputFails c) }
-    ensures memory { let c = certifying V.language V.asked_of V.SectionOf in Follow c (IfMemory c) }
-    ensures write_fault_by { let c = certifying V.language V.asked_of V.SectionOf in
+    ensures memory { let c = certifying V.language V.SectionOf in Follow c (IfMemory c) }
+    ensures write_fault_by { let c = certifying V.language V.SectionOf in
         Follow c (IfWriteFault c) }
-    ensures decided { let c = certifying V.language V.asked_of V.SectionOf in
+    ensures decided { let c = certifying V.language V.SectionOf in
         Follow c (IsDecided c) }
-    ensures exact { let c = certifying V.language V.asked_of V.SectionOf in Follow c (IsExact c) }
-    ensures complete { let c = certifying V.language V.asked_of V.SectionOf in
+    ensures exact { let c = certifying V.language V.SectionOf in Follow c (IsExact c) }
+    ensures complete { let c = certifying V.language V.SectionOf in
         Follow c (IsComplete c) }
 {
     certifying_is_lawful::<V>();
@@ -124,24 +121,24 @@ pub fn certifying_keeps_promises<V: Certifies>()
 
 /// It is idle at each request that is not its own.
 pub fn certifying_is_idle_elsewhere<V: Certifies>()
-    ensures { IsIdleElsewhere V.language V.asked_of V.SectionOf }
+    ensures { IsIdleElsewhere V.language V.SectionOf }
 {}
 
 /// The tables are exact: what stops a run, and how an input ends, by its values and their sections;
 /// and what the words and the files do.
 pub fn sections_have_meanings<V: Certifies>()
-    ensures { AreExact (certifying V.language V.asked_of V.SectionOf)
-        (certifying_tables V.language V.asked_of V.SectionOf) }
+    ensures { AreExact (certifying V.language V.SectionOf)
+        (certifying_tables V.language V.SectionOf) }
 {}
 
 /// What is promised of a call gives each status its cause, and to each cause its status; and 5, 11
 /// and 12 never come.
 pub fn causes_of_sections<V: Certifies>()
     requires language { IsLawful V.language }
-    requires once { AreCertifiedOnce V.language V.asked_of V.SectionOf }
-    ensures causes { let c = certifying V.language V.asked_of V.SectionOf in
-        Follow c (Causes c (certifying_tables V.language V.asked_of V.SectionOf)) }
-    ensures others { Follow (certifying V.language V.asked_of V.SectionOf)
+    requires once { AreCertifiedOnce V.language V.SectionOf }
+    ensures causes { let c = certifying V.language V.SectionOf in
+        Follow c (Causes c (certifying_tables V.language V.SectionOf)) }
+    ensures others { Follow (certifying V.language V.SectionOf)
         (λ words. IsNeverRejected) }
 {
     certifying_is_lawful::<V>();

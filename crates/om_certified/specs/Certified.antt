@@ -1,6 +1,6 @@
 -- What `check --cert` put is the certificate of `verify`: of the same input, at the same FILE and
 -- TYPE, it is accepted, and the lines of `check` come out.
-use Rattle.std.specs.Prelude.{ℕ, ◌≡◌, ◌≢◌, ◌⊎◌, List, [], ◌++◌, Option, Some, Ok}
+use Rattle.std.specs.Prelude.{ℕ, ◌≡◌, ◌≢◌, ◌⊎◌, List, [], ◌++◌, Some, Ok}
 use Rattle.om_types.specs.declared.decl.Decl.{Decl}
 use Rattle.om_format.specs.Stream.{SpellAll}
 use Rattle.om_format.specs.Tree.{Tree}
@@ -13,7 +13,7 @@ use Rattle.om_promises.specs.Commands.{Commands}
 use Rattle.om_promises.specs.CommandLaws.{Follow}
 use Rattle.om_promises.specs.Outside.{IsHonest}
 use Rattle.om_declared.specs.Language.{TypeOver, ReadsDeclarations, ReadsType, declared_types}
-use Rattle.om_certification.specs.Certification.{Asked}
+use Rattle.om_certification.specs.Certification.{Asked, certified_by}
 
 -- out is told, and the call put this there
 pub record HasPut (call : Call) (text : List ℕ) : Type 0 where
@@ -23,11 +23,11 @@ pub record HasPut (call : Call) (text : List ℕ) : Type 0 where
 
 -- The words ask to certify the values of the input at FILE and TYPE, each under the limit, and the
 -- call went to the input's end; its input, what FILE holds, and what it put on out are told.
-pub record Certifies (asked_of : Request → Option Asked) (words : List (List ℕ)) (call : Call)
+pub record Certifies (words : List (List ℕ)) (call : Call)
     (asked : Asked) (contents input certificate : List ℕ) : Type 0 where
   pub request : Request
   pub asks : Asks words request
-  pub is_asked : asked_of request ≡ Some asked
+  pub is_asked : certified_by request ≡ Some asked
   pub ended : (call.status ≡ Well) ⊎ (call.status ≡ No)
   pub files : List File
   pub map : call.files.before.map ≡ Some files
@@ -70,17 +70,15 @@ pub record ConfirmsAll (asked : Asked) (contents input : List ℕ) (call later :
 
 -- of two calls, each with its words: where the first one certifies values, and the second one
 -- verifies what was put, it is accepted
-abbrev pub VerifiesWhatWasPut : (Request → Option Asked) → List (List ℕ) → Call → List (List ℕ)
-    → Call → Type 0
-VerifiesWhatWasPut asked_of words call later_words later =
+abbrev pub VerifiesWhatWasPut : List (List ℕ) → Call → List (List ℕ) → Call → Type 0
+VerifiesWhatWasPut words call later_words later =
     (asked : Asked) (contents input certificate : List ℕ)
-    → Certifies asked_of words call asked contents input certificate
+    → Certifies words call asked contents input certificate
     → Verifies later_words later asked contents input certificate
     → ConfirmsAll asked contents input call later
 
 -- so it is of each two calls of which all is promised, by commands that certify and by those that
 -- verify
-abbrev pub PutCertificatesAreAccepted : {A B : Type 0} → (Request → Option Asked) → Commands A
-    → Commands B → Type 0
-PutCertificatesAreAccepted asked_of c d =
-    Follow c (λ words call. Follow d (VerifiesWhatWasPut asked_of words call))
+abbrev pub PutCertificatesAreAccepted : {A B : Type 0} → Commands A → Commands B → Type 0
+PutCertificatesAreAccepted c d =
+    Follow c (λ words call. Follow d (VerifiesWhatWasPut words call))

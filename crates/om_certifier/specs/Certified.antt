@@ -1,5 +1,5 @@
 -- The section that is said of a value at a declared type.
-use Rattle.std.specs.Prelude.{ℕ, ◌≡◌, Bool, true, false, List, Option}
+use Rattle.std.specs.Prelude.{ℕ, ◌≡◌, Bool, true, false, List}
 use Rattle.om_model.specs.declared.value.Val.{Val}
 use Rattle.om_model.specs.declared.value.Obj.{Obj}
 use Rattle.om_types.specs.declared.fault.Fault.{Fault}
@@ -13,10 +13,10 @@ use Rattle.om_section.specs.declared.section.Section.{Section}
 use Rattle.om_section.specs.declared.section.Section.TheVariants as sections
 use Rattle.om_section.specs.Format.{section_text}
 use Rattle.om_cert_alike.specs.Alike.{AreReachedAt}
-use Rattle.om_outcome.specs.Outcome.{Request, Said}
+use Rattle.om_outcome.specs.Outcome.{Said}
 use Rattle.om_promises.specs.Commands.{Commands}
 use Rattle.om_declared.specs.Language.{TypeOver, declared_types}
-use Rattle.om_certification.specs.Certification.{Asked, Certification, SaysSections, certifying}
+use Rattle.om_certification.specs.Certification.{Certification, SaysSections, certifying}
 
 module _ (t : TypeOver) (graph : List Obj) (v : Val) where
   -- The value has the type, and each closed instance of it; and by a table of the types that the
@@ -60,5 +60,5 @@ declared_certificates t number tree said =
     SaysSection t number (objects_of tree 0) (root tree 0) said
 
 -- the command at declared types
-abbrev pub on_certified : (Request → Option Asked) → Commands (Certification TypeOver)
-on_certified asked_of = certifying declared_types asked_of declared_certificates
+abbrev pub on_certified : Commands (Certification TypeOver)
+on_certified = certifying declared_types declared_certificates

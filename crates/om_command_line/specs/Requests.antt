@@ -31,7 +31,15 @@ request_of (requests.Same limit) = outcome.compare limit
 request_of (requests.Build file type) = outcome.own (outcome.build file.now type.now)
 request_of (requests.Verify file type certificate limit) =
     outcome.own (outcome.verify file.now type.now certificate.now limit)
+request_of (requests.Certify file type limit) =
+    outcome.own (outcome.certify file.now type.now limit)
 request_of (requests.Generate n count type) = outcome.own (outcome.generate n count type.now)
+
+-- what `check` asks for, with a certificate or without
+abbrev pub check_asks : Bool → (file type : List ℕ) → ℕ → outcome.Request
+check_asks certified file type limit =
+    if certified then outcome.own (outcome.certify file type limit)
+    else outcome.tell outcome.the_verdict file type limit
 
 -- the arguments of a command
 abbrev pub arguments_of : ArgMatches → List Row

@@ -38,6 +38,8 @@ const LIMIT: Argument<'static> = Argument::Option("limit", GREATEST_LIMIT, "1342
 
 const COMPAT: Argument<'static> = Argument::Flag("compat32");
 
+const CERTIFIED: Argument<'static> = Argument::Flag("cert");
+
 const FILE: Argument<'static> = Argument::Word("FILE");
 
 const TYPE: Argument<'static> = Argument::Word("TYPE");
@@ -53,7 +55,7 @@ const NUMBER: Argument<'static> = Argument::Number("NUMBER", GREATEST_NUMBER);
 const COUNT: Argument<'static> = Argument::Number("COUNT", GREATEST_COUNT);
 
 static FORMS: [Form<'static>; 10] = [
-    ("check", &[LIMIT, FILE, TYPE]),
+    ("check", &[CERTIFIED, LIMIT, FILE, TYPE]),
     ("show", &[LIMIT, FILE, TYPE]),
     ("get", &[LIMIT, FILE, TYPE, PATH]),
     ("edit", &[LIMIT, FILE, TYPE, SCRIPT, COMPAT]),

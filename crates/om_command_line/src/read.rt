@@ -4,7 +4,7 @@ ghost use Rattle.std.specs.Prelude.{◌≡◌, ◌≢◌};
 ghost use Rattle.clap.specs.Words.{kind_of};
 ghost use Rattle.clap.specs.declared.error.kind.ErrorKind.TheVariants as kinds;
 ghost use Rattle.om_command_line.specs.declared.read.Unread.TheVariants as unreads;
-ghost use Rattle.om_command_line.specs.Requests.{arguments_of, flag_in, number_in, texts, word_in, ReadsAsked, ReadsBy, ReadsMet, ReadsWords};
+ghost use Rattle.om_command_line.specs.Requests.{arguments_of, check_asks, flag_in, number_in, request_of, texts, word_in, ReadsAsked, ReadsBy, ReadsMet, ReadsWords};
 
 use crate::command_set::command_set;
 use clap::error::ErrorKind;
@@ -68,6 +68,12 @@ pub enum Request<'a> {
         certificate: &'a str,
         limit: u64,
     },
+    /// A certificate of the values of the input: why each has the type, or has not.
+    Certify {
+        file: &'a str,
+        type_text: &'a str,
+        limit: u64,
+    },
     /// What is said of the value that is made from a number, with so many items, at the type.
     Generate {
         number: u64,
@@ -115,6 +121,25 @@ fn number(arguments: &ArgMatches, name: &str) -> u64
     arguments.get_one::<u64>(name).unwrap_or(0)
 }
 
+// What `check` asks for: the lines, or a certificate.
+fn check_request<'a>(certified: bool, file: &'a str, type_text: &'a str, limit: u64) -> Request<'a>
+    ensures { request_of result ≡ check_asks certified file.now type_text.now limit }
+{
+    if certified {
+        Request::Certify {
+            file,
+            type_text,
+            limit,
+        }
+    } else {
+        Request::Check {
+            file,
+            type_text,
+            limit,
+        }
+    }
+}
+
 // What a command asks for. An argument that it has not is empty, or 0, and not looked at.
 fn request_by<'a>(command: &str, arguments: &ArgMatches<'a>) -> Option<Request<'a>>
     ensures { ReadsBy command.now (arguments_of arguments.now) result }
@@ -123,11 +148,10 @@ fn request_by<'a>(command: &str, arguments: &ArgMatches<'a>) -> Option<Request<'
     let type_text = word(arguments, "TYPE");
     let limit = number(arguments, "limit");
     match command {
-        "check" => Some(Request::Check {
-            file,
-            type_text,
-            limit,
-        }),
+        "check" => {
+            let certified = flag(arguments, "cert");
+            Some(check_request(certified, file, type_text, limit))
+        }
         "show" => Some(Request::Show {
             file,
             type_text,

@@ -3,7 +3,7 @@ use Rattle.std.proofs.Common.{◌≡◌, ◌^◌, ◌<◌, ◌≤◌, ℕ, List,
 use Rattle.std.specs.Prelude.{find, if◌then◌else◌}
 use Rattle.std.specs.Str.{bytes_eq}
 use Rattle.clap.specs.Words.{Row}
-use Rattle.om_outcome.specs.CommandLine.{Request, own, generate, Form, forms, HasArguments, Asks}
+use Rattle.om_outcome.specs.CommandLine.{Request, own, tell, the_verdict, certify, generate, Form, forms, HasArguments, Asks}
 
 -- what is asked for is in range
 abbrev IsRanged : Request → Type 0
@@ -33,9 +33,16 @@ found_ranged test (first ∷ rest) ranged form e =
 below_number : (n : ℕ) → n ≤ 2147483647 → n < 2 ^ 31
 below_number n fits = omega arith
 
+-- each of two requests is in range
+either_ranged :
+    (used : Bool) (one other : Request) → IsRanged one → IsRanged other
+    → IsRanged (if used then one else other)
+either_ranged true one other a b = a
+either_ranged false one other a b = b
+
 all_ranged : AllRanged forms
 all_ranged = (
-  λ rows request h. subst IsRanged h.2.2.2 tt,
+  λ rows request h. subst IsRanged h.2.2.2.2 (either_ranged h.0 (own (certify h.2.2.0 h.2.2.2.0 h.2.0)) (tell the_verdict h.2.2.0 h.2.2.2.0 h.2.0) tt tt),
   (
     λ rows request h. subst IsRanged h.2.2.2 tt,
     (

@@ -24,6 +24,7 @@ pub data OwnRequest : Type 0 where
   build : (file type : List ℕ) → OwnRequest
   generate : (number count : ℕ) → (type : List ℕ) → OwnRequest
   verify : (file type certificate : List ℕ) → (limit : ℕ) → OwnRequest
+  certify : (file type : List ℕ) → (limit : ℕ) → OwnRequest
 
 -- what is asked for, with the limit of words on 64 bits in a value where values are read
 pub data Request : Type 0 where
@@ -97,12 +98,15 @@ greatest_limit = 2 ^ 40
 abbrev pub usual_limit : List ℕ
 usual_limit = codes "134217728"
 
--- `--limit N` and `--compat32`
+-- `--limit N`, `--compat32` and `--cert`
 abbrev pub limit_option : Argument
 limit_option = option (codes "limit") greatest_limit usual_limit
 
 abbrev pub compat_flag : Argument
 compat_flag = flag (codes "compat32")
+
+abbrev pub cert_flag : Argument
+cert_flag = flag (codes "cert")
 
 -- FILE and TYPE
 abbrev pub file_and_type : List Argument → List Argument
@@ -122,7 +126,8 @@ greatest_count = 1000000
 -- the commands
 abbrev pub forms : List Form
 forms =
-    row (codes "check") (typed []) (λ n file type. tell the_verdict file type n)
+    row (codes "check") (cert_flag ∷ typed [])
+    (λ cert n file type. if cert then own (certify file type n) else tell the_verdict file type n)
     ∷ row (codes "show") (typed []) (λ n file type. tell the_text file type n)
     ∷ row (codes "get") (typed (wanted (codes "PATH") ∷ []))
     (λ n file type path. get file type path n)

@@ -6,5 +6,5 @@ returns-clause-causes g c = c.causes_of_tables.ensures
 
 pub returns-clause-others : goal.returns-clause-others
 returns-clause-others g c words call tells p =
-    never_rejected g.V.Certifies.language g.V.Certifies.asked_of g.V.Certifies.SectionOf words call
+    never_rejected g.V.Certifies.language g.V.Certifies.SectionOf words call
     (c.causes_of_tables.ensures words call tells p).only

@@ -3,4 +3,4 @@ use Rattle.om_certification.proofs.laws.certifying_is_idle_elsewhere.Goals as go
 
 pub returns : goal.returns
 returns g c =
-    certifying_idle g.V.Certifies.language g.V.Certifies.asked_of g.V.Certifies.SectionOf
+    certifying_idle g.V.Certifies.language g.V.Certifies.SectionOf

@@ -3,5 +3,5 @@ use Rattle.om_certification.proofs.laws.certifying_takes_turns.Goals as goal
 
 pub returns : goal.returns
 returns g c =
-    certifying_turns g.V.Certifies.language g.V.Certifies.asked_of g.V.Certifies.SectionOf
+    certifying_turns g.V.Certifies.language g.V.Certifies.SectionOf
     c.requires.language
