@@ -1,9 +1,8 @@
 -- The command is idle at each other request.
 use Rattle.std.proofs.Common.{◌≡◌, ◌∙◌, Some, None, sym}
-use Rattle.std.specs.Prelude.{Option}
 use Rattle.om_outcome.specs.Outcome.{Request, Language}
 use Rattle.om_choice.specs.Choice.{IsIdleAt}
-use Rattle.om_certification.specs.Certification.{Asked, SaysSections, certifying}
+use Rattle.om_certification.specs.Certification.{Asked, SaysSections, certified_by, certifying}
 
 module _ {D T E : Type 0} (language : Language D T E)
     (SectionOf : SaysSections T) where

@@ -3,9 +3,8 @@ use Rattle.std.proofs.Common.{◌≡◌, ◌<◌, ℕ, List, [], ◌∷◌, ◌+
 use Rattle.om_model.specs.Bytes.{AreBytes}
 use Rattle.om_model.specs.declared.refusal.ReadRefusal.{ReadRefusal}
 use Rattle.om_format.specs.Stream.{End, clean, refused, cut, IsTail}
-use Rattle.std.specs.Prelude.{Option}
 use Rattle.om_format.specs.Tree.{Tree}
-use Rattle.om_outcome.specs.Outcome.{Request, Stop, value, stops, Language}
+use Rattle.om_outcome.specs.Outcome.{Stop, value, stops, Language}
 use Rattle.om_outcome.specs.RefusalText.{refusal_text, truncated_text}
 use Rattle.om_promises.specs.Commands.{Item, value as value_item, GoesOn}
 use Rattle.om_promises.specs.Lawful.{IsOnce, IsInner, AreLawfulAt}
@@ -14,7 +13,7 @@ use Rattle.om_promises.proofs.ValueLemmas.{spell_after}
 use Rattle.om_commands.specs.Tasks.{IsFirstValue}
 use Rattle.om_commands.proofs.ItemLemmas.{tree_once, value_once, end_once, no_tail}
 use Rattle.om_commands.proofs.StayLemmas.{tail_after}
-use Rattle.om_certification.specs.Certification.{Certification, SaysSections, SaysOf, StopsHere, EndsBy, EndsHere, Asked, certifying}
+use Rattle.om_certification.specs.Certification.{Certification, SaysSections, SaysOf, StopsHere, EndsBy, EndsHere, certifying}
 
 module _ {T : Type 0} (SectionOf : SaysSections T) (a : Certification T) where
   stop_stays :

@@ -9,7 +9,7 @@ use Rattle.om_promises.proofs.OnceLemmas.{Then_once}
 use Rattle.om_commands.specs.Tasks.{by_turns}
 use Rattle.om_commands.proofs.FindLemmas.{IsRead, then_read, type_once, type_by, type_read, ComesOf, type_inside}
 use Rattle.om_commands.proofs.GivenLemmas.{type_given}
-use Rattle.om_certification.specs.Certification.{Certification, SaysSections, Asked, typed_of, CertifiesBy, Wants, Finds, certifying, AreCertifiedOnce}
+use Rattle.om_certification.specs.Certification.{Certification, SaysSections, Asked, certified_by, typed_of, CertifiesBy, Wants, Finds, certifying, AreCertifiedOnce}
 use Rattle.om_certification.proofs.ItemLemmas.{lawful_at}
 
 -- a file that is read is whole

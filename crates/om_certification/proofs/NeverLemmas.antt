@@ -1,13 +1,12 @@
 -- The command never ends with 5, 11 or 12.
 use Rattle.std.proofs.Common.{ℕ, List, inl, inr}
-use Rattle.std.specs.Prelude.{Option}
 use Rattle.om_outcome.specs.declared.status.Status.{Status}
 use Rattle.om_outcome.specs.declared.status.Status.TheVariants.{Script, Compat, Certificate}
-use Rattle.om_outcome.specs.Outcome.{Request, Language}
+use Rattle.om_outcome.specs.Outcome.{Language}
 use Rattle.om_promises.specs.Call.{Call}
 use Rattle.om_promises.specs.Outside.{IsUnsaid}
 use Rattle.om_causes.specs.Causes.{IsCaused, OnlyCaused}
-use Rattle.om_certification.specs.Certification.{SaysSections, Asked, certifying}
+use Rattle.om_certification.specs.Certification.{SaysSections, certifying}
 use Rattle.om_certification.specs.Meanings.{certifying_tables, IsNeverRejected}
 
 module _ {D T E : Type 0} (language : Language D T E)

@@ -1,17 +1,17 @@
 -- What is said of values, by the tables: from it what their sections are, and back.
 use Rattle.std.proofs.Common.{◌≡◌, ℕ, suc, Bool, true, false, List, [], ◌∷◌, ◌++◌, length, inl, inr, refl, sym, ap, ◌∙◌, subst}
-use Rattle.std.specs.Prelude.{◌&&◌, if◌then◌else◌, Option}
+use Rattle.std.specs.Prelude.{◌&&◌, if◌then◌else◌}
 use Rattle.om_format.specs.Stream.{SpellAll}
 use Rattle.om_format.specs.Tree.{Tree}
 use Rattle.om_outcome.specs.declared.status.Status.{Status}
 use Rattle.om_outcome.specs.declared.status.Status.TheVariants.{Well, No}
-use Rattle.om_outcome.specs.Outcome.{Request, ending_of, Said, nothing_said, Reply, says, Replies, replies, all_well, Language}
+use Rattle.om_outcome.specs.Outcome.{ending_of, Said, nothing_said, Reply, says, Replies, replies, all_well, Language}
 use Rattle.om_promises.specs.Commands.{Item, value, Cut, AllSay, SaysFirst}
 use Rattle.om_promises.proofs.ValueLemmas.{and_true}
 use Rattle.om_commands.specs.Tasks.{items_of}
 use Rattle.om_meanings.proofs.ItemLemmas.{one_more}
 use Rattle.om_meanings.proofs.SaidLemmas.{both_true, and_false, said_status}
-use Rattle.om_certification.specs.Certification.{Certification, SaysSections, Asked, certifying}
+use Rattle.om_certification.specs.Certification.{Certification, SaysSections, certifying}
 use Rattle.om_certification.specs.Meanings.{HoldsOfAll, HoldsOfSome, IsCertified, HasSection, Finish}
 
 module _ {T : Type 0} (SectionOf : SaysSections T) (a : Certification T) where

@@ -1,6 +1,5 @@
 -- The tables of the command are exact.
 use Rattle.std.proofs.Common.{◌≡◌, ℕ, List, [], length, Some, Ok, Err, inl, inr, refl, sym, ap, ◌∙◌, subst}
-use Rattle.std.specs.Prelude.{Option}
 use Rattle.om_model.specs.Bytes.{AreBytes}
 use Rattle.om_model.specs.declared.refusal.ReadRefusal.{ReadRefusal}
 use Rattle.om_format.specs.Stream.{SpellAll, End, clean, refused, cut, IsTail}
@@ -18,7 +17,7 @@ use Rattle.om_commands.proofs.ItemLemmas.{items_length}
 use Rattle.om_meanings.specs.Stages.{IsRefusedType}
 use Rattle.om_meanings.proofs.SaidLemmas.{stop_status}
 use Rattle.om_meanings.proofs.StageLemmas.{IsOfFile, file_status}
-use Rattle.om_certification.specs.Certification.{Certification, SaysSections, EndsBy, Asked, typed_of, Wants, Finds, certifying}
+use Rattle.om_certification.specs.Certification.{Certification, SaysSections, EndsBy, Asked, certified_by, typed_of, Wants, Finds, certifying}
 use Rattle.om_certification.specs.Meanings.{EndWith, StopWith, RefusesTypes, IsUnread, Bar, certifying_tables}
 use Rattle.om_certification.proofs.ItemLemmas.{goes_on}
 use Rattle.om_certification.proofs.SaidLemmas.{AreSaid, all_have, finish_of, say_some, finish_said, says_first, say_first}

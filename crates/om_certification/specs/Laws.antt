@@ -1,12 +1,11 @@
 -- The laws on the command that writes certificates.
-use Rattle.std.specs.Prelude.{◌≡◌, Option, None}
+use Rattle.std.specs.Prelude.{◌≡◌, None}
 use Rattle.om_outcome.specs.Outcome.{Request, Language}
 use Rattle.om_choice.specs.Choice.{IsIdleAt}
-use Rattle.om_certification.specs.Certification.{Asked, SaysSections, certifying}
+use Rattle.om_certification.specs.Certification.{SaysSections, certified_by, certifying}
 
 -- it is idle at each request that is not its own
-abbrev pub IsIdleElsewhere : {D T E : Type 0} → Language D T E → (Request → Option Asked)
-    → SaysSections T → Type 0
+abbrev pub IsIdleElsewhere : {D T E : Type 0} → Language D T E → SaysSections T → Type 0
 IsIdleElsewhere language SectionOf =
     (request : Request) → certified_by request ≡ None
     → IsIdleAt (certifying language SectionOf) request

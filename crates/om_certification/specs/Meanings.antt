@@ -11,7 +11,7 @@
 --
 -- Neither the values nor the file cause another. What 6, 7, 9 and 10 mean of the input, of out and
 -- of memory is the same for all commands: it stands in om_promises.
-use Rattle.std.specs.Prelude.{ℕ, suc, ◌≡◌, ◌≢◌, ◌⊎◌, Bool, true, false, List, [], ◌∷◌, Option, Some, Err}
+use Rattle.std.specs.Prelude.{ℕ, suc, ◌≡◌, ◌≢◌, ◌⊎◌, Bool, true, false, List, [], ◌∷◌, Some, Err}
 use Rattle.om_model.specs.declared.refusal.ReadRefusal.{ReadRefusal}
 use Rattle.om_format.specs.Stream.{SpellAll, refused, cut, IsTail}
 use Rattle.om_format.specs.Tree.{Tree}
@@ -22,7 +22,7 @@ use Rattle.om_promises.specs.Call.{Call}
 use Rattle.om_promises.specs.Commands.{Fetches}
 use Rattle.om_causes.specs.Causes.{Tables}
 use Rattle.om_meanings.specs.Stages.{IsRefusedType}
-use Rattle.om_certification.specs.Certification.{Certification, SaysSections, Asked, Wants}
+use Rattle.om_certification.specs.Certification.{Certification, SaysSections, Asked, certified_by, Wants}
 
 -- this holds of each value with its number, the first of which is given
 abbrev pub HoldsOfAll : (ℕ → Tree → Type 0) → ℕ → List Tree → Type 0
