@@ -2,10 +2,9 @@
 use Rattle.std.proofs.Common.{◌≡◌, ◌∙◌, Some, None, sym}
 use Rattle.om_outcome.specs.Outcome.{Request, Language}
 use Rattle.om_choice.specs.Choice.{IsIdleAt}
-use Rattle.om_certification.specs.Certification.{Asked, SaysSections, certified_by, certifying}
+use Rattle.om_certification.specs.Certification.{Asked, certified_by, SaysSections, certifying}
 
-module _ {D T E : Type 0} (language : Language D T E)
-    (SectionOf : SaysSections T) where
+module _ {D T E : Type 0} (language : Language D T E) (SectionOf : SaysSections T) where
   pub certifying_idle :
       (request : Request) → certified_by request ≡ None
       → IsIdleAt (certifying language SectionOf) request

@@ -60,6 +60,16 @@ module _ {T : Type 0} (SectionOf : SaysSections T) (a : Certification T) where
       let is : stop ≡ value number (truncated_text n) = cc h in subst IsInner (sym is) tt
 
   module _ {D E : Type 0} (language : Language D T E) where
+    pub item_stays :
+        (bytes : List ℕ) (item : Item) (more later : List ℕ)
+        → IsFirstValue language a.limit bytes item more
+        → IsFirstValue language a.limit (bytes ++ later) item (more ++ later)
+    item_stays bytes item more later h = record {
+      tree = h.tree;
+      is = h.is;
+      spelled = spell_after a.limit bytes more later (h.tree ∷ []) h.spelled;
+    }
+
     module _ (items : List Item) (rest : List ℕ) (are_bytes : AreBytes rest) (end : End)
         (tail : IsTail a.limit rest end)
         (fine : (refusal : ReadRefusal) → end ≡ refused refusal → ⊥) where
@@ -96,16 +106,6 @@ module _ {T : Type 0} (SectionOf : SaysSections T) (a : Certification T) where
         let s = h.spelled in
         (s.0, s.2 ∙ ap (λ m. s.0 ++ m) s.4, spelled_some a.limit s.0 h.tree s.3)
 
-    item_stays :
-        (bytes : List ℕ) (item : Item) (more later : List ℕ)
-        → IsFirstValue language a.limit bytes item more
-        → IsFirstValue language a.limit (bytes ++ later) item (more ++ later)
-    item_stays bytes item more later h = record {
-      tree = h.tree;
-      is = h.is;
-      spelled = spell_after a.limit bytes more later (h.tree ∷ []) h.spelled;
-    }
-
     pub lawful_at : AreLawfulAt (certifying language SectionOf) a
     lawful_at = record {
       first_once = item_once;
@@ -113,7 +113,7 @@ module _ {T : Type 0} (SectionOf : SaysSections T) (a : Certification T) where
       stops_once = stop_once;
       ends_once = end_reply_once;
       front = item_front;
-      item_stays = item_stays;
+      item_stays = item_stays language;
       stop_stays = stop_stays;
       stops_inside = stop_inner;
       ends_inside = λ items bytes stop h. end_inner (length items) h.0 stop h.2;

@@ -26,8 +26,7 @@ none_later turn later less e = omega arith
 asked_same : (one other : Option Asked) (x y : Asked) → one ≡ Some x → one ≡ Some y → x ≡ y
 asked_same one other x y h k = let both : Some x ≡ Some y = sym h ∙ k in cc both
 
-module _ {D T E : Type 0} (language : Language D T E)
-    (SectionOf : SaysSections T) (lawful : IsLawful language) where
+module _ {D T E : Type 0} (language : Language D T E) (SectionOf : SaysSections T) (lawful : IsLawful language) where
   asked_once :
       (request : Request) (one other : Asked) → certified_by request ≡ Some one
       → certified_by request ≡ Some other → one ≡ other
@@ -44,8 +43,7 @@ module _ {D T E : Type 0} (language : Language D T E)
       (type_once language lawful (files 0) (typed_of asked)) (λ type found other h k. h ∙ sym k)
 
   finds_once :
-      (request : Request) (files : Fetches)
-      → IsOnce (Finds language SectionOf request files)
+      (request : Request) (files : Fetches) → IsOnce (Finds language SectionOf request files)
   finds_once request files result other (asked, is, h) (asked', is', k) =
       let same = asked_once request asked asked' is is' in
       certifies_once files asked' result other
@@ -142,8 +140,7 @@ module _ {D T E : Type 0} (language : Language D T E)
   -- ---- the laws
 
   pub certifying_lawful :
-      AreCertifiedOnce language SectionOf
-      → AreLawful (certifying language SectionOf)
+      AreCertifiedOnce language SectionOf → AreLawful (certifying language SectionOf)
   certifying_lawful once = record {
     wants_once = wants_once;
     finds_once = finds_once;

@@ -9,12 +9,11 @@ use Rattle.om_causes.specs.Causes.{IsCaused, OnlyCaused}
 use Rattle.om_certification.specs.Certification.{SaysSections, certifying}
 use Rattle.om_certification.specs.Meanings.{certifying_tables, IsNeverRejected}
 
-module _ {D T E : Type 0} (language : Language D T E)
-    (SectionOf : SaysSections T) (words : List (List ℕ)) (call : Call) where
+module _ {D T E : Type 0} (language : Language D T E) (SectionOf : SaysSections T) (words : List (List ℕ)) (call : Call) where
   abbrev Caused : Status → Type 0
   Caused status =
-      IsCaused (certifying language SectionOf)
-      (certifying_tables language SectionOf) words call status
+      IsCaused (certifying language SectionOf) (certifying_tables language SectionOf) words call
+      status
 
   not_five : Caused Script → ⊥
   not_five (inl (none, is)) = cc is
@@ -41,8 +40,8 @@ module _ {D T E : Type 0} (language : Language D T E)
   not_twelve (inr (inr (found, files, a, prepared, input, is, (are_bytes, inr (inr h))))) = cc h.0
 
   pub never_rejected :
-      OnlyCaused (certifying language SectionOf)
-      (certifying_tables language SectionOf) words call → IsNeverRejected call
+      OnlyCaused (certifying language SectionOf) (certifying_tables language SectionOf) words call
+      → IsNeverRejected call
   never_rejected only = (
     λ e. not_five (only Script (λ e. cc e) (λ e. cc e) five e),
     λ e. not_eleven (only Compat (λ e. cc e) (λ e. cc e) eleven e),

@@ -22,8 +22,7 @@ use Rattle.om_certification.specs.Meanings.{EndWith, StopWith, RefusesTypes, IsU
 use Rattle.om_certification.proofs.ItemLemmas.{goes_on}
 use Rattle.om_certification.proofs.SaidLemmas.{AreSaid, all_have, finish_of, say_some, finish_said, says_first, say_first}
 
-module _ {D T E : Type 0} (language : Language D T E)
-    (SectionOf : SaysSections T) where
+module _ {D T E : Type 0} (language : Language D T E) (SectionOf : SaysSections T) where
   -- ---- a stop is one of the table
 
   abbrev Stopping : Certification T → List ℕ → Stop → Type 0
@@ -67,9 +66,7 @@ module _ {D T E : Type 0} (language : Language D T E)
         },
       )
 
-  have_stops :
-      HaveStops (certifying language SectionOf)
-      (certifying_tables language SectionOf)
+  have_stops : HaveStops (certifying language SectionOf) (certifying_tables language SectionOf)
   have_stops a bytes status = (
     λ h. subst (StopWith SectionOf a bytes) h.1 (stop_with a bytes h.0 h.2),
     stop_held a bytes status,
@@ -163,9 +160,7 @@ module _ {D T E : Type 0} (language : Language D T E)
             h.spelled s.1 refl,
       )
 
-  have_ends :
-      HaveEnds (certifying language SectionOf)
-      (certifying_tables language SectionOf)
+  have_ends : HaveEnds (certifying language SectionOf) (certifying_tables language SectionOf)
   have_ends a bytes status are_bytes = (
     λ h. subst (EndWith SectionOf a bytes) h.1 (end_with a bytes h.0 h.2),
     end_held a bytes status are_bytes,
@@ -277,17 +272,13 @@ module _ {D T E : Type 0} (language : Language D T E)
     bar_found TooLong h = unread_found TooLong h
     bar_found status h = absurd h
 
-  have_bars :
-      HaveBars (certifying language SectionOf)
-      (certifying_tables language SectionOf)
+  have_bars : HaveBars (certifying language SectionOf) (certifying_tables language SectionOf)
   have_bars request files status = (
     λ h. subst (Bar language SectionOf request files) h.1 (bar_of request files h.0 h.2),
     bar_found request files status,
   )
 
-  pub exact :
-      AreExact (certifying language SectionOf)
-      (certifying_tables language SectionOf)
+  pub exact : AreExact (certifying language SectionOf) (certifying_tables language SectionOf)
   exact = record {
     read = λ a. tt;
     stops = have_stops;

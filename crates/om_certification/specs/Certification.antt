@@ -71,8 +71,7 @@ CertifiesBy language files asked =
 
 -- ---- the command
 
-module _ {D T E : Type 0} (language : Language D T E)
-    (SectionOf : SaysSections T) where
+module _ {D T E : Type 0} (language : Language D T E) (SectionOf : SaysSections T) where
   -- FILE is wanted, in the first turn
   abbrev pub Wants : Request → Fetches → ℕ → List ℕ → Type 0
   Wants request files turn name =
@@ -80,7 +79,8 @@ module _ {D T E : Type 0} (language : Language D T E)
 
   abbrev pub Finds : Request → Fetches → Result (Certification T) Stop → Type 0
   Finds request files result =
-      (asked : Asked) × (certified_by request ≡ Some asked) × CertifiesBy language files asked result
+      (asked : Asked) × (certified_by request ≡ Some asked)
+      × CertifiesBy language files asked result
 
   abbrev pub certifying : Commands (Certification T)
   certifying = record {

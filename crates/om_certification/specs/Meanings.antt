@@ -81,8 +81,7 @@ module _ {T : Type 0} (SectionOf : SaysSections T) (a : Certification T) where
   abbrev pub StopWith : List ℕ → Status → Type 0
   StopWith bytes status = (status ≡ Value) × HoldRefusal bytes
 
-module _ {D T E : Type 0} (language : Language D T E)
-    (SectionOf : SaysSections T) where
+module _ {D T E : Type 0} (language : Language D T E) (SectionOf : SaysSections T) where
   -- FILE is read, and what it holds is refused, or TYPE
   pub record RefusesTypes (request : Request) (files : Fetches) : Type 0 where
     pub asked : Asked

@@ -85,32 +85,23 @@ pub fn certifying_keeps_promises<V: Certifies>()
     ensures words { let c = certifying V.language V.SectionOf in Follow c (IfWords c) }
     ensures files { let c = certifying V.language V.SectionOf in Follow c (IfFiles c) }
     ensures meant { let c = certifying V.language V.SectionOf in Follow c (AreMeant c) }
-    ensures as_told { let c = certifying V.language V.SectionOf in
-        Follow c (AreAsTold c) }
-    ensures read_fault { Follow (certifying V.language V.SectionOf)
-        (λ words. OnlyReadFault) }
-    ensures write_fault { Follow (certifying V.language V.SectionOf)
-        (λ words. OnlyWriteFault) }
-    ensures open_fault { let c = certifying V.language V.SectionOf in
-        Follow c (OnlyOpenFault c) }
-    ensures missing { let c = certifying V.language V.SectionOf in
-        Follow c (IfMissing c) }
-    ensures too_long { let c = certifying V.language V.SectionOf in
-        Follow c (OnlyTooLong c) }
+    ensures as_told { let c = certifying V.language V.SectionOf in Follow c (AreAsTold c) }
+    ensures read_fault { Follow (certifying V.language V.SectionOf) (λ words. OnlyReadFault) }
+    ensures write_fault { Follow (certifying V.language V.SectionOf) (λ words. OnlyWriteFault) }
+    ensures open_fault { let c = certifying V.language V.SectionOf in Follow c (OnlyOpenFault c) }
+    ensures missing { let c = certifying V.language V.SectionOf in Follow c (IfMissing c) }
+    ensures too_long { let c = certifying V.language V.SectionOf in Follow c (OnlyTooLong c) }
     ensures file_too_long { let c = certifying V.language V.SectionOf in
         Follow c (IfFileTooLong c) }
     ensures input_too_long { let c = certifying V.language V.SectionOf in
         Follow c (IfInputTooLong c) }
-    ensures input_fails { let c = certifying V.language V.SectionOf in
-        Follow c (IfInputFails c) }
+    ensures input_fails { let c = certifying V.language V.SectionOf in Follow c (IfInputFails c) }
     ensures memory { let c = certifying V.language V.SectionOf in Follow c (IfMemory c) }
     ensures write_fault_by { let c = certifying V.language V.SectionOf in
         Follow c (IfWriteFault c) }
-    ensures decided { let c = certifying V.language V.SectionOf in
-        Follow c (IsDecided c) }
+    ensures decided { let c = certifying V.language V.SectionOf in Follow c (IsDecided c) }
     ensures exact { let c = certifying V.language V.SectionOf in Follow c (IsExact c) }
-    ensures complete { let c = certifying V.language V.SectionOf in
-        Follow c (IsComplete c) }
+    ensures complete { let c = certifying V.language V.SectionOf in Follow c (IsComplete c) }
 {
     certifying_is_lawful::<V>();
     certifying_takes_turns::<V>();
@@ -138,8 +129,7 @@ pub fn causes_of_sections<V: Certifies>()
     requires once { AreCertifiedOnce V.language V.SectionOf }
     ensures causes { let c = certifying V.language V.SectionOf in
         Follow c (Causes c (certifying_tables V.language V.SectionOf)) }
-    ensures others { Follow (certifying V.language V.SectionOf)
-        (λ words. IsNeverRejected) }
+    ensures others { Follow (certifying V.language V.SectionOf) (λ words. IsNeverRejected) }
 {
     certifying_is_lawful::<V>();
     certifying_takes_turns::<V>();
