@@ -49,6 +49,17 @@ use Rattle.om_certifier.specs.Reading.{certified, IsStopOf, PutsSection, HasRead
 pub values_stay : (r : Requested) (limit : ℕ) → ItemsStay on_certified (certified r limit)
 values_stay r limit = item_stays declared_certificates (certified r limit) declared_types
 
+-- a section that out fails to take
+pub put_fails :
+    (t : TypeOver) (number : ℕ) (graph : List Obj) (v : Val) (out : Change ByteState)
+    (text : List ℕ) (well : Bool)
+    → SaysSection t number graph v (record { text = text; well = well }) → PutsPart out text
+    → (result : Result Bool Halt) → IsErrAnd result (λ e. e ≡ halts.WriteFault)
+    → PutsSection t number graph v out result
+put_fails t number graph v out text well says part (Ok fine) is = absurd is
+put_fails t number graph v out text well says part (Err e) is =
+    subst (λ e. PutsSection t number graph v out (Err e)) (sym is) (text, well, says, part)
+
 -- what is said of a value in memory is said of its tree
 said_read :
     (t : TypeOver) (number : ℕ) (value : Value) (tree : Tree) (said : Said)
@@ -338,7 +349,8 @@ module _ (r : Requested) (leasts : List ℕ) (limit : ℕ) where
           → PutsSection (type_over r) count value.heap value.root out (Err halt)
           → PutsNext {U = Unit {0}} r leasts limit new count' well' taken said out (Err halt)
       value_halt out (halts.Stop stop) new count' well' memory = memory
-      value_halt out halts.WriteFault new count' well' (next, says, part) =
+      value_halt out halts.WriteFault new count' well' (text, fine, says, part) =
+          let next : Said = record { text = text; well = fine } in
           (next, (v.items ++ value_item f.tree ∷ [], [], value_said next says), part)
 
       -- or it was not

@@ -44,7 +44,8 @@ PutsSection t number graph v out (Ok well) =
 PutsSection t number graph v out (Err (halts.Stop stop)) =
     (stop_of stop ≡ out_of_memory) × Puts out []
 PutsSection t number graph v out (Err halts.WriteFault) =
-    (said : Said) × SaysSection t number graph v said × PutsPart out said.text
+    (text : List ℕ) × (well : Bool)
+    × SaysSection t number graph v (record { text = text; well = well }) × PutsPart out text
 
 module _ (r : Requested) (leasts : List ℕ) (limit : ℕ) (reader : Reader) (count : ℕ) (well : Bool)
     (taken : List ℕ) (said : List Said) where
