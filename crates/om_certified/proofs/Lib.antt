@@ -1,1 +1,9 @@
+pub mod GraphLemmas
+pub mod PlaceLemmas
+pub mod StatedLemmas
+pub mod EndedLemmas
+pub mod PutLemmas
+pub mod TakenLemmas
+pub mod LineLemmas
+pub mod AcceptedLemmas
 pub mod ShownLemmas

@@ -1,6 +1,6 @@
 -- What `check --cert` put is the certificate of `verify`: of the same input, at the same FILE and
 -- TYPE, it is accepted, and the lines of `check` come out.
-use Rattle.std.specs.Prelude.{ℕ, ◌≡◌, ◌≢◌, ◌⊎◌, List, [], ◌++◌, Some, Ok}
+use Rattle.std.specs.Prelude.{ℕ, ◌≤◌, ◌≡◌, ◌≢◌, ◌⊎◌, List, [], ◌++◌, Some, Ok}
 use Rattle.om_types.specs.declared.decl.Decl.{Decl}
 use Rattle.om_format.specs.Stream.{SpellAll}
 use Rattle.om_format.specs.Tree.{Tree}
@@ -36,12 +36,14 @@ pub record Certifies (words : List (List ℕ)) (call : Call)
   pub puts : HasPut call certificate
 
 -- The words ask to verify a certificate of the values of this input at the same FILE and TYPE, and
--- under the same limit. FILE holds what it held, and CERT what was put. No call on the outside
--- failed, nothing is too long, and memory did not run out.
+-- under a limit that is no smaller. FILE holds what it held, and CERT what was put. No call on the
+-- outside failed, nothing is too long, and memory did not run out.
 pub record Verifies (words : List (List ℕ)) (call : Call) (asked : Asked)
     (contents input certificate : List ℕ) : Type 0 where
   pub name : List ℕ
-  pub asks : Asks words (own (verify asked.file asked.type name asked.limit))
+  pub limit : ℕ
+  pub asks : Asks words (own (verify asked.file asked.type name limit))
+  pub covers : asked.limit ≤ limit
   pub files : List File
   pub holds : contents_of files asked.file ≡ Some contents
   pub has : contents_of files name ≡ Some certificate

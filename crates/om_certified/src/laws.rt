@@ -1,12 +1,40 @@
 //! The laws. Each function does nothing: what it ensures is the law.
 
+ghost use Rattle.std.specs.Prelude.{List};
+ghost use Rattle.om_types.specs.declared.decl.Decl.{Decl};
+ghost use Rattle.om_path.specs.declared.edits.ScriptLine.{ScriptLine};
+ghost use Rattle.om_declared.specs.Language.{TypeOver, declared_types};
+ghost use Rattle.om_verifier.specs.Reading.{on_certificates};
+ghost use Rattle.om_certifier.specs.Certified.{declared_certificates, on_certified};
+ghost use Rattle.om_certified.specs.Certified.{PutCertificatesAreAccepted};
 ghost use Rattle.om_certified.specs.Shown.{CertifiedAreShown};
 
 use om_cert::{answers_are_one, reached_pairs_are_accepted};
-use om_cert_alike::laws::tables_verify_alike;
+use om_cert_alike::laws::{tables_verify_alike, types_are_one_list};
+use om_certification::laws::{Certifies, certifying_keeps_promises};
+use om_certifier::laws::declared_certificates_are_one;
 use om_decl::told::{files_are_well_formed, types_are_sound};
+use om_declared::laws::declared_types_are_lawful;
 use om_equal::table::tables_have_the_faults;
+use om_section::put_sections_are_certificates;
 use om_table::tables_decide;
+use om_verification::laws::verifying_is_lawful;
+use om_verifier::laws::{DeclaredSections, declared_sections_are_read_once};
+
+/// The sections of values at declared types.
+pub struct PutSections;
+
+impl Certifies for PutSections {
+    ghost declarations = { List Decl };
+
+    ghost types = { TypeOver };
+
+    ghost lines = { ScriptLine };
+
+    ghost language = { declared_types };
+
+    ghost SectionOf = { declared_certificates };
+}
 
 /// The section of a value shows the line that `check` says of it.
 pub fn certified_sections_are_shown()
@@ -19,4 +47,21 @@ pub fn certified_sections_are_shown()
     tables_verify_alike();
     tables_have_the_faults();
     tables_decide();
+}
+
+/// What `check --cert` put is accepted by `verify` of the same input, at the same FILE and TYPE:
+/// the lines of `check` come out, and the status is that of the first call.
+pub fn put_certificates_are_accepted()
+    ensures { PutCertificatesAreAccepted on_certified on_certificates }
+{
+    files_are_well_formed();
+    types_are_sound();
+    types_are_one_list();
+    put_sections_are_certificates();
+    declared_types_are_lawful();
+    declared_certificates_are_one();
+    certifying_keeps_promises::<PutSections>();
+    declared_sections_are_read_once();
+    verifying_is_lawful::<DeclaredSections>();
+    certified_sections_are_shown();
 }

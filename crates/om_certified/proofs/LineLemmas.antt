@@ -1,0 +1,119 @@
+-- What the sections of values show is the lines of `check`, and none of them is rejected.
+use Rattle.std.proofs.Common.{◌≡◌, ℕ, suc, ◌+◌, List, [], ◌∷◌, length, Some, None, inl, inr, refl, sym, ap, ◌∙◌, subst, arith}
+use Rattle.std.specs.Prelude.{◌&&◌, slice_get}
+use Rattle.om_format.specs.Tree.{Tree, root, objects_of}
+use Rattle.om_section.specs.declared.section.Section.{Section}
+use Rattle.om_outcome.specs.Outcome.{Said, line, all_well, the_verdict, tells, AllSay}
+use Rattle.om_promises.specs.LawfulLanguage.{IsGiven}
+use Rattle.om_declared.specs.Language.{TypeOver, IsTypeLine, declared_types}
+use Rattle.om_verification.specs.Verification.{shows, rejects, Verification}
+use Rattle.om_verification.proofs.SaidLemmas.{IsSaid, AreSaid}
+use Rattle.om_verifier.specs.Shown.{declared_sections}
+use Rattle.om_certifier.specs.Certified.{IsSectionOf, is_yes}
+use Rattle.om_certified.specs.Shown.{CertifiedAreShown}
+use Rattle.om_certified.proofs.PutLemmas.{all_yes}
+use Rattle.om_certified.proofs.StatedLemmas.{AreSections}
+use Rattle.om_certified.proofs.TakenLemmas.{IsGood, AreGood}
+
+pub sections_many : (t : TypeOver) (trees : List Tree) (all : List Section)
+    → AreSections t trees all → length trees ≡ length all
+sections_many t [] [] h = refl
+sections_many t [] (s ∷ all) h = absurd h
+sections_many t (tree ∷ trees) [] h = absurd h
+sections_many t (tree ∷ trees) (s ∷ all) h = ap suc (sections_many t trees all h.1)
+
+module _ (shown : CertifiedAreShown) (a : Verification TypeOver Section)
+    (given : IsGiven declared_types a.type) where
+  -- these are the sections from number k on
+  abbrev AreFrom : ℕ → List Section → Type 0
+  AreFrom k all =
+      (j : ℕ) (s : Section) → slice_get all j ≡ Some s → slice_get a.sections (k + j) ≡ Some s
+
+  first_from : (k : ℕ) (s : Section) (all : List Section) → AreFrom k (s ∷ all)
+      → slice_get a.sections k ≡ Some s
+  first_from k s all from =
+      let same : k + 0 ≡ k = omega arith in
+      subst (λ n. slice_get a.sections n ≡ Some s) same (from 0 s refl)
+
+  rest_from : (k : ℕ) (s : Section) (all : List Section) → AreFrom k (s ∷ all)
+      → AreFrom (suc k) all
+  rest_from k s all from j next at =
+      let same : k + suc j ≡ suc k + j = omega arith in
+      subst (λ n. slice_get a.sections n ≡ Some next) same (from (suc j) next at)
+
+  -- the section of the value with the number
+  abbrev IsOf : Tree → Section → Type 0
+  IsOf tree section = IsSectionOf a.type (objects_of tree 0) (root tree 0) section
+
+  is_good : (k : ℕ) (tree : Tree) (section : Section) → slice_get a.sections k ≡ Some section
+      → IsOf tree section → IsGood declared_sections a k tree
+  is_good k tree section at is reason (inl (none, e)) =
+      let never : None ≡ Some section = sym none ∙ at in cc never
+  is_good k tree section at is reason (inr (why, h, e)) =
+      let both : Some section ≡ Some h.section = sym at ∙ h.has in
+      let same : section ≡ h.section = cc both in
+      let shows_line = shown a.type given (objects_of tree 0) (root tree 0) h.section (rejects why)
+      (subst (IsOf tree) same is) h.by in
+      cc shows_line.is
+
+  pub all_good : (k : ℕ) (trees : List Tree) (all : List Section) → AreFrom k all
+      → AreSections a.type trees all → AreGood declared_sections a k trees
+  all_good k [] all from h = tt
+  all_good k (tree ∷ trees) [] from h = absurd h
+  all_good k (tree ∷ trees) (s ∷ all) from h = (
+    is_good k tree s (first_from k s all from) h.0,
+    all_good (suc k) trees all (rest_from k s all from) h.1,
+  )
+
+  -- ---- what is said
+
+  -- the line of `check`, which tells what the section tells
+  pub record IsLine (tree : Tree) (section : Section) (said : Said) : Type 0 where
+    pub text : List ℕ
+    pub says : IsTypeLine the_verdict a.type (objects_of tree 0) (root tree 0) text said.well
+    pub is : said.text ≡ line text
+    pub well : said.well ≡ is_yes section
+
+  one_line : (k : ℕ) (tree : Tree) (section : Section) (said : Said)
+      → slice_get a.sections k ≡ Some section → IsOf tree section
+      → IsSaid declared_sections a k tree said → IsLine tree section said
+  one_line k tree section said at is h =
+      let both : Some section ≡ Some h.shown.section = sym at ∙ h.shown.has in
+      let same : section ≡ h.shown.section = cc both in
+      let shows_line = shown a.type given (objects_of tree 0) (root tree 0) h.shown.section
+      (shows h.text said.well) (subst (IsOf tree) same is) h.shown.by in
+      let text : h.text ≡ shows_line.line = cc (shows_line.is) in
+      let well : said.well ≡ is_yes h.shown.section = cc (shows_line.is) in
+      record {
+        text = h.text;
+        says = subst
+            (λ w. IsTypeLine the_verdict a.type (objects_of tree 0) (root tree 0) h.text w)
+            (sym well)
+            (subst
+            (λ text. IsTypeLine the_verdict a.type (objects_of tree 0) (root tree 0) text
+            (is_yes h.shown.section))
+            (sym text) shows_line.says);
+        is = h.is;
+        well = well ∙ ap is_yes (sym same);
+      }
+
+  -- all of them, and whether all is well
+  abbrev pub AreLines : ℕ → List Tree → List Section → List Said → Type 0
+  AreLines k trees all said =
+      AllSay declared_types (tells the_verdict a.type) k trees said
+      × (all_well said ≡ all_yes all)
+
+  pub all_lines : (k : ℕ) (trees : List Tree) (all : List Section) (said : List Said)
+      → AreFrom k all → AreSections a.type trees all
+      → AreSaid declared_sections a k trees said → AreLines k trees all said
+  all_lines k [] [] [] from h said = (tt, refl)
+  all_lines k [] [] (s ∷ more) from h said = absurd said
+  all_lines k [] (s ∷ all) told from h said = absurd h
+  all_lines k (tree ∷ trees) [] told from h said = absurd h
+  all_lines k (tree ∷ trees) (s ∷ all) [] from h said = absurd said
+  all_lines k (tree ∷ trees) (s ∷ all) (one ∷ more) from h (is, said) =
+      let first = one_line k tree s one (first_from k s all from) h.0 is in
+      let next = all_lines (suc k) trees all more (rest_from k s all from) h.1 said in (
+        ((first.text, first.says, first.is), next.0),
+        ap (λ w. w && all_well more) first.well ∙ ap (λ rest. is_yes s && rest) next.1,
+      )

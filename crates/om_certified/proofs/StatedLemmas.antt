@@ -1,0 +1,145 @@
+-- The sections of values that are spelled may stand in a certificate.
+use Rattle.std.proofs.Common.{◌≡◌, ℕ, ◌+◌, ◌<◌, ◌≤◌, ◌^◌, Bool, true, false, List, [], ◌∷◌, length, Option, Some, None, refl, sym, ap, ◌∙◌, length-append, arith}
+use Rattle.std.specs.Prelude.{IsSomeAnd, nat_lt, All, Contains}
+use Rattle.std.specs.List.{AllByRecursion, AllZip}
+use Rattle.std.proofs.lemmas.Bool.{ltb-true, ltb-false}
+use Rattle.std.proofs.lemmas.List.Elements.{All-from_recursion, All-weaker, All-contains_itself}
+use Rattle.std.proofs.lemmas.Option.{slice_get_past}
+use Rattle.om_model.specs.declared.value.Val.{Val}
+use Rattle.om_model.specs.declared.value.Val.TheVariants as vals
+use Rattle.om_format.specs.Stream.{SpellAll}
+use Rattle.om_format.specs.Tree.{Tree, root, objects_of}
+use Rattle.om_promises.proofs.LengthLemmas.{spelled_some}
+use Rattle.om_types.specs.declared.fault.Fault.{Fault}
+use Rattle.om_types.specs.declared.fault.Fault.TheVariants as faults
+use Rattle.om_types.specs.Equal.{declared_shapes}
+use Rattle.om_types.specs.Fault.{IsFault, value_at}
+use Rattle.om_types.specs.Shapes.{Shapes}
+use Rattle.om_types.specs.Table.{Table, table_shapes}
+use Rattle.om_section.specs.declared.section.Section.{Section}
+use Rattle.om_section.specs.declared.section.Section.TheVariants as sections
+use Rattle.om_section.specs.Numbers.{IsNumber}
+use Rattle.om_section.specs.Format.{IsStated, AreStated}
+use Rattle.om_cert.specs.Normal.{IsLeast}
+use Rattle.om_cert.specs.Verified.{fault_section}
+use Rattle.om_cert_alike.specs.Alike.{ReachedTypesAreOne, AreReachedAt}
+use Rattle.om_declared.specs.Language.{TypeOver, ReachesFew}
+use Rattle.om_certifier.specs.Certified.{IsSectionOf}
+use Rattle.om_certified.proofs.GraphLemmas.{IsSmall, spelled_small}
+use Rattle.om_certified.proofs.PlaceLemmas.{path_small}
+
+-- these are the sections of the values, one of each
+abbrev pub AreSections : TypeOver → List Tree → List Section → Type 0
+AreSections t trees all =
+    AllZip (λ tree section. IsSectionOf t (objects_of tree 0) (root tree 0) section) trees all
+
+-- ---- paths
+
+some_of : {X : Type 0} (o : Option X) (P : X → Type 0) → IsSomeAnd o P → (x : X) × (o ≡ Some x)
+some_of None P h = absurd h
+some_of (Some x) P h = (x, refl)
+
+module _ (tree : Tree) (small : IsSmall tree) where
+  below : (path : List ℕ) → AllByRecursion (λ i. i < small.bound) path → All IsNumber path
+  below path h =
+      let bound = small.below in
+      All-weaker (λ i. i < small.bound) IsNumber (λ i less. omega (arith, less, bound)) path
+      (All-from_recursion (λ i. i < small.bound) path h)
+
+  module _ {T : Type 0} (shapes : Shapes T) (t : T) where
+    numbers_of : (path : List ℕ) (place : Val × T)
+        → value_at shapes (objects_of tree 0) (root tree 0) t path ≡ Some place → All IsNumber path
+    numbers_of path place at =
+        below path
+        (path_small small.bound (objects_of tree 0) small.fields shapes path (root tree 0) t place
+        small.root at).0
+
+    fault_stated : (fault : Fault) → IsFault shapes (objects_of tree 0) (root tree 0) t fault
+        → IsStated (fault_section fault)
+    fault_stated (faults.Misfit path) is =
+        let place = some_of (value_at shapes (objects_of tree 0) (root tree 0) t path)
+        (λ place. ¬ shapes.fits (objects_of tree 0) place.0 place.1) is in
+        numbers_of path place.0 place.1
+    fault_stated (faults.Clash first second) is = (
+      numbers_of first (vals.Ref is.object, is.one) is.at_first,
+      numbers_of second (vals.Ref is.object, is.other) is.at_second,
+    )
+
+-- ---- types
+
+-- the least of its class is no more than the first number that is not in the table
+least_type : (table : Table) (u : ℕ) → IsLeast table u → u ≤ length table.classes
+least_type table u least = by (nat_lt (length table.classes) u) refl where
+  by : (past : Bool) → nat_lt (length table.classes) u ≡ past → u ≤ length table.classes
+  by true at =
+      let n = length table.classes in
+      let less = ltb-true n u at in
+      absurd (least n less (slice_get_past table.classes n (omega arith)
+      ∙ sym (slice_get_past table.classes u (omega (arith, less)))))
+  by false at = ltb-false (length table.classes) u at
+
+module _ (one_list : ReachedTypesAreOne) (t : TypeOver) (few : ReachesFew t.decls t.type) where
+  module _ (tree : Tree) (small : IsSmall tree) (pairs : List (ℕ × ℕ))
+      (h : AreReachedAt t.decls t.type (objects_of tree 0) (root tree 0) pairs) where
+    few_classes : length h.table.classes ≤ 65536
+    few_classes =
+        let same = one_list t.decls t.type h.types few.types h.reached few.reached in
+        let many : length h.table.classes ≡ length few.types = h.made.many ∙ ap length same in
+        omega (arith, many, few.few)
+
+    pair_numbers : (pair : ℕ × ℕ) → Contains pairs pair → IsNumber pair.0 × IsNumber pair.1
+    pair_numbers pair among =
+        let led = h.are.led pair.0 pair.1 among in
+        let object : pair.0 ≤ small.bound = (path_small small.bound (objects_of tree 0) small.fields
+        (table_shapes h.table) led.path (root tree 0) 0 (vals.Ref pair.0, led.type) small.root
+        led.leads).1 in
+        let type = least_type h.table pair.1 (h.are.normal.least pair.0 pair.1 among) in
+        (omega (arith, object, small.below), omega (arith, type, few_classes))
+
+    pairs_stated : IsStated (sections.Pairs pairs)
+    pairs_stated = (
+      h.are.normal.increasing,
+      All-weaker (Contains pairs) (λ (pair : ℕ × ℕ). IsNumber pair.0 × IsNumber pair.1)
+          pair_numbers pairs (All-contains_itself pairs),
+    )
+
+  section_stated : (tree : Tree) → IsSmall tree → (section : Section)
+      → IsSectionOf t (objects_of tree 0) (root tree 0) section → IsStated section
+  section_stated tree small (sections.Pairs pairs) h = pairs_stated tree small pairs h.are
+  section_stated tree small (sections.Misfit path) h =
+      fault_stated tree small (declared_shapes t.decls) t.type (faults.Misfit path) h.least.is_fault
+  section_stated tree small (sections.Clash first second) h =
+      fault_stated tree small (declared_shapes t.decls) t.type (faults.Clash first second)
+      h.least.is_fault
+
+  -- ---- all of them
+
+  all_stated : (limit : ℕ) (bytes rest : List ℕ) (trees : List Tree) (all : List Section)
+      → SpellAll limit bytes trees rest → AreSections t trees all → AllByRecursion IsStated all
+  all_stated limit bytes rest [] [] spelled h = tt
+  all_stated limit bytes rest [] (s ∷ all) spelled h = absurd h
+  all_stated limit bytes rest (tree ∷ trees) [] spelled h = absurd h
+  all_stated limit bytes rest (tree ∷ trees) (s ∷ all) (first, more, is, one, spelled) h = (
+    section_stated tree (spelled_small limit first tree one) s h.0,
+    all_stated limit more rest trees all spelled h.1,
+  )
+
+  all_few : (limit : ℕ) (bytes rest : List ℕ) (trees : List Tree) (all : List Section)
+      → SpellAll limit bytes trees rest → AreSections t trees all → length all ≤ length bytes
+  all_few limit bytes rest [] [] spelled h = omega arith
+  all_few limit bytes rest [] (s ∷ all) spelled h = absurd h
+  all_few limit bytes rest (tree ∷ trees) [] spelled h = absurd h
+  all_few limit bytes rest (tree ∷ trees) (s ∷ all) (first, more, is, one, spelled) h =
+      let both : length bytes ≡ length first + length more =
+      ap length is ∙ length-append first more in
+      let some = spelled_some limit first tree one in
+      let next = all_few limit more rest trees all spelled h.1 in
+      omega (arith, both, some, next)
+
+  pub are_stated : (limit : ℕ) (bytes rest : List ℕ) (trees : List Tree) (all : List Section)
+      → SpellAll limit bytes trees rest → length bytes < 2 ^ 48 → AreSections t trees all
+      → AreStated all
+  are_stated limit bytes rest trees all spelled short h = record {
+    stated = All-from_recursion IsStated all (all_stated limit bytes rest trees all spelled h);
+    few = omega (arith, all_few limit bytes rest trees all spelled h, short);
+  }

@@ -1,0 +1,145 @@
+-- Where each value has a section that is not rejected, and none is left, something is said of each.
+use Rattle.std.proofs.Common.{◌≡◌, ◌⊎◌, ◌+◌, ℕ, suc, List, [], ◌∷◌, length, inl, inr, refl, sym, ap, ◌∙◌, subst, length-append, arith}
+use Rattle.std.specs.Prelude.{if◌then◌else◌}
+use Rattle.std.proofs.lemmas.Bool.{le-ltb}
+use Rattle.om_model.specs.Bytes.{AreBytes}
+use Rattle.om_format.specs.Stream.{SpellAll, End, clean, refused, cut}
+use Rattle.om_format.specs.Tree.{Tree}
+use Rattle.om_outcome.specs.Outcome.{at_end, whole, nothing_said, Reply, says, stops, sections_left, Replies, Language}
+use Rattle.om_promises.specs.Commands.{value, IsLast, SaysAll}
+use Rattle.om_promises.proofs.LengthLemmas.{spelled_some}
+use Rattle.om_promises.proofs.StreamLemmas.{spell_bytes}
+use Rattle.om_commands.proofs.ItemLemmas.{items_length, value_once, end_once, no_tail}
+use Rattle.om_commands.specs.Tasks.{items_of}
+use Rattle.om_verification.specs.Verification.{Shown, Verification, IsUncertified, EndsBy, ends_sections, ReadsSections, verifying}
+use Rattle.om_verification.proofs.SaidLemmas.{AreSaid, say_first}
+
+-- no bytes are no value
+none_spelled : (limit : ℕ) (bytes : List ℕ) (tree : Tree) (trees : List Tree) (rest : List ℕ)
+    → bytes ≡ [] → SpellAll limit bytes (tree ∷ trees) rest → ⊥
+none_spelled limit bytes tree trees rest none (first, more, is, spelled, s) =
+    let some = spelled_some limit first tree spelled in
+    let both : length {A = ℕ} [] ≡ length first + length more =
+    ap length (sym none ∙ is) ∙ length-append first more in
+    omega (arith, some, both)
+
+module _ {T S : Type 0} (ShownBy : T → S → Tree → Shown → Type 0) (a : Verification T S) where
+  -- the value with the number has a section, which is not rejected
+  abbrev pub IsGood : ℕ → Tree → Type 0
+  IsGood number tree = (reason : List ℕ) → IsUncertified ShownBy a number tree reason → ⊥
+
+  -- so have all of them, the first of which has the number
+  abbrev pub AreGood : ℕ → List Tree → Type 0
+  AreGood number [] = Unit {0}
+  AreGood number (tree ∷ trees) = IsGood number tree × AreGood (suc number) trees
+
+  -- one more value with this number comes
+  pub record ComesGood (number : ℕ) (bytes : List ℕ) : Type 0 where
+    pub tree : Tree
+    pub more : List ℕ
+    pub spelled : SpellAll a.limit bytes (tree ∷ []) more
+    pub good : IsGood number tree
+
+  -- values in front are all of them, or one more comes
+  front :
+      (bytes : List ℕ) → AreBytes bytes → (k n : ℕ) (trees others : List Tree) (rest : List ℕ)
+      → n ≡ k + length others → SpellAll a.limit bytes trees []
+      → SpellAll a.limit bytes others rest → AreGood k trees
+      → ((others ≡ trees) × (rest ≡ [])) ⊎ ComesGood n rest
+  front bytes are_bytes k n [] [] rest at all first good = inl (refl, sym first ∙ all)
+  front bytes are_bytes k n [] (u ∷ others) rest at all first good =
+      absurd (none_spelled a.limit bytes u others rest all first)
+  front bytes are_bytes k n (t ∷ trees) [] rest at (one, more, is, spelled, all) first good =
+      let same : k ≡ n = omega (arith, at) in
+      inr (record {
+        tree = t;
+        more = more;
+        spelled = (one, more, sym first ∙ is, spelled, refl);
+        good = subst (λ n. IsGood n t) same good.0;
+      })
+  front bytes are_bytes k n (t ∷ trees) (u ∷ others) rest at (one, more, is, spelled, all)
+      (one', more', is', spelled', first) good =
+      let both = value_once a.limit bytes are_bytes t u more more' (one, more, is, spelled, refl)
+      (one', more', is', spelled', refl) in
+      let later : AreBytes more =
+      spell_bytes a.limit bytes more (t ∷ []) (one, more, is, spelled, refl) are_bytes in
+      by both.0 (front more later (suc k) n trees others rest (omega (arith, at)) all
+      (subst (λ m. SpellAll a.limit m others rest) (sym both.1) first) good.1) where
+        by : t ≡ u → ((others ≡ trees) × (rest ≡ [])) ⊎ ComesGood n rest
+            → ((u ∷ others ≡ t ∷ trees) × (rest ≡ [])) ⊎ ComesGood n rest
+        by same (inl (rest_same, none)) =
+            inl (ap (λ t. t ∷ others) (sym same) ∙ ap (λ rest. t ∷ rest) rest_same, none)
+        by same (inr comes) = inr comes
+
+  -- ---- at the end
+
+  no_section_left : (n : ℕ) → n ≡ length a.sections → ends_sections ShownBy a n ≡ says nothing_said
+  no_section_left n same =
+      ap (λ left. if left then stops sections_left else says nothing_said)
+      (le-ltb n (length a.sections) (omega (arith, same)))
+
+  at_the_end : (number : ℕ) (end : End) (last : Reply) → clean ≡ end
+      → EndsBy ShownBy a number end last → last ≡ ends_sections ShownBy a number
+  at_the_end number clean last e ends = ends
+  at_the_end number (refused refusal) last e ends = absurd ends
+  at_the_end number (cut n) last e ends = absurd (cc e)
+
+  module _ {D E : Type 0} (language : Language D T E) (Reads : ReadsSections S) (bytes : List ℕ)
+      (are_bytes : AreBytes bytes) (trees : List Tree) (spelled : SpellAll a.limit bytes trees [])
+      (good : AreGood 0 trees) (many : length trees ≡ length a.sections) (all : Replies)
+      (s : SaysAll (verifying language Reads ShownBy) a (whole bytes) all) where
+    -- something is said of each of the values, and nothing behind them
+    abbrev pub AreTaken : Type 0
+    AreTaken = AreSaid ShownBy a 0 trees all.said × (all.last ≡ says nothing_said)
+
+    abbrev Last : Type 0
+    Last = IsLast (verifying language Reads ShownBy) a s.items s.rest at_end all.last
+
+    module _ (others : List Tree) (items : s.items ≡ items_of others)
+        (first : SpellAll a.limit bytes others s.rest)
+        (said : AreSaid ShownBy a 0 others all.said) where
+      number : length s.items ≡ length others
+      number = ap length items ∙ items_length others
+
+      rest_bytes : AreBytes s.rest
+      rest_bytes = spell_bytes a.limit bytes s.rest others first are_bytes
+
+      ended : others ≡ trees → s.rest ≡ [] → Last → AreTaken
+      ended same none (inl (stop, inl c, fine, is)) =
+          absurd (none_spelled a.limit s.rest c.tree [] c.more none c.spelled)
+      ended same none (inl (stop, inr r, fine, is)) =
+          let one = end_once a.limit s.rest rest_bytes clean (refused r.refusal) none r.tail in
+          absurd (cc one)
+      ended same none (inr (on, (end, tail, ends))) = (
+        subst (λ trees. AreSaid ShownBy a 0 trees all.said) same said,
+        at_the_end (length s.items) end all.last
+            (end_once a.limit s.rest rest_bytes clean end none tail) ends
+            ∙ no_section_left (length s.items) (number ∙ (ap length same ∙ many)),
+      )
+
+      comes : ComesGood (length s.items) s.rest → Last → AreTaken
+      comes next (inl (stop, inl c, fine, is)) =
+          let same = (value_once a.limit s.rest rest_bytes c.tree next.tree c.more next.more
+          c.spelled next.spelled).0 in
+          absurd (next.good c.reason
+          (subst (λ t. IsUncertified ShownBy a (length s.items) t c.reason) same c.uncertified))
+      comes next (inl (stop, inr r, fine, is)) =
+          absurd (no_tail a.limit s.rest rest_bytes next.tree next.more (refused r.refusal)
+          next.spelled r.tail)
+      comes next (inr (on, closes)) =
+          absurd (on.no_item (value next.tree) next.more
+          (record { tree = next.tree; is = refl; spelled = next.spelled }))
+
+      by : ((others ≡ trees) × (s.rest ≡ [])) ⊎ ComesGood (length s.items) s.rest → AreTaken
+      by (inl (same, none)) = ended same none s.last
+      by (inr next) = comes next s.last
+
+      taken : AreTaken
+      taken =
+          by (front bytes are_bytes 0 (length s.items) trees others s.rest (omega (arith, number))
+          spelled first good)
+
+    pub all_taken : AreTaken
+    all_taken =
+        let first = say_first ShownBy a language Reads bytes s.items all.said s.rest s.first in
+        taken first.0 first.1 first.2 first.3
