@@ -1,5 +1,5 @@
 -- Brackets in sixteen bytes, and the others beside them, both the innermost first.
-use Rattle.std.specs.Prelude.{ℕ, ◌≡◌, Option, Some, None, List, [], ◌∷◌}
+use Rattle.std.specs.Prelude.{◌≡◌, Option, Some, None, List, [], ◌∷◌}
 use Rattle.om_literal_grammar.specs.declared.node.Form.{Form}
 use Rattle.om_literal_grammar.specs.declared.node.Form.TheVariants as forms
 use Rattle.om_literal_grammar.specs.declared.open.Bracket.TheVariants as brackets

@@ -273,21 +273,14 @@ fn shut(nodes: &mut Nodes, opens: &mut Opens, outer: Open) -> Result<Option<Stag
 }
 
 /// The last part of a tuple was read.
-fn shut_tuple(
-    nodes: &mut Nodes,
-    opens: &mut Opens,
-    outer: Open,
-) -> Result<Option<Stage>, Memory>
+fn shut_tuple(nodes: &mut Nodes, opens: &mut Opens, outer: Open) -> Result<Option<Stage>, Memory>
     ensures { Steps result nodes.new opens.new
         (shut_tuple_code nodes.old opens.old outer) }
 {
     if outer.node.parts == 0 {
         return Ok(None);
     }
-    nodes.set(
-        outer.index,
-        with_form(Form::Tuple, with_part(outer.node)),
-    )?;
+    nodes.set(outer.index, with_form(Form::Tuple, with_part(outer.node)))?;
     Ok(Some(Stage::Whole))
 }
 
@@ -359,11 +352,7 @@ fn close_fields(
 }
 
 /// What comes after a whole literal.
-fn close(
-    nodes: &mut Nodes,
-    opens: &mut Opens,
-    kind: &LexemeKind,
-) -> Result<Option<Stage>, Memory>
+fn close(nodes: &mut Nodes, opens: &mut Opens, kind: &LexemeKind) -> Result<Option<Stage>, Memory>
     ensures { Steps result nodes.new opens.new
         (close_code nodes.old opens.old kind.now) }
 {

@@ -1,11 +1,11 @@
-use Rattle.std.proofs.Common.{ℕ, ◌+◌, ◌≡◌, ◌∙◌, ◌++◌, ◌∷◌, [], length, Option, Ok, rules, sym, ap, subst, arith}
+use Rattle.std.proofs.Common.{◌+◌, ◌≡◌, ◌∙◌, ◌++◌, ◌∷◌, [], length, Option, Ok, rules, sym, subst, arith}
 use Rattle.std.specs.Prelude.{IfSome}
 use Rattle.om_lex.specs.declared.lexeme.Lexeme.{Lexeme}
 use Rattle.om_lex.specs.Lexemes as lex
 use Rattle.om_lex.specs.Lexemes.{GoesOn, IsNext}
 use Rattle.om_literal_grammar.specs.Code.{step_code, Steps}
 use Rattle.om_literal_grammar.specs.Placed.{lexemes_at}
-use Rattle.om_literal_grammar.proofs.PlacedLemmas.{front_begins, front_ends, front_goes, front_stops, front_blank, front_tree, front_faulty, placed_lexed}
+use Rattle.om_literal_grammar.proofs.PlacedLemmas.{front_begins, front_goes, front_stops, front_tree, front_faulty, placed_lexed}
 use Rattle.om_literal_grammar.proofs.placed.read_at.Goals as goal
 use Rattle.om_literal_grammar.proofs.placed.read_at.Goals.{In-Ok-Some}
 

@@ -1,4 +1,4 @@
-use Rattle.std.proofs.Common.{◌-◌, ◌≤◌, length}
+use Rattle.std.proofs.Common.{◌-◌, length}
 use Rattle.om_literal_grammar.proofs.PlacedLemmas.{Front}
 use Rattle.om_literal_grammar.proofs.placed.read_at.Given as goal
 
