@@ -16,6 +16,8 @@ pub struct SmallNode {
     pub form: Option<Form>,
 }
 
+const _: () = prove!(size_of::<SmallNode>() == 8);
+
 /// Nodes, which contracts see as their list. The others are those that eight bytes do not hold.
 #[derive(Drop)]
 pub struct Nodes {

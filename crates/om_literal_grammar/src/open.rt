@@ -51,6 +51,8 @@ pub struct SmallOpen {
     pub form: Option<Form>,
 }
 
+const _: () = prove!(size_of::<SmallOpen>() == 16);
+
 /// The brackets that are open, the innermost last in memory. The others are those that sixteen bytes
 /// do not hold.
 #[derive(Drop)]
