@@ -1,7 +1,8 @@
 -- The doubles of nodes are those of the parts that they are.
-use Rattle.std.proofs.Common.{refl, sym, ap, ◌∙◌, get_or, take, drop, min, subst, inl, inr, ⊎_elim}
-use Rattle.std.specs.Prelude.{ℕ, suc, ◌+◌, ◌-◌, ◌<◌, ◌≡◌, ◌⊎◌, Option, Some, None, List, [], ◌∷◌, ◌++◌, length}
-use Rattle.std.proofs.lemmas.List.{take_min, take_rest, at_drop_more}
+use Rattle.std.proofs.Common.{refl, sym, ap, ◌∙◌, arith, get_or, take, drop, min, subst, inl, inr, ⊎_elim}
+use Rattle.std.specs.Prelude.{ℕ, zero, suc, ◌+◌, ◌-◌, ◌<◌, ◌≤◌, ◌≡◌, ◌⊎◌, Option, Some, None, List, [], ◌∷◌, ◌++◌, length, slice_get}
+use Rattle.std.proofs.lemmas.List.{take_min, length-drop}
+use Rattle.std.proofs.lemmas.Option.{get_or_from_slice_get}
 use Rattle.std.proofs.lemmas.List.Sums.{fold-append}
 use Rattle.om_lex.specs.declared.lexeme.Lexeme.{Lexeme}
 use Rattle.om_lex.specs.declared.lexeme.LexemeKind.TheVariants as kinds
@@ -33,15 +34,53 @@ pub none_of_listed : (parts : List (ℕ × Literal)) → bits_of_listed None par
 none_of_listed [] = refl
 none_of_listed (p ∷ parts) = none_of_listed parts
 
--- the node that is next is no double
+-- ---- so many nodes, one after the other
+
+found_first : (nodes : List Node) (i : ℕ) (n : Node) → slice_get nodes i ≡ Some n → drop i nodes ≡ n ∷ drop (suc i) nodes
+found_first [] zero n e = absurd cc
+found_first [] (suc i) n e = absurd cc
+found_first (m ∷ nodes) zero n e = let same : m ≡ n = cc in ap (λ own. own ∷ nodes) same
+found_first (m ∷ nodes) (suc i) n e = found_first nodes i n e
+
+-- the node that is next, and what is left
+pub next_bits :
+    (all : Kinds) (nodes : List Node) (from many k : ℕ) (n : Node) (before : Option (List ℕ)) → k < many → slice_get nodes (from + k) ≡ Some n
+    → bits_of_nodes all before (take (many - k) (drop (from + k) nodes))
+    ≡ bits_of_nodes all (and_bits before (bits_of_node all n)) (take (many - (k + 1)) (drop (from + (k + 1)) nodes))
+next_bits all nodes from many k n before inside found =
+    let one : many - k ≡ suc (many - (k + 1)) = omega (arith, inside) in
+    let on : suc (from + k) ≡ from + (k + 1) = omega arith in
+    ap (λ m. bits_of_nodes all before (take m (drop (from + k) nodes))) one
+    ∙ ap (λ (rest : List Node). bits_of_nodes all before (take (suc (many - (k + 1))) rest)) (found_first nodes (from + k) n found)
+    ∙ ap (λ i. bits_of_nodes all (and_bits before (bits_of_node all n)) (take (many - (k + 1)) (drop i nodes))) on
+
+-- it is no double
 pub none_here :
-    (all : Kinds) (nodes : List Node) (i : ℕ) (d : Node) (before : List ℕ) (bits : Option (List ℕ)) → i < length nodes → bits_of_node all (get_or nodes i d) ≡ None
-    → bits_of_nodes all (Some before) (drop i nodes) ≡ bits → None ≡ bits
-none_here all nodes i d before bits inside e so_far =
-    sym (at_drop_more (bits_of_nodes all (Some before)) nodes i d inside
-    ∙ ap (λ bit. bits_of_nodes all (and_bits (Some before) bit) (drop (i + 1) nodes)) e
-    ∙ none_of_nodes all (drop (i + 1) nodes))
+    (all : Kinds) (nodes : List Node) (from many k : ℕ) (n : Node) (before : List ℕ) (bits : Option (List ℕ)) → k < many → slice_get nodes (from + k) ≡ Some n
+    → bits_of_node all n ≡ None → bits_of_nodes all (Some before) (take (many - k) (drop (from + k) nodes)) ≡ bits → None ≡ bits
+none_here all nodes from many k n before bits inside found e so_far =
+    sym (next_bits all nodes from many k n (Some before) inside found
+    ∙ ap (λ bit. bits_of_nodes all (and_bits (Some before) bit) (take (many - (k + 1)) (drop (from + (k + 1)) nodes))) e
+    ∙ none_of_nodes all (take (many - (k + 1)) (drop (from + (k + 1)) nodes)))
     ∙ so_far
+
+-- it is one
+pub one_here :
+    (all : Kinds) (nodes : List Node) (from many k d : ℕ) (n : Node) (before after : List ℕ) (bits : Option (List ℕ)) → k < many → slice_get nodes (from + k) ≡ Some n
+    → bits_of_node all n ≡ Some d → after ≡ before ++ d ∷ [] → bits_of_nodes all (Some before) (take (many - k) (drop (from + k) nodes)) ≡ bits
+    → bits_of_nodes all (Some after) (take (many - (k + 1)) (drop (from + (k + 1)) nodes)) ≡ bits
+one_here all nodes from many k d n before after bits inside found e is so_far =
+    ap (λ (own : List ℕ). bits_of_nodes all (Some own) (take (many - (k + 1)) (drop (from + (k + 1)) nodes))) is
+    ∙ sym (next_bits all nodes from many k n (Some before) inside found
+    ∙ ap (λ bit. bits_of_nodes all (and_bits (Some before) bit) (take (many - (k + 1)) (drop (from + (k + 1)) nodes))) e)
+    ∙ so_far
+
+pub none_left :
+    (all : Kinds) (nodes : List Node) (from many k : ℕ) (own : List ℕ) (bits : Option (List ℕ)) → many ≤ k
+    → bits_of_nodes all (Some own) (take (many - k) (drop (from + k) nodes)) ≡ bits → Some own ≡ bits
+none_left all nodes from many k own bits done so_far =
+    let none : many - k ≡ 0 = omega (arith, done) in
+    sym (ap (λ m. bits_of_nodes all (Some own) (take m (drop (from + k) nodes))) none) ∙ so_far
 
 -- ---- one node
 
@@ -113,23 +152,17 @@ bits_same all (p ∷ parts) rest before spelled =
 
 -- ---- the parts of a literal
 
--- so many nodes behind the first i, or fewer where there are fewer
-slice_is :
-    (nodes : List Node) (i many parts : ℕ) → many ≡ min parts (length (take (length nodes - i) (drop i nodes)))
-    → take many (take (length nodes - i) (drop i nodes)) ≡ take (min parts (length (drop i nodes))) (drop i nodes)
-slice_is nodes i many parts e =
-    ap (λ n. take n (take (length nodes - i) (drop i nodes))) e
-    ∙ ap (λ (behind : List Node). take (min parts (length behind)) behind) (take_rest nodes i)
-
 pub parts_bits :
-    (nodes : List Node) (lexemes : List Lexeme) (at k : ℕ) (v : Literal) (d : Node) (many : ℕ) → Stands nodes lexemes at k v
-    → many ≡ min (get_or nodes at d).parts (length (take (length nodes - (at + 1)) (drop (at + 1) nodes)))
-    → bits_of_nodes (kinds_of lexemes) (Some []) (take many (take (length nodes - (at + 1)) (drop (at + 1) nodes))) ≡ bits_of_listed (Some []) (inner_parts k v)
-parts_bits nodes lexemes at k v d many h e =
+    (nodes : List Node) (lexemes : List Lexeme) (at k : ℕ) (v : Literal) (n : Node) (many : ℕ) → Stands nodes lexemes at k v
+    → slice_get nodes at ≡ Some n → many ≡ min n.parts (length nodes - (at + 1))
+    → bits_of_nodes (kinds_of lexemes) (Some []) (take many (drop (at + 1) nodes)) ≡ bits_of_listed (Some []) (inner_parts k v)
+parts_bits nodes lexemes at k v n many h found e =
     let there = at_back nodes at (own_node k v ∷ []) (nodes_of_parts (inner_parts k v)) (at_same nodes at _ _ (own_and_parts k v) h.nodes_at) in
-    ap (λ (ns : List Node). bits_of_nodes (kinds_of lexemes) (Some []) ns) (slice_is nodes (at + 1) many (get_or nodes at d).parts e)
-    ∙ ap (λ (ns : List Node). bits_of_nodes (kinds_of lexemes) (Some []) ns) (take_min (get_or nodes at d).parts (drop (at + 1) nodes))
-    ∙ ap (λ many. bits_of_nodes (kinds_of lexemes) (Some []) (take many (drop (at + 1) nodes))) (own_parts nodes at k v d h.nodes_at)
+    let own : get_or nodes at n ≡ n = get_or_from_slice_get nodes at n n found in
+    ap (λ m. bits_of_nodes (kinds_of lexemes) (Some []) (take m (drop (at + 1) nodes))) (e ∙ ap (λ m. min n.parts m) (sym (length-drop (at + 1) nodes)))
+    ∙ ap (λ (ns : List Node). bits_of_nodes (kinds_of lexemes) (Some []) ns) (take_min n.parts (drop (at + 1) nodes))
+    ∙ ap (λ (own : Node). bits_of_nodes (kinds_of lexemes) (Some []) (take own.parts (drop (at + 1) nodes))) (sym own)
+    ∙ ap (λ many. bits_of_nodes (kinds_of lexemes) (Some []) (take many (drop (at + 1) nodes))) (own_parts nodes at k v n h.nodes_at)
     ∙ ap (λ (ns : List Node). bits_of_nodes (kinds_of lexemes) (Some []) (take (length (inner_parts k v)) ns)) there.is
     ∙ bits_same (kinds_of lexemes) (inner_parts k v) there.rest (Some []) (literal_spelled (kinds_of lexemes) k v h.kinds_at)
 

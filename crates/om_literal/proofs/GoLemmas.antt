@@ -1,6 +1,7 @@
 -- One step of the reader, by what a part begins with.
 use Rattle.std.proofs.Common.{arith, refl, sym, ap, ◌∙◌, subst, get_or}
-use Rattle.std.specs.Prelude.{ℕ, ◌+◌, ◌<◌, ◌≡◌, Option, Some, None, Result, Ok, List, [], ◌∷◌, length, All, slice_index}
+use Rattle.std.specs.Prelude.{ℕ, ◌+◌, ◌<◌, ◌≡◌, Option, Some, None, Result, Ok, List, [], ◌∷◌, length, All, slice_get, slice_index}
+use Rattle.std.proofs.lemmas.Option.{get_or_from_slice_get}
 use Rattle.om_model.specs.declared.value.Obj.{Obj}
 use Rattle.om_model.specs.Graph.{IsValue}
 use Rattle.om_heap.specs.Heap.{set_field}
@@ -28,6 +29,9 @@ use Rattle.om_literal.proofs.PartLemmas.{IsNext, next_part, part_stands, part_re
 
 pub own_at : (nodes : List Node) (j k : ℕ) (v : Literal) (d : Node) → IsAt nodes j (literal_nodes k v) → get_or nodes j d ≡ own_node k v
 own_at nodes j k v d h = first_is nodes j _ _ d (at_same nodes j _ _ (own_and_parts k v) h)
+
+pub own_found : (nodes : List Node) (j k : ℕ) (v : Literal) (n : Node) → IsAt nodes j (literal_nodes k v) → slice_get nodes j ≡ Some n → n ≡ own_node k v
+own_found nodes j k v n h e = sym (get_or_from_slice_get nodes j n n e) ∙ own_at nodes j k v n h
 
 no_again : (p : Plain) → form_of p ≡ forms.Again → ⊥
 no_again (integer i) e = absurd (cc)
@@ -69,12 +73,12 @@ end_behind text j good (k, v, stands) = omega (arith, end_is text j k v good sta
 
 -- a plain literal has a lexeme behind its label
 pub first_within :
-    (text : Text) (j : ℕ) (d : Node) → HasPart text j → ((get_or text.nodes.now j d).form ≡ forms.Again → ⊥)
-    → (get_or text.nodes.now j d).first + length (label_kinds (get_or text.nodes.now j d).label) < length text.lexemes.now
-first_within text j d (k, v, stands) other =
-    let own = own_at text.nodes.now j k v d stands.nodes_at in
-    plain_only (λ u. IsAt (kinds_of text.lexemes.now) k (literal_kinds u) → get_or text.nodes.now j d ≡ own_node k u
-    → (get_or text.nodes.now j d).first + length (label_kinds (get_or text.nodes.now j d).label) < length text.lexemes.now) k
+    (text : Text) (j : ℕ) (d : Node) → HasPart text j → slice_get text.nodes.now j ≡ Some d → (d.form ≡ forms.Again → ⊥)
+    → d.first + length (label_kinds d.label) < length text.lexemes.now
+first_within text j d (k, v, stands) found other =
+    let own = own_found text.nodes.now j k v d stands.nodes_at found in
+    plain_only (λ u. IsAt (kinds_of text.lexemes.now) k (literal_kinds u) → d ≡ own_node k u
+    → d.first + length (label_kinds d.label) < length text.lexemes.now) k
     (λ l p there is. omega (arith, lead_in text.lexemes.now k l p there, ap (λ (n : Node). n.first + length (label_kinds n.label)) is)) v
     (λ e. other (ap (λ (n : Node). n.form) own ∙ e)) stands.kinds_at own
 

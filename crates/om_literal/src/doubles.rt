@@ -1,6 +1,6 @@
 //! The doubles of a literal's parts.
 
-ghost use Rattle.std.specs.Prelude.{ℕ, ◌≡◌, ◌<◌, [], Some, Option, length, slice_get, option_map, IfOk};
+ghost use Rattle.std.specs.Prelude.{ℕ, ◌≡◌, ◌+◌, ◌<◌, ◌≤◌, [], Some, Option, length, take, drop, slice_get, option_map, IfOk};
 ghost use Rattle.om_grammar.specs.Grammar.{Name};
 ghost use Rattle.om_literal_grammar.specs.Literal.{Literal, labelled, Parts, Rows, array, fields};
 ghost use Rattle.om_literal_grammar.specs.Nodes.{kinds_of};
@@ -10,7 +10,7 @@ ghost use Rattle.om_literal.specs.Starts.{bits_of, and_bits, bits_of_parts, bits
 
 use om_lex::Lexemes;
 use om_lex::lexeme::LexemeKind;
-use om_literal_grammar::{Form, Node};
+use om_literal_grammar::{Form, Node, Nodes};
 use om_model::Memory;
 use std::alloc::Global;
 
@@ -42,15 +42,24 @@ fn node_bits(alloc: Global, node: &Node, lexemes: &Lexemes) -> Result<Option<u64
     }
 }
 
-/// The bits of nodes that all are doubles without a label.
-fn all_bits(alloc: Global, nodes: &[Node], lexemes: &Lexemes) -> Result<Option<Vec<u64>>, Memory>
+/// The bits of so many nodes from this one on, that all are doubles without a label.
+fn all_bits(
+    alloc: Global,
+    nodes: &Nodes,
+    from: usize,
+    many: usize,
+    lexemes: &Lexemes,
+) -> Result<Option<Vec<u64>>, Memory>
+    requires { from + many ≤ length nodes.now }
     ensures { IfOk result
         (λ all. option_map (λ bits. bits.items) all
-        ≡ bits_of_nodes (kinds_of lexemes.now) (Some []) nodes.now) }
+        ≡ bits_of_nodes (kinds_of lexemes.now) (Some []) (take many (drop from nodes.now))) }
 {
+    let _few = nodes.len();
     let mut all = Vec::new(alloc);
-    for node in nodes {
-        let Some(bits) = node_bits(alloc, node, lexemes)? else {
+    for k in 0..many {
+        let node = nodes.get(from + k);
+        let Some(bits) = node_bits(alloc, &node, lexemes)? else {
             return Ok(None);
         };
         all.push(bits)?;
@@ -62,7 +71,7 @@ fn all_bits(alloc: Global, nodes: &[Node], lexemes: &Lexemes) -> Result<Option<V
 /// label.
 pub(crate) fn doubles_of_parts(
     alloc: Global,
-    nodes: &[Node],
+    nodes: &Nodes,
     at: usize,
     lexemes: &Lexemes,
 ) -> Result<Option<Vec<u64>>, Memory>
@@ -78,7 +87,6 @@ pub(crate) fn doubles_of_parts(
         → IfOk result
         (λ all. option_map (λ bits. bits.items) all ≡ and_bits (bits_of_rows rs) (bits_of v)) }
 {
-    let behind = &nodes[at + 1..];
-    let many = nodes[at].parts.min(behind.len());
-    all_bits(alloc, &behind[..many], lexemes)
+    let many = nodes.get(at).parts.min(nodes.len() - (at + 1));
+    all_bits(alloc, nodes, at + 1, many, lexemes)
 }

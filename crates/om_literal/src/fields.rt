@@ -11,7 +11,7 @@ ghost use Rattle.om_literal.specs.Starts.{names_of_rows};
 
 use crate::siblings::sibling;
 use om_lex::Lexemes;
-use om_literal_grammar::Node;
+use om_literal_grammar::Nodes;
 use om_model::Memory;
 use std::alloc::Global;
 
@@ -25,7 +25,7 @@ fn name_before<'a>(lexemes: &'a Lexemes, first: usize) -> &'a [u8]
 /// The names of so many fields, the first of whose parts begins at node `from`.
 fn names_from<'a>(
     alloc: Global,
-    nodes: &[Node],
+    nodes: &Nodes,
     ends: &[usize],
     from: usize,
     many: usize,
@@ -42,7 +42,7 @@ fn names_from<'a>(
         if place >= nodes.len() {
             return Ok(names);
         }
-        names.push(name_before(lexemes, nodes[place].first))?;
+        names.push(name_before(lexemes, nodes.get(place).first))?;
         place = sibling(ends, place, 1);
         left -= 1;
     }
@@ -52,7 +52,7 @@ fn names_from<'a>(
 /// The names of the fields of the literal that begins at node `at`.
 pub(crate) fn field_names<'a>(
     alloc: Global,
-    nodes: &[Node],
+    nodes: &Nodes,
     ends: &[usize],
     at: usize,
     lexemes: &'a Lexemes,
@@ -64,5 +64,5 @@ pub(crate) fn field_names<'a>(
         → Stands nodes.now lexemes.now at k (labelled l (fields o rs x v))
         → IfOk result (λ names. map (λ name. name.now) names.items ≡ names_of_rows rs ++ x ∷ []) }
 {
-    names_from(alloc, nodes, ends, at + 1, nodes[at].parts, lexemes)
+    names_from(alloc, nodes, ends, at + 1, nodes.get(at).parts, lexemes)
 }

@@ -304,7 +304,7 @@ pub fn begin<'a>(
         → Begins text.now k v t heap.old heap.new labels.old.items labels.new.items result }
     ensures grows { Grows heap.old heap.new }
 {
-    let node = text.nodes[j];
+    let node = text.nodes.get(j);
     if let Form::Again = node.form {
         return again(text, labels, &node);
     }

@@ -18,7 +18,7 @@ use crate::text::{Text, byte_of};
 use om_heap::Heap;
 use om_lex::Lexemes;
 use om_lex::lexeme::Lexeme;
-use om_literal_grammar::{Placed, Tree, TreeFault, read_literal_tree};
+use om_literal_grammar::{Nodes, Placed, TreeFault, read_literal_tree};
 use om_model::value::Val;
 use om_type_table::TypeTable;
 use std::alloc::Global;
@@ -48,7 +48,7 @@ fn read_nodes(
     table: &TypeTable,
     at: usize,
     lexemes: &Lexemes,
-    tree: &Tree,
+    tree: &Nodes,
     end: usize,
 ) -> Result<Val, LiteralFault>
     requires named { length table.now.names ≡ length table.now.nodes }
@@ -56,12 +56,11 @@ fn read_nodes(
     ensures { Reads table.now at lexemes.now end heap.old heap.new result }
 {
     let _few = lexemes.len();
-    let nodes = tree.as_slice();
-    let ends = subtree_ends(alloc, nodes)?;
+    let ends = subtree_ends(alloc, tree)?;
     let text = Text {
         table,
         lexemes,
-        nodes,
+        nodes: tree,
         ends: ends.as_slice(),
         end,
     };

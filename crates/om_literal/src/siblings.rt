@@ -3,7 +3,7 @@
 ghost use Rattle.std.specs.Prelude.{◌≡◌, length, IfOk};
 ghost use Rattle.om_literal.specs.Ends as specs;
 
-use om_literal_grammar::Node;
+use om_literal_grammar::Nodes;
 use om_model::Memory;
 use std::alloc::Global;
 
@@ -24,13 +24,13 @@ pub(crate) fn sibling(ends: &[usize], from: usize, many: usize) -> usize
 }
 
 /// For each node the number of the node behind its last part.
-pub(crate) fn subtree_ends(alloc: Global, nodes: &[Node]) -> Result<Vec<usize>, Memory>
+pub(crate) fn subtree_ends(alloc: Global, nodes: &Nodes) -> Result<Vec<usize>, Memory>
     ensures len { IfOk result (λ ends. length ends.items ≡ length nodes.now) }
     ensures ends { IfOk result (λ ends. specs.AreEnds nodes.now ends.items) }
 {
     let mut ends = vec![in alloc; 0usize; nodes.len()]?;
     for i in (0..nodes.len()).rev() {
-        let end = sibling(ends.as_slice(), i + 1, nodes[i].parts);
+        let end = sibling(ends.as_slice(), i + 1, nodes.get(i).parts);
         ends[i] = end;
     }
     Ok(ends)

@@ -5,7 +5,7 @@ ghost use Rattle.om_literal.specs.LiteralAnswers.{byte_of as first_byte};
 ghost use Rattle.om_literal_grammar.specs.Literal.{label_kinds};
 
 use om_lex::Lexemes;
-use om_literal_grammar::Node;
+use om_literal_grammar::{Node, Nodes};
 use om_type_table::TypeTable;
 
 /// What the parts of a literal are read by.
@@ -13,7 +13,7 @@ use om_type_table::TypeTable;
 pub struct Text<'a> {
     pub table: &'a TypeTable,
     pub lexemes: &'a Lexemes<'a>,
-    pub nodes: &'a [Node],
+    pub nodes: &'a Nodes,
     /// For each node the number of the one behind its last part.
     pub ends: &'a [usize],
     /// The byte at which the lexemes end.

@@ -5,3 +5,4 @@ pub mod FollowCode
 pub mod ReadLemmas
 pub mod RangeLemmas
 pub mod PlacedLemmas
+pub mod SmallLemmas

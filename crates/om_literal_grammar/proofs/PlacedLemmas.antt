@@ -1,6 +1,6 @@
 -- What the code has reached at a byte, and what follows there.
-use Rattle.std.proofs.Common.{ℕ, zero, suc, ◌+◌, ◌^◌, ◌≡◌, ◌≢◌, ◌∙◌, ◌<◌, ◌≤◌, List, [], ◌∷◌, ◌++◌, length, take, get_or, map, Option, Some, None, refl, sym, ap, subst, arith, append_assoc, append-nil}
-use Rattle.std.specs.Prelude.{true, false, Result, Ok, Err, option_map, unwrap_or, slice_get}
+use Rattle.std.proofs.Common.{ℕ, zero, suc, ◌+◌, ◌^◌, ◌≡◌, ◌≢◌, ◌∙◌, ◌<◌, ◌≤◌, List, [], ◌∷◌, ◌++◌, length, take, get_or, Option, Some, None, refl, sym, ap, subst, arith, append_assoc}
+use Rattle.std.specs.Prelude.{true, false, Ok, option_map, unwrap_or, slice_get}
 use Rattle.std.proofs.lemmas.List.{map-append, length-map, length-append}
 use Rattle.om_lex.specs.declared.lexeme.Lexeme.{Lexeme}
 use Rattle.om_lex.specs.Lexemes as lex
@@ -9,19 +9,16 @@ use Rattle.om_lex.specs.LexText.{Lexes}
 use Rattle.om_lex.proofs.PartLaws.{reached_end, few_lexemes}
 use Rattle.om_grammar.specs.Grammar.{Kinds}
 use Rattle.om_grammar.specs.Machine.{run}
-use Rattle.om_grammar.specs.Refusals.{IsSyntax}
 use Rattle.om_literal_grammar.specs.declared.node.Node.{Node}
 use Rattle.om_literal_grammar.specs.declared.open.Open.{Open}
 use Rattle.om_literal_grammar.specs.declared.open.Stage.{Stage}
 use Rattle.om_literal_grammar.specs.declared.open.Stage.TheVariants as stages
 use Rattle.om_literal_grammar.specs.declared.placed.PlacedFault.{PlacedFault}
 use Rattle.om_literal_grammar.specs.declared.placed.PlacedFault.TheVariants as faults
-use Rattle.om_literal_grammar.specs.Literal.{literal_kinds}
 use Rattle.om_literal_grammar.specs.Machine.{start, step}
-use Rattle.om_literal_grammar.specs.Nodes.{kinds_of, IsTreeOf}
+use Rattle.om_literal_grammar.specs.Nodes.{kinds_of}
 use Rattle.om_literal_grammar.specs.Code.{step_code, end_code, Steps}
 use Rattle.om_literal_grammar.specs.Placed.{lexemes_at, StopsAt, IsLexed, Stopped, IsPlacedFault, IsPlaced}
-use Rattle.om_literal_grammar.proofs.FollowCode.{code_of}
 use Rattle.om_literal_grammar.proofs.ReadLemmas.{Reached, begins, goes_at, stops_at, is_tree_where, ends_early_where}
 
 -- the lexemes up to a byte are those at the places, and lead to what the code has

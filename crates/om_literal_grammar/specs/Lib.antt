@@ -5,3 +5,5 @@ pub mod Popped
 pub mod Code
 pub mod Nodes
 pub mod Placed
+pub mod Small
+pub mod SmallOpens

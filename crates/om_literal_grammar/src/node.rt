@@ -4,7 +4,6 @@ ghost use Rattle.std.specs.Prelude.{◌≡◌};
 ghost use Rattle.om_literal_grammar.specs.declared.node.TreeFault.TheVariants as faults;
 
 use om_model::Memory;
-use std::marker::Model;
 
 /// What a node is. Its own lexemes say with which value.
 #[derive(Clone, Copy)]
@@ -33,37 +32,6 @@ pub struct Node {
     pub label: Option<u64>,
     pub first: usize,
     pub parts: usize,
-}
-
-/// The nodes of a literal, each before its parts.
-#[derive(Drop)]
-pub struct Tree {
-    nodes: Vec<Node>,
-}
-
-impl Model for Tree {
-    ghost use Rattle.std.specs.Prelude.{List};
-    ghost use Rattle.om_literal_grammar.specs.declared.node.Node.{Node};
-
-    ghost Value = { List Node };
-
-    ghost view = { λ t. t.nodes.items };
-}
-
-impl Tree {
-    /// The tree of these nodes.
-    pub(crate) fn of(nodes: Vec<Node>) -> Tree
-        ensures { result ≡ nodes.items }
-    {
-        Tree { nodes }
-    }
-
-    /// The nodes, lent.
-    pub fn as_slice(&self) -> &[Node]
-        ensures { result.now ≡ self.now }
-    {
-        self.nodes.as_slice()
-    }
 }
 
 /// Why lexemes are no literal.

@@ -1,9 +1,10 @@
 //! What is open while a literal is read, the innermost first.
 
-ghost use Rattle.std.specs.Prelude.{◌≡◌, List, [], ◌∷◌, reverse, IfOk};
+ghost use Rattle.std.specs.Prelude.{◌≡◌, None, List, [], ◌∷◌, reverse, IfOk, IfSome};
 ghost use Rattle.om_literal_grammar.specs.Popped.{Popped};
+ghost use Rattle.om_literal_grammar.specs.SmallOpens.{IsSmallOpen, blank_open};
 
-use crate::node::Node;
+use crate::node::{Form, Node};
 use om_model::Memory;
 use std::alloc::Global;
 use std::marker::Model;
@@ -39,10 +40,25 @@ pub enum Stage {
     Whole,
 }
 
-/// The brackets that are open, the innermost last in memory.
+/// A bracket whose node has no label, and whose numbers are small; or without a form the last of the
+/// others.
+#[derive(Clone, Copy)]
+pub struct SmallOpen {
+    pub index: u32,
+    pub first: u32,
+    pub parts: u32,
+    pub bracket: Bracket,
+    pub form: Option<Form>,
+}
+
+const _: () = prove!(size_of::<SmallOpen>() == 16);
+
+/// The brackets that are open, the innermost last in memory. The others are those that sixteen bytes
+/// do not hold.
 #[derive(Drop)]
 pub struct Opens {
-    items: Vec<Open>,
+    small: Vec<SmallOpen>,
+    others: Vec<Open>,
 }
 
 impl Model for Opens {
@@ -51,7 +67,58 @@ impl Model for Opens {
 
     ghost Value = { List Open };
 
-    ghost view = { λ s. reverse s.items.items };
+    ghost use Rattle.om_literal_grammar.specs.SmallOpens.{opens_in};
+
+    ghost view = { λ s. opens_in (reverse s.small.items) (reverse s.others.items) };
+}
+
+/// The bracket in sixteen bytes, where they hold it.
+fn small_of(outer: &Open) -> Option<SmallOpen>
+    ensures { IfSome result (IsSmallOpen outer.now) }
+{
+    let node = outer.node;
+    if node.label.is_some() || node.first >= 1 << 32 || node.parts >= 1 << 32 {
+        return None;
+    }
+    if outer.index >= 1 << 32 {
+        return None;
+    }
+    Some(SmallOpen {
+        index: outer.index as u32,
+        first: node.first as u32,
+        parts: node.parts as u32,
+        bracket: outer.bracket,
+        form: Some(node.form),
+    })
+}
+
+/// What stands for one of the others.
+fn other() -> SmallOpen
+    ensures { result.form ≡ None }
+{
+    SmallOpen {
+        index: 0,
+        first: 0,
+        parts: 0,
+        bracket: Bracket::Parens,
+        form: None,
+    }
+}
+
+/// No bracket that was ever open.
+fn blank() -> Open
+    ensures { result ≡ blank_open }
+{
+    Open {
+        bracket: Bracket::Parens,
+        index: 0,
+        node: Node {
+            form: Form::Unit,
+            label: None,
+            first: 0,
+            parts: 0,
+        },
+    }
 }
 
 impl Opens {
@@ -59,20 +126,43 @@ impl Opens {
         ensures { result ≡ [] }
     {
         Opens {
-            items: Vec::new(alloc),
+            small: Vec::new(alloc),
+            others: Vec::new(alloc),
         }
     }
 
     pub fn push(&mut self, outer: Open) -> Result<(), Memory>
         ensures { IfOk result (λ _. self.new ≡ outer ∷ self.old) }
     {
-        self.items.push(outer)?;
+        match small_of(&outer) {
+            Some(small) => self.small.push(small)?,
+            None => {
+                self.others.push(outer)?;
+                self.small.push(other())?;
+            }
+        }
         Ok(())
     }
 
     pub fn pop(&mut self) -> Option<Open>
         ensures { Popped self.old self.new result }
     {
-        self.items.pop()
+        let small = self.small.pop()?;
+        match small.form {
+            Some(form) => Some(Open {
+                bracket: small.bracket,
+                index: small.index as usize,
+                node: Node {
+                    form,
+                    label: None,
+                    first: small.first as usize,
+                    parts: small.parts as usize,
+                },
+            }),
+            None => match self.others.pop() {
+                Some(outer) => Some(outer),
+                None => Some(blank()),
+            },
+        }
     }
 }

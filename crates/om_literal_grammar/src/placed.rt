@@ -7,7 +7,7 @@ ghost use Rattle.om_lex.specs.Lexemes.{Reached};
 ghost use Rattle.om_literal_grammar.specs.Code.{step_code, end_code, Steps};
 ghost use Rattle.om_literal_grammar.specs.Placed.{IsLexed, Stopped, ReadsAt, ReadsPlaced};
 
-use crate::node::{Node, Tree};
+use crate::nodes::Nodes;
 use crate::open::{Opens, Stage};
 use crate::step::{end, step};
 use om_lex::lexeme::{LexFault, Lexeme, Span};
@@ -19,7 +19,7 @@ use std::alloc::Global;
 #[derive(Drop)]
 pub struct Placed {
     pub places: Vec<u32>,
-    pub tree: Tree,
+    pub tree: Nodes,
 }
 
 /// Why a text is no literal. Places are bytes.
@@ -59,38 +59,38 @@ fn stopped(alloc: Global, text: &[u8], span: Span) -> PlacedFault
 
 /// Takes a lexeme.
 fn take(
-    nodes: &mut Vec<Node>,
+    nodes: &mut Nodes,
     opens: &mut Opens,
     stage: Stage,
     place: usize,
     lexeme: Lexeme,
 ) -> Result<Option<Stage>, Memory>
-    ensures { Steps result nodes.new.items opens.new
-        (step_code nodes.old.items opens.old stage place lexeme.kind) }
+    ensures { Steps result nodes.new opens.new
+        (step_code nodes.old opens.old stage place lexeme.kind) }
 {
     step(nodes, opens, stage, place, &lexeme.kind)
 }
 
 /// The nodes of the literal that ends here, or none where none does.
-fn ended(nodes: Vec<Node>, opens: Opens, stage: Stage) -> Result<Option<Tree>, Memory>
-    ensures { IfOk result (λ tree. tree ≡ end_code nodes.items opens stage) }
+fn ended(nodes: Nodes, opens: Opens, stage: Stage) -> Result<Option<Nodes>, Memory>
+    ensures { IfOk result (λ tree. tree ≡ end_code nodes opens stage) }
 {
     let mut nodes = nodes;
     let mut opens = opens;
     if end(&mut nodes, &mut opens, stage)? {
-        Ok(Some(Tree::of(nodes)))
+        Ok(Some(nodes))
     } else {
         Ok(None)
     }
 }
 
 /// The nodes of a text that is not blank, with the places of its lexemes.
-fn read_at(alloc: Global, text: &[u8], places: &mut Vec<u32>) -> Result<Option<Tree>, PlacedFault>
+fn read_at(alloc: Global, text: &[u8], places: &mut Vec<u32>) -> Result<Option<Nodes>, PlacedFault>
     requires empty { places.old.items ≡ [] }
     requires short { length text.now < 2 ^ 32 }
     ensures { ReadsAt text.now places.new.items result }
 {
-    let mut nodes = Vec::new(alloc);
+    let mut nodes = Nodes::new(alloc);
     let mut opens = Opens::new(alloc);
     let mut stage = Stage::Due;
     let mut at: usize = 0;

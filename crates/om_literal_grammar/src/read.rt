@@ -5,18 +5,19 @@ ghost use Rattle.om_grammar.specs.Refusals.{IsSyntax};
 ghost use Rattle.om_literal_grammar.specs.Literal.{Literal, literal_kinds};
 ghost use Rattle.om_literal_grammar.specs.Nodes.{kinds_of, literal_nodes, IsTreeOf, IsTreeFault, GivesTree, GivesSyntax};
 
-use crate::node::{Tree, TreeFault};
+use crate::node::TreeFault;
+use crate::nodes::Nodes;
 use crate::open::{Opens, Stage};
 use crate::step::{end, step};
 use om_lex::lexeme::Lexeme;
 use std::alloc::Global;
 
 /// The nodes, or the fault.
-fn read(alloc: Global, lexemes: &[Lexeme]) -> Result<Tree, TreeFault>
+fn read(alloc: Global, lexemes: &[Lexeme]) -> Result<Nodes, TreeFault>
     ensures tree { IfOk result (IsTreeOf lexemes.now) }
     ensures fault { IfErr result (IsTreeFault lexemes.now) }
 {
-    let mut nodes = Vec::new(alloc);
+    let mut nodes = Nodes::new(alloc);
     let mut opens = Opens::new(alloc);
     let mut stage = Stage::Due;
     for (place, lexeme) in lexemes.iter().enumerate() {
@@ -26,14 +27,14 @@ fn read(alloc: Global, lexemes: &[Lexeme]) -> Result<Tree, TreeFault>
         stage = next;
     }
     if end(&mut nodes, &mut opens, stage)? {
-        Ok(Tree::of(nodes))
+        Ok(nodes)
     } else {
         Err(TreeFault::Syntax(lexemes.len()))
     }
 }
 
 /// The nodes of the literal that these lexemes are, or the first place at which no literal goes on.
-pub fn read_literal_tree(alloc: Global, lexemes: &[Lexeme]) -> Result<Tree, TreeFault>
+pub fn read_literal_tree(alloc: Global, lexemes: &[Lexeme]) -> Result<Nodes, TreeFault>
     // The nodes are those of a literal that the lexemes spell, or the fault is theirs.
     ensures tree { IfOk result (IsTreeOf lexemes.now) }
     ensures fault { IfErr result (IsTreeFault lexemes.now) }

@@ -8,6 +8,7 @@ ghost use Rattle.om_literal_grammar.specs.Machine.{number_of};
 ghost use Rattle.om_literal_grammar.specs.Code.{bare_node, next_number, with_part, with_form, word_form, form_of, head_stage, entered, begin_plain_code, is_unit, is_empty_array, close_unit_code, close_empty_code, begin_code, next_code, shut_code, shut_tuple_code, close_arguments_code, close_parens_code, close_array_code, close_fields_code, close_code, take_number_code, after_number_code, after_bracket_code, after_head_code, take_name_code, take_equals_code, step_code, end_code, Steps, code};
 
 use crate::node::{Form, Node};
+use crate::nodes::Nodes;
 use crate::open::{Bracket, Open, Opens, Stage};
 use om_lex::lexeme::{Integer, LexemeKind, Suffix, Symbol};
 use om_model::Memory;
@@ -73,9 +74,9 @@ fn form_of(kind: &LexemeKind) -> Option<Form>
 }
 
 /// Adds a node, and answers its number.
-fn add(nodes: &mut Vec<Node>, node: Node) -> Result<usize, Memory>
-    ensures number { IfOk result (λ n. n ≡ length nodes.old.items) }
-    ensures added { IfOk result (λ _. nodes.new.items ≡ nodes.old.items ++ node ∷ []) }
+fn add(nodes: &mut Nodes, node: Node) -> Result<usize, Memory>
+    ensures number { IfOk result (λ n. n ≡ length nodes.old) }
+    ensures added { IfOk result (λ _. nodes.new ≡ nodes.old ++ node ∷ []) }
 {
     let number = nodes.len();
     nodes.push(node)?;
@@ -110,15 +111,6 @@ fn with_form(form: Form, node: Node) -> Node
         label: node.label,
         first: node.first,
         parts: node.parts,
-    }
-}
-
-/// Puts a node in place of another.
-fn set(nodes: &mut Vec<Node>, index: usize, node: Node)
-    ensures { nodes.new.items ≡ slice_set nodes.old.items index node }
-{
-    if index < nodes.len() {
-        nodes[index] = node;
     }
 }
 
@@ -169,14 +161,14 @@ fn enter(
 
 /// Begins a literal behind its label, if it has one.
 fn begin_plain(
-    nodes: &mut Vec<Node>,
+    nodes: &mut Nodes,
     opens: &mut Opens,
     first: usize,
     label: Option<u64>,
     kind: &LexemeKind,
 ) -> Result<Option<Stage>, Memory>
-    ensures { Steps result nodes.new.items opens.new
-        (begin_plain_code nodes.old.items opens.old first label kind.now) }
+    ensures { Steps result nodes.new opens.new
+        (begin_plain_code nodes.old opens.old first label kind.now) }
 {
     let Some(form) = form_of(kind) else {
         return Ok(None);
@@ -211,8 +203,8 @@ fn is_empty_array(bracket: Bracket, parts: usize) -> bool
 }
 
 /// Parentheses that close without a part.
-fn close_unit(nodes: &mut Vec<Node>, opens: &mut Opens) -> Result<Option<Stage>, Memory>
-    ensures { Steps result nodes.new.items opens.new (close_unit_code nodes.old.items opens.old) }
+fn close_unit(nodes: &mut Nodes, opens: &mut Opens) -> Result<Option<Stage>, Memory>
+    ensures { Steps result nodes.new opens.new (close_unit_code nodes.old opens.old) }
 {
     match opens.pop() {
         None => Ok(None),
@@ -227,8 +219,8 @@ fn close_unit(nodes: &mut Vec<Node>, opens: &mut Opens) -> Result<Option<Stage>,
 }
 
 /// An array that closes without a part.
-fn close_empty(nodes: &mut Vec<Node>, opens: &mut Opens) -> Result<Option<Stage>, Memory>
-    ensures { Steps result nodes.new.items opens.new (close_empty_code nodes.old.items opens.old) }
+fn close_empty(nodes: &mut Nodes, opens: &mut Opens) -> Result<Option<Stage>, Memory>
+    ensures { Steps result nodes.new opens.new (close_empty_code nodes.old opens.old) }
 {
     match opens.pop() {
         None => Ok(None),
@@ -244,13 +236,13 @@ fn close_empty(nodes: &mut Vec<Node>, opens: &mut Opens) -> Result<Option<Stage>
 
 /// Begins a literal at lexeme `place`.
 fn begin(
-    nodes: &mut Vec<Node>,
+    nodes: &mut Nodes,
     opens: &mut Opens,
     place: usize,
     kind: &LexemeKind,
 ) -> Result<Option<Stage>, Memory>
-    ensures { Steps result nodes.new.items opens.new
-        (begin_code nodes.old.items opens.old place kind.now) }
+    ensures { Steps result nodes.new opens.new
+        (begin_code nodes.old opens.old place kind.now) }
 {
     match kind {
         LexemeKind::Symbol(Symbol::Hash) => Ok(Some(Stage::Hash(place))),
@@ -261,8 +253,8 @@ fn begin(
 }
 
 /// A part more is due.
-fn next(nodes: &mut Vec<Node>, opens: &mut Opens, outer: Open) -> Result<Option<Stage>, Memory>
-    ensures { Steps result nodes.new.items opens.new (next_code nodes.old.items opens.old outer) }
+fn next(nodes: &mut Nodes, opens: &mut Opens, outer: Open) -> Result<Option<Stage>, Memory>
+    ensures { Steps result nodes.new opens.new (next_code nodes.old opens.old outer) }
 {
     opens.push(Open {
         bracket: outer.bracket,
@@ -273,41 +265,33 @@ fn next(nodes: &mut Vec<Node>, opens: &mut Opens, outer: Open) -> Result<Option<
 }
 
 /// The last part was read.
-fn shut(nodes: &mut Vec<Node>, opens: &mut Opens, outer: Open) -> Result<Option<Stage>, Memory>
-    ensures { Steps result nodes.new.items opens.new (shut_code nodes.old.items opens.old outer) }
+fn shut(nodes: &mut Nodes, opens: &mut Opens, outer: Open) -> Result<Option<Stage>, Memory>
+    ensures { Steps result nodes.new opens.new (shut_code nodes.old opens.old outer) }
 {
-    set(nodes, outer.index, with_part(outer.node));
+    nodes.set(outer.index, with_part(outer.node))?;
     Ok(Some(Stage::Whole))
 }
 
 /// The last part of a tuple was read.
-fn shut_tuple(
-    nodes: &mut Vec<Node>,
-    opens: &mut Opens,
-    outer: Open,
-) -> Result<Option<Stage>, Memory>
-    ensures { Steps result nodes.new.items opens.new
-        (shut_tuple_code nodes.old.items opens.old outer) }
+fn shut_tuple(nodes: &mut Nodes, opens: &mut Opens, outer: Open) -> Result<Option<Stage>, Memory>
+    ensures { Steps result nodes.new opens.new
+        (shut_tuple_code nodes.old opens.old outer) }
 {
     if outer.node.parts == 0 {
         return Ok(None);
     }
-    set(
-        nodes,
-        outer.index,
-        with_form(Form::Tuple, with_part(outer.node)),
-    );
+    nodes.set(outer.index, with_form(Form::Tuple, with_part(outer.node)))?;
     Ok(Some(Stage::Whole))
 }
 
 fn close_arguments(
-    nodes: &mut Vec<Node>,
+    nodes: &mut Nodes,
     opens: &mut Opens,
     outer: Open,
     kind: &LexemeKind,
 ) -> Result<Option<Stage>, Memory>
-    ensures { Steps result nodes.new.items opens.new
-        (close_arguments_code nodes.old.items opens.old outer kind.now) }
+    ensures { Steps result nodes.new opens.new
+        (close_arguments_code nodes.old opens.old outer kind.now) }
 {
     match kind {
         LexemeKind::Symbol(Symbol::Comma) => next(nodes, opens, outer),
@@ -317,13 +301,13 @@ fn close_arguments(
 }
 
 fn close_parens(
-    nodes: &mut Vec<Node>,
+    nodes: &mut Nodes,
     opens: &mut Opens,
     outer: Open,
     kind: &LexemeKind,
 ) -> Result<Option<Stage>, Memory>
-    ensures { Steps result nodes.new.items opens.new
-        (close_parens_code nodes.old.items opens.old outer kind.now) }
+    ensures { Steps result nodes.new opens.new
+        (close_parens_code nodes.old opens.old outer kind.now) }
 {
     match kind {
         LexemeKind::Symbol(Symbol::Comma) => next(nodes, opens, outer),
@@ -333,13 +317,13 @@ fn close_parens(
 }
 
 fn close_array(
-    nodes: &mut Vec<Node>,
+    nodes: &mut Nodes,
     opens: &mut Opens,
     outer: Open,
     kind: &LexemeKind,
 ) -> Result<Option<Stage>, Memory>
-    ensures { Steps result nodes.new.items opens.new
-        (close_array_code nodes.old.items opens.old outer kind.now) }
+    ensures { Steps result nodes.new opens.new
+        (close_array_code nodes.old opens.old outer kind.now) }
 {
     match kind {
         LexemeKind::Symbol(Symbol::Semicolon) => next(nodes, opens, outer),
@@ -349,13 +333,13 @@ fn close_array(
 }
 
 fn close_fields(
-    nodes: &mut Vec<Node>,
+    nodes: &mut Nodes,
     opens: &mut Opens,
     outer: Open,
     kind: &LexemeKind,
 ) -> Result<Option<Stage>, Memory>
-    ensures { Steps result nodes.new.items opens.new
-        (close_fields_code nodes.old.items opens.old outer kind.now) }
+    ensures { Steps result nodes.new opens.new
+        (close_fields_code nodes.old opens.old outer kind.now) }
 {
     match kind {
         LexemeKind::Symbol(Symbol::Semicolon) => Ok(Some(Stage::FieldDue(
@@ -368,13 +352,9 @@ fn close_fields(
 }
 
 /// What comes after a whole literal.
-fn close(
-    nodes: &mut Vec<Node>,
-    opens: &mut Opens,
-    kind: &LexemeKind,
-) -> Result<Option<Stage>, Memory>
-    ensures { Steps result nodes.new.items opens.new
-        (close_code nodes.old.items opens.old kind.now) }
+fn close(nodes: &mut Nodes, opens: &mut Opens, kind: &LexemeKind) -> Result<Option<Stage>, Memory>
+    ensures { Steps result nodes.new opens.new
+        (close_code nodes.old opens.old kind.now) }
 {
     match opens.pop() {
         None => Ok(None),
@@ -389,14 +369,14 @@ fn close(
 
 /// What comes after `#` and a number.
 fn after_number(
-    nodes: &mut Vec<Node>,
+    nodes: &mut Nodes,
     opens: &mut Opens,
     first: usize,
     number: u64,
     kind: &LexemeKind,
 ) -> Result<Option<Stage>, Memory>
-    ensures { Steps result nodes.new.items opens.new
-        (after_number_code nodes.old.items opens.old first number kind.now) }
+    ensures { Steps result nodes.new opens.new
+        (after_number_code nodes.old opens.old first number kind.now) }
 {
     match kind {
         LexemeKind::Symbol(Symbol::Equals) => Ok(Some(Stage::PlainDue(first, number))),
@@ -421,14 +401,14 @@ fn again(first: usize, number: u64) -> Node
 
 /// What comes after a name.
 fn after_head(
-    nodes: &mut Vec<Node>,
+    nodes: &mut Nodes,
     opens: &mut Opens,
     index: usize,
     node: Node,
     kind: &LexemeKind,
 ) -> Result<Option<Stage>, Memory>
-    ensures { Steps result nodes.new.items opens.new
-        (after_head_code nodes.old.items opens.old index node kind.now) }
+    ensures { Steps result nodes.new opens.new
+        (after_head_code nodes.old opens.old index node kind.now) }
 {
     match kind {
         LexemeKind::Symbol(Symbol::OpenParen) => {
@@ -449,14 +429,14 @@ fn after_head(
 
 /// What comes after a field's name.
 fn take_equals(
-    nodes: &mut Vec<Node>,
+    nodes: &mut Nodes,
     opens: &mut Opens,
     index: usize,
     node: Node,
     kind: &LexemeKind,
 ) -> Result<Option<Stage>, Memory>
-    ensures { Steps result nodes.new.items opens.new
-        (take_equals_code nodes.old.items opens.old index node kind.now) }
+    ensures { Steps result nodes.new opens.new
+        (take_equals_code nodes.old opens.old index node kind.now) }
 {
     match kind {
         LexemeKind::Symbol(Symbol::Equals) => {
@@ -473,13 +453,13 @@ fn take_equals(
 
 /// What comes after `#`.
 fn take_number(
-    nodes: &mut Vec<Node>,
+    nodes: &mut Nodes,
     opens: &mut Opens,
     first: usize,
     kind: &LexemeKind,
 ) -> Result<Option<Stage>, Memory>
-    ensures { Steps result nodes.new.items opens.new
-        (take_number_code nodes.old.items opens.old first kind.now) }
+    ensures { Steps result nodes.new opens.new
+        (take_number_code nodes.old opens.old first kind.now) }
 {
     match number_of(kind) {
         None => Ok(None),
@@ -489,14 +469,14 @@ fn take_number(
 
 /// What comes after `[`.
 fn after_bracket(
-    nodes: &mut Vec<Node>,
+    nodes: &mut Nodes,
     opens: &mut Opens,
     index: usize,
     node: Node,
     kind: &LexemeKind,
 ) -> Result<Option<Stage>, Memory>
-    ensures { Steps result nodes.new.items opens.new
-        (after_bracket_code nodes.old.items opens.old index node kind.now) }
+    ensures { Steps result nodes.new opens.new
+        (after_bracket_code nodes.old opens.old index node kind.now) }
 {
     match kind {
         LexemeKind::Symbol(Symbol::CloseBracket) => Ok(Some(Stage::Head(index, node))),
@@ -506,14 +486,14 @@ fn after_bracket(
 
 /// What comes before a field's name.
 fn take_name(
-    nodes: &mut Vec<Node>,
+    nodes: &mut Nodes,
     opens: &mut Opens,
     index: usize,
     node: Node,
     kind: &LexemeKind,
 ) -> Result<Option<Stage>, Memory>
-    ensures { Steps result nodes.new.items opens.new
-        (take_name_code nodes.old.items opens.old index node kind.now) }
+    ensures { Steps result nodes.new opens.new
+        (take_name_code nodes.old opens.old index node kind.now) }
 {
     match kind {
         LexemeKind::Lower(_) => Ok(Some(Stage::NameRead(index, node))),
@@ -523,14 +503,14 @@ fn take_name(
 
 /// Lexeme number `place`.
 pub fn step(
-    nodes: &mut Vec<Node>,
+    nodes: &mut Nodes,
     opens: &mut Opens,
     stage: Stage,
     place: usize,
     kind: &LexemeKind,
 ) -> Result<Option<Stage>, Memory>
-    ensures { Steps result nodes.new.items opens.new
-        (step_code nodes.old.items opens.old stage place kind.now) }
+    ensures { Steps result nodes.new opens.new
+        (step_code nodes.old opens.old stage place kind.now) }
 {
     match stage {
         Stage::Due => begin(nodes, opens, place, kind),
@@ -546,10 +526,10 @@ pub fn step(
 }
 
 /// Whether a literal ends here; its nodes are whole then.
-pub fn end(nodes: &mut Vec<Node>, opens: &mut Opens, stage: Stage) -> Result<bool, Memory>
+pub fn end(nodes: &mut Nodes, opens: &mut Opens, stage: Stage) -> Result<bool, Memory>
     ensures { IfOk result
-        (λ ends. end_code nodes.old.items opens.old stage
-        ≡ (if ends then Some nodes.new.items else None)) }
+        (λ ends. end_code nodes.old opens.old stage
+        ≡ (if ends then Some nodes.new else None)) }
 {
     match opens.pop() {
         Some(_) => Ok(false),

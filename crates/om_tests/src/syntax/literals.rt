@@ -2,15 +2,16 @@
 
 use om_lex::lexeme::{LexFault, Lexeme};
 use om_lex::tokens;
-use om_literal_grammar::{Node, TreeFault, read_literal_tree};
+use om_literal_grammar::{Nodes, TreeFault, read_literal_tree};
 use om_model::Memory;
 use std::alloc::{AllocError, Global};
 use std::test::Fail;
 
 // The nodes of a literal: at each one's first lexeme its number of parts.
-fn nodes_text(alloc: Global, nodes: &[Node]) -> Result<String, AllocError> {
+fn nodes_text(alloc: Global, nodes: &Nodes) -> Result<String, AllocError> {
     let mut text = String::new(alloc);
-    for node in nodes {
+    for k in 0..nodes.len() {
+        let node = nodes.get(k);
         write!(&mut text, "{}:{} ", node.first, node.parts)?;
     }
     Ok(text)
@@ -19,7 +20,7 @@ fn nodes_text(alloc: Global, nodes: &[Node]) -> Result<String, AllocError> {
 // What becomes of lexemes.
 fn tree_text(alloc: Global, lexemes: &[Lexeme]) -> Result<String, Memory> {
     match read_literal_tree(alloc, lexemes) {
-        Ok(tree) => Ok(nodes_text(alloc, tree.as_slice())?),
+        Ok(nodes) => Ok(nodes_text(alloc, &nodes)?),
         Err(TreeFault::Syntax(place)) => Ok(format!(in alloc; "Syntax {place}")?),
         Err(TreeFault::Memory) => Err(Memory),
     }

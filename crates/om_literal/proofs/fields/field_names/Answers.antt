@@ -1,8 +1,15 @@
-use Rattle.std.proofs.Common.{◌≡◌, ℕ, IfOk, List, Bor, map, subst}
+use Rattle.std.proofs.Common.{◌≡◌, ◌+◌, ◌∙◌, ℕ, IfOk, List, Bor, map, subst, sym, ap}
+use Rattle.std.proofs.lemmas.Option.{get_or_from_slice_get}
+use Rattle.om_literal_grammar.specs.declared.node.Node.{Node}
+use Rattle.om_literal_grammar.specs.Nodes.{kinds_of}
+use Rattle.om_literal.specs.FieldNames.{names_from}
 use Rattle.om_literal.proofs.FieldNameLemmas.{field_names_are}
 use Rattle.om_literal.proofs.fields.field_names.Goals as goal
 
 pub returns : goal.returns
 returns c k l o rs x v h =
     let P : List (List ℕ) → Type 0 = λ own. IfOk c.names_from.result (λ names. map (λ (name : Bor (List ℕ)). name.now) names.items ≡ own) in
-    subst P (field_names_are c.args.nodes.now c.args.ends.now c.args.lexemes.now c.args.at k l o rs x v _ c.requires.len c.requires.ends h) c.names_from.ensures
+    subst P
+    (ap (λ (n : Node). names_from c.args.nodes.now c.args.ends.now (kinds_of c.args.lexemes.now) (c.args.at + 1) n.parts)
+    (sym (get_or_from_slice_get c.args.nodes.now c.args.at c.get.result c.get.result c.get.ensures))
+    ∙ field_names_are c.args.nodes.now c.args.ends.now c.args.lexemes.now c.args.at k l o rs x v c.get.result c.requires.len c.requires.ends h) c.names_from.ensures

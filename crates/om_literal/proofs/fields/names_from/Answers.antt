@@ -1,4 +1,7 @@
-use Rattle.std.proofs.Common.{ℕ, ◌-◌, ◌∙◌, List, [], ◌∷◌, Bor, ap, map, arith}
+use Rattle.std.proofs.Common.{ℕ, ◌-◌, ◌∙◌, List, [], ◌∷◌, Bor, sym, ap, map, arith}
+use Rattle.std.proofs.lemmas.Option.{get_or_from_slice_get}
+use Rattle.om_literal_grammar.specs.declared.node.Node.{Node}
+use Rattle.om_literal.specs.FieldNames.{name_before}
 use Rattle.std.proofs.lemmas.List.{map-append}
 use Rattle.om_literal_grammar.specs.Nodes.{kinds_of}
 use Rattle.om_literal.proofs.FieldNameLemmas.{names_step}
@@ -7,7 +10,7 @@ use Rattle.om_literal.proofs.fields.names_from.Goals as goal
 pub loop-left-preserved : goal.loop-left-preserved
 loop-left-preserved c =
     let now : Bor (List ℕ) → List ℕ = λ name. name.now in
-    names_step c.args.nodes.now c.args.ends.now (kinds_of c.args.lexemes.now) c.loop-left.place c.loop-left.left (c.loop-left.left - 1) c.sibling-place.result _
-    (map now c.loop-left.names.items) (map now c.push.new.self.items) _ c.name_before.result.now (omega (arith, c.loop-left-test.true)) (omega (arith, c.if-place-nodes.false))
+    names_step c.args.nodes.now c.args.ends.now (kinds_of c.args.lexemes.now) c.loop-left.place c.loop-left.left (c.loop-left.left - 1) c.sibling-place.result c.get.result
+    (map now c.loop-left.names.items) (map now c.push.new.self.items) _ c.name_before.result.now (omega (arith, c.loop-left-test.true)) (omega (arith, c.if-place-len.false, c.len.ensures.count))
     (ap (λ (all : List (Bor (List ℕ))). map now all) c.in_ok-push.ensures.items ∙ map-append now c.loop-left.names.items (c.name_before.result ∷ []))
-    c.name_before.ensures c.sibling-place.ensures c.loop-left.invariant
+    (c.name_before.ensures ∙ ap (λ (n : Node). name_before (kinds_of c.args.lexemes.now) n.first) (sym (get_or_from_slice_get c.args.nodes.now c.loop-left.place c.get.result c.get.result c.get.ensures))) c.sibling-place.ensures c.loop-left.invariant

@@ -1,4 +1,4 @@
-use Rattle.std.proofs.Common.{arith, rules, sym, ap, ◌∙◌, subst, get_or}
+use Rattle.std.proofs.Common.{arith, sym, ap, ◌∙◌, subst}
 use Rattle.std.specs.Prelude.{ℕ, ◌+◌, ◌<◌, ◌≡◌, true, false, None, List, [], length, All, option_map, slice_get}
 use Rattle.std.proofs.lemmas.List.{append-nil}
 use Rattle.om_literal_grammar.specs.declared.node.Form.TheVariants as forms
@@ -10,26 +10,19 @@ use Rattle.om_literal.specs.Reading.{is_next, literal_read}
 use Rattle.om_literal.specs.Standing.{Stands, own_node}
 use Rattle.om_literal.specs.Underway.{IsMade, Begins, MayRefuse}
 use Rattle.om_literal.specs.declared.fault.LiteralFault.TheVariants as faults
-use Rattle.om_literal.proofs.GoLemmas.{own_at, again_only, plain_only, part_inside, first_within}
+use Rattle.om_literal.proofs.GoLemmas.{own_found, again_only, plain_only, part_inside, first_within}
 use Rattle.om_literal.proofs.StandingLemmas.{lead_is}
 use Rattle.om_literal.proofs.PlacedLemmas.{number_refused}
 use Rattle.om_literal.proofs.part.begin.Goals as goal
 
--- what a node is copied from
-abbrev none : Node
-none = record { form = forms.Integer; label = None; first = 0; parts = 0 }
-
-pub offset_bounds-text-j : goal.offset_bounds-text-j
-offset_bounds-text-j c = let inside : c.args.j < length c.args.text.now.nodes.now = part_inside c.args.text.now c.args.j c.requires.part in search rules
-
-pub bounds-text-j : goal.bounds-text-j
-bounds-text-j c = part_inside c.args.text.now c.args.j c.requires.part
+pub get-node-requires : goal.get-node-requires
+get-node-requires c = part_inside c.args.text.now c.args.j c.requires.part
 
 pub returns-in-Again-clause-begins : goal.returns-in-Again-clause-begins
 returns-in-Again-clause-begins c k v stands all =
-    let own = own_at c.args.text.now.nodes.now c.args.j k v none stands.nodes_at in
+    let own = own_found c.args.text.now.nodes.now c.args.j k v c.get-node.result stands.nodes_at c.get-node.ensures in
     let labels = c.args.labels.now.items in
-    again_only (λ u. get_or c.args.text.now.nodes.now c.args.j none ≡ own_node k u → Begins c.args.text.now k u c.args.t c.args.heap.now c.args.heap.now labels labels c.again.result) k
+    again_only (λ u. c.get-node.result ≡ own_node k u → Begins c.args.text.now k u c.args.t c.args.heap.now c.args.heap.now labels labels c.again.result) k
     (λ n is. subst (λ ls. All (λ o. o < length c.args.heap.now) ls → Begins c.args.text.now k (again n) c.args.t c.args.heap.now c.args.heap.now ls ls c.again.result) c.deref.ensures.value
     (λ below. c.again.ensures k n c.args.t c.args.heap.now is below) all) v
     (sym (ap (λ (n : Node). n.form) own) ∙ c.in-Again.is) own
@@ -37,12 +30,12 @@ returns-in-Again-clause-begins c k v stands all =
 pub returns-then-not-has_next_number : goal.returns-then-not-has_next_number
 returns-then-not-has_next_number c = record {
   begins = λ k v stands all.
-      let own = own_at c.args.text.now.nodes.now c.args.j k v none stands.nodes_at in
-      let other : is_next c.args.labels.now.items (get_or c.args.text.now.nodes.now c.args.j none).label ≡ false = sym (ap (λ (ls : List ℕ). is_next ls (get_or c.args.text.now.nodes.now c.args.j none).label) c.deref-2.ensures.value) ∙ sym c.has_next_number.ensures ∙ c.if-not-has_next_number.true in
-      plain_only (λ u. get_or c.args.text.now.nodes.now c.args.j none ≡ own_node k u
+      let own = own_found c.args.text.now.nodes.now c.args.j k v c.get-node.result stands.nodes_at c.get-node.ensures in
+      let other : is_next c.args.labels.now.items c.get-node.result.label ≡ false = sym (ap (λ (ls : List ℕ). is_next ls c.get-node.result.label) c.deref-2.ensures.value) ∙ sym c.has_next_number.ensures ∙ c.if-not-has_next_number.true in
+      plain_only (λ u. c.get-node.result ≡ own_node k u
       → MayRefuse c.args.text.now.lexemes.now c.args.text.now.end
       (literal_read (shape_in c.args.text.now.table.now) (names_in c.args.text.now.table.now) k u (length c.args.heap.now) c.args.labels.now.items c.args.t) (faults.Label c.byte_of.result)) k
-      (λ l p is. number_refused c.args.text.now (get_or c.args.text.now.nodes.now c.args.j none) k c.args.t l p c.args.heap.now c.args.labels.now.items is c.byte_of.result other c.byte_of.ensures) v
+      (λ l p is. number_refused c.args.text.now c.get-node.result k c.args.t l p c.args.heap.now c.args.labels.now.items is c.byte_of.result other c.byte_of.ensures) v
       (λ e. c.in_default.not-Again (ap (λ (n : Node). n.form) own ∙ e)) own;
   grows = ([], sym (append-nil c.args.heap.now));
 }
@@ -54,17 +47,17 @@ make_plain-requires c = record {
 }
 
 pub plain_first-requires : goal.plain_first-requires
-plain_first-requires c = let first = first_within c.args.text.now c.args.j none c.requires.part c.in_default.not-Again in omega (arith, first, c.requires.text.few)
+plain_first-requires c = let first = first_within c.args.text.now c.args.j c.get-node.result c.requires.part c.get-node.ensures c.in_default.not-Again in omega (arith, first, c.requires.text.few)
 
 pub placed-requires : goal.placed-requires
-placed-requires c = let first = first_within c.args.text.now c.args.j none c.requires.part c.in_default.not-Again in omega (arith, first, c.requires.text.few)
+placed-requires c = let first = first_within c.args.text.now c.args.j c.get-node.result c.requires.part c.get-node.ensures c.in_default.not-Again in omega (arith, first, c.requires.text.few)
 
 pub returns : goal.returns
 returns c = record {
   begins = λ k v stands all.
-      let own = own_at c.args.text.now.nodes.now c.args.j k v none stands.nodes_at in
-      let node = get_or c.args.text.now.nodes.now c.args.j none in
-      let numbered : is_next c.args.labels.now.items (get_or c.args.text.now.nodes.now c.args.j none).label ≡ true = sym (ap (λ (ls : List ℕ). is_next ls (get_or c.args.text.now.nodes.now c.args.j none).label) c.deref-2.ensures.value) ∙ sym c.has_next_number.ensures ∙ c.if-not-has_next_number.false in
+      let own = own_found c.args.text.now.nodes.now c.args.j k v c.get-node.result stands.nodes_at c.get-node.ensures in
+      let node = c.get-node.result in
+      let numbered : is_next c.args.labels.now.items c.get-node.result.label ≡ true = sym (ap (λ (ls : List ℕ). is_next ls c.get-node.result.label) c.deref-2.ensures.value) ∙ sym c.has_next_number.ensures ∙ c.if-not-has_next_number.false in
       plain_only (λ u. Stands c.args.text.now.nodes.now c.args.text.now.lexemes.now c.args.j k u → node ≡ own_node k u
       → Begins c.args.text.now k u c.args.t c.args.heap.now c.make_plain.new.heap c.args.labels.now.items c.placed.new.labels.items c.placed.result) k
       (λ l p there is.

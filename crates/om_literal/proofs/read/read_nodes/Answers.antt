@@ -11,10 +11,10 @@ read_tree-requires-clause-text c = record {
   named = c.requires.named;
   many = ap (λ (ends : List ℕ). length ends) c.as_slice.ensures.value ∙ c.in_ok-ends.ensures.len;
   few = omega (arith, c.len-few.ensures.few, c.len-few.ensures.count);
-  ends = subst (AreEnds c.as_slice-nodes.result.now) (sym c.as_slice.ensures.value) (λ j k v at. c.in_ok-ends.ensures.ends j k v at);
+  ends = subst (AreEnds c.args.tree.now) (sym c.as_slice.ensures.value) (λ j k v at. c.in_ok-ends.ensures.ends j k v at);
 }
 
 pub returns : goal.returns
 returns c =
-    tree_answers (record { table = c.args.table; lexemes = c.args.lexemes; nodes = c.as_slice-nodes.result; ends = c.as_slice.result; end = c.args.end }) c.args.at c.args.heap.now c.read_tree.new.heap
-    c.read_tree.result (subst (λ (nodes : List Node). IsTreeOf c.args.lexemes.now nodes) (sym c.as_slice-nodes.ensures) c.requires.tree) c.read_tree.ensures
+    tree_answers (record { table = c.args.table; lexemes = c.args.lexemes; nodes = c.args.tree; ends = c.as_slice.result; end = c.args.end }) c.args.at c.args.heap.now c.read_tree.new.heap
+    c.read_tree.result c.requires.tree c.read_tree.ensures

@@ -1,4 +1,7 @@
-use Rattle.std.proofs.Common.{◌-◌, arith, rules}
+use Rattle.std.proofs.Common.{◌-◌, ◌+◌, ◌∙◌, arith, rules, sym, ap}
+use Rattle.std.proofs.lemmas.Option.{get_or_from_slice_get}
+use Rattle.om_literal_grammar.specs.declared.node.Node.{Node}
+use Rattle.om_literal.specs.Ends.{sibling}
 use Rattle.om_literal.proofs.EndsLemmas.{ends_none, ends_all, ends_more}
 use Rattle.om_literal.proofs.siblings.subtree_ends.Goals as goal
 
@@ -8,8 +11,9 @@ loop-i-init c = (search rules, ends_none c.args.nodes.now c.in_ok-ends.ends.item
 pub loop-i-preserved : goal.loop-i-preserved
 loop-i-preserved c = (
   search rules,
-  ends_more c.args.nodes.now c.loop-i.ends.items c.as_slice.result.now (c.loop-i.i - 1) c.sibling-end.result _ c.loop-i.invariant.0
-      (omega (arith, c.loop-i-test.true, c.loop-i.auto.i)) c.as_slice.ensures.value c.sibling-end.ensures
+  ends_more c.args.nodes.now c.loop-i.ends.items c.as_slice.result.now (c.loop-i.i - 1) c.sibling-end.result c.get.result c.loop-i.invariant.0
+      (omega (arith, c.loop-i-test.true, c.loop-i.auto.i)) c.as_slice.ensures.value
+      (c.sibling-end.ensures ∙ ap (λ (n : Node). sibling c.as_slice.result.now (c.loop-i.i - 1 + 1) n.parts) (sym (get_or_from_slice_get c.args.nodes.now (c.loop-i.i - 1) c.get.result c.get.result c.get.ensures)))
       (λ j k v low. c.loop-i.invariant.1 j k v (omega (arith, low))),
 )
 

@@ -1,11 +1,11 @@
-use Rattle.std.proofs.Common.{ℕ, ◌+◌, ◌≡◌, ◌∙◌, ◌++◌, ◌∷◌, [], length, Option, Ok, rules, sym, ap, subst, arith}
+use Rattle.std.proofs.Common.{◌+◌, ◌≡◌, ◌∙◌, ◌++◌, ◌∷◌, [], length, Option, Ok, rules, sym, subst, arith}
 use Rattle.std.specs.Prelude.{IfSome}
 use Rattle.om_lex.specs.declared.lexeme.Lexeme.{Lexeme}
 use Rattle.om_lex.specs.Lexemes as lex
 use Rattle.om_lex.specs.Lexemes.{GoesOn, IsNext}
 use Rattle.om_literal_grammar.specs.Code.{step_code, Steps}
 use Rattle.om_literal_grammar.specs.Placed.{lexemes_at}
-use Rattle.om_literal_grammar.proofs.PlacedLemmas.{front_begins, front_ends, front_goes, front_stops, front_blank, front_tree, front_faulty, placed_lexed}
+use Rattle.om_literal_grammar.proofs.PlacedLemmas.{front_begins, front_goes, front_stops, front_tree, front_faulty, placed_lexed}
 use Rattle.om_literal_grammar.proofs.placed.read_at.Goals as goal
 use Rattle.om_literal_grammar.proofs.placed.read_at.Goals.{In-Ok-Some}
 
@@ -16,24 +16,24 @@ on : (c : In-Ok-Some) → lex.Reached c.args.text.now (c.in-Ok-Some.lexeme.span.
 on c = subst (λ (o : Option Lexeme). GoesOn c.args.text.now (lexemes_at c.args.text.now c.loop-at.places.items) (Ok o)) c.in-Ok-Some.field-0-is (c.in-Ok-Some.ensures.next _ c.loop-at.invariant.reached)
 
 pub loop-at-init : goal.loop-at-init
-loop-at-init c = front_begins c.args.text.now c.args.places.now.items c.new-nodes.result.items c.new-opens.result c.requires.empty c.new-nodes.ensures.items c.new-opens.ensures
+loop-at-init c = front_begins c.args.text.now c.args.places.now.items c.new-nodes.result c.new-opens.result c.requires.empty c.new-nodes.ensures c.new-opens.ensures
 
 pub returns-in-Ok-None-take : goal.returns-in-Ok-None-take
 returns-in-Ok-None-take c =
     let many : c.len.result ≡ length c.loop-at.places.items = search rules in
     let here = (goal.at.returns-in-Ok-None-take c).In-Ok-Some in
-    front_stops c.args.text.now c.loop-at.at c.loop-at.places.items c.loop-at.nodes.items c.loop-at.opens c.loop-at.stage c.loop-at.invariant c.requires.short
-    c.in-Ok-Some.lexeme (next here) (on here) c.take.new.nodes.items c.take.new.opens c.in-Ok-None-take.field-0 c.stopped.result
-    (subst (λ n. Steps (Ok c.in-Ok-None-take.field-0) c.take.new.nodes.items c.take.new.opens (step_code c.loop-at.nodes.items c.loop-at.opens c.loop-at.stage n c.in-Ok-Some.lexeme.kind)) many c.in-Ok-None-take.ensures)
+    front_stops c.args.text.now c.loop-at.at c.loop-at.places.items c.loop-at.nodes c.loop-at.opens c.loop-at.stage c.loop-at.invariant c.requires.short
+    c.in-Ok-Some.lexeme (next here) (on here) c.take.new.nodes c.take.new.opens c.in-Ok-None-take.field-0 c.stopped.result
+    (subst (λ n. Steps (Ok c.in-Ok-None-take.field-0) c.take.new.nodes c.take.new.opens (step_code c.loop-at.nodes c.loop-at.opens c.loop-at.stage n c.in-Ok-Some.lexeme.kind)) many c.in-Ok-None-take.ensures)
     c.in-Ok-None-take.field-0-is (c.stopped.ensures _ (on here))
 
 pub loop-at-preserved-in-Ok-Some : goal.loop-at-preserved-in-Ok-Some
 loop-at-preserved-in-Ok-Some c =
     let many : c.len.result ≡ length c.loop-at.places.items = search rules in
     let here = (goal.at.loop-at-preserved-in-Ok-Some c).In-Ok-Some in
-    front_goes c.args.text.now c.loop-at.at c.loop-at.places.items c.loop-at.nodes.items c.loop-at.opens c.loop-at.stage c.loop-at.invariant c.requires.short
-    c.in-Ok-Some.lexeme (next here) (on here) c.take.new.nodes.items c.take.new.opens c.in-Ok-Some-take.field-0 c.in-Ok-Some-take.next c.push.new.self.items
-    (subst (λ n. Steps (Ok c.in-Ok-Some-take.field-0) c.take.new.nodes.items c.take.new.opens (step_code c.loop-at.nodes.items c.loop-at.opens c.loop-at.stage n c.in-Ok-Some.lexeme.kind)) many c.in-Ok-Some-take.ensures)
+    front_goes c.args.text.now c.loop-at.at c.loop-at.places.items c.loop-at.nodes c.loop-at.opens c.loop-at.stage c.loop-at.invariant c.requires.short
+    c.in-Ok-Some.lexeme (next here) (on here) c.take.new.nodes c.take.new.opens c.in-Ok-Some-take.field-0 c.in-Ok-Some-take.next c.push.new.self.items
+    (subst (λ n. Steps (Ok c.in-Ok-Some-take.field-0) c.take.new.nodes c.take.new.opens (step_code c.loop-at.nodes c.loop-at.opens c.loop-at.stage n c.in-Ok-Some.lexeme.kind)) many c.in-Ok-Some-take.ensures)
     c.in-Ok-Some-take.field-0-is c.in-Ok.ensures.items
 
 pub returns-in-Err : goal.returns-in-Err
@@ -41,10 +41,10 @@ returns-in-Err c = placed_lexed c.args.text.now c.lexed.result (c.lexed.ensures 
 
 pub returns-in-Ok-Some-ended : goal.returns-in-Ok-Some-ended
 returns-in-Ok-Some-ended c =
-    front_tree c.args.text.now c.loop-at.at c.loop-at.places.items c.loop-at.nodes.items c.loop-at.opens c.loop-at.stage c.loop-at.invariant (omega (arith, c.loop-at-test.false))
+    front_tree c.args.text.now c.loop-at.at c.loop-at.places.items c.loop-at.nodes c.loop-at.opens c.loop-at.stage c.loop-at.invariant (omega (arith, c.loop-at-test.false))
     c.in-Ok-Some-ended.tree (sym c.in-Ok-Some-ended.field-0-is ∙ c.in-Ok-Some-ended.ensures)
 
 pub returns-in-Ok-None-ended : goal.returns-in-Ok-None-ended
 returns-in-Ok-None-ended c =
-    front_faulty c.args.text.now c.loop-at.at c.loop-at.places.items c.loop-at.nodes.items c.loop-at.opens c.loop-at.stage c.loop-at.invariant (omega (arith, c.loop-at-test.false))
+    front_faulty c.args.text.now c.loop-at.at c.loop-at.places.items c.loop-at.nodes c.loop-at.opens c.loop-at.stage c.loop-at.invariant (omega (arith, c.loop-at-test.false))
     (sym c.in-Ok-None-ended.field-0-is ∙ c.in-Ok-None-ended.ensures) (grind (arith, c.if-is_empty.false, c.is_empty.ensures))

@@ -1,0 +1,128 @@
+//! Nodes in a row, eight bytes each.
+
+ghost use Rattle.std.specs.Prelude.{◌≡◌, ◌∷◌, ◌++◌, ◌<◌, ◌^◌, [], Some, List, length, slice_get, slice_set, IfOk, IfSome};
+ghost use Rattle.om_literal_grammar.specs.Small.{IsSmall, Keeps, Holds};
+
+use crate::node::{Form, Node};
+use om_model::Memory;
+use std::alloc::Global;
+use std::marker::Model;
+
+/// A node without a label whose numbers are small; or one of the others, by its number.
+#[derive(Clone, Copy)]
+pub struct SmallNode {
+    pub first: u32,
+    pub parts: u16,
+    pub form: Option<Form>,
+}
+
+const _: () = prove!(size_of::<SmallNode>() == 8);
+
+/// Nodes, which contracts see as their list. The others are those that eight bytes do not hold.
+#[derive(Drop)]
+pub struct Nodes {
+    small: Vec<SmallNode>,
+    others: Vec<Node>,
+}
+
+impl Model for Nodes {
+    ghost use Rattle.std.specs.Prelude.{List, length};
+    ghost use Rattle.om_literal_grammar.specs.declared.node.Node.{Node};
+
+    ghost Value = { List Node };
+
+    ghost use Rattle.om_literal_grammar.specs.Small.{nodes_in, AreHeld};
+
+    ghost view = { λ n. nodes_in n.others.items n.small.items };
+
+    ghost invariant = { λ n. AreHeld (length n.others.items) n.small.items };
+}
+
+/// The node in eight bytes, where they hold it.
+fn small_of(node: &Node) -> Option<SmallNode>
+    ensures { IfSome result (IsSmall node.now) }
+{
+    if node.label.is_some() || node.first >= 1 << 32 || node.parts >= 1 << 16 {
+        return None;
+    }
+    Some(SmallNode {
+        first: node.first as u32,
+        parts: node.parts as u16,
+        form: Some(node.form),
+    })
+}
+
+/// The node in eight bytes, or as one more of the others.
+fn hold(others: &mut Vec<Node>, node: Node) -> Result<SmallNode, Memory>
+    ensures kept { Keeps others.old.items others.new.items }
+    ensures held { IfOk result (Holds others.new.items node) }
+{
+    if let Some(small) = small_of(&node) {
+        return Ok(small);
+    }
+    let number = others.len();
+    if number >= 1 << 32 {
+        return Err(Memory);
+    }
+    others.push(node)?;
+    Ok(SmallNode {
+        first: number as u32,
+        parts: 0,
+        form: None,
+    })
+}
+
+impl Nodes {
+    pub(crate) fn new(alloc: Global) -> Nodes
+        ensures { result ≡ [] }
+    {
+        Nodes {
+            small: Vec::new(alloc),
+            others: Vec::new(alloc),
+        }
+    }
+
+    /// How many there are.
+    pub fn len(&self) -> usize
+        ensures count { result ≡ length self.now }
+        ensures few { result < 2 ^ 63 }
+    {
+        self.small.len()
+    }
+
+    /// Node number k.
+    pub fn get(&self, k: usize) -> Node
+        requires { k < length self.now }
+        ensures { slice_get self.now k ≡ Some result }
+    {
+        let small = self.small[k];
+        match small.form {
+            Some(form) => Node {
+                form,
+                label: None,
+                first: small.first as usize,
+                parts: small.parts as usize,
+            },
+            None => self.others[small.first as usize],
+        }
+    }
+
+    pub(crate) fn push(&mut self, node: Node) -> Result<(), Memory>
+        ensures { IfOk result (λ _. self.new ≡ self.old ++ node ∷ []) }
+    {
+        let small = hold(&mut self.others, node)?;
+        self.small.push(small)?;
+        Ok(())
+    }
+
+    /// Puts a node in place of another.
+    pub(crate) fn set(&mut self, k: usize, node: Node) -> Result<(), Memory>
+        ensures { IfOk result (λ _. self.new ≡ slice_set self.old k node) }
+    {
+        let small = hold(&mut self.others, node)?;
+        if k < self.small.len() {
+            self.small[k] = small;
+        }
+        Ok(())
+    }
+}
