@@ -27,6 +27,12 @@ fn head_of(bytes: &[u8], limit: u64) -> Option<Head>
     }
 }
 
+/// Whether all data bytes that the header states are among so many bytes.
+fn is_there(head: &Head, start: usize, bytes: usize) -> bool {
+    let bytes = bytes as u64;
+    head.length <= bytes && start as u64 <= bytes - head.length
+}
+
 /// Room for the types of the objects: as many as the header states, and no more than there are
 /// bytes.
 fn room_for(head: &Head, bytes: usize) -> usize {
@@ -116,7 +122,7 @@ fn run<'a>(
 
 /// How many of the bytes are a value of the table's first type, of at most so many words, if one
 /// look at each shows it.
-/// Where it does not, nothing is said.
+/// Where it does not, nothing is said; where the value's last bytes are not there, that is at once.
 pub fn pass(
     alloc: Global,
     table: &TypeTable,
@@ -131,6 +137,9 @@ pub fn pass(
         return Ok(None);
     };
     let start = if head.big { 32 } else { 20 };
+    if !is_there(&head, start, bytes.len()) {
+        return Ok(None);
+    }
     let types = Vec::with_capacity(alloc, room_for(&head, bytes.len()))?;
     let mut state = State {
         places: Places::root(alloc),

@@ -1,0 +1,176 @@
+-- The steps that a part of a token decides.
+use Rattle.std.proofs.Common.{ℕ, ◌+◌, ◌*◌, ◌<◌, ◌≤◌, ◌≡◌, ◌≢◌, ◌∙◌, Bool, true, false, cond, ltb, eqb, List, [], ◌∷◌, ◌++◌, length, take, drop, get_or, Option, Some, None, Ok, refl, sym, ap, subst, arith, le-ltb, lt-ltb, ne_eqb}
+use Rattle.std.proofs.lemmas.Bool.{cond_both}
+use Rattle.om_model.specs.declared.refusal.ReadRefusal.{ReadRefusal}
+use Rattle.om_model.specs.declared.refusal.ReadRefusal.TheVariants.{ZeroArray, SizeMismatch}
+use Rattle.om_model.specs.declared.refusal.WordSum.TheVariants.{W64}
+use Rattle.om_model.specs.declared.header.Head.{Head}
+use Rattle.om_model.specs.declared.code.CodeKind.{CodeKind}
+use Rattle.om_model.specs.declared.code.CodeKind.TheVariants as kinds
+use Rattle.om_model.specs.declared.code.CustomKind.TheVariants as customs
+use Rattle.om_model.specs.declared.code.Measure.{Measure}
+use Rattle.om_model.specs.declared.code.Measure.TheVariants as measures
+use Rattle.om_model.specs.Bytes.{number}
+use Rattle.om_format.specs.Code.{kind_of, custom_of}
+use Rattle.om_format.specs.Raw.{fixed_bytes, field_bytes, sizing_bytes, variable_bytes, measure_after, length_after, IsPart}
+use Rattle.om_format.specs.Words.{Sums, one_more, of_object, fields, words32, words64}
+use Rattle.om_format.specs.Step.{Step, step, or_else, first_refusal, Context, place, overlong, field_refusal, variable_steps, words32_refusal, words64_refusal, end_steps, closing_steps, entry_steps, steps_after, steps_from, token_steps}
+use Rattle.om_format.proofs.RawLemmas.{fields_fit}
+use Rattle.om_format.proofs.SpellFacts.{none_from_room}
+use Rattle.om_format.proofs.SpellSteps.{AllStepsPass, or_else_none, fails_if_none}
+use Rattle.om_cut.specs.Cut.{HasRoom, IsCut, IsCutAfter, IsSized}
+
+-- steps that pass, and then others
+none_after : (m : ℕ) (xs ys : List Step) → AllStepsPass xs → first_refusal m ys ≡ None → first_refusal m (xs ++ ys) ≡ None
+none_after m [] ys p q = q
+none_after m (x ∷ xs) ys p q =
+    cond_both (ltb m x.ends) None (or_else x.refusal (first_refusal m (xs ++ ys))) (λ r. r ≡ None) (λ _. refl)
+    (λ _. or_else_none x.refusal (first_refusal m (xs ++ ys)) p.0 (none_after m xs ys p.1 q))
+
+-- a step that is not decided yet
+undecided : (m k : ℕ) (r : Option ReadRefusal) (steps : List Step) → m < k → first_refusal m (step k r ∷ steps) ≡ None
+undecided m k r steps h = rw (lt-ltb m k h) refl
+
+-- the steps of the end, before the end
+before_end : (m : ℕ) (c : Context) (n : ℕ) (all : Sums) (b : Bool) → m < n → first_refusal m (cond b (end_steps c n all) []) ≡ None
+before_end m c n all true h = rw (lt-ltb m n h) refl
+before_end m c n all false h = refl
+
+-- a sum of words on 32 bits that the header allows
+words32_allowed : (p : ℕ) (head : Head) (found : ℕ) (big : Bool) → head.big ≡ big → (big ≡ false → found ≤ head.w32) → words32_refusal ltb p head found ≡ None
+words32_allowed p head found true e h = rw e refl
+words32_allowed p head found false e h =
+    let t = le-ltb head.w32 found (h refl) in rw (e, t) refl
+
+words64_allowed : (p : ℕ) (head : Head) (found : ℕ) → found ≤ head.w64 → words64_refusal ltb p head found ≡ None
+words64_allowed p head found h = fails_if_none (ltb head.w64 found) (SizeMismatch p W64 head.w64 found) (le-ltb head.w64 found h)
+
+-- ---- fields that are not whole
+
+fields_cut : (c : Context) (code : ℕ) (kind : CodeKind) (rest : List ℕ) (m : ℕ) → m < 1 + field_bytes kind → c.taken + (1 + fixed_bytes kind) ≤ c.head.length → first_refusal m (steps_after c code kind rest) ≡ None
+fields_cut c code kind rest m short room =
+    let passes : overlong c (fixed_bytes kind) 1 ≡ None = none_from_room c (fixed_bytes kind) 1 (omega (arith, room)) in
+    none_after m (step 1 (overlong c (fixed_bytes kind) 1) ∷ [])
+    (step (1 + field_bytes kind) (field_refusal c code kind rest) ∷ (variable_steps c kind (custom_of (take 3 rest)) rest ++ closing_steps c kind rest))
+    (passes, tt)
+    (undecided m (1 + field_bytes kind) (field_refusal c code kind rest) (variable_steps c kind (custom_of (take 3 rest)) rest ++ closing_steps c kind rest) short)
+
+pub cut_in_fields : (kind : CodeKind) (rest : List ℕ) (fixed field few32 few64 : ℕ) → fixed ≡ fixed_bytes kind → field ≡ field_bytes kind → length rest < field → IsCutAfter kind rest (1 + fixed) few32 few64
+cut_in_fields kind rest fixed field few32 few64 e f short = record {
+  some = omega arith;
+  is_part = let fit = fields_fit kind in omega (arith, short, fit, f);
+  passes = λ c code room. fields_cut c code kind rest (1 + length rest) (omega (arith, short, f)) (let r = room.room in let o = room.open_before in omega (arith, r, o, e));
+}
+
+-- ---- a token whose size is known
+
+known_cut :
+    (c : Context) (code : ℕ) (kind : CodeKind) (rest : List ℕ) (measure : Option Measure) (m n few32 few64 : ℕ) → m < n → n ≡ 1 + fixed_bytes kind + variable_bytes kind rest → HasRoom c n few32 few64
+    → measure_after kind rest ≡ measure → of_object fields measure ≡ 0 → of_object words32 measure ≤ few32 → of_object words64 measure ≤ few64
+    → field_refusal c code kind rest ≡ None
+    → variable_steps c kind (custom_of (take 3 rest)) rest ≡ step (1 + field_bytes kind) (overlong c (variable_bytes kind rest) (1 + fixed_bytes kind)) ∷ []
+    → first_refusal m (steps_after c code kind rest) ≡ None
+known_cut c code kind rest measure m n few32 few64 short e room is none' words32' words64' sound one =
+    let r = room.room in
+    let o = room.open_before in
+    let v = room.w64 in
+    let sized = 1 + sizing_bytes kind rest in
+    let long = 1 + fixed_bytes kind + variable_bytes kind rest in
+    let all = one_more c.sums (measure_after kind rest) in
+    let no_fields : of_object fields (measure_after kind rest) ≡ 0 = ap (of_object fields) is ∙ none' in
+    let w32' : of_object words32 (measure_after kind rest) ≡ of_object words32 measure = ap (of_object words32) is in
+    let w64' : of_object words64 (measure_after kind rest) ≡ of_object words64 measure = ap (of_object words64) is in
+    let first : overlong c (fixed_bytes kind) 1 ≡ None = none_from_room c (fixed_bytes kind) 1 (omega (arith, e, r, o)) in
+    let content : overlong c (variable_bytes kind rest) (1 + fixed_bytes kind) ≡ None = none_from_room c (variable_bytes kind rest) (1 + fixed_bytes kind) (omega (arith, e, r, o)) in
+    let pending' : overlong c all.pending long ≡ None = none_from_room c all.pending long (omega (arith, e, r, o, no_fields)) in
+    let sum32 : words32_refusal ltb (place c) c.head all.w32 ≡ None = words32_allowed (place c) c.head all.w32 c.head.big refl (λ b. let w = room.w32 b in omega (arith, w, words32', w32')) in
+    let sum64 : words64_refusal ltb (place c) c.head all.w64 ≡ None = words64_allowed (place c) c.head all.w64 (omega (arith, v, words64', w64')) in
+    let tail : List Step = cond (eqb all.pending 0) (end_steps c long all) [] in
+    none_after m (entry_steps c code kind rest) (variable_steps c kind (custom_of (take 3 rest)) rest ++ closing_steps c kind rest) (first, (sound, tt))
+    (none_after m (variable_steps c kind (custom_of (take 3 rest)) rest) (closing_steps c kind rest) (subst AllStepsPass (sym one) (content, tt))
+    (none_after m (step sized (overlong c all.pending long) ∷ step sized (words32_refusal ltb (place c) c.head all.w32) ∷ step sized (words64_refusal ltb (place c) c.head all.w64) ∷ []) tail
+    (pending', (sum32, (sum64, tt)))
+    (before_end m c long all (eqb all.pending 0) (omega (arith, short, e)))))
+
+pub cut_in_content :
+    (kind : CodeKind) (rest : List ℕ) (fixed variable : ℕ) (measure : Option Measure) (n few32 few64 : ℕ) → fixed ≡ fixed_bytes kind → IsSized kind rest variable measure → n ≡ 1 + fixed + variable → 1 + length rest < n
+    → of_object words32 measure ≤ few32 → of_object words64 measure ≤ few64 → IsCutAfter kind rest n few32 few64
+cut_in_content kind rest fixed variable measure n few32 few64 f s e short words32' words64' =
+    let long : n ≡ 1 + fixed_bytes kind + variable_bytes kind rest = let v = s.variable_is in omega (arith, e, v, f) in
+    record {
+      some = omega (arith, short);
+      is_part = omega (arith, short, long);
+      passes = λ c code room. known_cut c code kind rest measure (1 + length rest) n few32 few64 short long room s.measure_is s.leaf words32' words64' (s.sound c code) (s.steps c);
+    }
+
+-- ---- with the code
+
+-- nothing of a token
+pub cut_of_nothing : (bytes : List ℕ) (few32 few64 : ℕ) → length bytes ≡ 0 → IsCut 1 few32 few64 bytes
+unfolding token_steps
+cut_of_nothing [] few32 few64 none' = record { some = omega arith; is_part = omega arith; passes = λ c room. refl }
+cut_of_nothing (code ∷ rest) few32 few64 none' = absurd (omega (arith, none'))
+
+steps_of_kind : (c : Context) (code : ℕ) (kind : CodeKind) (rest : List ℕ) (m : ℕ) → kind_of code ≡ Ok kind → first_refusal m (steps_after c code kind rest) ≡ None → first_refusal m (token_steps c (code ∷ rest)) ≡ None
+unfolding token_steps
+steps_of_kind c code kind rest m e p = subst (λ k. first_refusal m (steps_from c code k rest) ≡ None) (sym e) p
+
+part_of_kind : (code : ℕ) (kind : CodeKind) (rest : List ℕ) → kind_of code ≡ Ok kind → length rest < fixed_bytes kind + variable_bytes kind rest → IsPart (code ∷ rest)
+part_of_kind code kind rest e p = subst (λ k. length (code ∷ rest) < 1 + length_after k rest) (sym e) (omega (arith, p))
+
+cut_with_code : (code : ℕ) (kind : CodeKind) (rest : List ℕ) (n few32 few64 : ℕ) → kind_of code ≡ Ok kind → IsCutAfter kind rest n few32 few64 → IsCut n few32 few64 (code ∷ rest)
+cut_with_code code kind rest n few32 few64 e cut = record {
+  some = cut.some;
+  is_part = part_of_kind code kind rest e cut.is_part;
+  passes = λ c room.
+      let same : 1 + length rest ≡ length (code ∷ rest) = omega arith in
+      steps_of_kind c code kind rest (length (code ∷ rest)) e (subst (λ m. first_refusal m (steps_after c code kind rest) ≡ None) same (cut.passes c code room));
+}
+
+-- of bytes, by the first and the others
+pub cut_of_bytes : (bytes : List ℕ) (kind : CodeKind) (n few32 few64 : ℕ) → 0 < length bytes → kind_of (get_or bytes 0 0) ≡ Ok kind → IsCutAfter kind (drop 1 bytes) n few32 few64 → IsCut n few32 few64 bytes
+cut_of_bytes [] kind n few32 few64 some e cut = absurd (omega (arith, some))
+cut_of_bytes (code ∷ rest) kind n few32 few64 some e cut = cut_with_code code kind rest n few32 few64 e cut
+
+-- ---- the size by the kind
+
+pub sized_small_string : (kind : CodeKind) (rest : List ℕ) (size n : ℕ) → kind ≡ kinds.SmallString size → n ≡ size → IsSized kind rest n (Some (measures.Bytes n))
+sized_small_string kind rest size n is e =
+    subst (λ k. IsSized k rest n (Some (measures.Bytes n))) (sym is)
+    (record { variable_is = e; measure_is = ap (λ k. Some (measures.Bytes k)) (sym e); leaf = refl; sound = λ c code. refl; steps = λ c. refl })
+
+pub sized_int : (kind : CodeKind) (rest : List ℕ) (width : ℕ) → kind ≡ kinds.Int width → width ≢ 8 → IsSized kind rest 0 None
+sized_int kind rest width is other =
+    subst (λ k. IsSized k rest 0 None) (sym is)
+    (record { variable_is = refl; measure_is = refl; leaf = refl; sound = λ c code. let no' = ne_eqb width 8 other in rw no' refl; steps = λ c. refl })
+
+pub sized_str : (kind : CodeKind) (rest : List ℕ) (width n : ℕ) → kind ≡ kinds.Str width → n ≡ number (take width rest) → IsSized kind rest n (Some (measures.Bytes n))
+sized_str kind rest width n is e =
+    subst (λ k. IsSized k rest n (Some (measures.Bytes n))) (sym is)
+    (record { variable_is = e; measure_is = ap (λ k. Some (measures.Bytes k)) (sym e); leaf = refl; sound = λ c code. refl; steps = λ c. refl })
+
+pub sized_double : (kind : CodeKind) (rest : List ℕ) (little : Bool) → kind ≡ kinds.Double little → IsSized kind rest 0 (Some measures.Double)
+sized_double kind rest little is =
+    subst (λ k. IsSized k rest 0 (Some measures.Double)) (sym is)
+    (record { variable_is = refl; measure_is = refl; leaf = refl; sound = λ c code. refl; steps = λ c. refl })
+
+pub sized_doubles : (kind : CodeKind) (rest : List ℕ) (width : ℕ) (little : Bool) (n : ℕ) → kind ≡ kinds.Doubles width little → n ≡ number (take width rest) → 0 < n → IsSized kind rest (8 * n) (Some (measures.Doubles n))
+sized_doubles kind rest width little n is e some =
+    subst (λ k. IsSized k rest (8 * n) (Some (measures.Doubles n))) (sym is)
+    (record {
+      variable_is = ap (λ k. 8 * k) e;
+      measure_is = ap (λ k. Some (measures.Doubles k)) (sym e);
+      leaf = refl;
+      sound = λ c code. fails_if_none (eqb (number (take width rest)) 0) (ZeroArray (place c)) (ne_eqb (number (take width rest)) 0 (λ none'. omega (arith, none', e, some)));
+      steps = λ c. refl;
+    })
+
+pub sized_int32 : (kind : CodeKind) (rest : List ℕ) (old : Bool) → kind ≡ kinds.Custom old → custom_of (take 3 rest) ≡ Some customs.Int32 → IsSized kind rest 4 (Some (measures.Custom 4 4))
+sized_int32 kind rest old is e =
+    subst (λ k. IsSized k rest 4 (Some (measures.Custom 4 4))) (sym is)
+    (record { variable_is = rw e refl; measure_is = rw e refl; leaf = refl; sound = λ c code. rw e refl; steps = λ c. ap (λ k. variable_steps c (kinds.Custom old) k rest) e })
+
+pub sized_int64 : (kind : CodeKind) (rest : List ℕ) (old : Bool) → kind ≡ kinds.Custom old → custom_of (take 3 rest) ≡ Some customs.Int64 → IsSized kind rest 8 (Some (measures.Custom 8 8))
+sized_int64 kind rest old is e =
+    subst (λ k. IsSized k rest 8 (Some (measures.Custom 8 8))) (sym is)
+    (record { variable_is = rw e refl; measure_is = rw e refl; leaf = refl; sound = λ c code. rw e refl; steps = λ c. ap (λ k. variable_steps c (kinds.Custom old) k rest) e })

@@ -1,0 +1,130 @@
+-- Tokens that pass while values are still to come.
+use Rattle.std.proofs.Common.{ℕ, ◌+◌, ◌<◌, ◌≤◌, ◌≡◌, ◌∙◌, false, List, [], ◌∷◌, ◌++◌, length, map, Option, inr, refl, sym, subst, subst₂, arith, append-nil, append_assoc, length-append}
+use Rattle.std.specs.Prelude.{All}
+use Rattle.std.specs.List.{concat, AllZip}
+use Rattle.std.proofs.lemmas.List.{map_push, length-map}
+use Rattle.std.proofs.lemmas.List.Sums.{sum_by_push, sum_by-append}
+use Rattle.std.proofs.lemmas.List.Elements.{All-head, All-tail}
+use Rattle.om_model.specs.declared.header.Head.{Head}
+use Rattle.om_model.specs.declared.code.Measure.{Measure}
+use Rattle.om_format.specs.Header.{head_of}
+use Rattle.om_format.specs.Raw.{raw_measure}
+use Rattle.om_format.specs.Words.{of_object, words32, words64, objects, all_words32, all_words64, pending}
+use Rattle.om_format.specs.Front.{TokensPass, context}
+use Rattle.om_format.specs.Token.{Token, measure_of, Spells}
+use Rattle.om_format.specs.Tree.{made_by}
+use Rattle.om_format.specs.Preorder.{OpenBefore, EachRefersBack}
+use Rattle.om_format.specs.Spelled.{IsNoReference}
+use Rattle.om_format.proofs.Pending.{pending-le}
+use Rattle.om_format.proofs.SpellLemmas.{IsRaw-spelled, raw_measure-spelled}
+use Rattle.om_format.proofs.SpellTokens.{FitsUpTo, passes-spelled}
+use Rattle.om_format.proofs.SpellHeaders.{HeaderPasses-facts}
+use Rattle.om_format.proofs.SpellValues.{some_bytes, raw_measures-spelled}
+use Rattle.om_cut.specs.Laws.{UnderwayIsFront}
+
+-- after n bytes of data and tokens of these measures values are to come, and the header has room
+-- for a byte of each, and for the words so far
+pub record GoesOn (head : Head) (n : ℕ) (ms : List (Option Measure)) : Type 0 where
+  pub open_before : 0 < pending ms
+  pub room : n + pending ms ≤ head.length
+  pub w32 : head.big ≡ false → all_words32 ms ≤ head.w32
+  pub w64 : all_words64 ms ≤ head.w64
+
+-- before the next of tokens, or after the last, one is to come
+open_here : (ms : List (Option Measure)) (ts : List Token) → OpenBefore ms ts → 0 < pending (ms ++ map measure_of ts) → 0 < pending ms
+open_here ms [] o p = rw (append-nil ms) at p
+open_here ms (t ∷ ts) o p = o.0
+
+-- tokens take as many bytes at least
+bytes_of_tokens : (ts : List Token) (pieces : List (List ℕ)) → AllZip Spells ts pieces → length ts ≤ length (concat pieces)
+bytes_of_tokens [] pieces s = omega arith
+bytes_of_tokens (t ∷ ts) [] s = absurd s
+bytes_of_tokens (t ∷ ts) (piece ∷ pieces) s =
+    let one = some_bytes t piece s.0 in
+    let more = bytes_of_tokens ts pieces s.1 in
+    let long = length-append piece (concat pieces) in
+    omega (arith, one, more, long)
+
+-- where all go on the first of them fit
+fits_here : (head : Head) (n rest : ℕ) (ms : List (Option Measure)) (ts : List Token) → GoesOn head (n + rest) (ms ++ map measure_of ts) → OpenBefore ms ts → length ts ≤ rest → FitsUpTo head n ms
+fits_here head n rest ms ts g o l =
+    let room' = g.room in
+    let many = pending-le ms (map measure_of ts) in
+    let long = length-map ts measure_of in
+    let some = open_here ms ts o g.open_before in
+    record {
+      within = omega (arith, room');
+      room = omega (arith, room', many, long, l);
+      w32 = λ b. let w = g.w32 b in let sum = sum_by-append (of_object words32) ms (map measure_of ts) in omega (arith, w, sum);
+      w64 = let w = g.w64 in let sum = sum_by-append (of_object words64) ms (map measure_of ts) in omega (arith, w, sum);
+      end = λ none. absurd (omega (arith, none, some));
+    }
+
+-- the bytes of one more piece
+length-concat_push : (pieces : List (List ℕ)) (piece : List ℕ) → length (concat (pieces ++ piece ∷ [])) ≡ length (concat pieces) + length piece
+length-concat_push [] piece = let long = length-append piece [] in omega (arith, long)
+length-concat_push (p ∷ pieces) piece =
+    let a = length-append p (concat (pieces ++ piece ∷ [])) in
+    let b = length-append p (concat pieces) in
+    let c = length-concat_push pieces piece in
+    omega (arith, a, b, c)
+
+-- spelled tokens pass, with others before them, where values are to come after them all
+pub tokens_go_on :
+    (header : List ℕ) (before : List (List ℕ)) (ms : List (Option Measure)) (ts : List Token) (pieces : List (List ℕ)) → map raw_measure before ≡ ms → AllZip Spells ts pieces → OpenBefore ms ts → EachRefersBack (objects ms) ts
+    → ((head_of header).objects ≡ 0 → All IsNoReference ts) → GoesOn (head_of header) (length (concat before) + length (concat pieces)) (ms ++ map measure_of ts)
+    → TokensPass header before pieces
+tokens_go_on header before ms [] [] e s o r table g = tt
+tokens_go_on header before ms [] (piece ∷ pieces) e s o r table g = absurd s
+tokens_go_on header before ms (t ∷ ts) [] e s o r table g = absurd s
+tokens_go_on header before ms (t ∷ ts) (piece ∷ pieces) e s o r table g =
+    let head = head_of header in
+    let m : raw_measure piece ≡ measure_of t = raw_measure-spelled t piece s.0 in
+    let next : List (Option Measure) = ms ++ measure_of t ∷ [] in
+    let all : ms ++ map measure_of (t ∷ ts) ≡ next ++ map measure_of ts = sym (append_assoc ms (measure_of t ∷ []) (map measure_of ts)) in
+    let rest = length (concat pieces) in
+    let long = length-append piece (concat pieces) in
+    let here : length (concat before) + length (concat (piece ∷ pieces)) ≡ (length (concat before) + length piece) + rest = omega (arith, long) in
+    let g' : GoesOn head ((length (concat before) + length piece) + rest) (next ++ map measure_of ts) = subst₂ (λ n ns. GoesOn head n ns) here all g in
+    let fits : FitsUpTo head (length (concat before) + length piece) next = fits_here head (length (concat before) + length piece) rest next ts g' o.1 (bytes_of_tokens ts pieces s.1) in
+    let same : map raw_measure before ++ raw_measure piece ∷ [] ≡ next = cc (e, m) in
+    let there : length (concat (before ++ piece ∷ [])) ≡ length (concat before) + length piece = length-concat_push before piece in
+    let more : objects next ≡ objects ms + made_by t = sum_by_push (of_object (λ _. 1)) ms (measure_of t) in (
+      record {
+        open_before = rw e o.0;
+        raw = IsRaw-spelled t piece s.0;
+        passes = passes-spelled header before t piece (rw e o.0) s.0 (rw e r.0) (λ z. All-head IsNoReference t ts (table z)) (rw same fits);
+      },
+      tokens_go_on header (before ++ piece ∷ []) next ts pieces (map_push raw_measure before piece ∙ same) s.1 o.1 (rw more r.1)
+          (λ z. All-tail IsNoReference t ts (table z)) (rw there g'),
+    )
+
+-- THE LAW
+pub underway_is_front : UnderwayIsFront
+underway_is_front limit bytes header pieces tokens rest n few32 few64 u cut room =
+    let head = head_of header in
+    let long = length (concat pieces) in
+    let r = room.room in
+    let o = room.open_before in
+    let some = cut.some in
+    let few = room.w64 in
+    let goes : GoesOn head (0 + long) (map raw_measure pieces) = record {
+      open_before = o;
+      room = omega (arith, r, some);
+      w32 = λ b. let w = room.w32 b in omega (arith, w);
+      w64 = omega (arith, few);
+    } in
+    let g : GoesOn head (0 + long) (map measure_of tokens) = subst (GoesOn head (0 + long)) (raw_measures-spelled tokens pieces u.spells) goes in
+    inr (
+      header,
+      pieces,
+      rest,
+      record {
+        bytes_are = u.bytes_are;
+        header_passes = HeaderPasses-facts limit header (record { is_header = u.is_header; words = u.words; small = u.small; some = omega (arith, r, o, some) });
+        tokens_pass = tokens_go_on header [] [] tokens pieces refl u.spells u.open_before u.refer_back u.unshared g;
+        open_before = o;
+        part = cut.is_part;
+        passes = cut.passes (context header pieces) room;
+      },
+    )

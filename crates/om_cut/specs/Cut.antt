@@ -1,0 +1,46 @@
+-- The part of a token at the end of the bytes.
+use Rattle.std.specs.Prelude.{ℕ, ◌+◌, ◌<◌, ◌≤◌, ◌≡◌, false, List, [], ◌∷◌, length, take, Option, None}
+use Rattle.om_model.specs.declared.code.CodeKind.{CodeKind}
+use Rattle.om_model.specs.declared.code.Measure.{Measure}
+use Rattle.om_format.specs.Code.{custom_of}
+use Rattle.om_format.specs.Raw.{fixed_bytes, field_bytes, variable_bytes, measure_after, IsPart}
+use Rattle.om_format.specs.Words.{of_object, fields}
+use Rattle.om_format.specs.Step.{Context, step, overlong, first_refusal, field_refusal, variable_steps, steps_after, token_steps}
+
+-- at this place a value is to come, and what the header states has room for a token of n bytes, for
+-- a byte of each other value to come, and for so many words
+pub record HasRoom (c : Context) (n few32 few64 : ℕ) : Type 0 where
+  pub open_before : 0 < c.sums.pending
+  pub room : c.taken + n + c.sums.pending ≤ c.head.length + 1
+  pub w32 : c.head.big ≡ false → c.sums.w32 + few32 ≤ c.head.w32
+  pub w64 : c.sums.w64 + few64 ≤ c.head.w64
+
+-- A proper part of a token that has n bytes at least: wherever there is room for it, no step fails
+-- that is decided in the part.
+pub record IsCut (n few32 few64 : ℕ) (part : List ℕ) : Type 0 where
+  pub some : 0 < n
+  pub is_part : IsPart part
+  pub passes :
+      (c : Context) → HasRoom c n few32 few64
+      → first_refusal (length part) (token_steps c part) ≡ None
+
+-- the same of a token of this kind, by the bytes after its code
+pub record IsCutAfter (kind : CodeKind) (rest : List ℕ) (n few32 few64 : ℕ) : Type 0 where
+  pub some : 0 < n
+  pub is_part : length rest < fixed_bytes kind + variable_bytes kind rest
+  pub passes :
+      (c : Context) (code : ℕ) → HasRoom c n few32 few64
+      → first_refusal (1 + length rest) (steps_after c code kind rest) ≡ None
+
+-- a token of this kind has so many bytes after the fixed ones, makes an object of this measure
+-- without fields, or none, and its fields are sound anywhere
+pub record IsSized (kind : CodeKind) (rest : List ℕ) (variable : ℕ) (measure : Option Measure)
+    : Type 0 where
+  pub variable_is : variable ≡ variable_bytes kind rest
+  pub measure_is : measure_after kind rest ≡ measure
+  pub leaf : of_object fields measure ≡ 0
+  pub sound : (c : Context) (code : ℕ) → field_refusal c code kind rest ≡ None
+  pub steps :
+      (c : Context) → variable_steps c kind (custom_of (take 3 rest)) rest
+      ≡ step (1 + field_bytes kind)
+      (overlong c (variable_bytes kind rest) (1 + fixed_bytes kind)) ∷ []

@@ -1,0 +1,36 @@
+-- Bytes that were passed up to a part of a token are a front of a value.
+use Rattle.std.specs.Prelude.{ℕ, suc, ◌+◌, ◌<◌, ◌≤◌, ◌≡◌, false, List, [], ◌∷◌, drop, map}
+use Rattle.om_model.specs.declared.header.Head.{Head}
+use Rattle.om_types.specs.Table.{Table}
+use Rattle.om_format.specs.Front.{IsFront}
+use Rattle.om_format.specs.Token.{Token, measure_of}
+use Rattle.om_format.specs.Words.{all_words32, all_words64}
+use Rattle.om_cut.specs.Cut.{IsCut}
+use Rattle.om_pass_law.specs.Asked.{Need, of_type, hash_of}
+use Rattle.om_pass_law.specs.OnePass.{IsPassing}
+
+-- the values to come that fill the open places: a hash, and then its argument, fill one
+abbrev pub values_in : List Need → ℕ
+values_in [] = 0
+values_in (of_type t ∷ needs) = suc (values_in needs)
+values_in (hash_of tags ∷ needs) = suc (suc (values_in needs))
+
+-- after n bytes a value is to come, and the header has room for a token of so many bytes, for a
+-- byte of each other value to come, and for so many words
+pub record HasRoomAt
+    (head : Head) (start n : ℕ) (tokens : List Token) (needs : List Need)
+    (bytes few32 few64 : ℕ)
+    : Type 0 where
+  pub open_before : 0 < values_in needs
+  pub room : n + bytes + values_in needs ≤ start + head.length + 1
+  pub w32 : head.big ≡ false → all_words32 (map measure_of tokens) + few32 ≤ head.w32
+  pub w64 : all_words64 (map measure_of tokens) + few64 ≤ head.w64
+
+abbrev pub PassingIsFront : Type 0
+PassingIsFront =
+    (noted : List (ℕ × ℕ)) (table : Table) (limit : ℕ) (bytes : List ℕ) (head : Head) (start n : ℕ)
+    (tokens : List Token) (types : List ℕ) (needs : List Need) (long few32 few64 : ℕ)
+    → IsPassing noted table limit bytes head start n tokens types needs
+    → IsCut long few32 few64 (drop n bytes)
+    → HasRoomAt head start n tokens needs long few32 few64
+    → IsFront limit bytes
