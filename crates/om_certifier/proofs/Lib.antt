@@ -1,2 +1,4 @@
 pub mod OnceLemmas
 pub mod LineLemmas
+pub mod ReadLemmas
+pub mod AccountLemmas

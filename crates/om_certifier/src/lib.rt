@@ -1,7 +1,12 @@
-//! `check --cert` on the values of the input at a declared type: what section is said of a value.
+//! Certificates of the values of the input: what section is said of a value at a declared type, and
+//! the command that reads the values as they come.
 #![tactic(auto)]
 
+mod command;
 pub mod laws;
 mod line;
+mod values;
 
+pub use command::certify;
 pub use line::{Line, section_line};
+pub use values::Certifying;

@@ -1,0 +1,108 @@
+//! `check --cert`: the file, then the values and their sections, and the account of the call.
+
+ghost use Rattle.std.specs.Prelude.{List, ℕ};
+ghost use Rattle.om_type_table.specs.Made.{table_of};
+ghost use Rattle.om_certify.specs.Leasts.{AreLeasts};
+ghost use Rattle.om_outcome.specs.CommandLine.{certify as certify_of};
+ghost use Rattle.om_outcome.specs.Outcome.{Asks, own};
+ghost use Rattle.om_edge.specs.State.{change};
+ghost use Rattle.om_promises.specs.Account.{Account};
+ghost use Rattle.om_promises.specs.Call.{call};
+ghost use Rattle.om_work.specs.Reported.{HasAccount};
+ghost use Rattle.om_declared.specs.Types.{IsReady};
+ghost use Rattle.om_certifier.specs.Certified.{on_certified};
+ghost use Rattle.om_certifier.specs.Reading.{certified};
+
+use crate::values::Certifying;
+use om_certify::Leasts;
+use om_declared::{Requested, find_type};
+use om_edge::{Opener, Sink, Source};
+use om_outcome::status::Status;
+use om_stops::stop::{Stop, report_stop};
+use om_work::run_reported;
+use std::alloc::Global;
+
+// Certifies the values at the type, by the least numbers of its table's types.
+fn certify_values<S: Source, K: Sink, E: Sink>(
+    alloc: Global,
+    requested: &Requested,
+    leasts: &Leasts,
+    limit: u64,
+    input: &mut S,
+    out: &mut K,
+    err: &mut E,
+) -> Status
+    requires ready { IsReady requested.now }
+    requires leasts { AreLeasts (table_of requested.now.table) leasts.now }
+    ensures { HasAccount on_certified (certified requested.now limit)
+        (change (S.state input.old) (S.state input.new))
+        (change (K.state out.old) (K.state out.new)) (change (E.state err.old) (E.state err.new))
+        result }
+{
+    let mut work = Certifying::new(alloc, requested, leasts, limit);
+    run_reported(alloc, &mut work, input, out, err)
+}
+
+// Finds those numbers, and certifies the values.
+fn certify_by<S: Source, K: Sink, E: Sink>(
+    alloc: Global,
+    requested: &Requested,
+    limit: u64,
+    input: &mut S,
+    out: &mut K,
+    err: &mut E,
+) -> Status
+    requires { IsReady requested.now }
+    ensures { HasAccount on_certified (certified requested.now limit)
+        (change (S.state input.old) (S.state input.new))
+        (change (K.state out.old) (K.state out.new)) (change (E.state err.old) (E.state err.new))
+        result }
+{
+    match Leasts::of(alloc, &requested.table) {
+        Ok(leasts) => certify_values(alloc, requested, &leasts, limit, input, out, err),
+        Err(_) => report_stop(alloc, err, &Stop::Memory),
+    }
+}
+
+// Certifies the values at the type that a FILE and a TYPE gave.
+fn certify_over<S: Source, K: Sink, E: Sink>(
+    alloc: Global,
+    requested: Requested,
+    limit: u64,
+    input: &mut S,
+    out: &mut K,
+    err: &mut E,
+) -> Status
+    requires { IsReady requested }
+    ensures { HasAccount on_certified (certified requested limit)
+        (change (S.state input.old) (S.state input.new))
+        (change (K.state out.old) (K.state out.new)) (change (E.state err.old) (E.state err.new))
+        result }
+{
+    certify_by(alloc, &requested, limit, input, out, err)
+}
+
+/// Reads FILE and TYPE, and certifies the values.
+pub fn certify<S: Source, O: Opener, K: Sink, E: Sink>(
+    alloc: Global,
+    file: &str,
+    type_text: &str,
+    limit: u64,
+    input: &mut S,
+    files: &mut O,
+    out: &mut K,
+    err: &mut E,
+) -> Status
+    ensures { (words : List (List ℕ))
+        → Asks words (own (certify_of file.now type_text.now limit))
+        → Account on_certified words
+        (call (change (S.state input.old) (S.state input.new))
+        (change (O.state files.old) (O.state files.new))
+        (change (K.state out.old) (K.state out.new))
+        (change (E.state err.old) (E.state err.new)) result) }
+{
+    match find_type(alloc, files, file, type_text) {
+        Ok(requested) => certify_over(alloc, requested, limit, input, out, err),
+        Err(stop) => report_stop(alloc, err, &stop),
+    }
+}

@@ -1,0 +1,167 @@
+//! The values of the input, one by one, as their bytes come, and the section of each.
+
+ghost use Rattle.std.specs.Prelude.{◌≡◌, ◌<◌, ◌+◌, ◌^◌, ℕ, List, [], length, true};
+ghost use Rattle.om_model.specs.Graph.{IsValue};
+ghost use Rattle.om_type_table.specs.Made.{table_of};
+ghost use Rattle.om_certify.specs.Leasts.{AreLeasts};
+ghost use Rattle.om_outcome.specs.Outcome.{Said};
+ghost use Rattle.om_edge.specs.State.{change};
+ghost use Rattle.om_declared.specs.Types.{type_over, IsReady};
+ghost use Rattle.om_certifier.specs.Reading.{IsStopOf, HasRead, IsValueRead, PutsSection, PutsNext, certified};
+
+use crate::line::section_line;
+use om_certify::Leasts;
+use om_declared::Requested;
+use om_edge::{Sink, put_all};
+use om_heap::Heap;
+use om_model::refusal::ReadRefusal;
+use om_model::value::Val;
+use om_read::{Reader, Truncated};
+use om_stops::stop::{Halt, Stop};
+use om_work::Work;
+use std::alloc::Global;
+use std::mem;
+
+/// The stop of the value of this number.
+fn refused(number: u64, refusal: ReadRefusal) -> Stop<'static>
+    ensures { IsStopOf number refusal result }
+{
+    match refusal {
+        ReadRefusal::Memory => Stop::Memory,
+        _ => Stop::Refused(number, refusal),
+    }
+}
+
+/// Puts the section of a value, with its number, and answers whether nothing is wrong with the
+/// value.
+fn put_said<K: Sink>(
+    alloc: Global,
+    heap: &Heap,
+    root: Val,
+    requested: &Requested,
+    leasts: &Leasts,
+    number: u64,
+    out: &mut K,
+) -> Result<bool, Halt>
+    requires value { IsValue (length heap.now) root }
+    requires ready { IsReady requested.now }
+    requires leasts { AreLeasts (table_of requested.now.table) leasts.now }
+    ensures { PutsSection (type_over requested.now) number heap.now root
+        (change (K.state out.old) (K.state out.new)) result }
+{
+    let line = section_line(alloc, heap, root, requested, leasts, number)?;
+    put_all(out, line.text.as_slice())?;
+    Ok(line.well)
+}
+
+/// The values so far: how many there are, whether nothing is wrong with any, and the reader of the
+/// next one; and the type, with the least numbers of its table's types.
+#[derive(Drop)]
+pub struct Certifying<'a> {
+    requested: &'a Requested,
+    leasts: &'a Leasts,
+    limit: u64,
+    reader: Reader,
+    well: bool,
+    count: u64,
+}
+
+impl<'a> Certifying<'a> {
+    /// No byte was taken. The number is the limit of words on 64 bits in a value.
+    pub fn new(
+        alloc: Global,
+        requested: &'a Requested,
+        leasts: &'a Leasts,
+        limit: u64,
+    ) -> Certifying<'a>
+        requires ready { IsReady requested.now }
+        requires leasts { AreLeasts (table_of requested.now.table) leasts.now }
+        ensures requested { result.requested ≡ requested.entry }
+        ensures leasts { result.leasts ≡ leasts.entry }
+        ensures limit { result.limit ≡ limit }
+        ensures has { HasRead result.requested.now result.leasts.now result.limit result.reader
+            result.count result.well [] [] }
+    {
+        Certifying {
+            requested,
+            leasts,
+            limit,
+            reader: Reader::new(alloc, limit),
+            well: true,
+            count: 0,
+        }
+    }
+
+    /// Puts what is said of the value that the reader has whole. A new reader waits for the next
+    /// one, in the memory of this one.
+    fn put_value<K: Sink>(&mut self, alloc: Global, out: &mut K) -> Result<(), Halt>
+        requires { (taken : List ℕ) × (said : List Said)
+            × IsValueRead self.old.requested.now self.old.leasts.now self.old.limit
+            self.old.reader self.old.count self.old.well taken said × (length taken < 2 ^ 64) }
+        ensures requested { self.new.requested ≡ self.old.requested }
+        ensures leasts { self.new.leasts ≡ self.old.leasts }
+        ensures limit { self.new.limit ≡ self.old.limit }
+        ensures puts { (taken : List ℕ) (said : List Said)
+            → IsValueRead self.old.requested.now self.old.leasts.now self.old.limit
+            self.old.reader self.old.count self.old.well taken said
+            → PutsNext self.old.requested.now self.old.leasts.now self.old.limit self.new.reader
+            self.new.count self.new.well taken said (change (K.state out.old) (K.state out.new))
+            result }
+    {
+        let reader = mem::replace(&mut self.reader, Reader::new(alloc, self.limit));
+        let value = reader.finish();
+        let well = put_said(
+            alloc,
+            &value.heap,
+            value.root,
+            self.requested,
+            self.leasts,
+            self.count,
+            out,
+        )?;
+        self.reader = Reader::over(alloc, self.limit, value.heap);
+        self.well &= well;
+        self.count += 1;
+        Ok(())
+    }
+}
+
+impl Work for Certifying<'_> {
+    ghost use Rattle.om_declared.specs.Language.{TypeOver};
+    ghost use Rattle.om_certification.specs.Certification.{Certification};
+    ghost use Rattle.om_certifier.specs.Certified.{on_certified};
+
+    ghost Act = { Certification TypeOver };
+
+    ghost commands = { on_certified };
+
+    ghost act = { λ w. certified w.requested.now w.limit };
+
+    ghost has = { λ w bytes said. HasRead w.requested.now w.leasts.now w.limit w.reader w.count
+        w.well bytes said };
+
+    fn reads(&self) -> bool {
+        true
+    }
+
+    fn feed<K: Sink>(&mut self, alloc: Global, in_hand: &[u8], out: &mut K) -> Result<usize, Halt> {
+        match self.reader.feed(in_hand) {
+            Ok(fed) => {
+                if fed.done {
+                    self.put_value(alloc, out)?;
+                }
+                Ok(fed.taken)
+            }
+            Err(refusal) => Err(Halt::Stop(refused(self.count, refusal))),
+        }
+    }
+
+    fn end<K: Sink>(&mut self, _alloc: Global, _out: &mut K) -> Result<bool, Halt> {
+        match self.reader.at_end() {
+            Ok(()) => Ok(self.well),
+            Err(Truncated { taken }) => Err(Halt::Stop(Stop::Cut(self.count, taken))),
+        }
+    }
+
+    fn laws(&self) {}
+}
