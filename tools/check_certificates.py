@@ -1,11 +1,13 @@
 #!/usr/bin/env python3
-"""Compares `omarshal verify` with the independent verifier verify_certificate.py, on values that OCaml writes (expected/shown_values.ml):
+"""Compares `omarshal verify` and `check --cert` with the independent verifier verify_certificate.py, on values that OCaml writes
+(expected/shown_values.ml):
 
     tools/check_certificates.py [PROGRAM]
 
 For each value a certificate is made here by a search from the root, at its type and at some types of other values, and then changed: a
 pair left out, added or altered, a line left out or doubled, a number one greater or less. Both have to put the same text on out and on err, with the same status, and
-the certificate that was not changed has to be accepted. PROGRAM is by default the one that `./omarshal` built.
+the certificate that was not changed has to be accepted. What `check --cert` puts has to be accepted by both too, with the line and the
+status of `check`; and to be the certificate that is made here, but for a clash, of which any is made here. PROGRAM is by default the one that `./omarshal` built.
 """
 import contextlib
 import io
@@ -79,6 +81,29 @@ def changed(lines, draw):
     return [head] + [f"pair {o} {t}" for o, t in sorted(set(pairs))] + ["end"]
 
 
+def told_by(program, words, stream):
+    """What the program puts on out and on err, and its status."""
+    told = subprocess.run([program, *words], input=stream, capture_output=True)
+    return told.stdout.decode("latin-1"), told.stderr.decode("latin-1"), told.returncode
+
+
+def wrong_with_put(program, name, stream, lines):
+    """What is wrong with the certificate that `check --cert` puts of the value, or nothing."""
+    checked = told_by(program, ["check", "shown.ml", name], stream)
+    text, err, status = told_by(program, ["check", "--cert", "shown.ml", name], stream)
+    with open("certificate", "w") as certificate:
+        certificate.write(text)
+    if (err, status) != checked[1:]:
+        return f"ends with {(err, status)}, check with {checked[1:]}"
+    if " clash " not in text and text != "".join(line + "\n" for line in lines):
+        return f"puts {text!r}, where {lines} are made"
+    words = ["shown.ml", name, "certificate"]
+    for who, told in (("verify", told_by(program, ["verify", *words], stream)), ("the other", independent(words, stream))):
+        if told != checked:
+            return f"puts {text!r}, of which {who} says {told}, and check {checked}"
+    return None
+
+
 def independent(words, stream):
     """What verify_certificate.py puts on out and on err, and its status."""
     out, given = io.StringIO(), sys.stdin
@@ -116,7 +141,7 @@ def compare(program, work):
     values = [line.split("\t") for line in table.splitlines()]
     with open("shown.ml", encoding="latin-1") as file:
         declarations = Declarations(file.read())
-    draw, passed, failed, tables, kinds = random.Random(1), 0, 0, {}, {}
+    draw, passed, failed, written, tables, kinds = random.Random(1), 0, 0, 0, {}, {}
     for file, own in values:
         stream = open(os.path.join("values", file), "rb").read()
         for name in [own] + draw.sample(sorted({type_text for _, type_text in values}), 3):
@@ -125,12 +150,16 @@ def compare(program, work):
             root, objects = read_value(Input(stream))
             lines = made(tables[name], root, objects)
             lines = [f"value 0 {lines[0]}"] + lines[1:] + ["end"]
+            wrong = wrong_with_put(program, name, stream, lines)
+            written += 1
+            if wrong:
+                failed += 1
+                print(f"FAILED: check --cert of {file} at {name} {wrong}")
             for turn in range(24 if name == own else 4):
                 with open("certificate", "w") as certificate:
                     certificate.write("".join(line + "\n" for line in (changed(lines, draw) if turn else lines)))
                 words = ["shown.ml", name, "certificate"]
-                told = subprocess.run([program, "verify", *words], input=stream, capture_output=True)
-                got = (told.stdout.decode("latin-1"), told.stderr.decode("latin-1"), told.returncode)
+                got = told_by(program, ["verify", *words], stream)
                 wanted = independent(words, stream)
                 kind = re.search("Range|Unfit|Need|TwoTypes|Root|NotFault|Syntax|no section|sections left", wanted[1])
                 kind = kind[0] if kind else wanted[0].split(" ")[0].strip()
@@ -141,6 +170,7 @@ def compare(program, work):
                     failed += 1
                     print(f"FAILED: {file} at {name}, {open('certificate').read()!r}: says {got}, expected {wanted}")
     print("answers: " + ", ".join(f"{kind} {count}" for kind, count in sorted(kinds.items())))
+    print(f"{written} certificates were put by check --cert")
     print(f"{passed} passed, {failed} failed")
     return failed != 0
 

@@ -46,7 +46,9 @@ completes '' check shop.types ''
 completes 'shop.script' edit --limit 5 shop.types int shop.s
 completes 'shop.script' verify shop.types int shop.s
 completes '--compat32 --limit' edit --
-completes '--limit' check shop.types --
+completes '--cert --limit' check shop.types --
+completes 'shop.types' check --cert shop.t
+completes '--limit' show shop.types --
 completes '' same ''
 completes '' get shop.types --limit ''
 echo "$passed passed, $failed failed"

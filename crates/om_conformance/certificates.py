@@ -1,6 +1,6 @@
 #!/usr/bin/env python3
-"""Makes the questions of `run` on `verify`, with their answers worked out by hand from the format of certificates, the rules of what a
-section has to show, and the order of its reasons (docs/CERTIFICATES.md):
+"""Makes the questions of `run` on `verify` and `check --cert`, with their answers worked out by hand from the format of certificates, the
+rules of what a section has to show, and the order of its reasons (docs/CERTIFICATES.md):
 
     certificates.py questions      lines of `stdin`
     certificates.py answers        lines of `stdout`
@@ -20,6 +20,8 @@ TWICE = value(2, 6, 6, "a0a041400401")  # (l, l) for l = [1]
 TAG = value(1, 3, 3, "a0004145")  # `A 5
 TEXT_TAG = value(2, 5, 5, "a000412178")  # `A "x"
 ONE = value(0, 0, 0, "41")  # 1
+NIL = value(0, 0, 0, "40")  # []
+TEXT = value(1, 2, 2, "23616263")  # "abc"
 
 REFS = "int ref * bool ref"
 SHARE = "no .0 and .1: int ref and bool ref share a mutable object"
@@ -96,6 +98,72 @@ CASES = [
     ("words", LIST, "", "int list", ALL, [], "usage", 2),
 ]
 
+CERT = ["check", "--cert", "f.ml"]
+
+# settings, input, FILE, words, what is put on out, the line on err, status
+WRITTEN = [
+    ("", CYCLIC, "", CERT + ["int list"], yes("0 0"), "", 0),
+    ("", LIST, "", CERT + ["int list"], ALL, "", 0),
+    ("", SHARED, "", CERT + [REFS], states("clash .0 .1"), "", 1),
+    ("", SHARED, "", CERT + ["int ref * int ref"], yes("0 0", "1 1"), "", 0),
+    ("", SHARED, "", CERT + ["int option * bool option"], yes("0 0", "1 1", "1 2"), "", 0),
+    ("", LIST, "", CERT + ["bool list"], states("misfit .1.0"), "", 1),
+    ("", ONE, "", CERT + ["int"], yes(), "", 0),
+    ("", ONE, "", CERT + ["int list"], states("misfit ."), "", 1),
+    ("", TEXT, "", CERT + ["string"], yes("0 0"), "", 0),
+    ("", TAG, "", CERT + ["[`A of int]"], yes("0 0"), "", 0),
+    ("", TEXT_TAG, "", CERT + ["[`A of int]"], states("misfit .1"), "", 1),
+    # of equal types the least number; a type with a variable
+    ("", TWICE, "type i = int type t = i list * int list", CERT + ["t"], yes("0 0", "1 1"), "", 0),
+    ("", NIL, "", CERT + ["'a list"], yes(), "", 0),
+    ("", LIST, "", CERT + ["'a list"], states("misfit .0"), "", 1),
+    # values by their numbers, up to what stops the run
+    ("", b"", "", CERT + ["int list"], "", "", 0),
+    ("", LIST + CYCLIC, "", CERT + ["int list"], ALL + yes("0 0", number=1), "", 0),
+    ("", CYCLIC + LIST, "", CERT + ["bool list"], yes("0 0") + states("misfit .1.0", 1), "", 1),
+    ("", LIST + CYCLIC, "", CERT + ["bool list"], states("misfit .1.0") + yes("0 0", number=1), "", 1),
+    ("", LIST + b"hello", "", CERT + ["int list"], ALL, "value 1: BadMagic(68656c6c)", 4),
+    ("", LIST + b"hello", "", CERT + ["bool list"], states("misfit .1.0"), "value 1: BadMagic(68656c6c)", 4),
+    ("", LIST[:22], "", CERT + ["int list"], "", "value 0: Truncated(22)", 4),
+    ("", LIST + LIST[:22], "", CERT + ["int list"], ALL, "value 1: Truncated(22)", 4),
+    # words
+    ("", CYCLIC + LIST, "", ["check", "--cert", "--limit", "5", "f.ml", "int list"], yes("0 0"), "value 1: TooLarge(words, 9, 5)", 4),
+    ("", CYCLIC + LIST, "", ["check", "--limit", "5", "--cert", "f.ml", "int list"], yes("0 0"), "value 1: TooLarge(words, 9, 5)", 4),
+    ("", LIST, "", ["check", "f.ml", "--limit=9", "int list", "--cert"], ALL, "", 0),
+    ("", LIST, "", ["check", "--limit", "9", "--cert", "--", "f.ml", "int list"], ALL, "", 0),
+    ("", ONE, "", ["check", "--", "--cert", "int"], "", "cannot open --cert", 8),
+    ("", LIST, "", ["check", "--cert", "--cert", "f.ml", "int list"], "", "usage", 2),
+    ("", LIST, "", ["check", "--cert=true", "f.ml", "int list"], "", "usage", 2),
+    ("", LIST, "", ["check", "--cert", "f.ml"], "", "usage", 2),
+    ("", LIST, "", ["check", "f.ml", "int list", "--cert", "more"], "", "usage", 2),
+    ("", LIST, "", ["show", "--cert", "f.ml", "int list"], "", "usage", 2),
+    ("", LIST, "", ["--cert", "check", "f.ml", "int list"], "", "usage", 2),
+    # files, and calls that fail
+    ("", LIST, "", CERT + ["int lst"], "", "type: UnknownName at 4", 3),
+    ("", LIST, "type t = item", CERT + ["int list"], "", "types: UnknownName at 9", 3),
+    ("fetch=0", LIST, "", CERT + ["int list"], "", "cannot open f.ml", 8),
+    ("take=0", LIST, "", CERT + ["int list"], "", "read fault", 6),
+    ("take=1", LIST, "", CERT + ["int list"], ALL, "read fault", 6),
+    ("out=14", CYCLIC, "", CERT + ["int list"], "value 0 yes\npa", "", 7),
+    ("out=25", CYCLIC + LIST, "", CERT + ["int list"], yes("0 0"), "", 7),
+    ("put=0", CYCLIC, "", CERT + ["int list"], "", "", 7),
+]
+
+
+def put(settings, stream, file, words, out, err, status):
+    """Prints a question, and its answer where that is wanted."""
+    print("\t".join(["run " + " ".join(settings), stream.hex(), "=" + file] + words))
+    if sys.argv[1] == "questions":
+        return
+    if out:
+        print(out, end="" if out.endswith("\n") else " (cut)\n")
+    if err:
+        print("err: omarshal: " + err)
+    print(f"status {status}")
+    for setting in settings:
+        if setting.startswith(("take", "fetch")):
+            print(f"failed to {setting.split('=')[0]}: 1")
+
 
 def main():
     for settings, stream, file, type_text, cert, out, err, status in CASES:
@@ -105,16 +173,12 @@ def main():
         if settings != "none":
             given.append("script=" + cert.encode().hex())
         words = ["verify", "f.ml", type_text] + ([] if settings == "words" else ["script"])
-        question = "\t".join(["run " + " ".join(given), stream.hex(), "=" + file] + words)
-        print(question)
-        if sys.argv[1] == "answers":
-            for line in out:
-                print(line)
-            if err:
-                print("err: omarshal: " + err)
-            print(f"status {status}")
-            if settings.startswith(("take", "fetch")):
-                print(f"failed to {settings.split('=')[0]}: 1")
+        put(given, stream, file, words, "".join(line + "\n" for line in out), err, status)
+    for settings, stream, file, words, out, err, status in WRITTEN:
+        given = [settings] if settings else []
+        if settings.startswith("take"):
+            given.insert(0, f"piece={len(LIST)}")
+        put(given, stream, file, words, out, err, status)
 
 
 if len(sys.argv) == 2 and sys.argv[1] in ("questions", "answers"):

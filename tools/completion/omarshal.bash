@@ -8,7 +8,8 @@ _omarshal() {
     fi
     case $command in
     build | gen) options= ;;
-    check | dump | get | same | show | trees | verify) ;;
+    check) options='--limit --cert' ;;
+    dump | get | same | show | trees | verify) ;;
     edit) options='--limit --compat32' ;;
     *) return ;;
     esac

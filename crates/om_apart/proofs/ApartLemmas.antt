@@ -1,7 +1,8 @@
 -- No request is for two sets of commands: one of the two is idle at it.
 use Rattle.std.proofs.Common.{ℕ, List, inl, inr, refl}
 use Rattle.om_format.specs.Tree.{Tree}
-use Rattle.om_outcome.specs.Outcome.{Request, tell, get, edit, dump, compare, own, build, generate, verify, Language}
+use Rattle.om_outcome.specs.CommandLine.{certify}
+use Rattle.om_outcome.specs.Outcome.{tell, get, edit, dump, compare, own, build, generate, verify, Language}
 use Rattle.om_choice.specs.Choice.{AreApart}
 use Rattle.om_commands.specs.Tasks.{commands}
 use Rattle.om_texts.specs.Texts.{Built, building}
@@ -10,6 +11,8 @@ use Rattle.om_generation.specs.Generation.{generation}
 use Rattle.om_generation.proofs.IdleLemmas.{generation_idle}
 use Rattle.om_verification.specs.Verification.{Shown, ReadsSections, verifying}
 use Rattle.om_verification.proofs.IdleLemmas.{certificates_idle}
+use Rattle.om_certification.specs.Certification.{SaysSections, certifying}
+use Rattle.om_certification.proofs.IdleLemmas.{certifying_idle}
 
 module _ {D T E : Type 0} (language : Language D T E) where
   pub made_apart : AreApart (commands language) (generation language)
@@ -29,6 +32,8 @@ module _ {D T E : Type 0} (language : Language D T E) where
       inl (texts_idle other TextOf (own (generate n count t)) refl)
   made_apart_from_texts other TextOf (own (verify f t certificate most)) =
       inl (texts_idle other TextOf (own (verify f t certificate most)) refl)
+  made_apart_from_texts other TextOf (own (certify f t most)) =
+      inl (texts_idle other TextOf (own (certify f t most)) refl)
   made_apart_from_texts other TextOf (tell saying f t most) =
       inr (generation_idle language (tell saying f t most) refl)
   made_apart_from_texts other TextOf (get f t path most) =
@@ -57,6 +62,8 @@ module _ {D T E S : Type 0} (language : Language D T E) (Reads : ReadsSections S
   certificates_apart_from_texts other TextOf (own (build f t)) = inr (certificates_idle language Reads ShownBy (own (build f t)) refl)
   certificates_apart_from_texts other TextOf (own (generate n count t)) =
       inr (certificates_idle language Reads ShownBy (own (generate n count t)) refl)
+  certificates_apart_from_texts other TextOf (own (certify f t most)) =
+      inr (certificates_idle language Reads ShownBy (own (certify f t most)) refl)
   certificates_apart_from_texts other TextOf (tell saying f t most) =
       inr (certificates_idle language Reads ShownBy (tell saying f t most) refl)
   certificates_apart_from_texts other TextOf (get f t path most) =
@@ -76,6 +83,8 @@ module _ {D T E S : Type 0} (language : Language D T E) (Reads : ReadsSections S
   certificates_apart_from_made other (own (verify f t certificate most)) =
       inr (generation_idle other (own (verify f t certificate most)) refl)
   certificates_apart_from_made other (own (build f t)) = inr (generation_idle other (own (build f t)) refl)
+  certificates_apart_from_made other (own (certify f t most)) =
+      inr (generation_idle other (own (certify f t most)) refl)
   certificates_apart_from_made other (tell saying f t most) =
       inr (generation_idle other (tell saying f t most) refl)
   certificates_apart_from_made other (get f t path most) =
@@ -85,4 +94,81 @@ module _ {D T E S : Type 0} (language : Language D T E) (Reads : ReadsSections S
   certificates_apart_from_made other (dump most) =
       inr (generation_idle other (dump most) refl)
   certificates_apart_from_made other (compare most) =
+      inr (generation_idle other (compare most) refl)
+
+module _ {D T E : Type 0} (language : Language D T E) (SectionOf : SaysSections T) where
+  pub sections_apart : AreApart (commands language) (certifying language SectionOf)
+  sections_apart (tell saying f t most) = inr (certifying_idle language SectionOf (tell saying f t most) refl)
+  sections_apart (get f t path most) = inr (certifying_idle language SectionOf (get f t path most) refl)
+  sections_apart (edit f t script compat most) = inr (certifying_idle language SectionOf (edit f t script compat most) refl)
+  sections_apart (dump most) = inr (certifying_idle language SectionOf (dump most) refl)
+  sections_apart (compare most) = inr (certifying_idle language SectionOf (compare most) refl)
+  sections_apart (own request) = inl (values_idle language request)
+
+  -- no request is for the texts and for this, nor for certificates and for this, nor for this and
+  -- for a value that is made
+  pub sections_apart_from_texts :
+      {D' T' E' : Type 0} (other : Language D' T' E') (TextOf : T' → List ℕ → Built → Type 0)
+      → AreApart (building other TextOf) (certifying language SectionOf)
+  sections_apart_from_texts other TextOf (own (certify f t most)) =
+      inl (texts_idle other TextOf (own (certify f t most)) refl)
+  sections_apart_from_texts other TextOf (own (build f t)) =
+      inr (certifying_idle language SectionOf (own (build f t)) refl)
+  sections_apart_from_texts other TextOf (own (generate n count t)) =
+      inr (certifying_idle language SectionOf (own (generate n count t)) refl)
+  sections_apart_from_texts other TextOf (own (verify f t certificate most)) =
+      inr (certifying_idle language SectionOf (own (verify f t certificate most)) refl)
+  sections_apart_from_texts other TextOf (tell saying f t most) =
+      inr (certifying_idle language SectionOf (tell saying f t most) refl)
+  sections_apart_from_texts other TextOf (get f t path most) =
+      inr (certifying_idle language SectionOf (get f t path most) refl)
+  sections_apart_from_texts other TextOf (edit f t script compat most) =
+      inr (certifying_idle language SectionOf (edit f t script compat most) refl)
+  sections_apart_from_texts other TextOf (dump most) =
+      inr (certifying_idle language SectionOf (dump most) refl)
+  sections_apart_from_texts other TextOf (compare most) =
+      inr (certifying_idle language SectionOf (compare most) refl)
+
+  pub sections_apart_from_certificates :
+      {D' T' E' S : Type 0} (other : Language D' T' E') (Reads : ReadsSections S)
+      (ShownBy : T' → S → Tree → Shown → Type 0)
+      → AreApart (verifying other Reads ShownBy) (certifying language SectionOf)
+  sections_apart_from_certificates other Reads ShownBy (own (certify f t most)) =
+      inl (certificates_idle other Reads ShownBy (own (certify f t most)) refl)
+  sections_apart_from_certificates other Reads ShownBy (own (build f t)) =
+      inr (certifying_idle language SectionOf (own (build f t)) refl)
+  sections_apart_from_certificates other Reads ShownBy (own (generate n count t)) =
+      inr (certifying_idle language SectionOf (own (generate n count t)) refl)
+  sections_apart_from_certificates other Reads ShownBy (own (verify f t certificate most)) =
+      inr (certifying_idle language SectionOf (own (verify f t certificate most)) refl)
+  sections_apart_from_certificates other Reads ShownBy (tell saying f t most) =
+      inr (certifying_idle language SectionOf (tell saying f t most) refl)
+  sections_apart_from_certificates other Reads ShownBy (get f t path most) =
+      inr (certifying_idle language SectionOf (get f t path most) refl)
+  sections_apart_from_certificates other Reads ShownBy (edit f t script compat most) =
+      inr (certifying_idle language SectionOf (edit f t script compat most) refl)
+  sections_apart_from_certificates other Reads ShownBy (dump most) =
+      inr (certifying_idle language SectionOf (dump most) refl)
+  sections_apart_from_certificates other Reads ShownBy (compare most) =
+      inr (certifying_idle language SectionOf (compare most) refl)
+
+  pub sections_apart_from_made :
+      {D' T' E' : Type 0} (other : Language D' T' E')
+      → AreApart (certifying language SectionOf) (generation other)
+  sections_apart_from_made other (own (generate n count t)) =
+      inl (certifying_idle language SectionOf (own (generate n count t)) refl)
+  sections_apart_from_made other (own (verify f t certificate most)) =
+      inr (generation_idle other (own (verify f t certificate most)) refl)
+  sections_apart_from_made other (own (certify f t most)) =
+      inr (generation_idle other (own (certify f t most)) refl)
+  sections_apart_from_made other (own (build f t)) = inr (generation_idle other (own (build f t)) refl)
+  sections_apart_from_made other (tell saying f t most) =
+      inr (generation_idle other (tell saying f t most) refl)
+  sections_apart_from_made other (get f t path most) =
+      inr (generation_idle other (get f t path most) refl)
+  sections_apart_from_made other (edit f t script compat most) =
+      inr (generation_idle other (edit f t script compat most) refl)
+  sections_apart_from_made other (dump most) =
+      inr (generation_idle other (dump most) refl)
+  sections_apart_from_made other (compare most) =
       inr (generation_idle other (compare most) refl)

@@ -1,11 +1,13 @@
 //! The laws. Each function does nothing: what it ensures is the law.
 
+ghost use Rattle.om_certification.specs.Certification.{certifying};
 ghost use Rattle.om_choice.specs.Choice.{AreApart};
 ghost use Rattle.om_commands.specs.Tasks.{commands};
 ghost use Rattle.om_generation.specs.Generation.{generation};
 ghost use Rattle.om_texts.specs.Texts.{building};
 ghost use Rattle.om_verification.specs.Verification.{verifying};
 
+use om_certification::laws::Certifies;
 use om_commands::laws::Speaks;
 use om_texts::laws::Builds;
 use om_verification::laws::Verifies;
@@ -34,4 +36,25 @@ pub fn certificates_stand_apart_from_texts<B: Builds, V: Verifies>()
 /// Nor for that and for the one on a value that is made.
 pub fn certificates_stand_apart_from_made<V: Verifies, L: Speaks>()
     ensures { AreApart (verifying V.language V.Reads V.ShownBy) (generation L.language) }
+{}
+
+/// No request is for the commands on values and for the one that certifies them.
+pub fn sections_stand_apart<C: Certifies>()
+    ensures { AreApart (commands C.language) (certifying C.language C.SectionOf) }
+{}
+
+/// Nor for the one on texts and for that.
+pub fn sections_stand_apart_from_texts<B: Builds, C: Certifies>()
+    ensures { AreApart (building B.language B.TextOf) (certifying C.language C.SectionOf) }
+{}
+
+/// Nor for the one that verifies certificates and for that.
+pub fn sections_stand_apart_from_certificates<V: Verifies, C: Certifies>()
+    ensures { AreApart (verifying V.language V.Reads V.ShownBy)
+        (certifying C.language C.SectionOf) }
+{}
+
+/// Nor for that and for the one on a value that is made.
+pub fn sections_stand_apart_from_made<C: Certifies, L: Speaks>()
+    ensures { AreApart (certifying C.language C.SectionOf) (generation L.language) }
 {}

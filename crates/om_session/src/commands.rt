@@ -1,6 +1,6 @@
 //! The commands of the program: those on values at declared types, the one on texts, the one that
-//! verifies certificates, and the one on a value that is made; and all of them as one set, with what
-//! follows from what is promised of a call.
+//! verifies certificates, the one that writes them, and the one on a value that is made; and all of
+//! them as one set, with what follows from what is promised of a call.
 
 ghost use Rattle.om_causes.specs.Causes.{Causes as CausesBy};
 ghost use Rattle.om_commands.specs.Tasks.{commands};
@@ -9,18 +9,27 @@ ghost use Rattle.om_promises.specs.Causes.{OutsideCauses};
 ghost use Rattle.om_promises.specs.CommandLaws.{HaveOneOutcome, ArePromised, Follow};
 ghost use Rattle.om_promises.specs.Lawful.{AreLawful, AreInTurns};
 ghost use Rattle.om_declared.specs.Language.{declared_types};
-ghost use Rattle.om_session.specs.All.{on_values, on_texts, on_made, on_certificates, all_commands, IsOfValues, IsOfTexts, IsOfMade, IsOfCertificates, IsPart};
+ghost use Rattle.om_session.specs.All.{on_values, on_texts, on_made, on_certificates, on_certified, all_commands, IsOfValues, IsOfTexts, IsOfMade, IsOfCertificates, IsOfSections, IsPart};
 ghost use Rattle.om_build.specs.Lines.{declared_texts};
 ghost use Rattle.om_texts.specs.Meanings.{texts_tables};
 ghost use Rattle.om_generation.specs.Meanings.{Causes as CausesOfMade};
 ghost use Rattle.om_verification.specs.Meanings.{certificate_tables};
 ghost use Rattle.om_verifier.specs.Shown.{reads_sections, declared_sections};
+ghost use Rattle.om_certification.specs.Meanings.{certifying_tables};
+ghost use Rattle.om_certifier.specs.Certified.{declared_certificates};
 
 use om_apart::laws::{
     certificates_stand_apart, certificates_stand_apart_from_made,
     certificates_stand_apart_from_texts, made_stands_apart, made_stands_apart_from_texts,
+    sections_stand_apart, sections_stand_apart_from_certificates, sections_stand_apart_from_made,
+    sections_stand_apart_from_texts,
 };
 use om_build::laws::{DeclaredTexts, declared_texts_are_read_once};
+use om_certification::laws::{
+    OnCertified, causes_of_sections, certifying_is_idle_elsewhere, certifying_is_lawful,
+    certifying_takes_turns,
+};
+use om_certifier::laws::{DeclaredCertificates, declared_certificates_are_one};
 use om_choice::laws::{
     Choice, choices_are_apart, choices_are_idle, choices_are_lawful, choices_promise_as_the_first,
     choices_promise_as_the_second, choices_take_turns,
@@ -50,9 +59,13 @@ type Made = OnMade<DeclaredTypes>;
 
 type Certificates = OnCertificates<DeclaredSections>;
 
+type Sections = OnCertified<DeclaredCertificates>;
+
 type ValuesOrTexts = Choice<Values, Texts>;
 
-type Input = Choice<ValuesOrTexts, Certificates>;
+type Others = Choice<ValuesOrTexts, Certificates>;
+
+type Input = Choice<Others, Sections>;
 
 type All = Choice<Input, Made>;
 
@@ -64,6 +77,7 @@ pub fn all_commands_are_lawful()
     declared_types_are_lawful();
     declared_texts_are_read_once();
     declared_sections_are_read_once();
+    declared_certificates_are_one();
     commands_are_lawful::<DeclaredTypes>();
     commands_take_turns::<DeclaredTypes>();
     building_is_lawful::<DeclaredTexts>();
@@ -74,6 +88,12 @@ pub fn all_commands_are_lawful()
     certificates_stand_apart::<DeclaredSections>();
     certificates_stand_apart_from_texts::<DeclaredTexts, DeclaredSections>();
     certificates_stand_apart_from_made::<DeclaredSections, DeclaredTypes>();
+    certifying_is_lawful::<DeclaredCertificates>();
+    certifying_takes_turns::<DeclaredCertificates>();
+    sections_stand_apart::<DeclaredCertificates>();
+    sections_stand_apart_from_texts::<DeclaredTexts, DeclaredCertificates>();
+    sections_stand_apart_from_certificates::<DeclaredSections, DeclaredCertificates>();
+    sections_stand_apart_from_made::<DeclaredCertificates, DeclaredTypes>();
     generation_is_lawful::<DeclaredTypes>();
     generation_takes_turns::<DeclaredTypes>();
     made_stands_apart::<DeclaredTypes>();
@@ -83,8 +103,13 @@ pub fn all_commands_are_lawful()
     choices_are_apart::<Values, Texts, Certificates>();
     choices_are_lawful::<ValuesOrTexts, Certificates>();
     choices_take_turns::<ValuesOrTexts, Certificates>();
+    choices_are_apart::<Values, Texts, Sections>();
+    choices_are_apart::<ValuesOrTexts, Certificates, Sections>();
+    choices_are_lawful::<Others, Sections>();
+    choices_take_turns::<Others, Sections>();
     choices_are_apart::<Values, Texts, Made>();
     choices_are_apart::<ValuesOrTexts, Certificates, Made>();
+    choices_are_apart::<Others, Sections, Made>();
     choices_are_lawful::<Input, Made>();
     choices_take_turns::<Input, Made>();
 }
@@ -121,17 +146,22 @@ pub fn all_commands_have_parts()
     ensures values { IsPart on_values IsOfValues }
     ensures texts { IsPart on_texts IsOfTexts }
     ensures certificates { IsPart on_certificates IsOfCertificates }
+    ensures sections { IsPart on_certified IsOfSections }
     ensures made { IsPart on_made IsOfMade }
 {
     building_stands_apart::<DeclaredTexts>();
     verifying_is_idle_elsewhere::<DeclaredSections>();
+    certifying_is_idle_elsewhere::<DeclaredCertificates>();
     generation_is_idle_elsewhere::<DeclaredTypes>();
     choices_are_idle::<Values, Texts>();
     choices_are_idle::<ValuesOrTexts, Certificates>();
+    choices_are_idle::<Others, Sections>();
     choices_promise_as_the_first::<Values, Texts>();
     choices_promise_as_the_second::<Values, Texts>();
     choices_promise_as_the_first::<ValuesOrTexts, Certificates>();
     choices_promise_as_the_second::<ValuesOrTexts, Certificates>();
+    choices_promise_as_the_first::<Others, Sections>();
+    choices_promise_as_the_second::<Others, Sections>();
     choices_promise_as_the_first::<Input, Made>();
     choices_promise_as_the_second::<Input, Made>();
 }
@@ -162,6 +192,16 @@ pub fn statuses_of_certificates_have_causes()
     declared_types_are_lawful();
     declared_sections_are_read_once();
     causes_of_certificates::<DeclaredSections>();
+}
+
+/// And so does what is promised by the one that writes them.
+pub fn statuses_of_sections_have_causes()
+    ensures { Follow on_certified (CausesBy on_certified
+        (certifying_tables declared_types declared_certificates)) }
+{
+    declared_types_are_lawful();
+    declared_certificates_are_one();
+    causes_of_sections::<DeclaredCertificates>();
 }
 
 /// And so does what is promised by the one on a value that is made.

@@ -18,7 +18,9 @@ ghost use Rattle.om_build.specs.Lines.{declared_texts};
 ghost use Rattle.om_generation.specs.Meanings.{Causes as CausesOfMade};
 ghost use Rattle.om_verification.specs.Meanings.{certificate_tables};
 ghost use Rattle.om_verifier.specs.Shown.{reads_sections, declared_sections};
-ghost use Rattle.om_session.specs.All.{on_texts, on_certificates, all_commands, IsOfValues, IsOfTexts, IsOfMade, IsOfCertificates, AskOnly};
+ghost use Rattle.om_certification.specs.Meanings.{certifying_tables};
+ghost use Rattle.om_certifier.specs.Certified.{declared_certificates};
+ghost use Rattle.om_session.specs.All.{on_texts, on_certificates, on_certified, all_commands, IsOfValues, IsOfTexts, IsOfMade, IsOfCertificates, IsOfSections, AskOnly};
 ghost use Rattle.om_work.specs.Reported.{HasAccount};
 ghost use Rattle.om_session.specs.Telling.{AsksToTell, AsksToEdit};
 ghost use Rattle.om_declared.specs.Types.{IsReady};
@@ -30,12 +32,13 @@ ghost use Rattle.om_stops.specs.Stops.{stop_of, Reports};
 use crate::build::build;
 use crate::commands::{
     all_commands_have_parts, all_commands_keep_promises, statuses_of_certificates_have_causes,
-    statuses_of_made_have_causes, statuses_of_texts_have_causes, statuses_of_values_have_causes,
-    values_have_one_outcome,
+    statuses_of_made_have_causes, statuses_of_sections_have_causes, statuses_of_texts_have_causes,
+    statuses_of_values_have_causes, values_have_one_outcome,
 };
 use crate::edit::Edits;
 use crate::values::{Job, Progress};
 use crate::verdict::{Saying, Speech};
+use om_certifier::certify;
 use om_command_line::{Request, Unread, read_words};
 use om_declared::{Requested, find_script, find_type, path_stop};
 use om_edge::{Opener, Sink, Source};
@@ -363,6 +366,11 @@ fn run_request<S: Source, O: Opener, K: Sink, E: Sink>(
             out,
             err,
         ),
+        Request::Certify {
+            file,
+            type_text,
+            limit,
+        } => certify(alloc, file, type_text, limit, input, files, out, err),
         Request::Generate {
             number,
             count,
@@ -431,6 +439,12 @@ pub fn run<S: Source, O: Opener, K: Sink, E: Sink>(
         (change (O.state files.old) (O.state files.new))
         (change (K.state out.old) (K.state out.new))
         (change (E.state err.old) (E.state err.new)) result) }
+    ensures causes_of_sections { AskOnly IsOfSections (texts words.now)
+        → CausesBy on_certified (certifying_tables declared_types declared_certificates)
+        (texts words.now) (call (change (S.state input.old) (S.state input.new))
+        (change (O.state files.old) (O.state files.new))
+        (change (K.state out.old) (K.state out.new))
+        (change (E.state err.old) (E.state err.new)) result) }
     ensures causes_of_made { AskOnly IsOfMade (texts words.now)
         → CausesOfMade declared_types (texts words.now)
         (call (change (S.state input.old) (S.state input.new))
@@ -450,6 +464,7 @@ pub fn run<S: Source, O: Opener, K: Sink, E: Sink>(
     statuses_of_values_have_causes();
     statuses_of_texts_have_causes();
     statuses_of_certificates_have_causes();
+    statuses_of_sections_have_causes();
     statuses_of_made_have_causes();
     run_command(alloc, words, input, files, out, err)
 }

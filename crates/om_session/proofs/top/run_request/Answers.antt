@@ -1,7 +1,8 @@
 use Rattle.std.proofs.Common.{refl}
+use Rattle.om_outcome.specs.CommandLine.{certify}
 use Rattle.om_outcome.specs.Outcome.{Request, tell, the_verdict, the_text, the_trees, get, edit, dump, compare, own, build, generate, verify, Asks}
 use Rattle.om_edge.specs.State.{change}
-use Rattle.om_session.specs.All.{on_values, on_texts, on_made, on_certificates, IsOfValues, IsOfTexts, IsOfMade, IsOfCertificates}
+use Rattle.om_session.specs.All.{on_values, on_texts, on_made, on_certificates, on_certified, IsOfValues, IsOfTexts, IsOfMade, IsOfCertificates, IsOfSections}
 use Rattle.om_session.proofs.AccountLemmas.{dump_account, compare_account}
 use Rattle.om_session.proofs.PartLemmas.{all_account}
 use Rattle.om_session.proofs.top.run_request.Goals as goal
@@ -68,6 +69,12 @@ returns-in-Verify g c = λ words asks.
     let request : Request = own (verify c.in-Verify.file.now c.in-Verify.type_text.now c.in-Verify.certificate.now c.in-Verify.limit) in
     let asked : Asks words request = rw c.in-Verify.is at asks in
     all_account on_certificates IsOfCertificates c.all_commands_have_parts.ensures.certificates words _ request asked tt (c.verify.ensures words asked)
+
+pub returns-in-Certify : goal.returns-in-Certify
+returns-in-Certify g c = λ words asks.
+    let request : Request = own (certify c.in-Certify.file.now c.in-Certify.type_text.now c.in-Certify.limit) in
+    let asked : Asks words request = rw c.in-Certify.is at asks in
+    all_account on_certified IsOfSections c.all_commands_have_parts.ensures.sections words _ request asked tt (c.certify.ensures words asked)
 
 pub returns-in-Generate : goal.returns-in-Generate
 returns-in-Generate g c = λ words asks.
