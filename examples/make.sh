@@ -4,13 +4,10 @@ set -eu
 here=$(cd "$(dirname "$0")" && pwd)
 out=${1:-$here}
 
-types_of_cmi() {
-    if [ -n "${TYPES_OF_CMI:-}" ]; then
-        "$TYPES_OF_CMI" "$@"
-    else
-        ocaml -I +compiler-libs ocamlcommon.cma "$here/../tools/types_of_cmi.ml" "$@"
-    fi
-}
+work=$(mktemp -d)
+trap 'rm -rf "$work"' EXIT
+sh "$here/../tools/build_types_of_cmi.sh" "$work/types_of_cmi"
+types_of_cmi() { "$work/types_of_cmi" "$@"; }
 
 echo "The types of the files, in omarshal's words:" >&2
 types_of_cmi --cmt 'int Map.Make(String).t' > "$out/map.types"

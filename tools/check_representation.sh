@@ -1,17 +1,15 @@
 #!/bin/sh
-# Checks that the representation which types_of_cmi.ml and omarshal take for a type is the compiler's. Two modules are
+# Checks that the representation which types_of_cmi and omarshal take for a type is the compiler's. Two modules are
 # compiled, one with a type of each kind that the grammar of declarations has, one with types whose names meet. Programs
 # compiled with them write values of each type and of near but other types; the declarations are made from the .cmi files.
 # Of the first omarshal says `yes`, of the others `no`. Each type that was declared is asked for, and gets both answers.
 # The argument is the program; with none it is the one that `./omarshal` built.
 set -eu
 export LC_ALL=C
-for needed in ocaml ocamlc; do
-    if ! command -v "$needed" > /dev/null 2>&1; then
-        echo "skipped: no $needed"
-        exit 0
-    fi
-done
+if ! command -v ocamlc > /dev/null 2>&1; then
+    echo 'skipped: no ocamlc'
+    exit 0
+fi
 library=$(ocamlc -where)
 if [ ! -f "$library/compiler-libs/ocamlcommon.cma" ]; then
     echo "skipped: no compiler-libs"
@@ -37,6 +35,7 @@ trap 'rm -rf "$work"' EXIT
 cp "$here/expected/every_kind.ml" "$here/expected/every_kind_values.ml" \
     "$here/expected/clashes.ml" "$here/expected/clashes_values.ml" "$work"
 cd "$work"
+sh "$here/build_types_of_cmi.sh" types_of_cmi
 passed=0
 failures=0
 
@@ -62,7 +61,7 @@ module() {
     module=$1
     shift
     ocamlc -w -a -bin-annot -c "$module.ml"
-    ocaml -I +compiler-libs ocamlcommon.cma "$here/types_of_cmi.ml" "$@" > "$module.types" 2> word || {
+    ./types_of_cmi "$@" > "$module.types" 2> word || {
         failed "types_of_cmi: $(cat word)"
         return
     }

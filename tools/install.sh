@@ -26,8 +26,5 @@ if ! command -v ocamlopt >/dev/null || [ ! -f "$(ocamlc -where)/compiler-libs/oc
     echo 'skipped: bin/types_of_cmi, as there is no ocamlopt with compiler-libs'
     exit 0
 fi
-work=$(mktemp -d)
-trap 'rm -rf "$work"' EXIT
-cp "$top/tools/types_of_cmi.ml" "$work"
-(cd "$work" && ocamlopt -I +compiler-libs ocamlcommon.cmxa types_of_cmi.ml -o types_of_cmi)
-put 755 "$work/types_of_cmi" bin/types_of_cmi
+sh "$top/tools/build_types_of_cmi.sh" "$prefix/bin/types_of_cmi"
+echo "$prefix/bin/types_of_cmi"

@@ -1,5 +1,5 @@
 #!/bin/sh
-# Tries types_of_cmi.ml: what it prints and tells, beside texts that were written by hand, and whether values that OCaml
+# Tries types_of_cmi: what it prints and tells, beside texts that were written by hand, and whether values that OCaml
 # writes have the types that it prints, by the judgement of value_has_type.py.
 set -eu
 export LC_ALL=C
@@ -77,9 +77,8 @@ descriptor() {
     tail -c "+$((place + 1))" "$1"
 }
 
-cp "$here/types_of_cmi.ml" "$expected"/*.ml "$expected"/*.mli .
-ocamlc -w +a-4-40-41-42-44-45-70 -warn-error +a -strict-sequence -I +compiler-libs ocamlcommon.cma \
-    types_of_cmi.ml -o types_of_cmi
+cp "$expected"/*.ml "$expected"/*.mli .
+sh "$here/build_types_of_cmi.sh" types_of_cmi -w +a-4-40-41-42-44-45-70 -warn-error +a -strict-sequence
 {
     printf 'type wide ='
     for number in $(seq 245); do printf ' | C%d of int' "$number"; done
@@ -122,10 +121,6 @@ ocamlc -w -a -c kinds_again.ml
 made found.types kinds.cmi 'Kinds.secret list * (int * int) list'
 echo 'kinds_secret list * (int * int) list' > wanted.txt
 same "a type that is no name" wanted.txt word.txt
-
-ocaml -I +compiler-libs ocamlcommon.cma "$here/types_of_cmi.ml" Kinds.all > found.types 2> word.txt
-declarations found.types > script.types
-same "the script" "$expected/kinds.types" script.types
 
 made by_hand.types \
     --declare "'a Map.Make(String).t = Empty
@@ -319,7 +314,7 @@ done
 
 # The examples are what make.sh makes, and what OCaml writes has their types.
 mkdir made
-TYPES_OF_CMI=$work/types_of_cmi sh "$examples/make.sh" made 2> told.txt || cat told.txt
+sh "$examples/make.sh" made 2> told.txt || cat told.txt
 for file in "$examples"/*.types; do
     same "$file" "$file" "made/$(basename "$file")"
 done

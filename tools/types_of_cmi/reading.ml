@@ -1,0 +1,375 @@
+(* Reads what a type reaches into declarations. *)
+
+open Types
+open Declarations
+open Implementations
+
+(* {1 Reading type expressions} *)
+
+let reach reader way path =
+  if not (Path.Set.mem path reader.known) then begin
+    reader.known <- Path.Set.add path reader.known;
+    Queue.add (path, text_of_path reader path :: way) reader.waiting
+  end
+
+let variables_of parameters = List.map (fun name -> Variable name) parameters
+
+let name_of_enclosing reader enclosing =
+  match enclosing.own_name with
+  | Some path -> path
+  | None ->
+      let path = Path.Pident (Ident.create_local "row") in
+      enclosing.own_name <- Some path;
+      reader.known <- Path.Set.add path reader.known;
+      path
+
+(* The declaration of a type that holds itself. *)
+let declare_enclosing reader scope path expression =
+  reader.texts <- Path.Map.add path (scope.owner ^ "_row") reader.texts;
+  let declaration =
+    { path; parameters = scope.parameters; body = Abbreviation expression; origin = Shown; reached = scope.way }
+  in
+  reader.declarations <- declaration :: reader.declarations
+
+let is_variable ty = match Library.shape ty with Tvar _ -> true | _ -> false
+
+let rec are_distinct = function
+  | [] -> true
+  | ty :: others -> (not (List.exists (Library.same ty) others)) && are_distinct others
+
+(* The names of parameters, where these are distinct variables. *)
+let name_variables types parameters =
+  if List.for_all is_variable types && are_distinct types && List.compare_lengths types parameters = 0 then
+    Some (List.combine types parameters)
+  else None
+
+(* {1 Generalized types (GADTs)} *)
+
+(* Whether the result of a constructor is not the type at distinct variables. *)
+let is_generalized declaration =
+  let is_general { cd_res; _ } =
+    match Option.map Library.shape cd_res with
+    | Some (Tconstr (_, arguments, _)) -> not (List.for_all is_variable arguments && are_distinct arguments)
+    | Some _ | None -> false
+  in
+  match declaration.type_kind with
+  | Type_variant (constructors, _) -> List.exists is_general constructors
+  | _ -> false
+
+(* A generalized type that a type is, after its abbreviations: its path and its index. *)
+let rec as_generalized reader ty =
+  match Library.shape ty with
+  | Tconstr (path, arguments, _) when predeclared (canonical reader path) = None -> (
+      let path = canonical reader path in
+      let own declaration = if is_generalized declaration then Some (path, arguments) else None in
+      match find_declaration reader path with
+      | None -> None
+      | Some ((Shown | Hidden), ({ type_manifest = Some manifest; type_params; _ } as declaration)) -> (
+          match as_generalized reader (Ctype.apply reader.environment type_params manifest arguments) with
+          | None -> own declaration
+          | found -> found)
+      | Some (_, declaration) -> own declaration)
+  | _ -> None
+
+(* The type by the paths that `canonical` gives, its abbreviations expanded where they show or a `.cmt` has them. A
+   private one is another type than what it abbreviates. *)
+let rec plain ?(expanded = []) reader ty =
+  match Library.shape ty with
+  | Tconstr (path, arguments, _) -> (
+      let path = canonical reader path in
+      let arguments = List.map (plain ~expanded reader) arguments in
+      let at path = Btype.newgenty (Tconstr (path, arguments, ref Mnil)) in
+      match find_declaration reader path with
+      | Some ((Shown | Hidden), { type_manifest = Some manifest; type_private = Public; type_params; _ })
+        when not (List.exists (Path.same path) expanded) ->
+          let ty = Ctype.apply reader.environment type_params manifest arguments in
+          plain ~expanded:(path :: expanded) reader ty
+      | Some (Hidden, _) -> at (Option.value (path_inside reader path) ~default:path)
+      | _ -> at path)
+  | Ttuple parts -> Btype.newgenty (Ttuple (List.map (plain ~expanded reader) parts))
+  | _ -> ty
+
+let largest_index = 30
+
+(* What is told of an index that is none. *)
+let index_fault index =
+  let exception Found of string in
+  let parts = ref 0 in
+  let rec visit ty =
+    incr parts;
+    if !parts > largest_index then
+      raise (Found (Printf.sprintf "a generalized type (GADT) at an index of more than %d parts" largest_index));
+    match Library.shape ty with
+    | Tvar _ | Tunivar _ -> raise (Found "a generalized type (GADT) at an index that is not known")
+    | _ -> Btype.iter_type_expr visit (Btype.repr ty)
+  in
+  match List.iter visit index with () -> None | exception Found what -> Some what
+
+let rec text_of_type reader ty =
+  let text = text_of_type reader in
+  match Library.shape ty with
+  | Tconstr (path, arguments, _) -> text_of_index reader arguments ^ text_of_path reader (path_outside reader path)
+  | Ttuple parts -> "(" ^ String.concat " * " (List.map text parts) ^ ")"
+  | _ -> Library.one_line (Format.asprintf "%a" Printtyp.type_expr ty)
+
+and text_of_index reader = function
+  | [] -> ""
+  | [ ty ] -> text_of_type reader ty ^ " "
+  | index -> "(" ^ String.concat ", " (List.map (text_of_type reader) index) ^ ") "
+
+let read_generalized reader scope path arguments =
+  match index_fault arguments with
+  | Some what -> refuse reader (text_of_path reader path :: scope.way) what
+  | None ->
+      let index = List.map (plain reader) arguments in
+      let is_it instance =
+        Path.same instance.generalized path && Ctype.is_equal reader.environment false instance.index index
+      in
+      let own_path =
+        match List.find_opt is_it reader.instances with
+        | Some { own_path; _ } -> own_path
+        | None ->
+            let own_path = Path.Pident (Ident.create_local "index") in
+            let text = text_of_path reader path ^ " at " ^ String.trim (text_of_index reader index) in
+            reader.instances <- { generalized = path; index; own_path } :: reader.instances;
+            reader.texts <- Path.Map.add own_path text reader.texts;
+            own_path
+      in
+      reach reader scope.way own_path;
+      Applied (Declared own_path, [])
+
+let rec read_type reader scope ty =
+  match List.find_opt (fun { around; _ } -> Library.same around ty) scope.enclosing with
+  | Some enclosing -> Applied (Declared (name_of_enclosing reader enclosing), variables_of scope.parameters)
+  | None -> (
+      let enclosing = { around = ty; own_name = None } in
+      let expression = read_parts reader { scope with enclosing = enclosing :: scope.enclosing } ty in
+      match enclosing.own_name with
+      | None -> expression
+      | Some path ->
+          declare_enclosing reader scope path expression;
+          Applied (Declared path, variables_of scope.parameters))
+
+and read_parts reader scope ty =
+  match as_generalized reader ty with
+  | Some (path, arguments) -> read_generalized reader scope path arguments
+  | None -> read_shape reader scope ty
+
+and read_shape reader scope ty =
+  match Library.shape ty with
+  | Tconstr (path, arguments, _) -> (
+      let arguments = List.map (read_type reader scope) arguments in
+      let path = canonical reader path in
+      match predeclared path with
+      | Some name -> Applied (Predeclared name, arguments)
+      | None ->
+          reach reader scope.way path;
+          Applied (Declared path, arguments))
+  | Ttuple parts -> Tuple (List.map (read_type reader scope) parts)
+  | Tvariant row -> read_row reader scope row
+  | Tpoly (ty, []) -> read_type reader scope ty
+  | Tvar _ | Tunivar _ -> (
+      match List.find_opt (fun (variable, _) -> Library.same variable ty) scope.variables with
+      | Some (_, name) -> Variable name
+      | None -> refuse reader scope.way "an existential type")
+  | Tarrow _ -> refuse reader scope.way "a function"
+  | Tobject _ | Tfield _ | Tnil -> refuse reader scope.way "an object"
+  | Tpackage _ -> refuse reader scope.way "a first-class module"
+  | Tpoly _ -> refuse reader scope.way "a polymorphic field"
+  | Tlink _ | Tsubst _ -> refuse reader scope.way "a type that the compiler has not finished"
+
+(* The tags are sorted, since the compiler keeps no written order. `[> ..]` is open, and `[< ..]` has tags that may be
+   absent. *)
+and read_row reader scope row =
+  let read_tag (tag, field) =
+    match Library.presence field with
+    | Rabsent -> None
+    | Reither _ -> Some (Error ())
+    | Rpresent argument when is_identifier tag ->
+        Some (Ok (tag, Option.map (read_type reader (step scope ("tag `" ^ tag))) argument))
+    | Rpresent _ ->
+        ignore (refuse reader (step scope ("tag `" ^ tag)).way "a name that omarshal cannot write");
+        None
+  in
+  let tags = List.filter_map read_tag (Library.tags row) in
+  if not (Library.is_closed row) then refuse reader scope.way "an open polymorphic variant"
+  else if List.mem (Error ()) tags then refuse reader scope.way "a bounded polymorphic variant"
+  else if tags = [] then refuse reader scope.way "an empty polymorphic variant"
+  else Polymorphic (List.sort (fun (tag, _) (other, _) -> compare tag other) (List.filter_map Result.to_option tags))
+
+(* {1 Reading declarations} *)
+
+(* OCaml has names that omarshal cannot write: with letters outside ASCII, and from 5.2 on keywords. *)
+let check_name reader scope name =
+  if not (is_identifier name) || List.mem name keywords then
+    ignore (refuse reader scope.way "a name that omarshal cannot write")
+
+let float_type = Applied (Predeclared "float", [])
+
+(* The fields of a record that OCaml made flat are floats, whatever names they were given. *)
+let read_field ~is_flat reader scope { ld_id; ld_mutable; ld_type; _ } =
+  let label = Ident.name ld_id in
+  let scope = step scope ("field " ^ label) in
+  check_name reader scope label;
+  let holds = if is_flat then float_type else read_type reader scope ld_type in
+  { changes = ld_mutable = Asttypes.Mutable; label; holds }
+
+let read_arguments reader scope = function
+  | Cstr_record labels -> Inline (List.map (read_field ~is_flat:false reader scope) labels)
+  | Cstr_tuple [ ty ] -> Separate [ read_type reader scope ty ]
+  | Cstr_tuple types ->
+      let read index ty = read_type reader (step scope (Printf.sprintf "argument %d" (index + 1))) ty in
+      Separate (List.mapi read types)
+
+(* A constructor written with a result, as in `A : int -> t`, is an ordinary one where the result is the type at
+   distinct variables. *)
+let constructor_variables scope { cd_res; _ } =
+  match Option.map Library.shape cd_res with
+  | Some (Tconstr (_, arguments, _)) -> List.combine arguments scope.parameters
+  | Some _ | None -> scope.variables
+
+let read_constructor reader scope constructor =
+  let name = Ident.name constructor.cd_id in
+  let scope = step scope ("constructor " ^ name) in
+  if constructor_name name = name then check_name reader scope name;
+  let variables = constructor_variables scope constructor in
+  (name, read_arguments reader { scope with variables } constructor.cd_args)
+
+let read_variant reader scope constructors =
+  let named = List.map (read_constructor reader scope) constructors in
+  let with_arguments = List.filter (fun (_, arguments) -> arguments <> Separate []) named in
+  if named = [] then ignore (refuse reader scope.way "a variant without constructors");
+  if List.length with_arguments > 244 then
+    ignore (refuse reader scope.way "a variant of more than 244 constructors with arguments");
+  Variant (List.combine (constructor_names (List.map fst named)) (List.map snd named))
+
+(* A constructor at an index: with its parts there, of another index, or one of which that is not known. *)
+type at_index = At_it of constructor_declaration | At_another | Not_known
+
+let at_index reader parameters index ({ cd_args; cd_res; _ } as constructor) =
+  let result =
+    match Option.map Library.shape cd_res with Some (Tconstr (_, arguments, _)) -> arguments | _ -> parameters
+  in
+  let parts =
+    match cd_args with
+    | Cstr_tuple types -> types
+    | Cstr_record labels -> List.map (fun { ld_type; _ } -> ld_type) labels
+  in
+  let tuple types = Btype.newgenty (Ttuple types) in
+  let all = tuple [ tuple (List.map (plain reader) result); tuple index; tuple parts ] in
+  match Library.shape (Ctype.instance all) with
+  | Ttuple [ result; index; parts ] -> (
+      let before = Btype.snapshot () in
+      match Ctype.unify reader.environment result index with
+      | () ->
+          let parts = match Library.shape parts with Ttuple parts -> parts | _ -> [] in
+          let cd_args =
+            match cd_args with
+            | Cstr_tuple _ -> Cstr_tuple parts
+            | Cstr_record labels -> Cstr_record (List.map2 (fun label ld_type -> { label with ld_type }) labels parts)
+          in
+          At_it { constructor with cd_args; cd_res = None }
+      | exception Ctype.Unify _ -> (
+          Btype.backtrack before;
+          match Ctype.mcomp reader.environment result index with
+          | () -> Not_known
+          | exception Ctype.Incompatible -> At_another))
+  | _ -> Not_known
+
+(* The constructors of a generalized type at an index. One of another index is left out where none comes after it that
+   OCaml numbers with it; else its number would be given to another. *)
+let constructors_at reader scope parameters index constructors =
+  let is_constant { cd_args; _ } = cd_args = Cstr_tuple [] in
+  let rec keep = function
+    | [] -> []
+    | (constructor, found) :: others -> (
+        let refused what =
+          ignore (refuse reader (step scope ("constructor " ^ Ident.name constructor.cd_id)).way what);
+          { constructor with cd_args = Cstr_tuple []; cd_res = None } :: keep others
+        in
+        let is_numbered_with (other, found) = found <> At_another && is_constant other = is_constant constructor in
+        match found with
+        | At_it constructor -> constructor :: keep others
+        | Not_known -> refused "a generalized constructor (GADT) that may be of another index"
+        | At_another when List.exists is_numbered_with others ->
+            refused "a generalized constructor (GADT) of another index, before others"
+        | At_another -> keep others)
+  in
+  keep (List.map (fun constructor -> (constructor, at_index reader parameters index constructor)) constructors)
+
+(* What an unboxed type holds: the one part of its constructor, if that was not refused. *)
+let read_unboxed reader scope constructor =
+  match read_constructor reader scope constructor with
+  | _, (Separate [ holds ] | Inline [ { holds; _ } ]) -> Abbreviation holds
+  | _, (Separate _ | Inline _) -> Abbreviation placeholder
+
+(* Whether the `.cmt` of a type's module was not found. *)
+let rec lacks_implementation reader = function
+  | Path.Pident id -> Ident.persistent id && implementation reader (Ident.name id) = None
+  | Path.Pdot (path, _) | Path.Papply (path, _) -> lacks_implementation reader path
+
+(* What is told of a type that shows no representation. *)
+let hidden_kind reader path declaration =
+  match (Path.last path, declaration.type_kind) with
+  | "lazy_t", _ when is_predefined path -> "a lazy value"
+  | "exn", _ when is_predefined path -> "an exception"
+  | _, Type_open -> "an extensible variant"
+  | _ when not reader.looks_inside -> "an abstract type (--cmt was not given)"
+  | _ when lacks_implementation reader path -> "an abstract type (no .cmt was found)"
+  | _ -> "an abstract type"
+
+(* A type that is written again, as `type t = Other.t = A | B`, is the other one, where that one is found. *)
+let repeats_a_known_type reader path declaration =
+  match Option.map Library.shape declaration.type_manifest with
+  | Some (Tconstr (other, _, _)) ->
+      let other = canonical reader other in
+      (not (Path.same other path)) && Option.is_some (find_declaration reader other)
+  | Some _ | None -> false
+
+let read_body reader scope path declaration =
+  match (declaration.type_kind, declaration.type_manifest) with
+  | (Type_record _ | Type_variant _), Some manifest when repeats_a_known_type reader path declaration ->
+      Abbreviation (read_type reader scope manifest)
+  | Type_record ([ label ], Record_unboxed _), _ ->
+      Abbreviation (read_type reader (step scope ("field " ^ Ident.name label.ld_id)) label.ld_type)
+  | Type_record (labels, representation), _ ->
+      let is_flat = representation = Record_float in
+      Record { is_flat; fields = List.map (read_field ~is_flat reader scope) labels }
+  | Type_variant ([ constructor ], Variant_unboxed), _ -> read_unboxed reader scope constructor
+  | Type_variant (constructors, _), _ -> read_variant reader scope constructors
+  | _, Some manifest -> Abbreviation (read_type reader scope manifest)
+  | _, None -> Abbreviation (refuse reader scope.way (hidden_kind reader path declaration))
+
+let read_declaration reader path way (origin, declaration) =
+  let parameters = List.mapi (fun index _ -> parameter_name index) declaration.type_params in
+  match name_variables declaration.type_params parameters with
+  | None -> ignore (refuse reader way "a parameter with a constraint")
+  | Some variables ->
+      let scope = { variables; parameters; enclosing = []; way; owner = text_of_path reader path } in
+      let body = read_body reader scope path declaration in
+      reader.declarations <- { path; parameters; body; origin; reached = way } :: reader.declarations
+
+let read_instance reader way { generalized; index; own_path } =
+  match find_declaration reader generalized with
+  | Some (origin, { type_kind = Type_variant (constructors, representation); type_params; _ }) ->
+      let owner = text_of_path reader own_path in
+      let scope = { variables = []; parameters = []; enclosing = []; way; owner } in
+      let body =
+        match (constructors_at reader scope type_params index constructors, representation) with
+        | [ constructor ], Variant_unboxed -> read_unboxed reader scope constructor
+        | constructors, _ -> read_variant reader scope constructors
+      in
+      reader.declarations <- { path = own_path; parameters = []; body; origin; reached = way } :: reader.declarations
+  | _ -> ignore (refuse reader way "a type of which no .cmi was found")
+
+(* Reads what waits, nearest types first, until nothing does. *)
+let rec read_waiting reader =
+  match Queue.take_opt reader.waiting with
+  | None -> ()
+  | Some (path, way) ->
+      let is_it { own_path; _ } = Path.same own_path path in
+      (match (List.find_opt is_it reader.instances, find_declaration reader path) with
+      | Some instance, _ -> read_instance reader way instance
+      | None, Some found -> read_declaration reader path way found
+      | None, None -> ignore (refuse reader way "a type of which no .cmi was found"));
+      read_waiting reader
