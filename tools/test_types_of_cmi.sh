@@ -227,6 +227,7 @@ echo 'type t' > alone/bare.mli
 ocamlc -c alone/bare.mli
 told 1 --cmt alone/ Bare.t << 'END'
 types_of_cmi: Bare.t: an abstract type (no .cmt was found)
+types_of_cmi: not found, and may help: bare.cmt
 END
 told 1 --cmt in_channel << 'END'
 types_of_cmi: in_channel: an abstract type
@@ -240,6 +241,42 @@ types_of_cmi: Indexed.length at Hidden.meters -> constructor Other: a generalize
 END
 told 1 --cmt 'Hidden.t Indexed.measure' << 'END'
 types_of_cmi: Indexed.measure at Hidden.t -> constructor Sealed: a generalized constructor (GADT) of another index, before others
+END
+
+# All files that are not there and may help are named at once: also of a module by another name, of an argument of a
+# functor, and a .cmt where --cmt was not given.
+mkdir lacking
+cat > lacking/gone.ml << 'END'
+type t = int
+type _ indexed = Int : int indexed
+
+module Key = String
+END
+echo 'type t' > lacking/apart__gone.ml
+echo 'module Gone = Apart__gone' > lacking/apart.ml
+cat > lacking/lacking.ml << 'END'
+type all = {
+  bare : Bare.t;
+  gone : Gone.t list;
+  indexed : int Gone.indexed;
+  apart : Apart.Gone.t;
+  again : Gone.t;
+  map : int Map.Make(Gone.Key).t;
+}
+END
+(cd lacking && ocamlc -w -a -I ../alone -c gone.ml apart__gone.ml apart.ml lacking.ml && rm gone.cm* apart__gone.cm*)
+told 1 --cmt alone/ lacking/ Lacking.all << 'END'
+types_of_cmi: Lacking.all -> field bare -> Bare.t: an abstract type (no .cmt was found)
+types_of_cmi: Lacking.all -> field gone -> Gone.t: a type of which no .cmi was found
+types_of_cmi: Lacking.all -> field indexed -> Gone.indexed: a type of which no .cmi was found
+types_of_cmi: Lacking.all -> field apart -> Apart__gone.t: a type of which no .cmi was found
+types_of_cmi: Lacking.all -> field map -> Map.Make(Gone.Key).t -> constructor Node -> field v -> Map.Make(Gone.Key).key -> Gone.Key.t: a type of which no .cmi was found
+types_of_cmi: not found, and may help: apart__gone.cmi, bare.cmt, gone.cmi
+END
+told 1 alone/ 'Bare.t * Hidden.t' << 'END'
+types_of_cmi: Bare.t: an abstract type (--cmt was not given)
+types_of_cmi: Hidden.t: an abstract type (--cmt was not given)
+types_of_cmi: not found, and may help: bare.cmt
 END
 
 # A .cmt that was not made with the .cmi beside it

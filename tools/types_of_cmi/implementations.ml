@@ -24,6 +24,7 @@ type reader = {
   mutable declarations : declaration list;  (** those that were read, the last one first *)
   mutable faults : fault list;  (** the last one first *)
   mutable instances : instance list;  (** the generalized types (GADTs) that were reached *)
+  mutable wanted : string list;  (** files that were not found and may help *)
   waiting : (Path.t * way) Queue.t;  (** types reached and not read yet *)
 }
 
@@ -183,6 +184,19 @@ let implementation reader name =
       let found = read_implementation reader name in
       reader.implementations <- (name, found) :: reader.implementations;
       found
+
+(* The module of a path that has files of its own. *)
+let rec unit_name = function
+  | Path.Pident id -> if Ident.persistent id then Some (Ident.name id) else None
+  | Path.Pdot (path, _) | Path.Papply (path, _) -> unit_name path
+
+(* Remembers the file of that module as one that may help, where it is not found. *)
+let want reader path extension =
+  let add name =
+    let file = String.uncapitalize_ascii name ^ extension in
+    match Library.find_file file with _ -> () | exception Not_found -> reader.wanted <- file :: reader.wanted
+  in
+  Option.iter add (unit_name path)
 
 (* A path into the implementation of its module. *)
 let rec path_inside reader = function

@@ -197,6 +197,7 @@ let new_reader environment ~looks_inside =
     declarations = [];
     faults = [];
     instances = [];
+    wanted = [];
     waiting = Queue.create ();
   }
 
@@ -205,6 +206,10 @@ let new_reader environment ~looks_inside =
 let print_fault { where; what } =
   let way = match where with [] -> "TYPE" | _ -> String.concat " -> " (List.rev where) in
   Printf.eprintf "%s: %s: %s\n" program way what
+
+let print_wanted = function
+  | [] -> ()
+  | files -> Printf.eprintf "%s: not found, and may help: %s\n" program (String.concat ", " (List.sort_uniq compare files))
 
 let print_file reader arguments groups root =
   let names = spell_names reader groups in
@@ -244,6 +249,7 @@ let run arguments =
       0
   | faults ->
       List.iter print_fault faults;
+      print_wanted reader.wanted;
       1
 
 let () =

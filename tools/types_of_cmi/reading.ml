@@ -303,10 +303,13 @@ let read_unboxed reader scope constructor =
   | _, (Separate [ holds ] | Inline [ { holds; _ } ]) -> Abbreviation holds
   | _, (Separate _ | Inline _) -> Abbreviation placeholder
 
-(* Whether the `.cmt` of a type's module was not found. *)
-let rec lacks_implementation reader = function
-  | Path.Pident id -> Ident.persistent id && implementation reader (Ident.name id) = None
-  | Path.Pdot (path, _) | Path.Papply (path, _) -> lacks_implementation reader path
+let abstract_kind reader path =
+  let lacks_implementation name = implementation reader name = None in
+  want reader path ".cmt";
+  if not reader.looks_inside then "an abstract type (--cmt was not given)"
+  else if Option.fold ~none:false ~some:lacks_implementation (unit_name path) then
+    "an abstract type (no .cmt was found)"
+  else "an abstract type"
 
 (* What is told of a type that shows no representation. *)
 let hidden_kind reader path declaration =
@@ -314,9 +317,7 @@ let hidden_kind reader path declaration =
   | "lazy_t", _ when is_predefined path -> "a lazy value"
   | "exn", _ when is_predefined path -> "an exception"
   | _, Type_open -> "an extensible variant"
-  | _ when not reader.looks_inside -> "an abstract type (--cmt was not given)"
-  | _ when lacks_implementation reader path -> "an abstract type (no .cmt was found)"
-  | _ -> "an abstract type"
+  | _ -> abstract_kind reader path
 
 (* A type that is written again, as `type t = Other.t = A | B`, is the other one, where that one is found. *)
 let repeats_a_known_type reader path declaration =
@@ -340,6 +341,10 @@ let read_body reader scope path declaration =
   | _, Some manifest -> Abbreviation (read_type reader scope manifest)
   | _, None -> Abbreviation (refuse reader scope.way (hidden_kind reader path declaration))
 
+let refuse_missing reader path way =
+  want reader path ".cmi";
+  ignore (refuse reader way "a type of which no .cmi was found")
+
 let read_declaration reader path way (origin, declaration) =
   let parameters = List.mapi (fun index _ -> parameter_name index) declaration.type_params in
   match name_variables declaration.type_params parameters with
@@ -360,7 +365,7 @@ let read_instance reader way { generalized; index; own_path } =
         | constructors, _ -> read_variant reader scope constructors
       in
       reader.declarations <- { path = own_path; parameters = []; body; origin; reached = way } :: reader.declarations
-  | _ -> ignore (refuse reader way "a type of which no .cmi was found")
+  | _ -> refuse_missing reader generalized way
 
 (* Reads what waits, nearest types first, until nothing does. *)
 let rec read_waiting reader =
@@ -371,5 +376,5 @@ let rec read_waiting reader =
       (match (List.find_opt is_it reader.instances, find_declaration reader path) with
       | Some instance, _ -> read_instance reader way instance
       | None, Some found -> read_declaration reader path way found
-      | None, None -> ignore (refuse reader way "a type of which no .cmi was found"));
+      | None, None -> refuse_missing reader path way);
       read_waiting reader
