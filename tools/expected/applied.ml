@@ -98,6 +98,19 @@ end
 module One = Fresh ()
 module Two = Fresh ()
 
+(* A functor that applies another in its body *)
+module Group (Name : Valued) = struct
+  module Members = Set.Make (struct
+    type t = Name.t * int
+
+    let compare = compare
+  end)
+
+  type t = { name : Name.t; members : Members.t }
+end
+
+module Letters = Group (Letter)
+
 type all = {
   names : int Names.t;
   table : string Table.t;
@@ -107,4 +120,5 @@ type all = {
   nested : Nested.Several.many;
   one : One.t;
   two : Two.t;
+  letters : Letters.t;
 }

@@ -22,6 +22,7 @@ let applied () =
       nested = Nested.Several.many;
       one = One.value;
       two = Two.value;
+      letters = { name = 'l'; members = Letters.Members.of_list [ ('x', 1); ('y', 2) ] };
     }
   in
   write "yes" "applied_all" all;
@@ -31,7 +32,8 @@ let applied () =
   write "no" "applied_all" { all with floats = Obj.magic [ 1.5 ] };
   write "no" "applied_all" { all with mixed = Obj.magic ('a', 2) };
   write "no" "applied_all" { all with nested = Obj.magic Mixed.Several.many };
-  write "no" "applied_all" { all with two = Obj.magic 1 }
+  write "no" "applied_all" { all with two = Obj.magic 1 };
+  write "no" "applied_all" { all with letters = Obj.magic { all.letters with members = Obj.magic all.floats } }
 
 let copied () =
   let open Copied in
