@@ -18,5 +18,11 @@ types_of_cmi --cmt -I +compiler-libs \
     '(string * Types.signature) * Misc.crcs * Cmi_format.pers_flags list' > "$out/cmi.types"
 types_of_cmi --cmt -I +compiler-libs \
     'Cmo_format.compilation_unit * Cmo_format.library' > "$out/cmo.types"
+if [ -f "$(ocamlc -where)/coq-core/vernac/library.cmt" ]; then
+    types_of_cmi --cmt -I +coq-core/vernac -I +coq-core/library -I +coq-core/kernel -I +coq-core/clib -I +coq-core/lib \
+        'Library.seg_sum * Library.seg_univ option * Library.seg_proofs' > "$out/vo.types"
+else
+    echo "skipped: vo.types, as there is no libcoq-core-ocaml-dev" >&2
+fi
 types_of_cmi --cmt -I +compiler-libs --declare 'Export_info.t = Written_by_flambda' \
     'Cmx_format.unit_infos * Cmx_format.library_infos' > "$out/cmx.types"

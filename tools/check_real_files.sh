@@ -1,6 +1,7 @@
 #!/bin/sh
 # Checks files that OCaml itself wrote with omarshal, at the type files of examples/: each compiled interface of the
-# standard library and of the compiler, each .cmo, .cma, .cmx and .cmxa there, and a map, a set, a hash table and a queue.
+# standard library and of the compiler, each .cmo, .cma, .cmx and .cmxa there, and a map, a set, a hash table and a queue;
+# where Coq's standard library is installed (libcoq-stdlib), three segments of each .vo: summary, universes and opaques.
 # Each value has its type, comes back byte for byte from `edit` with an empty script, and from `build` of what `show` puts of it; with a byte of it damaged it is
 # refused, or does not have the type, or is another value of it, and omarshal ends with 0, 1 or 4 all the same. The argument
 # is the program; with none it is the one that `./omarshal` built.
@@ -111,6 +112,39 @@ for file in "$library"/*.cmxa "$library"/compiler-libs/*.cmxa; do
     after_magic "$file" > "$work/values"
     value "$file" cmx.types cmx_format_library_infos 1
 done
+
+# A .vo has the place of its table after the magic and the version, in 8 bytes. The table is a number of segments in 4
+# bytes, and for each the length of its name in 4, its name, its place and its length in 8 each, and a checksum of 16.
+vo_version() { head -c 8 "$1" | tail -c 4 | od -An -v -tu1 | awk '{ print (($1 * 256 + $2) * 256 + $3) * 256 + $4 }'; }
+segments() {
+    place=$(head -c 16 "$1" | tail -c 8 | od -An -v -tu1 | awk '{ for (i = 1; i <= 8; i++) n = n * 256 + $i; print n }')
+    tail -c "+$((place + 1))" "$1" | od -An -v -tu1 | awk '
+        function number(size,  n) { for (n = 0; size > 0; size--) n = n * 256 + byte[++at]; return n }
+        function text(size,  s) { for (s = ""; size > 0; size--) s = s sprintf("%c", byte[++at]); return s }
+        { for (i = 1; i <= NF; i++) byte[++count] = $i }
+        END { for (left = number(4); left > 0; left--) { print text(number(4)), number(8), number(8); at += 16 } }'
+}
+
+# segment FILE NAME TYPE: the value of a segment has the type.
+segment() {
+    place=$(sed -n "s/^$2 \([0-9]*\) .*/\1/p" "$work/table")
+    length=$(sed -n "s/^$2 [0-9]* //p" "$work/table")
+    tail -c "+$((place + 1))" "$1" | head -c "$length" > "$work/values"
+    value "$2 of $1" vo.types "$3" 1
+}
+
+find "$library/coq" -name '*.vo' 2> "$work/told" | sort > "$work/vo"
+[ -s "$work/vo" ] || echo "skipped: .vo files, as there is no libcoq-stdlib"
+while IFS= read -r file; do
+    if [ "$(vo_version "$file")" -ne 81601 ]; then
+        echo "skipped: .vo files, as they are not those of Coq 8.16.1"
+        break
+    fi
+    segments "$file" > "$work/table"
+    segment "$file" summary library_seg_sum
+    segment "$file" universes 'library_seg_univ option'
+    segment "$file" opaques library_seg_proofs
+done < "$work/vo"
 
 ocaml "$examples/containers.ml" "$work"
 cp "$work/map.bin" "$work/values" && value 'a map' map.types 'int map_make_string_t' 1
