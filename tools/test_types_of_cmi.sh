@@ -246,32 +246,36 @@ END
 # All files that are not there and may help are named at once: also of a module by another name, of an argument of a
 # functor, and a .cmt where --cmt was not given.
 mkdir lacking
-cat > lacking/gone.ml << 'END'
+cat > lacking/absent.ml << 'END'
 type t = int
 type _ indexed = Int : int indexed
 
 module Key = String
 END
-echo 'type t' > lacking/apart__gone.ml
-echo 'module Gone = Apart__gone' > lacking/apart.ml
+echo 'type t' > lacking/apart__absent.ml
+echo 'module Absent = Apart__absent' > lacking/apart.ml
 cat > lacking/lacking.ml << 'END'
 type all = {
   bare : Bare.t;
-  gone : Gone.t list;
-  indexed : int Gone.indexed;
-  apart : Apart.Gone.t;
-  again : Gone.t;
-  map : int Map.Make(Gone.Key).t;
+  absent : Absent.t list;
+  indexed : int Absent.indexed;
+  apart : Apart.Absent.t;
+  again : Absent.t;
+  map : int Map.Make(Absent.Key).t;
 }
 END
-(cd lacking && ocamlc -w -a -I ../alone -c gone.ml apart__gone.ml apart.ml lacking.ml && rm gone.cm* apart__gone.cm*)
+(
+    cd lacking
+    ocamlc -w -a -I ../alone -c absent.ml apart__absent.ml apart.ml lacking.ml
+    rm absent.cm* apart__absent.cm*
+)
 told 1 --cmt alone/ lacking/ Lacking.all << 'END'
 types_of_cmi: Lacking.all -> field bare -> Bare.t: an abstract type (no .cmt was found)
-types_of_cmi: Lacking.all -> field gone -> Gone.t: a type of which no .cmi was found
-types_of_cmi: Lacking.all -> field indexed -> Gone.indexed: a type of which no .cmi was found
-types_of_cmi: Lacking.all -> field apart -> Apart__gone.t: a type of which no .cmi was found
-types_of_cmi: Lacking.all -> field map -> Map.Make(Gone.Key).t -> constructor Node -> field v -> Map.Make(Gone.Key).key -> Gone.Key.t: a type of which no .cmi was found
-types_of_cmi: not found, and may help: apart__gone.cmi, bare.cmt, gone.cmi
+types_of_cmi: Lacking.all -> field absent -> Absent.t: a type of which no .cmi was found
+types_of_cmi: Lacking.all -> field indexed -> Absent.indexed: a type of which no .cmi was found
+types_of_cmi: Lacking.all -> field apart -> Apart__absent.t: a type of which no .cmi was found
+types_of_cmi: Lacking.all -> field map -> Map.Make(Absent.Key).t -> constructor Node -> field v -> Map.Make(Absent.Key).key -> Absent.Key.t: a type of which no .cmi was found
+types_of_cmi: not found, and may help: absent.cmi, apart__absent.cmi, bare.cmt
 END
 told 1 alone/ 'Bare.t * Hidden.t' << 'END'
 types_of_cmi: Bare.t: an abstract type (--cmt was not given)

@@ -116,3 +116,17 @@ let group_faults reader group =
     List.map irregular (irregular_uses members declaration) @ if is_cyclic group declaration then [ cyclic ] else []
   in
   List.concat_map faults_of group
+
+let table_of declarations =
+  let add table (declaration : declaration) = Path.Map.add declaration.path declaration table in
+  List.fold_left add Path.Map.empty declarations
+
+(* The declarations in their groups, as omarshal takes them, or what it refuses of them. *)
+let settled_groups reader declarations =
+  let groups_of declarations = groups (table_of declarations) declarations in
+  let copy group = List.map (copy_cyclic (table_of declarations) group) group in
+  let copied = List.concat_map copy (groups_of declarations) in
+  let groups = groups_of copied in
+  match List.concat_map (group_faults reader) groups with
+  | [] -> Ok (List.map (List.map (keep_boxed (table_of copied))) groups)
+  | faults -> Error faults

@@ -232,22 +232,16 @@ let run arguments =
     root
   in
   let root = in_word words.requested read in
-  let table_of declarations =
-    let add table (declaration : declaration) = Path.Map.add declaration.path declaration table in
-    List.fold_left add Path.Map.empty declarations
+  let settled =
+    match List.rev reader.faults with
+    | [] -> settled_groups reader (List.rev reader.declarations)
+    | faults -> Error faults
   in
-  let faults = List.rev reader.faults in
-  let read = if faults = [] then List.rev reader.declarations else [] in
-  let table = table_of read in
-  let copied = List.concat_map (fun group -> List.map (copy_cyclic table group) group) (groups table read) in
-  let table = table_of copied in
-  let groups = groups table copied in
-  match faults @ List.concat_map (group_faults reader) groups with
-  | [] ->
-      let groups = List.map (List.map (keep_boxed table)) groups in
+  match settled with
+  | Ok groups ->
       print_file reader (List.tl (Array.to_list arguments)) groups root;
       0
-  | faults ->
+  | Error faults ->
       List.iter print_fault faults;
       print_wanted reader.wanted;
       1
