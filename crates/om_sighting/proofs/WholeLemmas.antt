@@ -1,0 +1,178 @@
+-- Each input has one list of places, which are those of all values.
+use Rattle.std.proofs.Common.{◌≡◌, ℕ, zero, suc, ◌+◌, ◌≤◌, List, [], ◌∷◌, ◌++◌, length, take, drop, inl, inr, refl, sym, ap, ◌∙◌, subst, append_assoc, append-nil, length-append, length-drop, take-append-drop, take_at, drop_at, arith}
+use Rattle.std.proofs.lemmas.Bool.{cases_lt}
+use Rattle.std.proofs.lemmas.List.{length-take-le}
+use Rattle.om_model.specs.Bytes.{AreBytes}
+use Rattle.om_format.specs.Judgement.{Judgement, front, value, refused, Judges}
+use Rattle.om_format.specs.Spelled.{SpelledUnder}
+use Rattle.om_format.specs.Tree.{Tree}
+use Rattle.om_format.proofs.SpellValues.{AreBytes-rest}
+use Rattle.om_format.proofs.StandLemmas.{Judges-some}
+use Rattle.om_sighting.specs.Laws.{HasOneList, IsSpelledAt, AreInOrder, IsInside, ArePlacesOfAll}
+use Rattle.om_sighting.specs.Parts.{Part, passed, sighted, bytes_of, BeginNoValue, AreParts}
+use Rattle.om_sighting.specs.Places.{Place, place_of, places_of}
+use Rattle.om_sighting.proofs.FrontLemmas.{spelled_some, front_no_value, refused_no_value}
+use Rattle.om_sighting.proofs.OnceLemmas.{parts_once}
+
+-- ---- there is a list
+
+module _ (limit : ℕ) where
+  abbrev Has : List ℕ → Type 0
+  Has bytes =
+      (parts : List Part) × (bytes ≡ bytes_of parts) × AreParts limit (BeginNoValue limit) parts []
+
+  -- one byte is passed
+  pass : (b : ℕ) (bytes : List ℕ) → BeginNoValue limit (b ∷ bytes) → Has bytes → Has (b ∷ bytes)
+  pass b bytes none (parts, is, are) = (
+    passed b ∷ parts,
+    ap (λ x. b ∷ x) is,
+    (subst (λ x. BeginNoValue limit (b ∷ x)) (is ∙ sym (append-nil (bytes_of parts))) none, are),
+  )
+
+  -- the first part, where fewer bytes have their parts
+  first_part :
+      (b : ℕ) (bytes : List ℕ) → AreBytes (b ∷ bytes) → (judgement : Judgement)
+      → Judges limit (b ∷ bytes) judgement
+      → ((more : List ℕ) → AreBytes more → length more ≤ length bytes → Has more) → Has (b ∷ bytes)
+  first_part b bytes bytes_are front holds has =
+      pass b bytes (front_no_value limit (b ∷ bytes) holds)
+      (has bytes (AreBytes-rest (b ∷ []) bytes bytes_are) (omega arith))
+  first_part b bytes bytes_are (refused k refusal) (within, is) has =
+      pass b bytes (refused_no_value limit (b ∷ bytes) (k, refusal, within, is))
+      (has bytes (AreBytes-rest (b ∷ []) bytes bytes_are) (omega arith))
+  first_part b bytes bytes_are (value k tree) (within, spelled) has =
+      let all = b ∷ bytes in
+      let some = spelled_some limit (take k all) tree spelled in
+      let split : take k all ++ drop k all ≡ all = take-append-drop k all in
+      let size : length (take k all) ≡ k = length-take-le k all within in
+      let more = has (drop k all)
+      (AreBytes-rest (take k all) (drop k all) (subst AreBytes (sym split) bytes_are))
+      (omega (arith, some, size, length-drop k all)) in (
+        sighted (take k all) tree ∷ more.0,
+        sym split ∙ ap (λ x. take k all ++ x) more.1,
+        (spelled, more.2),
+      )
+
+  all_parts : (n : ℕ) (bytes : List ℕ) → AreBytes bytes → length bytes ≤ n → Has bytes
+  all_parts n [] bytes_are fits = ([], refl, tt)
+  all_parts zero (b ∷ bytes) bytes_are fits = absurd (omega (arith, fits))
+  all_parts (suc n) (b ∷ bytes) bytes_are fits =
+      let j = Judges-some limit (b ∷ bytes) bytes_are in
+      first_part b bytes bytes_are j.0 j.1
+      (λ more more_are shorter. all_parts n more more_are (omega (arith, fits, shorter)))
+
+pub one_list_lemma : HasOneList
+one_list_lemma limit input bytes_are =
+    let h = all_parts limit (length input) input bytes_are (omega arith) in (
+      places_of 0 h.0,
+      (h.0, h.1, h.2, refl),
+      λ others o.
+          o.3 ∙ ap (places_of 0) (parts_once limit input o.0 h.0 o.1 h.1 o.2 h.2),
+    )
+
+-- ---- the places are those of all values
+
+module _ (limit : ℕ) (input : List ℕ) where
+  earlier :
+      (from other : ℕ) (places : List Place) → from ≤ other → AreInOrder limit input other places
+      → AreInOrder limit input from places
+  earlier from other [] less are = tt
+  earlier from other (place ∷ places) less (after, is, more) =
+      (omega (arith, less, after), is, more)
+
+  -- what is inside a later place is inside
+  abbrev Covers : List ℕ → List Place → Type 0
+  Covers before places =
+      (offset size : ℕ) (tree : Tree) → length before ≤ offset
+      → IsSpelledAt limit input offset size tree → IsInside offset places
+
+  -- a value that is spelled at these bytes begins what follows them
+  at_front :
+      (before after : List ℕ) (offset size : ℕ) (tree : Tree) → input ≡ before ++ after
+      → offset ≡ length before → IsSpelledAt limit input offset size tree
+      → BeginNoValue limit after → ⊥
+  at_front before after offset size tree e is (fits, spelled) none =
+      let same : drop offset input ≡ after = ap (drop offset) e ∙ drop_at before after offset (sym is) in
+      none (take size after) (drop size after) tree (sym (take-append-drop size after))
+      (subst (λ b. SpelledUnder limit (take size b) tree) same spelled)
+
+  in_order :
+      (before : List ℕ) (parts : List Part) → input ≡ before ++ bytes_of parts
+      → AreParts limit (BeginNoValue limit) parts []
+      → AreInOrder limit input (length before) (places_of (length before) parts)
+  in_order before [] e are = tt
+  in_order before (passed b ∷ parts) e are =
+      let size : length (before ++ b ∷ []) ≡ length before + 1 = length-append before (b ∷ []) in
+      earlier (length before) (length before + 1) (places_of (length before + 1) parts) (omega arith)
+      (subst (λ k. AreInOrder limit input k (places_of k parts)) size
+      (in_order (before ++ b ∷ []) parts
+      (e ∙ sym (append_assoc before (b ∷ []) (bytes_of parts))) are.1))
+  in_order before (sighted bytes tree ∷ parts) e are =
+      let rest = bytes_of parts in
+      let size : length (before ++ bytes) ≡ length before + length bytes =
+      length-append before bytes in
+      let at : drop (length before) input ≡ bytes ++ rest =
+      ap (drop (length before)) e ∙ drop_at before (bytes ++ rest) (length before) refl in
+      let same : take (length bytes) (drop (length before) input) ≡ bytes =
+      ap (take (length bytes)) at ∙ take_at bytes rest (length bytes) refl in (
+        omega arith,
+        (
+          tree,
+          (
+            omega
+                (arith, ap length e, length-append before (bytes ++ rest), length-append bytes rest),
+            subst (λ b. SpelledUnder limit b tree) (sym same) are.0,
+          ),
+          ap (λ b. place_of (length before) b tree) (sym same),
+        ),
+        subst (λ k. AreInOrder limit input k (places_of k parts)) size
+            (in_order (before ++ bytes) parts (e ∙ sym (append_assoc before bytes rest)) are.1),
+      )
+
+  covers :
+      (before : List ℕ) (parts : List Part) → input ≡ before ++ bytes_of parts
+      → AreParts limit (BeginNoValue limit) parts []
+      → Covers before (places_of (length before) parts)
+  covers before [] e are offset size tree from (fits, spelled) =
+      let some = spelled_some limit (take size (drop offset input)) tree spelled in
+      omega (
+        arith,
+        some,
+        fits,
+        from,
+        ap length e,
+        length-append before [],
+        length-take-le size (drop offset input) (omega (arith, fits, length-drop offset input)),
+      )
+  covers before (passed b ∷ parts) e are offset size tree from at =
+      let long : length (before ++ b ∷ []) ≡ length before + 1 = length-append before (b ∷ []) in
+      elim (cases_lt (length before) offset) [
+        | inl less ↦
+            subst (λ k. IsInside offset (places_of k parts)) long
+            (covers (before ++ b ∷ []) parts
+            (e ∙ sym (append_assoc before (b ∷ []) (bytes_of parts))) are.1 offset size tree
+            (omega (arith, less, long)) at)
+        | inr not ↦
+            absurd
+            (at_front before (b ∷ bytes_of parts) offset size tree e (omega (arith, not, from)) at
+            (subst (λ x. BeginNoValue limit (b ∷ x)) (append-nil (bytes_of parts)) are.0))
+      ]
+  covers before (sighted bytes other ∷ parts) e are offset size tree from at =
+      let long : length (before ++ bytes) ≡ length before + length bytes =
+      length-append before bytes in
+      elim (cases_lt offset (length before + length bytes)) [
+        | inl less ↦ inl (from, less)
+        | inr not ↦
+            inr
+            (subst (λ k. IsInside offset (places_of k parts)) long
+            (covers (before ++ bytes) parts (e ∙ sym (append_assoc before bytes (bytes_of parts)))
+            are.1 offset size tree (omega (arith, not, long)) at))
+      ]
+
+pub places_of_all_lemma : ArePlacesOfAll
+places_of_all_lemma limit input places (parts, is, are, same) = (
+  subst (AreInOrder limit input 0) (sym same) (in_order limit input [] parts is are),
+  λ offset size tree at.
+      subst (IsInside offset) (sym same)
+      (covers limit input [] parts is are offset size tree (omega arith) at),
+)
