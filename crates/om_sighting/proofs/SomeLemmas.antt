@@ -1,15 +1,17 @@
 -- Parts one after another, and stretches that are found.
-use Rattle.std.proofs.Common.{◌≡◌, ℕ, ◌+◌, ◌<◌, List, [], ◌∷◌, ◌++◌, length, take, refl, sym, ap, ◌∙◌, subst, append_assoc, append-nil, length-append, take_all, arith}
-use Rattle.std.proofs.lemmas.List.{take-append-le}
+use Rattle.std.proofs.Common.{◌⊎◌, zero, suc, inl, inr, length-drop, take-append-drop, ◌≡◌, ℕ, ◌+◌, ◌<◌, ◌≤◌, drop, List, [], ◌∷◌, ◌++◌, length, take, refl, sym, ap, ◌∙◌, subst, append_assoc, append-nil, length-append, take_all, arith}
+use Rattle.std.proofs.lemmas.List.{length-take-le, take-append-le}
 use Rattle.om_model.specs.Bytes.{AreBytes}
 use Rattle.om_format.specs.Front.{IsFront, IsRefused}
 use Rattle.om_format.specs.Judgement.{Judgement, front, value, refused, Judges}
 use Rattle.om_format.specs.Spelled.{SpelledUnder}
 use Rattle.om_format.specs.Tree.{Tree}
-use Rattle.om_format.proofs.JudgementLaws.{value_at_once, value_or_refused}
-use Rattle.om_format.proofs.SpellValues.{AreBytes-front}
+use Rattle.om_format.proofs.JudgementLaws.{value_at_once, value_or_refused, front_or_value}
+use Rattle.om_format.proofs.OneJudgement.{front_or_refused}
+use Rattle.om_format.proofs.SpellValues.{AreBytes-front, AreBytes-rest}
 use Rattle.om_format.proofs.StandLemmas.{Judges-some}
 use Rattle.om_sighting.specs.Parts.{Part, passed, sighted, part_bytes, bytes_of, BeginNoValue, AreRefused, AreParts, IsStretch}
+use Rattle.om_sighting.proofs.OnceLemmas.{nothing_front}
 use Rattle.om_sighting.proofs.FrontLemmas.{refused_no_value, refused_after, none_before, spelled_some}
 
 pub bytes_of-append : (xs ys : List Part) → bytes_of (xs ++ ys) ≡ bytes_of xs ++ bytes_of ys
@@ -137,3 +139,75 @@ module _ (limit : ℕ) where
           absurd
           (value_or_refused limit bytes (length bytes) n tree refusal whole
           (subst (λ b. IsRefused limit b refusal) (sym same) is))
+
+  -- ---- some parts are told of all bytes
+
+  -- the first part, where fewer bytes have theirs
+  first_settled :
+      (b : ℕ) (bytes : List ℕ) → AreBytes (b ∷ bytes) → (judgement : Judgement)
+      → Judges limit (b ∷ bytes) judgement
+      → ((more : List ℕ) → AreBytes more → length more ≤ length bytes → IsSettled more)
+      → IsSettled (b ∷ bytes)
+  first_settled b bytes bytes_are front holds settled = record {
+    parts = [];
+    pending = b ∷ bytes;
+    bytes_are = refl;
+    are = tt;
+    is_front = holds;
+  }
+  first_settled b bytes bytes_are (refused k refusal) (within, is) settled =
+      let s = settled bytes (AreBytes-rest (b ∷ []) bytes bytes_are) (omega arith) in record {
+        parts = passed b ∷ s.parts;
+        pending = s.pending;
+        bytes_are = ap (λ x. b ∷ x) s.bytes_are;
+        are = (
+          subst (λ x. AreRefused limit (b ∷ x)) s.bytes_are (k, refusal, within, is),
+          s.are,
+        );
+        is_front = s.is_front;
+      }
+  first_settled b bytes bytes_are (value k tree) (within, spelled) settled =
+      let all = b ∷ bytes in
+      let some = spelled_some limit (take k all) tree spelled in
+      let split : take k all ++ drop k all ≡ all = take-append-drop k all in
+      let size : length (take k all) ≡ k = length-take-le k all within in
+      let s = settled (drop k all)
+      (AreBytes-rest (take k all) (drop k all) (subst AreBytes (sym split) bytes_are))
+      (omega (arith, some, size, length-drop k all)) in record {
+        parts = sighted (take k all) tree ∷ s.parts;
+        pending = s.pending;
+        bytes_are =
+            sym split
+            ∙ (ap (λ x. take k all ++ x) s.bytes_are
+            ∙ sym (append_assoc (take k all) (bytes_of s.parts) s.pending));
+        are = (spelled, s.are);
+        is_front = s.is_front;
+      }
+
+  pub all_settled : (n : ℕ) (bytes : List ℕ) → AreBytes bytes → length bytes ≤ n → IsSettled bytes
+  all_settled n [] bytes_are fits = record {
+    parts = [];
+    pending = [];
+    bytes_are = refl;
+    are = tt;
+    is_front = nothing_front limit;
+  }
+  all_settled zero (b ∷ bytes) bytes_are fits = absurd (omega (arith, fits))
+  all_settled (suc n) (b ∷ bytes) bytes_are fits =
+      let j = Judges-some limit (b ∷ bytes) bytes_are in
+      first_settled b bytes bytes_are j.0 j.1
+      (λ more more_are shorter. all_settled n more more_are (omega (arith, fits, shorter)))
+
+  -- bytes are a front or not
+  pub front_or :
+      (bytes : List ℕ) → AreBytes bytes → IsFront limit bytes ⊎ (IsFront limit bytes → ⊥)
+  front_or bytes bytes_are =
+      let j = Judges-some limit bytes bytes_are in by j.0 j.1
+    where
+      by : (judgement : Judgement) → Judges limit bytes judgement
+          → IsFront limit bytes ⊎ (IsFront limit bytes → ⊥)
+      by front holds = inl holds
+      by (value k tree) (within, spelled) =
+          inr (λ f. front_or_value limit bytes k tree f spelled)
+      by (refused k refusal) (within, is) =
+          inr (λ f. front_or_refused limit bytes k refusal f is)

@@ -17,7 +17,7 @@ use Rattle.om_sighting.proofs.OnceLemmas.{parts_once}
 -- ---- there is a list
 
 module _ (limit : ℕ) where
-  abbrev Has : List ℕ → Type 0
+  abbrev pub Has : List ℕ → Type 0
   Has bytes =
       (parts : List Part) × (bytes ≡ bytes_of parts) × AreParts limit (BeginNoValue limit) parts []
 
@@ -53,7 +53,7 @@ module _ (limit : ℕ) where
         (spelled, more.2),
       )
 
-  all_parts : (n : ℕ) (bytes : List ℕ) → AreBytes bytes → length bytes ≤ n → Has bytes
+  pub all_parts : (n : ℕ) (bytes : List ℕ) → AreBytes bytes → length bytes ≤ n → Has bytes
   all_parts n [] bytes_are fits = ([], refl, tt)
   all_parts zero (b ∷ bytes) bytes_are fits = absurd (omega (arith, fits))
   all_parts (suc n) (b ∷ bytes) bytes_are fits =

@@ -1,0 +1,142 @@
+-- What a reader tells of bytes is the next part.
+use Rattle.std.proofs.Common.{◌≡◌, ◌⊎◌, ℕ, ◌<◌, ◌≤◌, List, [], ◌∷◌, ◌++◌, length, map, take, drop, inl, inr, refl, sym, ap, ◌∙◌, subst, append-nil, take-append-drop, take_all, arith}
+use Rattle.std.specs.Prelude.{Bool, true, false, not, Result, Ok, Err}
+use Rattle.std.proofs.lemmas.List.{length-take-le}
+use Rattle.om_model.specs.declared.refusal.ReadRefusal.{ReadRefusal}
+use Rattle.om_model.specs.declared.refusal.ReadRefusal.TheVariants as refusals
+use Rattle.om_format.specs.Front.{IsRefused}
+use Rattle.om_format.specs.Spelled.{SpelledUnder}
+use Rattle.om_format.specs.Token.{measure_of}
+use Rattle.om_format.specs.Tree.{Tree, tokens, objects_of, root}
+use Rattle.om_format.specs.Words.{all_words64}
+use Rattle.om_heap.specs.Heap.{heap_words}
+use Rattle.om_read.specs.declared.reader.Reader.{Reader}
+use Rattle.om_read.specs.declared.reader.Fed.{Fed}
+use Rattle.om_read.specs.declared.value.Value.{Value}
+use Rattle.om_read.specs.Reader.{Leads, Feeds, Finishes}
+use Rattle.om_read.specs.Reading.{RefusedIn}
+use Rattle.om_read.proofs.ReadingLemmas.{unless_memory}
+use Rattle.om_types.specs.VerdictText.{kind_text}
+use Rattle.om_sighting.specs.Parts.{passed, sighted, bytes_of, AreRefused}
+use Rattle.om_sighting.specs.Places.{place_of, line_of}
+use Rattle.om_sighting.proofs.FrontLemmas.{spelled_some}
+use Rattle.om_sweep.specs.declared.next.Next.{Next}
+use Rattle.om_sweep.specs.Swept.{place_read, PassesOne, Takes, AreWaiting, IsNext}
+use Rattle.om_sweep.proofs.ClaimLemmas.{same_head}
+
+-- the place of what was read is that of the value
+place_is :
+    (limit at size : ℕ) (taken : List ℕ) (value : Value) → Finishes limit taken value
+    → length taken ≡ size
+    → (tree : Tree) × SpelledUnder limit taken tree × (place_read at size value ≡ place_of at taken tree)
+place_is limit at size taken value f long = (
+  f.tree,
+  s,
+  λ i. record {
+    offset = at;
+    size = sym long i;
+    words = words i;
+    objects = length (heap i);
+    kind = kind_text (heap i) (root_is i);
+  },
+) where
+  s : SpelledUnder limit taken f.tree
+  s = f.spelled
+
+  heap : value.heap ≡ objects_of f.tree 0
+  heap = f.is_value.heap
+
+  root_is : value.root ≡ root f.tree 0
+  root_is = f.is_value.root
+
+  words : heap_words value.heap ≡ all_words64 (map measure_of (tokens f.tree))
+  words =
+      f.words
+      ∙ (ap (λ h. h.w64) (sym (same_head limit taken taken [] f.tree (sym (append-nil taken)) s))
+      ∙ s.spells.states.w64)
+
+pub not_true : (b : Bool) → not b ≡ true → b ≡ false
+not_true true e = let never : false ≡ true = e in cc never
+not_true false e = refl
+
+module _ (limit at : ℕ) (bytes old new : List ℕ) where
+  -- a value
+  pub value_next :
+      (reader : Reader) (fed : Fed) (value : Value) → Feeds limit [] bytes reader fed
+      → Finishes limit (take fed.taken bytes) value
+      → new ≡ old ++ line_of (place_read at fed.taken value)
+      → (0 < fed.taken) × (rest : List ℕ) × Takes limit at bytes old new (AreRefused limit) fed.taken rest
+  value_next reader fed value f done text_is =
+      let n = fed.taken in
+      let taken = take n bytes in
+      let size : length taken ≡ n = length-take-le n bytes f.within in
+      let (tree, spelled, same) = place_is limit at n taken value done size in
+      let some = spelled_some limit taken tree spelled in
+      let all : bytes_of (sighted taken tree ∷ []) ≡ taken = append-nil taken in (
+        omega (arith, some, size),
+        drop n bytes,
+        (
+          record {
+            parts = sighted taken tree ∷ [];
+            bytes_are = sym (ap (λ b. b ++ drop n bytes) all ∙ take-append-drop n bytes);
+            are = (spelled, tt);
+            text_is =
+                text_is ∙ ap (λ p. old ++ p)
+                (ap line_of same ∙ sym (append-nil (line_of (place_of at taken tree))));
+          },
+          sym (ap length all ∙ size),
+        ),
+      )
+
+  -- all wait
+  pub waits_next :
+      (reader : Reader) (fed : Fed) → Feeds limit [] bytes reader fed
+      → fed.done ≡ false → new ≡ old → AreWaiting limit at bytes old new reader bytes × (new ≡ old)
+  waits_next reader fed f more same =
+      let m = f.more more in (
+        (
+          m.1,
+          subst (λ b. Leads limit b reader) (take_whole fed.taken bytes m.0) f.leads,
+        ),
+        same,
+      )
+    where
+      take_whole : (n : ℕ) (xs : List ℕ) → n ≡ length xs → take n xs ≡ xs
+      take_whole n xs e = take_all n xs (omega (arith, e))
+
+  -- a byte is passed
+  one_passed :
+      (bytes : List ℕ) → 0 < length bytes → AreRefused limit bytes → new ≡ old
+      → (0 < 1) × (rest : List ℕ) × Takes limit at bytes old new (AreRefused limit) 1 rest
+  one_passed [] some refused same = absurd (omega (arith, some))
+  one_passed (b ∷ rest) some refused same = (
+    omega arith,
+    rest,
+    (
+      record {
+        parts = passed b ∷ [];
+        bytes_are = refl;
+        are = (refused, tt);
+        text_is = same ∙ sym (append-nil old);
+      },
+      refl,
+    ),
+  )
+
+  pub refused_next :
+      {E : Type 0} (refusal : ReadRefusal) (result : Result Next E) → 0 < length bytes → new ≡ old
+      → RefusedIn limit bytes refusal → PassesOne refusal result
+      → IsNext limit at bytes old new result
+  refused_next refusal (Err e) some same refused passes = tt
+  refused_next {E} refusal (Ok next) some same refused (is, other) =
+      subst (λ n. IsNext limit at bytes old new {E = E} (Ok n)) (sym is)
+      (one_passed bytes some
+      (by
+      ((unless_memory refusal
+      ((n : ℕ) × (n ≤ length bytes) × IsRefused limit (take n bytes) refusal)).1 refused)) same)
+    where
+      by : (refusal ≡ refusals.Memory)
+          ⊎ ((n : ℕ) × (n ≤ length bytes) × IsRefused limit (take n bytes) refusal)
+          → AreRefused limit bytes
+      by (inl memory) = absurd (other memory)
+      by (inr (n, within, at_n)) = (n, refusal, within, at_n)

@@ -1,0 +1,187 @@
+-- Part after part is taken.
+use Rattle.std.proofs.Common.{◌≡◌, ℕ, ◌+◌, ◌<◌, ◌≤◌, List, [], ◌∷◌, ◌++◌, length, drop, refl, sym, ap, ◌∙◌, subst, append_assoc, append-nil, length-append, drop_at, arith}
+use Rattle.std.specs.Prelude.{Ok}
+use Rattle.std.proofs.lemmas.List.{nil_from_length}
+use Rattle.om_format.specs.Front.{IsFront}
+use Rattle.om_read.specs.declared.reader.Reader.{Reader}
+use Rattle.om_read.specs.Reader.{Leads}
+use Rattle.om_sighting.specs.Parts.{passed, bytes_of, BeginNoValue, AreRefused, AreParts}
+use Rattle.om_sighting.specs.Places.{places_of, lines_of}
+use Rattle.om_sighting.proofs.FrontLemmas.{front_no_value}
+use Rattle.om_sighting.proofs.OnceLemmas.{nothing_front}
+use Rattle.om_sighting.proofs.PlaceLemmas.{lines_of_parts}
+use Rattle.om_sighting.proofs.SomeLemmas.{bytes_of-append, parts-append, undecided}
+use Rattle.om_sweep.specs.declared.next.Next.{Next}
+use Rattle.om_sweep.specs.declared.next.Next.TheVariants.{Decided, Waits}
+use Rattle.om_sweep.specs.Swept.{PutsParts, Takes, IsNext, IsLast}
+
+module _ (limit at : ℕ) (bytes old : List ℕ) (None : List ℕ → Type 0) where
+  -- nothing is taken at first
+  pub begins : Takes limit at bytes old old None 0 bytes
+  begins =
+      (record { parts = []; bytes_are = refl; are = tt; text_is = sym (append-nil old) }, refl)
+
+  module _ (mid : List ℕ) (n : ℕ) (rest : List ℕ) (t : Takes limit at bytes old mid None n rest)
+    where
+      pub rest_is : drop n bytes ≡ rest
+      rest_is = ap (drop n) t.0.bytes_are ∙ drop_at (bytes_of t.0.parts) rest n (sym t.1)
+
+      pub within : n + length rest ≡ length bytes
+      within = omega (arith, t.1, ap length t.0.bytes_are, length-append (bytes_of t.0.parts) rest)
+
+      -- more parts are taken behind them
+      pub one_more :
+          (new : List ℕ) (m : ℕ) (more : List ℕ) → Takes limit (at + n) rest mid new None m more
+          → Takes limit at bytes old new None (n + m) more
+      one_more new m more (u, size) =
+          let xs = t.0.parts in
+          let ys = u.parts in
+          let bytes_are = bytes_of-append xs ys in (
+            record {
+              parts = xs ++ ys;
+              bytes_are =
+                  t.0.bytes_are
+                  ∙ (ap (λ b. bytes_of xs ++ b) u.bytes_are
+                  ∙ (sym (append_assoc (bytes_of xs) (bytes_of ys) more)
+                  ∙ ap (λ b. b ++ more) (sym bytes_are)));
+              are =
+                  parts-append limit None xs ys more
+                  (subst (AreParts limit None xs) u.bytes_are t.0.are) u.are;
+              text_is = text_is;
+            },
+            omega
+                (arith, t.1, size, ap length bytes_are, length-append (bytes_of xs) (bytes_of ys)),
+          )
+        where
+          text_is : new ≡ old ++ lines_of (places_of at (t.0.parts ++ u.parts))
+          text_is =
+              u.text_is
+              ∙ (ap (λ text. text ++ lines_of (places_of (at + n) u.parts)) t.0.text_is
+              ∙ (append_assoc old (lines_of (places_of at t.0.parts))
+              (lines_of (places_of (at + n) u.parts))
+              ∙ ap (λ text. old ++ text)
+              (ap (λ k. lines_of (places_of at t.0.parts) ++ lines_of (places_of (at + k) u.parts)) t.1
+              ∙ sym (lines_of_parts at t.0.parts u.parts))))
+
+-- what is told of bytes is so where nothing follows them
+pub at_end :
+    (limit at : ℕ) (bytes old new : List ℕ) (n : ℕ) (rest : List ℕ)
+    → Takes limit at bytes old new (AreRefused limit) n rest
+    → Takes limit at bytes old new (BeginNoValue limit) n rest
+at_end limit at bytes old new n rest (p, size) = (
+  record {
+    parts = p.parts;
+    bytes_are = p.bytes_are;
+    are = undecided limit p.parts rest p.are;
+    text_is = p.text_is;
+  },
+  size,
+)
+
+-- the first byte is passed there, where no value begins
+pub none_passed :
+    (limit at : ℕ) (bytes old new : List ℕ) → 0 < length bytes → BeginNoValue limit bytes
+    → new ≡ old
+    → (0 < 1) × (rest : List ℕ) × Takes limit at bytes old new (BeginNoValue limit) 1 rest
+none_passed limit at [] old new some none same = absurd (omega (arith, some))
+none_passed limit at (b ∷ rest) old new some none same = (
+  omega arith,
+  rest,
+  (
+    record {
+      parts = passed b ∷ [];
+      bytes_are = refl;
+      are = (none, tt);
+      text_is = same ∙ sym (append-nil old);
+    },
+    refl,
+  ),
+)
+
+-- so the next part is the last of all
+pub last_of :
+    (E : Type 0) (limit at : ℕ) (bytes old new : List ℕ) (next : Next) (n : ℕ) → 0 < length bytes
+    → IsNext limit at bytes old new {E = E} (Ok next) → IsLast next n
+    → (0 < n) × (rest : List ℕ) × Takes limit at bytes old new (BeginNoValue limit) n rest
+last_of E limit at bytes old new (Decided m) n bytes_some (some, rest, t) is =
+    subst
+    (λ k. (0 < k) × (rest : List ℕ) × Takes limit at bytes old new (BeginNoValue limit) k rest)
+    (sym is) (some, rest, at_end limit at bytes old new m rest t)
+last_of E limit at bytes old new (Waits reader) n bytes_some (waits, same) is =
+    subst
+    (λ k. (0 < k) × (rest : List ℕ) × Takes limit at bytes old new (BeginNoValue limit) k rest)
+    (sym is)
+    (none_passed limit at bytes old new bytes_some (front_no_value limit bytes waits.0) same)
+
+module _ (limit at : ℕ) (bytes old mid new : List ℕ) (n : ℕ) (slice : List ℕ)
+    (slice_is : slice ≡ drop n bytes) where
+  -- parts are taken of a slice, and are some of all
+  slice_more :
+      (None : List ℕ → Type 0) (rest : List ℕ) → Takes limit at bytes old mid None n rest → (m : ℕ)
+      → (more : List ℕ) × Takes limit (at + n) slice mid new None m more
+      → (more : List ℕ) × Takes limit at bytes old new None (n + m) more
+  slice_more None rest t m (more, u) =
+      let is = slice_is ∙ rest_is limit at bytes old None mid n rest t in (
+        more,
+        one_more limit at bytes old None mid n rest t new m more
+            (subst (λ b. Takes limit (at + n) b mid new None m more) is u),
+      )
+
+  pub decided_more :
+      (rest : List ℕ) → Takes limit at bytes old mid (AreRefused limit) n rest → (m : ℕ)
+      → (more : List ℕ) × Takes limit (at + n) slice mid new (AreRefused limit) m more
+      → (more : List ℕ) × Takes limit at bytes old new (AreRefused limit) (n + m) more
+  decided_more = slice_more (AreRefused limit)
+
+  -- the same at the end
+  pub ended_more :
+      (rest : List ℕ) → Takes limit at bytes old mid (BeginNoValue limit) n rest → (m : ℕ)
+      → (more : List ℕ) × Takes limit (at + n) slice mid new (BeginNoValue limit) m more
+      → (more : List ℕ) × Takes limit at bytes old new (BeginNoValue limit) (n + m) more
+  ended_more = slice_more (BeginNoValue limit)
+
+  -- the rest waits
+  pub rest_waits :
+      (rest : List ℕ) → Takes limit at bytes old mid (AreRefused limit) n rest → (reader : Reader)
+      → IsFront limit slice → Leads limit slice reader → new ≡ mid
+      → (rest : List ℕ) × Takes limit at bytes old new (AreRefused limit) n rest
+      × (IsFront limit rest × Leads limit rest reader)
+  rest_waits rest t reader front leads same =
+      let is = slice_is ∙ rest_is limit at bytes old (AreRefused limit) mid n rest t in (
+        rest,
+        subst (λ text. Takes limit at bytes old text (AreRefused limit) n rest) (sym same) t,
+        (subst (IsFront limit) is front, subst (λ b. Leads limit b reader) is leads),
+      )
+
+-- no byte is left
+none_left :
+    (limit at : ℕ) (bytes old new : List ℕ) (None : List ℕ → Type 0) (n : ℕ) (rest : List ℕ)
+    → Takes limit at bytes old new None n rest → length bytes ≤ n → rest ≡ []
+none_left limit at bytes old new None n rest t all =
+    nil_from_length rest (omega (arith, within limit at bytes old None new n rest t, all))
+
+-- a front without bytes waits
+pub nothing_waits :
+    (limit at : ℕ) (bytes old new : List ℕ) (n : ℕ) (rest : List ℕ) (reader : Reader)
+    → Takes limit at bytes old new (AreRefused limit) n rest → length bytes ≤ n
+    → Leads limit [] reader
+    → (rest : List ℕ) × Takes limit at bytes old new (AreRefused limit) n rest
+    × (IsFront limit rest × Leads limit rest reader)
+nothing_waits limit at bytes old new n rest reader t all leads =
+    let none = none_left limit at bytes old new (AreRefused limit) n rest t all in (
+      rest,
+      t,
+      (
+        subst (IsFront limit) (sym none) (nothing_front limit),
+        subst (λ b. Leads limit b reader) (sym none) leads,
+      ),
+    )
+
+-- all are parts
+pub all_parts :
+    (limit at : ℕ) (bytes old new : List ℕ) (n : ℕ) (rest : List ℕ)
+    → Takes limit at bytes old new (BeginNoValue limit) n rest → length bytes ≤ n
+    → PutsParts limit (BeginNoValue limit) at bytes [] old new
+all_parts limit at bytes old new n rest t all =
+    let none = none_left limit at bytes old new (BeginNoValue limit) n rest t all in
+    subst (λ r. PutsParts limit (BeginNoValue limit) at bytes r old new) none t.0
