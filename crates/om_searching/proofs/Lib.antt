@@ -1,0 +1,6 @@
+pub mod SaidLemmas
+pub mod LawfulLemmas
+pub mod EndLemmas
+pub mod TableLemmas
+pub mod NeverLemmas
+pub mod TellLemmas

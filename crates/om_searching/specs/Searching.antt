@@ -1,0 +1,61 @@
+-- The command that tells where values stand in the input, in the general form: an item is the bytes
+-- of parts, which are told as soon as the bytes that come tell them. Of an item the lines of its
+-- places are said, and at the end those of the bytes that are left, where a value that is cut is
+-- none.
+use Rattle.std.specs.Prelude.{ℕ, ◌+◌, ◌≡◌, true, List, [], ◌∷◌, ◌++◌, length, Option, Some, Result, Ok}
+use Rattle.om_outcome.specs.Outcome.{Request, Stop, Said, Reply, says, stops}
+use Rattle.om_sighting.specs.Parts.{Part, bytes_of, BeginNoValue, AreParts, IsStretch}
+use Rattle.om_sighting.specs.Places.{places_of, lines_of}
+use Rattle.om_promises.specs.Commands.{Item, value, text, Fetches, Commands}
+
+-- how many bytes the items have
+abbrev pub bytes_in : List Item → ℕ
+bytes_in [] = 0
+bytes_in (value tree ∷ items) = bytes_in items
+bytes_in (text bytes ∷ items) = length bytes + bytes_in items
+
+module _ (limit : ℕ) where
+  -- the item has the parts of the first stretch, and the front behind them is left with what
+  -- follows
+  pub record IsFirstStretch (bytes : List ℕ) (item : Item) (more : List ℕ) : Type 0 where
+    pub parts : List Part
+    pub pending : List ℕ
+    pub later : List ℕ
+    pub is : item ≡ text (bytes_of parts)
+    pub more_is : more ≡ pending ++ later
+    pub bytes_are : bytes ≡ bytes_of parts ++ more
+    pub stretch : IsStretch limit parts pending
+
+  -- the lines of the places in these bytes, which come after the items
+  pub record SaysPlaces (items : List Item) (bytes : List ℕ) (said : Said) : Type 0 where
+    pub parts : List Part
+    pub bytes_are : bytes ≡ bytes_of parts
+    pub are : AreParts limit (BeginNoValue limit) parts []
+    pub text_is : said.text ≡ lines_of (places_of (bytes_in items) parts)
+    pub well : said.well ≡ true
+
+  abbrev pub SaysStretch : List Item → Item → Said → Type 0
+  SaysStretch items item said =
+      (bytes : List ℕ) × (item ≡ text bytes) × SaysPlaces items bytes said
+
+  -- the run never stops at its input
+  abbrev pub EndsWithPlaces : List Item → List ℕ → Reply → Type 0
+  EndsWithPlaces items bytes (says said) = SaysPlaces items bytes said
+  EndsWithPlaces items bytes (stops stop) = ⊥
+
+-- the limit, where a request asks for a search
+module _ (limit_by : Request → Option ℕ) where
+  abbrev pub Finds : Request → Fetches → Result ℕ Stop → Type 0
+  Finds request files result =
+      (limit : ℕ) × (limit_by request ≡ Some limit) × (result ≡ Ok limit)
+
+  abbrev pub searching : Commands ℕ
+  searching = record {
+    Wants = λ request files turn name. ⊥;
+    Finds = Finds;
+    Reads = λ limit. Unit {0};
+    IsFirst = IsFirstStretch;
+    Says = SaysStretch;
+    Stops = λ limit items bytes stop. ⊥;
+    Ends = EndsWithPlaces;
+  }
