@@ -1,12 +1,19 @@
 -- The first rule on brackets, from what each rule finds.
-use Rattle.std.proofs.Common.{ℕ, ◌<◌, ◌≤◌, ◌≡◌, List, Option, Some, None, refl, sym, subst, arith}
+use Rattle.std.proofs.Common.{ℕ, ◌<◌, ◌≤◌, ◌≡◌, ◌∙◌, List, Option, Some, None, length, refl, sym, ap, subst, arith}
+use Rattle.std.specs.Prelude.{slice_get, Contains}
+use Rattle.std.proofs.lemmas.List.Elements.{All-contains}
+use Rattle.std.proofs.lemmas.Option.{slice_get-get_or, slice_get_within}
+use Rattle.om_model.proofs.Options.{map-Contains, slice_get-Contains}
 use Rattle.om_types.specs.declared.decl.Decl.{Decl}
-use Rattle.om_types.specs.Ty.{Ty}
+use Rattle.om_types.specs.declared.head.TagOf.{TagOf}
+use Rattle.om_types.specs.Ty.{Ty, tuple}
+use Rattle.om_types.specs.Nodes.{type_at}
 use Rattle.om_types.specs.Occurrence.{PlacedItem}
-use Rattle.om_types.specs.Scope.{Rule, turn, not_variant, tag_clash, hash_clash}
+use Rattle.om_types.specs.Scope.{Rule, turn, not_variant, tag_clash, hash_clash, tags_of_item, HasTags}
 use Rattle.om_scope.specs.Least.{IsLeast}
 use Rattle.om_scope.proofs.LeastLemmas.{least_same}
 use Rattle.om_store.specs.Held.{Grows}
+use Rattle.om_store.proofs.HeldLemmas.{get-mapped, there_kept}
 use Rattle.om_brackets.specs.declared.item.Item.{Item}
 use Rattle.om_brackets.specs.declared.spellings.Collision.{Collision}
 use Rattle.om_brackets.specs.Items.{ClashesIn}
@@ -15,9 +22,10 @@ use Rattle.om_head_rules.specs.declared.broken.HeadBreak.TheVariants as breaks
 use Rattle.om_head_rules.specs.declared.item.NumberedItem.{NumberedItem}
 use Rattle.om_head_rules.specs.Broken.{IsFirstOfHeads}
 use Rattle.om_head_rules.specs.Rules.{SomeBreaks, ItemsInclude, AreTagged, CollideAmong, IsLeastAmong, TagsBreak}
-use Rattle.om_head_rules.specs.Rules.{AreAllWithin, brackets_at, BracketsBreak, BracketsHash}
+use Rattle.om_head_rules.specs.Apart.{AreApart, StandApart}
+use Rattle.om_head_rules.specs.Rules.{IsWithin, AreWithin, AreAllWithin, item_at, items_at, brackets_at, BracketsBreak, BracketsHash}
 use Rattle.om_head_rules.proofs.FirstLemmas.{of_late, all_alike, found_first}
-use Rattle.om_head_rules.proofs.VariantLemmas.{include_alike, brackets_at-kept}
+use Rattle.om_head_rules.proofs.VariantLemmas.{include_alike, brackets_at-kept, type_kept}
 use Rattle.om_head_rules.proofs.TagLemmas.{tags_alike, names_alike}
 
 -- ---- tags
@@ -86,3 +94,56 @@ module _ (decls : List Decl) (types : List Ty) (brackets : List (List NumberedIt
       subst (AreTagged new decls tagged) (brackets_at-kept types now brackets grown within) tags in
       all_alike (TagsBreak tagged) (BracketsBreak decls all) (CollideAmong tagged) (BracketsHash decls all)
       (names_alike new decls tagged all here) found (tags_alike new decls tagged all here (variant_least None none)) first
+
+  -- ---- tags that stand apart
+
+  item_within :
+      (bracket : List NumberedItem) → AreWithin types bracket → (i place : ℕ) (t : Ty)
+      → slice_get (items_at types bracket) i ≡ Some (place, t)
+      → (n : ℕ) × (n < length types) × (type_at types n ≡ t)
+  item_within bracket within i place t at =
+      let found = get-mapped (item_at types) bracket i (place, t) at in (
+        found.0.number,
+        All-contains (IsWithin types) bracket found.0 within (slice_get-Contains bracket i found.0 found.1),
+        ap (λ (p : PlacedItem). p.1) found.2,
+      )
+
+  pair_apart :
+      AreAllWithin types brackets → StandApart decls types → (items : List PlacedItem) → Contains all items
+      → (k i j : ℕ) (one other : TagOf Ty) → HasTags decls items k i j one other → AreApart one other
+  pair_apart within apart items among k i j one other has =
+      let found = map-Contains (items_at types) brackets items among in
+      let inside = All-contains (AreWithin types) brackets found.0 within found.1 in
+      let first = item_within found.0 inside i has.place has.first
+      (ap (λ (is : List PlacedItem). slice_get is i) found.2 ∙ has.first_is) in
+      let second = item_within found.0 inside j k has.second
+      (ap (λ (is : List PlacedItem). slice_get is j) found.2 ∙ has.second_is) in
+      apart first.0 second.0 one other first.1 second.1
+      (subst (λ t. Contains (tags_of_item decls t) one) (sym first.2) has.one_there)
+      (subst (λ t. Contains (tags_of_item decls t) other) (sym second.2) has.other_there)
+
+  pub apart_first :
+      AreAllWithin types brackets → IsLeast (SomeBreaks brackets (ItemsInclude decls types)) None
+      → StandApart decls types → IsFirstOfHeads (BracketsBreak decls all) (BracketsHash decls all) None
+  apart_first within none apart rule k late =
+      of_late (λ r. ¬ BracketsBreak decls all r k) (variant_least None none k) clash hash (λ some. some.2) rule late
+    where
+      clash : ¬ BracketsBreak decls all tag_clash k
+      clash (items, among, (i, j, one, other, has, before, same, unlike)) =
+          (pair_apart within apart items among k i j one other has).arguments same unlike
+
+      hash : ¬ BracketsBreak decls all hash_clash k
+      hash (items, among, (i, j, one, other, has, before, unlike, same)) =
+          (pair_apart within apart items among k i j one other has).hashes unlike same
+
+-- of the types that were there before
+pub apart_before :
+    (decls : List Decl) (old new : List Ty) → Grows old new → StandApart decls new → StandApart decls old
+apart_before decls old new grown apart i j one other in_i in_j one_there other_there =
+    apart i j one other (within i in_i) (within j in_j)
+    (subst (λ t. Contains (tags_of_item decls t) one) (sym (type_kept old new i grown in_i)) one_there)
+    (subst (λ t. Contains (tags_of_item decls t) other) (sym (type_kept old new j grown in_j)) other_there)
+  where
+    within : (n : ℕ) → n < length old → n < length new
+    within n below =
+        slice_get_within new n (type_at old n) (there_kept old new n (type_at old n) grown (slice_get-get_or old n tuple below))

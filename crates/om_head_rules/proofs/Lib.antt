@@ -7,3 +7,4 @@ pub mod JoinedLemmas
 pub mod ThroughLemmas
 pub mod FlatLemmas
 pub mod TextLemmas
+pub mod ApartLemmas

@@ -1,6 +1,6 @@
 -- Abbreviations of a group, along replacements.
 use Rattle.std.proofs.Common.{ℕ, zero, suc, ◌≡◌, ◌∙◌, List, Option, Some, None, refl, sym, ap, subst}
-use Rattle.std.specs.Prelude.{option_and_then, ◌↔◌, IsSome}
+use Rattle.std.specs.Prelude.{option_and_then}
 use Rattle.std.proofs.lemmas.Option.{none-some, same_Some}
 use Rattle.om_types.specs.declared.decl.Decl.{Decl}
 use Rattle.om_types.specs.Ty.{Ty, name_of}

@@ -1,3 +1,4 @@
 pub mod Broken
 pub mod Numbered
 pub mod Rules
+pub mod Apart

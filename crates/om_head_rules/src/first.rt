@@ -10,6 +10,7 @@ ghost use Rattle.om_scope.specs.Names.{number_of, ArePlaces};
 ghost use Rattle.om_head_rules.specs.Broken.{IsFirstOfHeads, FileHashes, TypeHashes};
 ghost use Rattle.om_head_rules.specs.Rules.{AreAllWithin, brackets_at, BracketsBreak, BracketsHash};
 
+use crate::apart::stand_apart;
 use crate::brackets::{number_brackets, number_declared};
 use crate::broken::HeadBreak;
 use crate::clash::first_of_tags;
@@ -26,7 +27,8 @@ use om_store::Types;
 use om_types::decl::Decl;
 use std::alloc::Global;
 
-/// The first rule on brackets that is broken, at the least lexeme.
+/// The first rule on brackets that is broken, at the least lexeme. The tags of each bracket are
+/// gathered only where some that are written could clash.
 fn first_of_brackets(
     alloc: Global,
     types: &mut Types,
@@ -43,6 +45,9 @@ fn first_of_brackets(
 {
     if let Some(place) = least_not_variant(alloc, types, decls, table, brackets)? {
         return Ok(Some(HeadBreak::NotVariant(place)));
+    }
+    if stand_apart(alloc, types, decls, brackets)? {
+        return Ok(None);
     }
     let tagged = tagged_brackets(alloc, types, decls, table, brackets)?;
     first_of_tags(alloc, tagged.as_slice())

@@ -2,6 +2,7 @@
 //! together in them, and records of floats.
 #![tactic(auto)]
 
+mod apart;
 mod brackets;
 mod broken;
 mod clash;

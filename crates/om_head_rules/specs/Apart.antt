@@ -1,0 +1,84 @@
+-- Tags that clash in no bracket: each name comes with one argument, and each hash with one name.
+use Rattle.std.specs.Prelude.{ℕ, ◌<◌, ◌≡◌, ◌≢◌, Bool, ◌&&◌, true, false, List, [], ◌∷◌, Some, IfSome, length, slice_get, Contains}
+use Rattle.om_polyvar.specs.TagHash.{tag_hash}
+use Rattle.om_types.specs.declared.decl.Decl.{Decl}
+use Rattle.om_types.specs.declared.head.TagOf.{TagOf}
+use Rattle.om_types.specs.Ty.{Ty, variable, named, tuple, bracket, part, tag, tag_of, including}
+use Rattle.om_types.specs.Nodes.{type_at}
+use Rattle.om_types.specs.Declarations.{abbreviated}
+use Rattle.om_types.specs.Head.{bare_tag, carrying_tag}
+use Rattle.om_types.specs.Scope.{tags_of_item}
+use Rattle.om_types.specs.Table.{tag_with_part}
+use Rattle.om_brackets.specs.declared.item.Item.{Item}
+use Rattle.om_brackets.specs.Items.{ClashesIn, CollidesIn}
+
+-- ---- types without variables
+
+abbrev pub is_closed : Ty → Bool
+is_closed (variable x) = false
+is_closed (named name) = true
+is_closed tuple = true
+is_closed bracket = true
+is_closed (part whole added) = is_closed whole && is_closed added
+is_closed (tag whole x) = is_closed whole
+is_closed (tag_of whole x argument) = is_closed whole && is_closed argument
+is_closed (including whole included) = is_closed whole && is_closed included
+
+-- of each of the first types it is told whether it is so
+abbrev pub TellsClosed : List Ty → List Bool → Type 0
+TellsClosed types told =
+    (j : ℕ) → j < length told → slice_get told j ≡ Some (is_closed (type_at types j))
+
+-- ---- the tags that are written
+
+-- so is each tag that stands in t outside tag arguments
+abbrev pub EachTag : (TagOf Ty → Type 0) → Ty → Type 0
+EachTag P (variable x) = Unit {0}
+EachTag P (named name) = Unit {0}
+EachTag P tuple = Unit {0}
+EachTag P bracket = Unit {0}
+EachTag P (part whole added) = EachTag P whole × EachTag P added
+EachTag P (tag whole x) = EachTag P whole × P (bare_tag x)
+EachTag P (tag_of whole x argument) = EachTag P whole × P (carrying_tag x argument)
+EachTag P (including whole included) = EachTag P whole × EachTag P included
+
+-- an item that brings this tag alone
+abbrev pub alone : TagOf ℕ → Item
+alone number = record { place = 0; tags = number ∷ [] }
+
+-- The tag holds no variable, and an item brings it alone, with its argument by number.
+pub record IsListed (types : List Ty) (items : List Item) (tag : TagOf Ty) : Type 0 where
+  pub index : ℕ
+  pub number : TagOf ℕ
+  pub there : slice_get items index ≡ Some (alone number)
+  pub is : tag_with_part (slice_get types) number ≡ tag_with_part (λ (t : Ty). Some t) tag
+  pub closed : IfSome tag.argument (λ a. is_closed a ≡ true)
+
+-- so are the tags of the first types
+abbrev pub AreListed : List Ty → List Item → ℕ → Type 0
+AreListed types items count =
+    (j : ℕ) → j < count → EachTag (IsListed types items) (type_at types j)
+
+-- what it abbreviates is one of the types
+abbrev pub HasBody : List Ty → Decl → Type 0
+HasBody types decl =
+    (t : Ty) → abbreviated decl.body ≡ Some t → (i : ℕ) × (slice_get types i ≡ Some t)
+
+-- ---- tags that stand apart
+
+-- no two of these items clash
+pub record NoneClash (items : List Item) : Type 0 where
+  pub arguments : (k : ℕ) → ¬ ClashesIn items k
+  pub hashes : (k : ℕ) → ¬ CollidesIn items k
+
+pub record AreApart (one other : TagOf Ty) : Type 0 where
+  pub arguments : one.name ≡ other.name → ¬ (one.argument ≢ other.argument)
+  pub hashes : one.name ≢ other.name → ¬ (tag_hash one.name ≡ tag_hash other.name)
+
+-- so do all tags that these types bring
+abbrev pub StandApart : List Decl → List Ty → Type 0
+StandApart decls types =
+    (i j : ℕ) (one other : TagOf Ty) → i < length types → j < length types
+    → Contains (tags_of_item decls (type_at types i)) one
+    → Contains (tags_of_item decls (type_at types j)) other
+    → AreApart one other

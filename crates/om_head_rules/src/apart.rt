@@ -1,0 +1,165 @@
+//! Texts whose tags clash in no bracket, whatever their brackets include: each name is written with
+//! one argument, without variables, and each hash with one name.
+
+ghost use Rattle.std.specs.Prelude.{◌≡◌, ◌<◌, ◌+◌, ◌++◌, ◌∷◌, [], length, IfOk, IfSome, OnOk, IsTrue};
+ghost use Rattle.om_types.specs.Nodes.{type_at};
+ghost use Rattle.om_store.specs.Held.{Grows};
+ghost use Rattle.om_head_rules.specs.Apart.{is_closed, TellsClosed, alone, AreListed, HasBody, NoneClash, StandApart};
+ghost use Rattle.std.specs.Prelude.{All};
+
+use crate::item::NumberedItem;
+use om_brackets::{Item, least_clash, least_collision};
+use om_model::Memory;
+use om_model::list::List;
+use om_store::{TypeNode, Types};
+use om_types::decl::{Body, Decl};
+use om_types::head::TagOf;
+use std::alloc::Global;
+
+/// Whether a type holds no variable, where that is told of those before it.
+fn is_closed(types: &Types, told: &[bool], number: usize) -> bool
+    requires number { number < length types.now }
+    requires before { length told.now ≡ number }
+    requires told { TellsClosed types.now told.now }
+    ensures { result ≡ is_closed (type_at types.now number) }
+{
+    match types.node(number) {
+        TypeNode::Variable(_) => false,
+        TypeNode::Part(whole, added) => told[whole] && told[added],
+        TypeNode::TagOf(whole, _, argument) => told[whole] && told[argument],
+        TypeNode::Including(whole, included) => told[whole] && told[included],
+        TypeNode::Tag(whole, _) => told[whole],
+        _ => true,
+    }
+}
+
+/// Of each type whether it holds no variable.
+fn closed_types(alloc: Global, types: &Types) -> Result<Vec<bool>, Memory>
+    ensures told { IfOk result (λ v. TellsClosed types.now v.items) }
+    ensures all { IfOk result (λ v. length v.items ≡ length types.now) }
+{
+    let mut told = Vec::new(alloc);
+    for number in 0..types.len() {
+        let closed = is_closed(types, told.as_slice(), number);
+        told.push(closed)?;
+    }
+    Ok(told)
+}
+
+/// Adds a tag as an item.
+fn put_item(
+    alloc: Global,
+    items: &mut List<Item>,
+    name: &[u8],
+    argument: Option<usize>,
+) -> Result<(), Memory>
+    ensures { OnOk result
+        (items.new
+        ≡ items.old ++ alone (record { name = name.now; argument = argument }) ∷ []) }
+{
+    let name = List::of(Vec::from_slice(alloc, name)?);
+    let mut tags = List::new(alloc);
+    tags.push(TagOf { name, argument })?;
+    items.push(Item { place: 0, tags })?;
+    Ok(())
+}
+
+/// Adds the tag that a type ends with, and answers whether it holds no variable.
+fn put_last(
+    alloc: Global,
+    types: &Types,
+    told: &[bool],
+    items: &mut List<Item>,
+    number: usize,
+) -> Result<bool, Memory>
+    requires number { number < length types.now }
+    requires all { length told.now ≡ length types.now }
+    requires told { TellsClosed types.now told.now }
+    ensures { IfOk result
+        (λ closed. IsTrue closed → AreListed types.now items.old number
+        → AreListed types.now items.new (number + 1)) }
+{
+    match types.node(number) {
+        TypeNode::Tag(_, name) => {
+            put_item(alloc, items, name, None)?;
+            Ok(true)
+        }
+        TypeNode::TagOf(_, name, argument) => {
+            put_item(alloc, items, name, Some(argument))?;
+            Ok(told[argument])
+        }
+        _ => Ok(true),
+    }
+}
+
+/// The tags of types, each as an item, where none holds a variable.
+fn listed(alloc: Global, types: &Types) -> Result<Option<List<Item>>, Memory>
+    ensures { IfOk result
+        (λ found. IfSome found (λ items. AreListed types.now items (length types.now))) }
+{
+    let told = closed_types(alloc, types)?;
+    let mut items = List::new(alloc);
+    for number in 0..types.len() {
+        if !put_last(alloc, types, told.as_slice(), &mut items, number)? {
+            return Ok(None);
+        }
+    }
+    Ok(Some(items))
+}
+
+/// Whether no two items bring one name with two arguments, or two names with one hash.
+fn none_clash(alloc: Global, items: &[Item]) -> Result<bool, Memory>
+    ensures { IfOk result (λ none. IsTrue none → NoneClash items.now) }
+{
+    match least_clash(alloc, items)? {
+        Some(_) => Ok(false),
+        None => match least_collision(alloc, items)? {
+            Some(_) => Ok(false),
+            None => Ok(true),
+        },
+    }
+}
+
+/// Adds what a declaration abbreviates.
+fn add_body(alloc: Global, types: &mut Types, decl: &Decl) -> Result<(), Memory>
+    ensures grown { Grows types.old types.new }
+    ensures there { OnOk result (HasBody types.new decl.now) }
+{
+    if let Body::Abbreviation(body) = &decl.body {
+        let _ = types.add(alloc, body)?;
+    }
+    Ok(())
+}
+
+/// Adds what declarations abbreviate.
+fn add_bodies(alloc: Global, types: &mut Types, decls: &[Decl]) -> Result<(), Memory>
+    ensures grown { Grows types.old types.new }
+    ensures there { OnOk result (All (HasBody types.new) decls.now) }
+{
+    for decl in decls {
+        add_body(alloc, types, decl)?;
+    }
+    Ok(())
+}
+
+/// Whether no tags that the types bring can clash, by the tags that are written in them and in
+/// declarations. It takes a step for each node and each tag, however many tags brackets include.
+/// Where it answers no, they may stand apart all the same.
+pub fn stand_apart(
+    alloc: Global,
+    types: &mut Types,
+    decls: &[Decl],
+    brackets: &[List<NumberedItem>],
+) -> Result<bool, Memory>
+    ensures grown { Grows types.old types.new }
+    ensures ok { IfOk result (λ apart. IsTrue apart → StandApart decls.now types.new) }
+{
+    if brackets.is_empty() {
+        return Ok(false);
+    }
+    add_bodies(alloc, types, decls)?;
+    match listed(alloc, types)? {
+        Some(items) => none_clash(alloc, items.as_slice()),
+        None => Ok(false),
+    }
+}
