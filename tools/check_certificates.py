@@ -1,13 +1,16 @@
 #!/usr/bin/env python3
-"""Compares `omarshal verify` and `check --cert` with the independent verifier verify_certificate.py, on values that OCaml writes
-(expected/shown_values.ml):
+"""Compares `omarshal verify` and `check --cert` with the independent verifier verify_certificate.py:
 
-    tools/check_certificates.py [PROGRAM]
+    tools/check_certificates.py [PROGRAM [FOLDER]]
 
-For each value a certificate is made here by a search from the root, at its type and at some types of other values, and then changed: a
-pair left out, added or altered, a line left out or doubled, a number one greater or less. Both have to put the same text on out and on err, with the same status, and
-the certificate that was not changed has to be accepted. What `check --cert` puts has to be accepted by both too, with the line and the
-status of `check`; and to be the certificate that is made here, but for a clash, of which any is made here. PROGRAM is by default the one that `./omarshal` built.
+Without FOLDER, on values that OCaml writes here (expected/shown_values.ml), each at its type and at some types of others.
+FOLDER has files of OCaml itself, each at its type: KEEP=FOLDER tools/check_real_files.sh keeps them there.
+
+For each value a certificate is made here by a search from the root, and then changed: a pair left out, added or altered,
+a line left out or doubled, a number one greater or less. Both have to put the same text on out and on err, with the same
+status, and the certificate that was not changed has to be accepted. What `check --cert` puts has to be accepted by both
+too, with the line and the status of `check`; and to be the certificate that is made here, but for a clash, of which any
+is made here. PROGRAM is by default the one that `./omarshal` built.
 """
 import contextlib
 import io
@@ -87,80 +90,114 @@ def told_by(program, words, stream):
     return told.stdout.decode("latin-1"), told.stderr.decode("latin-1"), told.returncode
 
 
-def wrong_with_put(program, name, stream, lines):
-    """What is wrong with the certificate that `check --cert` puts of the value, or nothing."""
-    checked = told_by(program, ["check", "shown.ml", name], stream)
-    text, err, status = told_by(program, ["check", "--cert", "shown.ml", name], stream)
-    with open("certificate", "w") as certificate:
-        certificate.write(text)
-    if (err, status) != checked[1:]:
-        return f"ends with {(err, status)}, check with {checked[1:]}"
-    if " clash " not in text and text != "".join(line + "\n" for line in lines):
-        return f"puts {text!r}, where {lines} are made"
-    words = ["shown.ml", name, "certificate"]
-    for who, told in (("verify", told_by(program, ["verify", *words], stream)), ("the other", independent(words, stream))):
-        if told != checked:
-            return f"puts {text!r}, of which {who} says {told}, and check {checked}"
-    return None
+class Case:
+    """A value at a type: the words of a call but the certificate, the bytes, the table of the type, and the certificate
+    that is made here."""
+
+    def __init__(self, words, stream, table):
+        self.words, self.stream, self.table = words, stream, table
+        lines = made(table, *read_value(Input(stream)))
+        self.lines = [f"value 0 {lines[0]}"] + lines[1:] + ["end"]
+
+    def by_program(self, program, command, *more):
+        """What the program puts on out and on err, and its status."""
+        told = subprocess.run([program, *command, *self.words, *more], input=self.stream, capture_output=True)
+        return told.stdout.decode("latin-1"), told.stderr.decode("latin-1"), told.returncode
+
+    def by_both(self, program, text):
+        """The same of the program and of verify_certificate.py where they verify this certificate."""
+        with open("certificate", "w", encoding="latin-1") as certificate:
+            certificate.write(text)
+        out, err = io.StringIO(), ""
+        try:
+            with contextlib.redirect_stdout(out):
+                status = verify_certificate.verify(self.table, text.encode("latin-1"), self.stream)
+        except verify_certificate.Refused as refusal:
+            status, err = refusal.status, f"omarshal: {refusal}\n"
+        return self.by_program(program, ["verify"], "certificate"), (out.getvalue(), err, status)
+
+    def wrong_with_put(self, program):
+        """What is wrong with the certificate that `check --cert` puts of the value, or nothing."""
+        checked = self.by_program(program, ["check"])
+        text, err, status = self.by_program(program, ["check", "--cert"])
+        if (err, status) != checked[1:]:
+            return f"ends with {(err, status)}, check with {checked[1:]}"
+        if " clash " not in text and text != text_of(self.lines):
+            return f"puts {shortened(text)}, where {shortened(text_of(self.lines))} is made"
+        for who, told in zip(("verify", "the other"), self.by_both(program, text)):
+            if told != checked:
+                return f"puts {shortened(text)}, of which {who} says {told}, and check {checked}"
+        return None
 
 
-def independent(words, stream):
-    """What verify_certificate.py puts on out and on err, and its status."""
-    out, given = io.StringIO(), sys.stdin
-    sys.stdin = io.TextIOWrapper(io.BytesIO(stream))
-    try:
-        with contextlib.redirect_stdout(out):
-            status, err = verify_certificate.main(words), ""
-    except verify_certificate.Refused as refusal:
-        status, err = refusal.status, f"omarshal: {refusal}\n"
-    finally:
-        sys.stdin = given
-    return out.getvalue(), err, status
+def text_of(lines):
+    return "".join(line + "\n" for line in lines)
 
 
-def main():
-    program = os.path.abspath(sys.argv[1] if len(sys.argv) > 1 else os.path.join(here, "../crates/omarshal/out/omarshal"))
-    if not shutil.which("ocamlc"):
-        print("skipped: no ocamlc")
-        return 0
-    work = tempfile.mkdtemp()
-    try:
-        return compare(program, work)
-    finally:
-        shutil.rmtree(work)
+def shortened(text):
+    return repr(text if len(text) < 400 else text[:200] + " .. " + text[-200:])
 
 
-def compare(program, work):
-    shutil.copy(os.path.join(here, "expected/shown.types"), os.path.join(work, "shown.ml"))
-    shutil.copy(os.path.join(here, "expected/shown_values.ml"), work)
-    os.chdir(work)
+def written_values(draw):
+    """The values that OCaml writes, each with some types: its own one first."""
+    shutil.copy(os.path.join(here, "expected/shown.types"), "shown.ml")
+    shutil.copy(os.path.join(here, "expected/shown_values.ml"), ".")
     os.mkdir("values")
     subprocess.run(["ocamlc", "-w", "-a", "-c", "shown.ml"], check=True)
     subprocess.run(["ocamlc", "-w", "-a", "-o", "write_values", "shown.cmo", "shown_values.ml"], check=True)
     table = subprocess.run(["./write_values", "values"], check=True, capture_output=True, text=True).stdout
     values = [line.split("\t") for line in table.splitlines()]
-    with open("shown.ml", encoding="latin-1") as file:
-        declarations = Declarations(file.read())
-    draw, passed, failed, written, tables, kinds = random.Random(1), 0, 0, 0, {}, {}
-    for file, own in values:
-        stream = open(os.path.join("values", file), "rb").read()
-        for name in [own] + draw.sample(sorted({type_text for _, type_text in values}), 3):
-            if name not in tables:
-                tables[name] = verify_certificate.Table(*read_type(declarations, name))
-            root, objects = read_value(Input(stream))
-            lines = made(tables[name], root, objects)
-            lines = [f"value 0 {lines[0]}"] + lines[1:] + ["end"]
-            wrong = wrong_with_put(program, name, stream, lines)
+    types = sorted({own for _, own in values})
+    return [(os.path.join("values", file), "shown.ml", [own] + draw.sample(types, 3)) for file, own in values]
+
+
+def kept_values(folder):
+    """The files in a folder, each with its type."""
+    with open(os.path.join(folder, "values.tsv"), encoding="latin-1") as file:
+        rows = [line.rstrip("\n").split("\t") for line in file]
+    return [(os.path.join(folder, name), types, [own]) for name, types, own in rows]
+
+
+def main():
+    program = os.path.abspath(sys.argv[1] if len(sys.argv) > 1 else os.path.join(here, "../crates/omarshal/out/omarshal"))
+    folder = os.path.abspath(sys.argv[2]) if len(sys.argv) > 2 else None
+    if not folder and not shutil.which("ocamlc"):
+        print("skipped: no ocamlc")
+        return 0
+    work = tempfile.mkdtemp()
+    try:
+        os.chdir(work)
+        draw = random.Random(1)
+        return compare(program, kept_values(folder) if folder else written_values(draw), draw)
+    finally:
+        shutil.rmtree(work)
+
+
+def table_of(types, name, known={}):
+    """The table of a type over the declarations of a file, each made once."""
+    if types not in known:
+        with open(types, encoding="latin-1") as file:
+            known[types] = Declarations(file.read())
+    if (types, name) not in known:
+        known[types, name] = verify_certificate.Table(*read_type(known[types], name))
+    return known[types, name]
+
+
+def compare(program, values, draw):
+    passed, failed, written, kinds = 0, 0, 0, {}
+    for path, types, names in values:
+        with open(path, "rb") as file:
+            stream = file.read()
+        for name in names:
+            case = Case([types, name], stream, table_of(types, name))
+            wrong = case.wrong_with_put(program)
             written += 1
             if wrong:
                 failed += 1
-                print(f"FAILED: check --cert of {file} at {name} {wrong}")
-            for turn in range(24 if name == own else 4):
-                with open("certificate", "w") as certificate:
-                    certificate.write("".join(line + "\n" for line in (changed(lines, draw) if turn else lines)))
-                words = ["shown.ml", name, "certificate"]
-                got = told_by(program, ["verify", *words], stream)
-                wanted = independent(words, stream)
+                print(f"FAILED: check --cert of {path} at {name} {wrong}")
+            for turn in range(24 if name == names[0] else 4):
+                lines = changed(case.lines, draw) if turn else case.lines
+                got, wanted = case.by_both(program, text_of(lines))
                 kind = re.search("Range|Unfit|Need|TwoTypes|Root|NotFault|Syntax|no section|sections left", wanted[1])
                 kind = kind[0] if kind else wanted[0].split(" ")[0].strip()
                 kinds[kind] = kinds.get(kind, 0) + 1
@@ -168,7 +205,7 @@ def compare(program, work):
                     passed += 1
                 else:
                     failed += 1
-                    print(f"FAILED: {file} at {name}, {open('certificate').read()!r}: says {got}, expected {wanted}")
+                    print(f"FAILED: {path} at {name}, {shortened(text_of(lines))}: says {got}, expected {wanted}")
     print("answers: " + ", ".join(f"{kind} {count}" for kind, count in sorted(kinds.items())))
     print(f"{written} certificates were put by check --cert")
     print(f"{passed} passed, {failed} failed")

@@ -4,7 +4,8 @@
 # where Coq's standard library is installed (libcoq-stdlib), three segments of each .vo: summary, universes and opaques.
 # Each value has its type, comes back byte for byte from `edit` with an empty script, and from `build` of what `show` puts of it; with a byte of it damaged it is
 # refused, or does not have the type, or is another value of it, and omarshal ends with 0, 1 or 4 all the same. The argument
-# is the program; with none it is the one that `./omarshal` built.
+# is the program; with none it is the one that `./omarshal` built. Where KEEP is set, it names a folder in which each value is
+# kept, and the table values.tsv with a line for each: its file, its type file and its type (tools/check_certificates.py).
 set -eu
 export LC_ALL=C
 for needed in ocaml ocamlc; do
@@ -29,6 +30,11 @@ work=$(mktemp -d)
 trap 'rm -rf "$work"' EXIT
 checked=0
 failures=0
+kept=0
+if [ -n "${KEEP:-}" ]; then
+    mkdir -p "$KEEP"
+    : > "$KEEP/values.tsv"
+fi
 
 # Twelve bytes of magic come before the first value of a .cmi, .cmx or .cmxa, and 16 bytes of a checksum after that of a
 # .cmx; a .cmo or .cma has its value at the place that the four bytes after the magic tell.
@@ -71,6 +77,11 @@ value() {
     fi
     checked=$((checked + 1))
     nth "$4" "$work/values" > "$work/one"
+    if [ -n "${KEEP:-}" ]; then
+        kept=$((kept + 1))
+        cp "$work/one" "$KEEP/$kept.bin"
+        printf '%s\t%s\t%s\n' "$kept.bin" "$(realpath "$examples/$2")" "$3" >> "$KEEP/values.tsv"
+    fi
     if ! "$program" edit "$examples/$2" "$3" /dev/null < "$work/one" > "$work/written" 2> "$work/told" ||
         ! cmp -s "$work/one" "$work/written"; then
         echo "FAILED: edit of $1 at $3 with an empty script: $(cat "$work/told")"

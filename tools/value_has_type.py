@@ -311,9 +311,9 @@ def types_of_body(body):
     return [form for _, fields in content for _, _, form in fields]
 
 
-def refuse_if(wrong, text):
+def refuse_if(wrong, text, status=2):
     if wrong:
-        raise Refused(2, text)
+        raise Refused(status, text)
 
 
 def refuse_twice(words, what):

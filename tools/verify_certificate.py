@@ -56,20 +56,17 @@ def read_sections(data):
             good = pair and begun[-1:] < [pair]
             if good:
                 begun.append(pair)
-        if not good:
-            raise Refused(12, f"certificate line {at}: Syntax")
-    if begun is not None or rest:
-        raise Refused(12, f"certificate line {len(lines) + 1}: Syntax")
+        refuse_if(not good, f"certificate line {at}: Syntax", 12)
+    refuse_if(begun is not None or rest, f"certificate line {len(lines) + 1}: Syntax", 12)
     return sections
 
 
 def rejected(table, root, objects, pairs):
     """The first reason why the pairs do not justify one another, or do not hold the root."""
+    classes = {}
     for i, (o, t) in enumerate(pairs):
         if o >= len(objects) or t >= len(table.types):
             return f"Range({i})"
-    classes = {}
-    for o, t in pairs:
         classes.setdefault(o, set()).add(table.classes[t])
 
     def holds(value, t):
@@ -119,30 +116,29 @@ def fault_text(table, root, objects, paths):
     return f"{where}: {types} share a mutable object" if in_order and mutable else None
 
 
-def main(words):
-    refuse_if(len(words) != 3, "FILE TYPE CERT")
-    with open(words[0], encoding="latin-1") as file:
-        declarations = Declarations(file.read())
-    table = Table(*read_type(declarations, words[1]))
-    with open(words[2], "rb") as file:
-        sections = read_sections(file.read())
-    stream, status, k = Input(sys.stdin.buffer.read()), 0, 0
-    while stream.at < len(stream.data):
+def verify(table, certificate, data):
+    """Puts the line of each value; the answer is 1 where one of them says `no`."""
+    sections, stream, status, k = read_sections(certificate), Input(data), 0, 0
+    while stream.at < len(data):
         root, objects = read_value(stream)
-        if k == len(sections):
-            raise Refused(12, f"value {k}: no section")
+        refuse_if(k == len(sections), f"value {k}: no section", 12)
         if isinstance(sections[k], list):
             text, why = "yes", rejected(table, root, objects, sections[k])
         else:
             fault = fault_text(table, root, objects, sections[k])
             text, why, status = f"no {fault}", None if fault else "NotFault", 1
-        if why:
-            raise Refused(12, f"value {k}: certificate {why}")
+        refuse_if(why, f"value {k}: certificate {why}", 12)
         print(text)
         k += 1
-    if k < len(sections):
-        raise Refused(12, "sections left")
+    refuse_if(k < len(sections), "sections left", 12)
     return status
+
+
+def main(words):
+    refuse_if(len(words) != 3, "FILE TYPE CERT")
+    with open(words[0], encoding="latin-1") as file, open(words[2], "rb") as certificate:
+        table = Table(*read_type(Declarations(file.read()), words[1]))
+        return verify(table, certificate.read(), sys.stdin.buffer.read())
 
 
 if __name__ == "__main__":
