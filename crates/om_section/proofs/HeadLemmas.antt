@@ -1,19 +1,17 @@
 -- What single lines of a certificate are, by their pieces.
-use Rattle.std.proofs.Common.{ℕ, suc, ◌<◌, ◌≡◌, ◌≢◌, ◌∙◌, inr, Bool, true, false, List, [], ◌∷◌, ◌++◌, length, Option, Some, None, Result, Ok, Err, refl, sym, ap, subst, arith, length-append, append_assoc}
+use Rattle.std.proofs.Common.{ℕ, suc, ◌<◌, ◌≡◌, ◌≢◌, ◌∙◌, inr, Bool, true, false, List, [], ◌∷◌, ◌++◌, length, Option, Some, None, Result, Ok, Err, refl, sym, ap, subst, arith, append_assoc}
 use Rattle.std.specs.Prelude.{All, IfOk, MatchOption, codes, decimal, ◌==◌}
 use Rattle.std.proofs.lemmas.Bool.{false≢true}
 use Rattle.std.proofs.lemmas.Bool.Decides.{Decides-eqb}
 use Rattle.std.proofs.lemmas.List.{append-nil, append_cancel_left}
 use Rattle.std.proofs.lemmas.List.Concat.{flat_map-append}
-use Rattle.std.proofs.lemmas.List.Elements.{All-nil, All-head, All-tail, All-push}
-use Rattle.std.proofs.lemmas.Option.{slice_get_within}
+use Rattle.std.proofs.lemmas.List.Elements.{All-head, All-tail, All-push}
 use Rattle.om_model.specs.PathText.{path_text, steps_text}
 use Rattle.om_section.specs.declared.section.Section.{Section}
 use Rattle.om_section.specs.declared.section.Section.TheVariants as sections
-use Rattle.om_section.specs.Increasing.{AreIncreasing}
 use Rattle.om_section.specs.Numbers.{IsNumber, IsNumberText, IsNoNumberText}
 use Rattle.om_section.specs.Format.{verdict_text, head_line}
-use Rattle.om_section.specs.Reading.{BeginsAt, IsCut, AreNumbers, IsPairLine, IsNoPairLine, IsPathText, IsNoPathText, IsStepsText, IsNoStepsText, IsStep, IsNoStep, IsVerdict, IsNoVerdict, IsHead, IsNoHead}
+use Rattle.om_section.specs.Reading.{BeginsAt, IsCut, IsPairLine, IsNoPairLine, IsPathText, IsNoPathText, IsStepsText, IsNoStepsText, IsStep, IsNoStep, IsVerdict, IsNoVerdict, IsHead, IsNoHead}
 use Rattle.om_section.proofs.CutLemmas.{cut_is_one}
 use Rattle.om_section.proofs.TextLemmas.{decimal_lacks, number_is_one, steps_begin, path_lacks, first_byte}
 

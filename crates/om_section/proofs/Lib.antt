@@ -6,4 +6,5 @@ pub mod LineLemmas
 pub mod FaultLemmas
 pub mod HeadLemmas
 pub mod ReadLemmas
+pub mod RunLemmas
 pub mod PutLemmas

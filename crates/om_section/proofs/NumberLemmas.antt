@@ -1,16 +1,16 @@
 -- Decimal digits, and the numbers that they are the text of.
-use Rattle.std.proofs.Common.{ℕ, zero, suc, ◌≡◌, ◌<◌, ◌≤◌, ◌+◌, ◌-◌, ◌*◌, ◌^◌, ◌∙◌, Bool, true, false, List, length, take, get_or, refl, sym, ap, subst, arith}
-use Rattle.std.specs.Prelude.{◌==◌}
+use Rattle.std.proofs.Common.{ℕ, zero, suc, ◌≡◌, ◌<◌, ◌≤◌, ◌+◌, ◌-◌, ◌*◌, ◌^◌, ◌∙◌, Bool, true, false, List, [], ◌∷◌, ◌++◌, length, take, drop, get_or, refl, sym, ap, subst, arith}
+use Rattle.std.specs.Prelude.{◌==◌, decimal}
 use Rattle.std.proofs.lemmas.Bool.{false≢true}
 use Rattle.std.proofs.lemmas.Bool.Decides.{Decides-eqb}
 use Rattle.std.specs.Str.Parse.{AllDigits, digits_value}
 use Rattle.std.proofs.lemmas.Fmt.{decimal_is_IsNumeral, decimal_nonempty, decimal_digit, first_decimal, length-decimal-le, decimal-digits_value}
 use Rattle.std.proofs.lemmas.Str.Parse.{IsNumeralModel, numerals_by_value, tells_digits, digit_at, digits_value_short}
 use Rattle.std.proofs.lemmas.Int.Digits.{digits_value_more, digits_more}
-use Rattle.std.proofs.lemmas.List.{length-take-le}
+use Rattle.std.proofs.lemmas.List.{length-take-le, take-append-drop, take_rest}
 use Rattle.std.proofs.Math.Seq.{take-length}
 use Rattle.std.specs.Char.{digit_value}
-use Rattle.om_section.specs.Numbers.{IsNumberText, IsNoNumberText}
+use Rattle.om_section.specs.Numbers.{IsNumberText, IsNoNumberText, BeginsWithNumber}
 
 own : IsNumeralModel (AllDigits 10) (digits_value 10)
 own = numerals_by_value (AllDigits 10) tells_digits
@@ -88,3 +88,40 @@ whole bytes i n low high held =
     let same : i ≡ length bytes = omega (arith, low, high) in
     let is : take i bytes ≡ bytes = ap (λ k. take k bytes) same ∙ take-length bytes in
     subst (λ b. AllDigits 10 b × (n ≡ digits_value 10 b)) is held
+
+-- ---- the first of some bytes
+
+few_first : (bytes : List ℕ) (i : ℕ) → i ≤ 18 → i ≤ length bytes → AllDigits 10 (take i bytes) → digits_value 10 (take i bytes) < 10 ^ 18
+few_first bytes i few inside all =
+    let many = length-take-le i bytes inside in digits_value_short own (take i bytes) 18 all (omega (arith, many, few))
+
+-- one digit more
+pub first_more :
+    (bytes : List ℕ) (i n d m : ℕ) → i < length bytes → 48 ≤ get_or bytes i 0 → get_or bytes i 0 ≤ 57
+    → AllDigits 10 (take i bytes) × (n ≡ digits_value 10 (take i bytes)) → i < 18 → d ≡ get_or bytes i 0 - 48 → m ≡ 10 * n + d
+    → (AllDigits 10 (take (i + 1) bytes) × (m ≡ digits_value 10 (take (i + 1) bytes))) × (i + 1 ≤ 18) × (i + 1 ≤ length bytes)
+first_more bytes i n d m inside low high before few is sum =
+    (digit_more bytes i n d m inside low high before is sum, omega (arith, few), omega (arith, inside))
+
+pub first_small : (bytes : List ℕ) (i n : ℕ) → i ≤ 18 → i ≤ length bytes → AllDigits 10 (take i bytes) × (n ≡ digits_value 10 (take i bytes)) → n < 10 ^ 18
+first_small bytes i n few inside held = let less = few_first bytes i few inside held.0 in let is = held.1 in omega (arith, less, is)
+
+first_byte : (bytes : List ℕ) (i : ℕ) → 0 < i → get_or (take i bytes) 0 0 ≡ get_or bytes 0 0
+first_byte bytes zero some = absurd (omega (arith, some))
+first_byte [] (suc i) some = refl
+first_byte (b ∷ bytes) (suc i) some = refl
+
+pub number_begins :
+    (bytes : List ℕ) (i n : ℕ) → 0 < i → i ≤ 18 → i ≤ length bytes → AllDigits 10 (take i bytes) × (n ≡ digits_value 10 (take i bytes))
+    → (get_or bytes 0 0 ≡ 48 → i ≤ 1) → BeginsWithNumber bytes n (take (length bytes - i) (drop i bytes))
+number_begins bytes i n some few inside held leading =
+    (text'.0, sym (take-append-drop i bytes) ∙ (ap (λ z. z ++ drop i bytes) text'.1 ∙ ap (λ z. decimal n ++ z) (sym (take_rest bytes i)))) where
+      many : length (take i bytes) ≡ i
+      many = length-take-le i bytes inside
+
+      text' : IsNumberText (take i bytes) n
+      text' =
+          let less = few_first bytes i few inside held.0 in
+          subst (λ m. IsNumberText (take i bytes) m) (sym held.1)
+          (is_number (take i bytes) (omega (arith, many, some))
+          (λ zero'. let one = leading (sym (first_byte bytes i some) ∙ zero') in omega (arith, many, one, some)) held.0 (omega (arith, less)))

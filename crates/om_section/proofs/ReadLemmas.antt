@@ -2,7 +2,7 @@
 use Rattle.std.proofs.Common.{ℕ, zero, suc, ◌≤◌, ◌+◌, ◌-◌, ◌≡◌, ◌∙◌, ⊎_elim, inl, inr, Bool, false, List, [], ◌∷◌, ◌++◌, length, Option, Some, None, refl, sym, ap, subst, arith, zero-add, length-append, append_assoc, take, drop}
 use Rattle.std.specs.Prelude.{Contains, All, IfSome, is_some, not, map, codes, decimal, slice_get}
 use Rattle.std.proofs.lemmas.Bool.{false≢true}
-use Rattle.std.proofs.lemmas.List.{append-nil, map-append, length_push, take_rest}
+use Rattle.std.proofs.lemmas.List.{append-nil, map-append, length_push, length-drop, take_rest}
 use Rattle.std.proofs.lemmas.List.Concat.{flat_map-append}
 use Rattle.std.proofs.lemmas.List.Elements.{All-nil, All-head, All-push}
 use Rattle.std.proofs.lemmas.Option.{slice_get_within}
@@ -13,6 +13,7 @@ use Rattle.om_section.specs.Increasing.{AreIncreasing, IsAbove}
 use Rattle.om_section.specs.Numbers.{IsNumber}
 use Rattle.om_section.specs.Format.{IsStated, AreStated, pair_line, pair_lines, head_line, section_lines, lines_from, text_of, IsCertificate, AreFront, AreWhole, IsSyntaxAt}
 use Rattle.om_section.specs.Reading.{BeginsAt, IsCut, AreNumbers, IsPairLine, IsHead, IsNoHead, HasOneMore, HasNoMore, open_lines, lines_read, IsReading, GoesOn, GoesNowhere}
+use Rattle.om_section.specs.Runs.{HasMorePairs, HasReadMore}
 use Rattle.om_section.proofs.TextLemmas.{pair_is_one, AreAlike, verdicts_are_alike, head_tells_verdict}
 use Rattle.om_section.proofs.LineLemmas.{HasPair, pairs_go_on, pairs_have_end, Begin, begin_with, lines_from-push}
 use Rattle.om_section.proofs.FaultLemmas.{fault_at_line, fault_behind}
@@ -261,6 +262,39 @@ reading_without_more reading section line is some other without =
     subst (λ (o : Option Section). GoesNowhere (record { whole = reading.whole; begun = o }) line) (sym some)
     (no_more reading.whole is.stated section line (begun_is reading section is some).0 other without)
 
+-- ---- a run of pairs
+
+pub run_numbers : (reading : Reading) (pairs : List (ℕ × ℕ)) → IsReading reading → reading.begun ≡ Some (sections.Pairs pairs) → All AreNumbers pairs
+run_numbers reading pairs is some = (begun_is reading (sections.Pairs pairs) is some).0.1
+
+pub run_read :
+    (reading : Reading) (pairs longer : List (ℕ × ℕ)) (text : List ℕ) (many taken : ℕ) → IsReading reading
+    → reading.begun ≡ Some (sections.Pairs pairs) → AreIncreasing longer → HasMorePairs pairs text longer many taken
+    → HasReadMore reading text (record { whole = reading.whole; begun = Some (sections.Pairs longer) }) many taken
+run_read reading pairs longer text many taken is some increasing more = record {
+  is = record { stated = is.stated; opened = ((increasing, more.numbers), own.1) };
+  lines = map pair_line more.added;
+  read =
+      ap (λ (z : List (ℕ × ℕ)). lines_from 0 reading.whole ++ (head_line (length reading.whole) (sections.Pairs pairs) ∷ map pair_line z)) more.is
+      ∙ (ap (λ (z : Lines). lines_from 0 reading.whole ++ (head_line (length reading.whole) (sections.Pairs pairs) ∷ z)) (map-append pair_line pairs more.added)
+      ∙ (sym (append_assoc (lines_from 0 reading.whole) (head_line (length reading.whole) (sections.Pairs pairs) ∷ map pair_line pairs) (map pair_line more.added))
+      ∙ ap (λ (o : Option Section). (lines_from 0 reading.whole ++ open_lines (length reading.whole) o) ++ map pair_line more.added) (sym some)));
+  begins = more.begins;
+} where
+  own : IsStated (sections.Pairs pairs) × IsNumber (length reading.whole)
+  own = begun_is reading (sections.Pairs pairs) is some
+
+pub nothing_read :
+    (reading : Reading) (begun' : Option Section) (text : List ℕ) → IsReading reading → reading.begun ≡ begun'
+    → HasReadMore reading text (record { whole = reading.whole; begun = begun' }) 0 0
+nothing_read reading begun' text is same =
+    subst (λ (o : Option Section). HasReadMore reading text (record { whole = reading.whole; begun = o }) 0 0) same (record {
+      is = is;
+      lines = [];
+      read = sym (append-nil (lines_read reading));
+      begins = record { counted = refl; within = omega arith; few = omega arith; spelled = refl };
+    })
+
 -- ---- all of the lines
 
 -- what has been read, by its parts
@@ -296,42 +330,69 @@ module _ (bytes : List ℕ) (reading : Reading) (lines : ℕ) (line rest : List 
   front : AreFront (lines_read reading)
   front = front_of reading.whole reading.begun at.is
 
+  -- with the line, which ends, and lines behind it
   pub at_next :
-      (next : Reading) (line' rest' : List ℕ) → (rest ≡ [] → ⊥) → GoesOn reading line next → IsCut (drop 1 rest) 10 line' rest'
-      → IsAt bytes next (lines + 1) line' rest'
-  at_next next line' rest' some goes cut = record {
-    is = goes.is;
+      (next far : Reading) (many taken : ℕ) (line' rest' : List ℕ) → (rest ≡ [] → ⊥) → GoesOn reading line next
+      → HasReadMore next (drop 1 rest) far many taken → IsCut (drop taken (drop 1 rest)) 10 line' rest'
+      → IsAt bytes far (lines + 1 + many) line' rest'
+  at_next next far many taken line' rest' some goes run cut = record {
+    is = run.is;
     counted =
         let counted = at.counted in
         let long = ap length goes.lines ∙ length_push (lines_read reading) line in
-        omega (arith, counted, long);
+        let more = run.begins.counted in
+        let far' = ap length run.read ∙ length-append (lines_read next) run.lines in
+        omega (arith, counted, long, more, far');
     few =
         let few = at.few in
         let long = ap length feed in
         let both = ap length cut.whole ∙ length-append line' rest' in
-        omega (arith, few, long, both);
+        let within = run.begins.within in
+        let few' = run.begins.few in
+        let short = length-drop taken (drop 1 rest) in
+        omega (arith, few, long, both, within, few', short);
     spelled =
         at.spelled
-        ∙ (ap (λ (z : List ℕ). text_of (lines_read reading) ++ (line ++ z)) (feed ∙ ap (λ (z : List ℕ). 10 ∷ z) cut.whole)
+        ∙ (ap (λ (z : List ℕ). text_of (lines_read reading) ++ (line ++ z)) feed
         ∙ (ap (λ (z : List ℕ). text_of (lines_read reading) ++ z) (sym one)
-        ∙ (sym (append_assoc (text_of (lines_read reading)) (text_of (line ∷ [])) (line' ++ rest'))
-        ∙ ap (λ (z : List ℕ). z ++ (line' ++ rest'))
-        (sym (flat_map-append (λ (l : List ℕ). l ++ 10 ∷ []) (lines_read reading) (line ∷ [])) ∙ ap text_of (sym goes.lines)))));
+        ∙ (sym (append_assoc (text_of (lines_read reading)) (text_of (line ∷ [])) (drop 1 rest))
+        ∙ (ap (λ (z : List ℕ). z ++ drop 1 rest) (lines_more (lines_read reading) (line ∷ []) ∙ ap text_of (sym goes.lines))
+        ∙ (ap (λ (z : List ℕ). text_of (lines_read next) ++ z) (run.begins.spelled ∙ ap (λ (z : List ℕ). text_of run.lines ++ z) cut.whole)
+        ∙ (sym (append_assoc (text_of (lines_read next)) (text_of run.lines) (line' ++ rest'))
+        ∙ ap (λ (z : List ℕ). z ++ (line' ++ rest')) (lines_more (lines_read next) run.lines ∙ ap text_of (sym run.read))))))));
     none = cut.none;
     begins = cut.begins;
   } where
     feed : rest ≡ 10 ∷ drop 1 rest
     feed = behind_feed rest at.begins some
 
-    one : text_of (line ∷ []) ++ (line' ++ rest') ≡ line ++ (10 ∷ (line' ++ rest'))
-    one = ap (λ (z : List ℕ). z ++ (line' ++ rest')) (append-nil (line ++ 10 ∷ [])) ∙ append_assoc line (10 ∷ []) (line' ++ rest')
+    lines_more : (xs ys : Lines) → text_of xs ++ text_of ys ≡ text_of (xs ++ ys)
+    lines_more xs ys = sym (flat_map-append (λ (l : List ℕ). l ++ 10 ∷ []) xs ys)
 
-  -- the same where the rest is lent as a slice
+    one : text_of (line ∷ []) ++ drop 1 rest ≡ line ++ (10 ∷ drop 1 rest)
+    one = ap (λ (z : List ℕ). z ++ drop 1 rest) (append-nil (line ++ 10 ∷ [])) ∙ append_assoc line (10 ∷ []) (drop 1 rest)
+
+  -- the same where the rest is lent as a slice, and a part of it again
   pub at_next_slice :
-      (next : Reading) (line' rest' : List ℕ) → (rest ≡ [] → ⊥) → GoesOn reading line next
-      → IsCut (take (length rest - 1) (drop 1 rest)) 10 line' rest' → IsAt bytes next (lines + 1) line' rest'
-  at_next_slice next line' rest' some goes cut =
-      at_next next line' rest' some goes (subst (λ (z : List ℕ). IsCut z 10 line' rest') (take_rest rest 1) cut)
+      (next far : Reading) (many taken : ℕ) (behind line' rest' : List ℕ) → (rest ≡ [] → ⊥) → GoesOn reading line next
+      → behind ≡ take (length rest - 1) (drop 1 rest) → HasReadMore next behind far many taken
+      → IsCut (take (length behind - taken) (drop taken behind)) 10 line' rest' → IsAt bytes far (lines + 1 + many) line' rest'
+  at_next_slice next far many taken behind line' rest' some goes is run cut =
+      at_next next far many taken line' rest' some goes (subst (λ (z : List ℕ). HasReadMore next z far many taken) same run)
+      (subst (λ (z : List ℕ). IsCut (drop taken z) 10 line' rest') same (subst (λ (z : List ℕ). IsCut z 10 line' rest') (take_rest behind taken) cut)) where
+        same : behind ≡ drop 1 rest
+        same = is ∙ take_rest rest 1
+
+  -- what is counted is at most the bytes
+  pub few_more : (next far : Reading) (many taken : ℕ) → (rest ≡ [] → ⊥)
+      → HasReadMore next (take (length rest - 1) (drop 1 rest)) far many taken → lines + 1 + many ≤ length bytes
+  few_more next far many taken some run =
+      let few = at.few in
+      let long = ap length (behind_feed rest at.begins some) in
+      let same = ap length (take_rest rest 1) in
+      let within = run.begins.within in
+      let few' = run.begins.few in
+      omega (arith, few, long, same, within, few')
 
   pub faulty_line : (rest ≡ [] → ⊥) → GoesNowhere reading line → IsSyntaxAt bytes (lines + 1)
   faulty_line some nowhere =

@@ -1,7 +1,6 @@
 -- Pairs that increase are smaller than one that the last of them is smaller than.
 use Rattle.std.proofs.Common.{ℕ, zero, suc, ◌≡◌, ◌<◌, ◌-◌, ◌∙◌, ◌⊎◌, ⊎_elim, inl, inr, Bool, List, length, Some, refl, sym, ap, subst, arith}
-use Rattle.std.specs.Prelude.{slice_get, IsTrue, ◌↔◌, nat_lt}
-use Rattle.std.proofs.lemmas.Bool.{ltb-true, lt-ltb}
+use Rattle.std.specs.Prelude.{slice_get, IsTrue, ◌↔◌}
 use Rattle.std.proofs.lemmas.Option.{same_Some, slice_get_within}
 use Rattle.om_section.specs.Increasing.{IsSmaller, AreIncreasing, IsAbove}
 

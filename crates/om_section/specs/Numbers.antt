@@ -1,5 +1,5 @@
 -- The texts of numbers in a certificate.
-use Rattle.std.specs.Prelude.{ℕ, ◌≡◌, ◌^◌, ◌<◌, List, decimal}
+use Rattle.std.specs.Prelude.{ℕ, ◌≡◌, ◌^◌, ◌<◌, List, ◌++◌, decimal}
 
 -- numbers are below 2^63
 abbrev pub IsNumber : ℕ → Type 0
@@ -12,3 +12,7 @@ IsNumberText bytes n = IsNumber n × (bytes ≡ decimal n)
 -- they are the text of no number
 abbrev pub IsNoNumberText : List ℕ → Type 0
 IsNoNumberText bytes = (n : ℕ) → ¬ IsNumberText bytes n
+
+-- the bytes begin with the text of the number, which may go on
+abbrev pub BeginsWithNumber : List ℕ → ℕ → List ℕ → Type 0
+BeginsWithNumber bytes n rest = IsNumber n × (bytes ≡ decimal n ++ rest)

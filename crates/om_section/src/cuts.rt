@@ -26,6 +26,7 @@ fn place_of(bytes: &[u8], at: u8) -> usize
 }
 
 /// What stands behind this front.
+#[inline(always)]
 pub fn after<'a>(bytes: &'a [u8], front: &[u8]) -> Option<&'a [u8]>
     ensures { MatchOption result ((rest : List ℕ) → bytes.now ≢ front.now ++ rest)
         (λ rest. bytes.now ≡ front.now ++ rest.now) }

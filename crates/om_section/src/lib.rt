@@ -8,6 +8,7 @@ mod laws;
 mod number;
 mod put;
 mod read;
+mod runs;
 mod section;
 mod sink;
 

@@ -3,10 +3,12 @@
 ghost use Rattle.std.specs.Prelude.{◌≡◌, ◌<◌, IfOk, IfErr, MatchOption};
 ghost use Rattle.om_section.specs.Format.{IsCertificate, IsStated};
 ghost use Rattle.om_section.specs.Reading.{IsReading, GoesOn, GoesNowhere, HasOneMore, HasNoMore, IsFaultOf};
+ghost use Rattle.om_section.specs.Runs.{HasReadMore};
 ghost use Rattle.om_section.specs.declared.section.Section.TheVariants as sections;
 
 use crate::cuts::until;
 use crate::heads::{head_of, pair_of};
+use crate::runs::with_pairs;
 use crate::section::{Pairs, Section};
 use om_model::Memory;
 use om_model::list::List;
@@ -59,12 +61,36 @@ pub fn read_cert(alloc: Global, bytes: &[u8]) -> Result<Cert, CertFault>
             Some(next) => reading = next,
             None => return Err(CertFault::Syntax(lines)),
         }
-        (line, rest) = until(&rest[1..], b'\n');
+        let behind = &rest[1..];
+        let (next, more, taken) = with_run(reading, behind)?;
+        reading = next;
+        lines += more;
+        (line, rest) = until(&behind[taken..], b'\n');
     }
     if line.is_empty() && reading.begun.is_none() {
         Ok(reading.whole)
     } else {
         Err(CertFault::Syntax(lines + 1))
+    }
+}
+
+/// What has been read with the lines of pairs that the bytes begin with, as far as this is told at
+/// once; how many these are, and how many bytes.
+fn with_run(reading: Reading, text: &[u8]) -> Result<(Reading, usize, usize), Memory>
+    requires { IsReading reading }
+    ensures { IfOk result (λ run. HasReadMore reading text.now run.0 run.1 run.2) }
+{
+    let Reading { whole, begun } = reading;
+    match begun {
+        Some(Section::Pairs(pairs)) => {
+            let (longer, many, taken) = with_pairs(pairs, text)?;
+            let next = Reading {
+                whole,
+                begun: Some(Section::Pairs(longer)),
+            };
+            Ok((next, many, taken))
+        }
+        begun => Ok((Reading { whole, begun }, 0, 0)),
     }
 }
 

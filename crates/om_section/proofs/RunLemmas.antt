@@ -1,0 +1,84 @@
+-- Lines of pairs read one after another.
+use Rattle.std.proofs.Common.{ℕ, suc, ◌≤◌, ◌+◌, ◌-◌, ◌≡◌, ◌∙◌, List, [], ◌∷◌, ◌++◌, length, drop, refl, sym, ap, subst, arith, length-append, append_assoc}
+use Rattle.std.specs.Prelude.{All, map}
+use Rattle.std.proofs.lemmas.List.{append-nil, map-append, length_push}
+use Rattle.std.proofs.lemmas.List.Concat.{flat_map-append}
+use Rattle.std.proofs.lemmas.List.Elements.{All-push}
+use Rattle.std.proofs.Math.Seq.{drop-append_seam}
+use Rattle.om_section.specs.Format.{pair_line, text_of}
+use Rattle.om_section.specs.Reading.{AreNumbers}
+use Rattle.om_section.specs.Runs.{IsFirstPair, HasMorePairs}
+
+-- The pairs have become longer by those whose lines were read, and this is what stands behind them.
+pub record IsPast (pairs : List (ℕ × ℕ)) (text : List ℕ) (longer : List (ℕ × ℕ)) (many : ℕ) (rest : List ℕ) : Type 0 where
+  pub added : List (ℕ × ℕ)
+  pub is : longer ≡ pairs ++ added
+  pub numbers : All AreNumbers longer
+  pub counted : many ≡ length added
+  pub few : many + length rest ≤ length text
+  pub spelled : text ≡ text_of (map pair_line added) ++ rest
+
+pub none_past : (pairs : List (ℕ × ℕ)) (text : List ℕ) → All AreNumbers pairs → IsPast pairs text pairs 0 text
+none_past pairs text numbers = record {
+  added = [];
+  is = sym (append-nil pairs);
+  numbers = numbers;
+  counted = refl;
+  few = omega arith;
+  spelled = refl;
+}
+
+module _ (pairs : List (ℕ × ℕ)) (text : List ℕ) (longer : List (ℕ × ℕ)) (many : ℕ) (rest : List ℕ) (past : IsPast pairs text longer many rest) where
+  pub one_past :
+      (pair : ℕ × ℕ) (behind : List ℕ) (next : List (ℕ × ℕ)) → IsFirstPair rest pair behind → next ≡ longer ++ pair ∷ []
+      → IsPast pairs text next (many + 1) behind
+  one_past pair behind next first is = record {
+    added = past.added ++ pair ∷ [];
+    is = is ∙ (ap (λ (z : List (ℕ × ℕ)). z ++ pair ∷ []) past.is ∙ append_assoc pairs past.added (pair ∷ []));
+    numbers = subst (λ (z : List (ℕ × ℕ)). All AreNumbers z) (sym is) (All-push AreNumbers longer pair past.numbers first.numbers);
+    counted = let long = length_push past.added pair in let counted = past.counted in omega (arith, long, counted);
+    few =
+        let few = past.few in
+        let long = ap length first.spelled ∙ length-append (pair_line pair) (10 ∷ behind) in
+        omega (arith, few, long);
+    spelled =
+        past.spelled
+        ∙ (ap (λ (z : List ℕ). text_of (map pair_line past.added) ++ z) (first.spelled ∙ line)
+        ∙ (sym (append_assoc (text_of (map pair_line past.added)) (text_of (pair_line pair ∷ [])) behind)
+        ∙ ap (λ (z : List ℕ). z ++ behind)
+        (sym (flat_map-append (λ (l : List ℕ). l ++ 10 ∷ []) (map pair_line past.added) (pair_line pair ∷ []))
+        ∙ ap text_of (sym (map-append pair_line past.added (pair ∷ []))))));
+  } where
+    line : pair_line pair ++ 10 ∷ behind ≡ text_of (pair_line pair ∷ []) ++ behind
+    line = sym
+        (ap (λ (z : List ℕ). z ++ behind) (append-nil (pair_line pair ++ 10 ∷ [])) ∙ append_assoc (pair_line pair) (10 ∷ []) behind)
+
+  pub all_past : (taken : ℕ) → taken ≡ length text - length rest → HasMorePairs pairs text longer many taken
+  all_past taken is = record {
+    added = past.added;
+    is = past.is;
+    numbers = past.numbers;
+    begins = record {
+      counted = past.counted ∙ sym length_lines;
+      within = omega (arith, is);
+      few = let few = past.few in omega (arith, is, few);
+      spelled = past.spelled ∙ ap (λ (z : List ℕ). text_of (map pair_line past.added) ++ z) behind;
+    };
+  } where
+    length_lines : length (map pair_line past.added) ≡ length past.added
+    length_lines = lines_of past.added where
+      lines_of : (added : List (ℕ × ℕ)) → length (map pair_line added) ≡ length added
+      lines_of [] = refl
+      lines_of (pair ∷ added) = ap suc (lines_of added)
+
+    long : length text ≡ length (text_of (map pair_line past.added)) + length rest
+    long = ap length past.spelled ∙ length-append (text_of (map pair_line past.added)) rest
+
+    many_bytes : taken ≡ length (text_of (map pair_line past.added))
+    many_bytes = omega (arith, is, long)
+
+    behind : rest ≡ drop taken text
+    behind = sym
+        (ap (λ (n : ℕ). drop n text) many_bytes
+        ∙ (ap (λ (z : List ℕ). drop (length (text_of (map pair_line past.added))) z) past.spelled
+        ∙ drop-append_seam (text_of (map pair_line past.added)) rest))

@@ -1,0 +1,34 @@
+-- Lines of pairs that stand one after another.
+use Rattle.std.specs.Prelude.{ℕ, ◌≡◌, ◌≤◌, List, ◌∷◌, ◌++◌, length, map, drop, All}
+use Rattle.om_section.specs.declared.read.Reading.{Reading}
+use Rattle.om_section.specs.Format.{pair_line, text_of}
+use Rattle.om_section.specs.Reading.{AreNumbers, lines_read, IsReading}
+
+-- the bytes begin with the line of the pair
+pub record IsFirstPair (text : List ℕ) (pair : ℕ × ℕ) (rest : List ℕ) : Type 0 where
+  pub numbers : AreNumbers pair
+  pub spelled : text ≡ pair_line pair ++ 10 ∷ rest
+
+-- they begin with so many lines, and these have so many bytes
+pub record BeginsWithLines (text : List ℕ) (lines : List (List ℕ)) (many taken : ℕ)
+    : Type 0 where
+  pub counted : many ≡ length lines
+  pub within : taken ≤ length text
+  pub few : many ≤ taken
+  pub spelled : text ≡ text_of lines ++ drop taken text
+
+-- the longer list has these pairs more, with whose lines the bytes begin
+pub record HasMorePairs (pairs : List (ℕ × ℕ)) (text : List ℕ) (longer : List (ℕ × ℕ))
+    (many taken : ℕ) : Type 0 where
+  pub added : List (ℕ × ℕ)
+  pub is : longer ≡ pairs ++ added
+  pub numbers : All AreNumbers longer
+  pub begins : BeginsWithLines text (map pair_line added) many taken
+
+-- with the lines that the bytes begin with more has been read
+pub record HasReadMore (reading : Reading) (text : List ℕ) (next : Reading) (many taken : ℕ)
+    : Type 0 where
+  pub is : IsReading next
+  pub lines : List (List ℕ)
+  pub read : lines_read next ≡ lines_read reading ++ lines
+  pub begins : BeginsWithLines text lines many taken
