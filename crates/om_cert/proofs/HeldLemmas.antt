@@ -1,5 +1,5 @@
 -- What the pairs of one object tell, where there are many of them too.
-use Rattle.std.proofs.Common.{ℕ, zero, suc, ◌<◌, ◌≤◌, ◌+◌, ◌-◌, ◌≡◌, ◌∙◌, ◌⊎◌, ⊎_elim, inl, inr, Bool, true, false, cond, List, length, Some, refl, sym, ap, subst, arith}
+use Rattle.std.proofs.Common.{ℕ, zero, suc, ◌<◌, ◌≤◌, ◌+◌, ◌-◌, ◌%◌, ◌≡◌, ◌∙◌, ◌⊎◌, ⊎_elim, inl, inr, Bool, true, false, cond, List, length, Some, refl, sym, ap, subst, arith}
 use Rattle.std.specs.Prelude.{Contains, slice_get, IsTrue, ◌↔◌, ◌==◌, not}
 use Rattle.std.proofs.lemmas.Bool.Decides.{Decides-eqb}
 use Rattle.std.specs.BTreeMap.{is_at}
@@ -12,7 +12,14 @@ use Rattle.std.proofs.lemmas.Cmp.{tied_itself, nat_cmp_total, on_total, then_tot
 use Rattle.std.proofs.lemmas.Map.Lookups.{exact_pairs, exact_unsigned}
 use Rattle.std.proofs.lemmas.Option.{same_Some, slice_get_within}
 use Rattle.om_model.proofs.Options.{slice_get-Contains, slice_get_there, same_or_not}
+use Rattle.om_model.specs.Graph.{IsValue, IsGraph}
+use Rattle.om_model.specs.declared.value.Val.{Val}
+use Rattle.om_model.specs.declared.value.Val.TheVariants as vals
+use Rattle.om_model.specs.declared.value.Obj.{Obj}
+use Rattle.om_heap.specs.Heap.{word_of}
+use Rattle.om_heap.proofs.ReadLemmas.{word_of-inj}
 use Rattle.om_types.specs.Table.{Table, table_shapes}
+use Rattle.om_types.specs.Typing.{IsHeld, IsListed}
 use Rattle.om_section.specs.Increasing.{AreIncreasing}
 use Rattle.om_scan.proofs.PlaceLemmas.{place_of as place_in}
 use Rattle.om_cert.specs.Testing.{IsStart, IsPassing, IsSame, pair_cmp, AreCrowded, is_in, IsCrowd, IsAmongAt, IsElsewhere, IsSettled}
@@ -193,3 +200,29 @@ module _ (table : Table) (pairs : List (ℕ × ℕ)) where
                 (same_or_not k (i - 1)) in
                 let is : last.0.0 ≡ object = omega (arith, low, high) in
                 other last.0.1 (omega (arith, less)) (last.1 ∙ ap (λ (o : ℕ). Some (o, last.0.1)) is)
+
+-- ---- the value of a word
+
+module _ (table : Table) (graph : List Obj) (pairs : List (ℕ × ℕ)) (t : ℕ) (v : Val) where
+  -- it is no object, and fits
+  pub no_object_held : (word : ℕ) → word ≡ word_of graph v → (word % 8 ≡ 0 → ⊥) → (table_shapes table).fits graph v t → IsHeld (table_shapes table) graph pairs v t
+  no_object_held word is odd fits = record { fits = fits; listed = listed v is } where
+    listed : (w : Val) → word ≡ word_of graph w → IsListed (table_shapes table) pairs w t
+    listed (vals.Int z) same = tt
+    listed (vals.Atom tag) same = tt
+    listed (vals.Ref o) same = absurd (odd (omega (arith, same)))
+
+  -- it is an object, and fits
+  pub object_held :
+      (word o : ℕ) (test : Bool) → IsGraph graph → IsValue (length graph) v → word ≡ word_of graph v → o < length graph → word ≡ word_of graph (vals.Ref o)
+      → (table_shapes table).fits graph v t → (IsTrue test ↔ IsAmongAt table pairs o t) → IsTrue test ↔ IsHeld (table_shapes table) graph pairs v t
+  object_held word o test graph' valid is inside named fits tells = (
+    λ yes'. record { fits = fits; listed = subst (λ w. IsListed (table_shapes table) pairs w t) (sym same) (tells.0 yes') },
+    λ held. tells.1 (subst (λ w. IsListed (table_shapes table) pairs w t) same held.listed),
+  ) where
+    same : v ≡ vals.Ref o
+    same = word_of-inj graph v (vals.Ref o) graph' valid inside (sym is ∙ named)
+
+  -- it does not fit
+  pub unfit_not_held : (fits : Bool) → (IsTrue fits ↔ (table_shapes table).fits graph v t) → fits ≡ false → ¬ IsHeld (table_shapes table) graph pairs v t
+  unfit_not_held fits tells no' held = false≢true (sym no' ∙ tells.1 held.fits)

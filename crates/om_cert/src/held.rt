@@ -2,17 +2,20 @@
 
 ghost use Rattle.std.specs.Prelude.{ℕ, ◌≡◌, ◌<◌, ◌≤◌, ◌+◌, ◌↔◌, length, slice_get, Some, IsTrue, IfOk};
 ghost use Rattle.std.specs.Bool.{OnTrue};
-ghost use Rattle.om_model.specs.Graph.{IsValue};
+ghost use Rattle.om_model.specs.Graph.{IsValue, IsGraph};
+ghost use Rattle.om_model.specs.declared.value.Val.{Val};
 ghost use Rattle.om_types.specs.Table.{table_shapes};
 ghost use Rattle.om_types.specs.Typing.{IsHeld};
 ghost use Rattle.om_type_table.specs.Made.{table_of, IsLawful};
+ghost use Rattle.om_heap.specs.Heap.{word_of, IsFieldWord};
+ghost use Rattle.om_scan.specs.FittingRows.{AreRows};
 ghost use Rattle.om_section.specs.Increasing.{AreIncreasing};
 ghost use Rattle.om_cert.specs.Testing.{AreAllThere, IsStart, IsPassing, IsSame, IsCrowd, IsAmongAt, IsSettled, IsElsewhere};
 
-use om_fits::needs_of;
+use om_fits::Row;
 use om_heap::Heap;
 use om_model::Memory;
-use om_model::value::Val;
+use om_scan::fits_type;
 use om_type_table::TypeTable;
 use std::alloc::Global;
 use std::collections::BTreeSet;
@@ -164,30 +167,33 @@ fn is_elsewhere_behind(
     false
 }
 
-/// Whether a value is held at a type: it fits, and where it is a reference some pair has its
-/// object at an equal type.
+/// Whether the value of a word is held at a type: it fits, and where it is a reference some pair has
+/// its object at an equal type.
 pub fn is_held(
     heap: &Heap,
     table: &TypeTable,
+    rows: &[Row],
     pairs: &[(u64, u64)],
     crowd: &BTreeSet<(u64, usize)>,
-    value: Val,
+    word: u64,
     ty: usize,
 ) -> bool
-    requires value { IsValue (length heap.now) value }
+    requires graph { IsGraph heap.now }
+    requires word { IsFieldWord heap.now word }
+    requires rows { AreRows table.now.nodes rows.now }
     requires lawful { IsLawful (table_of table.now) }
     requires increasing { AreIncreasing pairs.now }
     requires there { AreAllThere (table_of table.now) heap.now pairs.now }
     requires crowd { IsCrowd (table_of table.now) pairs.now crowd.now }
     requires ty { ty < length table.now.nodes }
-    ensures { IsTrue result ↔ IsHeld
-        (table_shapes (table_of table.now)) heap.now pairs.now value ty }
+    ensures { (v : Val) → IsValue (length heap.now) v → word ≡ word_of heap.now v → IsTrue result
+        ↔ IsHeld (table_shapes (table_of table.now)) heap.now pairs.now v ty }
 {
-    if needs_of(heap, value, table.shape(ty)).is_none() {
+    if !fits_type(heap, table, rows, ty, word) {
         return false;
     }
-    match value {
-        Val::Ref(object) => is_among(table, pairs, crowd, object, ty),
-        _ => true,
+    if word % 8 != 0 {
+        return true;
     }
+    is_among(table, pairs, crowd, heap.number(word), ty)
 }

@@ -16,6 +16,7 @@ use om_heap::Heap;
 use om_model::Memory;
 use om_model::path::Path;
 use om_model::value::Val;
+use om_scan::rows_of;
 use om_section::Section;
 use om_type_table::TypeTable;
 use om_types::fault::Fault;
@@ -128,13 +129,24 @@ fn verify_pairs(
     if let Some(i) = first_out(heap, table, pairs) {
         return Ok(Verified::Rejected(Why::Range(i as u64)));
     }
+    let _objects = heap.count();
+    let rows = rows_of(alloc, heap, table)?;
+    let rows = rows.as_slice();
     let crowd = crowd_of(alloc, table, pairs)?;
     for i in 0..pairs.len() {
-        if let Some(why) = test_pair(heap, table, pairs, &crowd, i) {
+        if let Some(why) = test_pair(heap, table, rows, pairs, &crowd, i) {
             return Ok(Verified::Rejected(why));
         }
     }
-    if is_held(heap, table, pairs, &crowd, root, table.root()) {
+    if is_held(
+        heap,
+        table,
+        rows,
+        pairs,
+        &crowd,
+        heap.word(root),
+        table.root(),
+    ) {
         Ok(Verified::Yes)
     } else {
         Ok(Verified::Rejected(Why::Root))

@@ -1,7 +1,6 @@
 //! Lines of pairs that stand one after another, read without being cut first.
 
-ghost use Rattle.std.specs.Prelude.{◌≡◌, All, IfOk, IfSome};
-ghost use Rattle.om_section.specs.Numbers.{IsNumber};
+ghost use Rattle.std.specs.Prelude.{All, IfOk, IfSome};
 ghost use Rattle.om_section.specs.Reading.{AreNumbers};
 ghost use Rattle.om_section.specs.Runs.{IsFirstPair, HasMorePairs};
 ghost use Rattle.om_section.specs.Numbers.{BeginsWithNumber};

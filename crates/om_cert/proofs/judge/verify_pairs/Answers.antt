@@ -15,15 +15,20 @@ pub loop-i-preserved : goal.loop-i-preserved
 loop-i-preserved c =
     right_more (table_of c.args.table.now) c.args.heap.now c.args.root c.args.pairs.now c.loop-i.i c.loop-i.invariant c.in_default-test_pair.ensures
 
+pub is_held-requires-clause-word : goal.is_held-requires-clause-word
+is_held-requires-clause-word c = (c.args.root, c.requires.value, c.word.ensures)
+
 pub returns-then-is_held : goal.returns-then-is_held
 returns-then-is_held c =
+    let tells = c.is_held.ensures c.args.root c.requires.value c.word.ensures in
     accepted (table_of c.args.table.now) c.args.heap.now c.args.root c.args.pairs.now c.in_default.ensures c.loop-i.i c.loop-i-test.false c.loop-i.invariant
-    (subst (λ t. IsHeld (table_shapes (table_of c.args.table.now)) c.args.heap.now c.args.pairs.now c.args.root t) c.root.ensures (c.is_held.ensures.0 c.if-is_held.true))
+    (subst (λ t. IsHeld (table_shapes (table_of c.args.table.now)) c.args.heap.now c.args.pairs.now c.args.root t) c.root.ensures (tells.0 c.if-is_held.true))
 
 pub returns : goal.returns
 returns c =
+    let tells = c.is_held.ensures c.args.root c.requires.value c.word.ensures in
     root_rejected (table_of c.args.table.now) c.args.heap.now c.args.root c.args.pairs.now c.in_default.ensures c.loop-i.i c.loop-i-test.false c.loop-i.invariant
-    (λ held. false≢true (sym c.if-is_held.false ∙ c.is_held.ensures.1
+    (λ held. false≢true (sym c.if-is_held.false ∙ tells.1
     (subst (λ t. IsHeld (table_shapes (table_of c.args.table.now)) c.args.heap.now c.args.pairs.now c.args.root t) (sym c.root.ensures) held)))
 
 pub crowd_of-requires : goal.crowd_of-requires

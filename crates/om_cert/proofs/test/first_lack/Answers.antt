@@ -1,18 +1,40 @@
-use Rattle.std.proofs.Common.{◌≤◌, ◌∙◌, length, sym, ap, subst, arith}
+use Rattle.std.proofs.Common.{◌≤◌, ◌∙◌, length, refl, sym, ap, arith}
 use Rattle.std.specs.Prelude.{slice_get}
 use Rattle.std.proofs.lemmas.Bool.{false≢true}
 use Rattle.om_type_table.specs.Made.{table_of}
-use Rattle.om_types.specs.Table.{table_shapes}
-use Rattle.om_types.specs.Typing.{IsHeld}
+use Rattle.om_heap.specs.Heap.{field_at}
 use Rattle.om_fits.specs.Needs.{needs_in}
-use Rattle.om_scan.proofs.NeedLemmas.{need_field, need_node}
+use Rattle.om_scan.proofs.FieldLemmas.{word_inside, field_word, field_valid}
+use Rattle.om_scan.proofs.NeedLemmas.{need_field, need_node, some_fields}
 use Rattle.om_cert.proofs.TestLemmas.{held_more, all_held, lack_is}
 use Rattle.om_cert.proofs.test.first_lack.Goals as goal
 
-pub field-requires : goal.field-requires
-field-requires c =
-    need_field (table_of c.args.table.now) c.args.heap.now c.args.object c.args._ty c.loop-k.k c.get-field.result.0 c.get-field.result.1 c.requires.object
-    (ap (λ needs. slice_get needs c.loop-k.k) c.requires.needs ∙ c.get-field.ensures)
+pub fields-words-requires : goal.fields-words-requires
+fields-words-requires c =
+    some_fields (table_of c.args.table.now) c.args.heap.now c.args.object c.args._ty c.requires.object
+    (omega (arith, ap length c.requires.needs, c.len.ensures, c.if-len-eq0.false))
+
+pub bounds-words-field : goal.bounds-words-field
+bounds-words-field c =
+    let at_k = ap (λ needs. slice_get needs c.loop-k.k) c.requires.needs ∙ c.get-field.ensures in
+    let short = need_field (table_of c.args.table.now) c.args.heap.now c.args.object c.args._ty c.loop-k.k c.get-field.result.0 c.get-field.result.1 c.requires.object at_k in
+    word_inside c.args.heap.now c.args.object c.get-field.result.0 c.fields-words.result.now c.fields-words.ensures.words short
+
+pub offset_bounds-words-field : goal.offset_bounds-words-field
+offset_bounds-words-field c =
+    let at_k = ap (λ needs. slice_get needs c.loop-k.k) c.requires.needs ∙ c.get-field.ensures in
+    let short = need_field (table_of c.args.table.now) c.args.heap.now c.args.object c.args._ty c.loop-k.k c.get-field.result.0 c.get-field.result.1 c.requires.object at_k in
+    let inside = word_inside c.args.heap.now c.args.object c.get-field.result.0 c.fields-words.result.now c.fields-words.ensures.words short in
+    omega (arith, inside, c.type_inv.words)
+
+pub is_held-requires-clause-word : goal.is_held-requires-clause-word
+is_held-requires-clause-word c =
+    let at_k = ap (λ needs. slice_get needs c.loop-k.k) c.requires.needs ∙ c.get-field.ensures in
+    let short = need_field (table_of c.args.table.now) c.args.heap.now c.args.object c.args._ty c.loop-k.k c.get-field.result.0 c.get-field.result.1 c.requires.object at_k in (
+      field_at c.args.heap.now c.args.object c.get-field.result.0,
+      field_valid c.args.heap.now c.args.object c.get-field.result.0 c.requires.object short c.requires.graph,
+      field_word c.args.heap.now c.args.object c.get-field.result.0 c.requires.object short c.fields-words.result.now _ c.fields-words.ensures.words refl,
+    )
 
 pub is_held-requires-clause-ty : goal.is_held-requires-clause-ty
 is_held-requires-clause-ty c =
@@ -21,17 +43,31 @@ is_held-requires-clause-ty c =
 
 pub returns-then-not-is_held : goal.returns-then-not-is_held
 returns-then-not-is_held c =
+    let at_k = ap (λ needs. slice_get needs c.loop-k.k) c.requires.needs ∙ c.get-field.ensures in
+    let short = need_field (table_of c.args.table.now) c.args.heap.now c.args.object c.args._ty c.loop-k.k c.get-field.result.0 c.get-field.result.1 c.requires.object at_k in
+    let tells = c.is_held.ensures (field_at c.args.heap.now c.args.object c.get-field.result.0)
+    (field_valid c.args.heap.now c.args.object c.get-field.result.0 c.requires.object short c.requires.graph)
+    (field_word c.args.heap.now c.args.object c.get-field.result.0 c.requires.object short c.fields-words.result.now _ c.fields-words.ensures.words refl) in
     lack_is (table_of c.args.table.now) c.args.heap.now c.args.pairs.now c.args.object c.args._ty c.loop-k.k c.get-field.result.0 c.get-field.result.1
     (needs_in c.args.needs) c.requires.needs c.requires.object c.get-field.ensures c.loop-k.invariant
-    (λ held. false≢true (sym c.if-not-is_held.true ∙ c.is_held.ensures.1
-    (subst (λ v. IsHeld (table_shapes (table_of c.args.table.now)) c.args.heap.now c.args.pairs.now v c.get-field.result.1) (sym c.field.ensures.field) held)))
+    (λ held. false≢true (sym c.if-not-is_held.true ∙ tells.1 held))
 
 pub loop-k-preserved : goal.loop-k-preserved
 loop-k-preserved c =
+    let at_k = ap (λ needs. slice_get needs c.loop-k.k) c.requires.needs ∙ c.get-field.ensures in
+    let short = need_field (table_of c.args.table.now) c.args.heap.now c.args.object c.args._ty c.loop-k.k c.get-field.result.0 c.get-field.result.1 c.requires.object at_k in
+    let tells = c.is_held.ensures (field_at c.args.heap.now c.args.object c.get-field.result.0)
+    (field_valid c.args.heap.now c.args.object c.get-field.result.0 c.requires.object short c.requires.graph)
+    (field_word c.args.heap.now c.args.object c.get-field.result.0 c.requires.object short c.fields-words.result.now _ c.fields-words.ensures.words refl) in
     held_more (table_of c.args.table.now) c.args.heap.now c.args.pairs.now c.args.object c.args._ty c.loop-k.k c.get-field.result.0 c.get-field.result.1
     (needs_in c.args.needs) c.requires.needs c.requires.object c.get-field.ensures c.loop-k.invariant
-    (subst (λ v. IsHeld (table_shapes (table_of c.args.table.now)) c.args.heap.now c.args.pairs.now v c.get-field.result.1) c.field.ensures.field
-    (c.is_held.ensures.0 c.if-not-is_held.false))
+    (tells.0 c.if-not-is_held.false)
+
+pub returns-then-len-eq0 : goal.returns-then-len-eq0
+returns-then-len-eq0 c =
+    let none : length (needs_in c.args.needs) ≤ 0 = omega (arith, c.len.ensures, c.if-len-eq0.true) in
+    all_held (table_of c.args.table.now) c.args.heap.now c.args.pairs.now c.args.object c.args._ty 0 (needs_in c.args.needs) c.requires.needs none
+    (λ j i a less at_j. absurd (omega (arith, less)))
 
 pub returns : goal.returns
 returns c =
