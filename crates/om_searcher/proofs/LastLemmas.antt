@@ -1,0 +1,170 @@
+-- What a reader tells of bytes behind a front.
+use Rattle.std.proofs.Common.{◌≡◌, ◌≢◌, ℕ, zero, suc, ◌+◌, ◌<◌, ◌≤◌, Bool, true, false, List, [], ◌∷◌, ◌++◌, length, take, drop, inl, inr, refl, sym, ap, ◌∙◌, subst, append_assoc, append-nil, take_all, take-append-drop, arith}
+use Rattle.std.specs.Prelude.{not, Result, Ok, Err, IfOk}
+use Rattle.std.proofs.Math.Seq.{take-add}
+use Rattle.om_model.specs.Bytes.{AreBytes}
+use Rattle.om_model.specs.declared.refusal.ReadRefusal.{ReadRefusal}
+use Rattle.om_model.specs.declared.refusal.ReadRefusal.TheVariants as refusals
+use Rattle.om_format.specs.Front.{IsFront, IsRefused}
+use Rattle.om_format.specs.Spelled.{SpelledUnder}
+use Rattle.om_format.specs.Tree.{Tree}
+use Rattle.om_read.specs.declared.reader.Reader.{Reader}
+use Rattle.om_read.specs.declared.reader.Fed.{Fed}
+use Rattle.om_read.specs.Reader.{IsReader, Leads, Feeds}
+use Rattle.om_read.specs.Reading.{RefusedIn}
+use Rattle.om_read.proofs.ReadingLemmas.{unless_memory}
+use Rattle.om_sighting.specs.Parts.{AreRefused}
+use Rattle.om_sighting.proofs.FrontLemmas.{front_no_value, refused_no_front}
+use Rattle.om_sighting.proofs.SomeLemmas.{value_last}
+use Rattle.om_searcher.specs.declared.last.Taken.{Taken}
+use Rattle.om_searcher.specs.Last.{IsDecided, IsRefusal, TakesByte, TakesBytes}
+
+module _ (limit : ℕ) where
+  -- no value is a front
+  no_front_value : (bytes : List ℕ) (tree : Tree) → SpelledUnder limit bytes tree → IsFront limit bytes → ⊥
+  no_front_value bytes tree spelled front =
+      front_no_value limit bytes front bytes [] tree (sym (append-nil bytes)) spelled
+
+  -- a value is decided by its last byte
+  pub value_decided :
+      (bytes : List ℕ) (tree : Tree) → AreBytes bytes → SpelledUnder limit bytes tree
+      → IsDecided limit bytes
+  value_decided bytes tree are spelled =
+      let v = value_last limit bytes tree are spelled in record {
+        none = no_front_value bytes tree spelled;
+        front = v.0;
+        last = v.1;
+        bytes_are = v.2;
+        before = v.3;
+      }
+
+  -- behind a front, where one byte comes that they are no front with
+  one_decides :
+      (taken byte : List ℕ) → length byte ≡ 1 → IsFront limit taken
+      → (IsFront limit (taken ++ byte) → ⊥) → IsDecided limit (taken ++ byte)
+  one_decides taken [] one front none = absurd (omega (arith, one))
+  one_decides taken (b ∷ []) one front none = record {
+    none = none;
+    front = taken;
+    last = b;
+    bytes_are = refl;
+    before = front;
+  }
+  one_decides taken (b ∷ c ∷ more) one front none = absurd (omega (arith, one))
+
+  -- ---- a front is taken again
+
+  pub front_taken :
+      (bytes : List ℕ) (new : Reader) (fed : Fed) → Feeds limit [] bytes new fed
+      → IsFront limit bytes → Leads limit bytes new
+  front_taken bytes new fed f front = by fed.done refl where
+    by : (done : Bool) → fed.done ≡ done → Leads limit bytes new
+    by false e =
+        subst (λ b. Leads limit b new) (take_all fed.taken bytes (omega (arith, (f.more e).0))) f.leads
+    by true e =
+        let v = (f.done e).1 in
+        absurd (front_no_value limit bytes front (take fed.taken bytes) (drop fed.taken bytes) v.0
+        (sym (take-append-drop fed.taken bytes)) v.1)
+
+  -- ---- one byte
+
+  module _ (taken byte : List ℕ) (one : length byte ≡ 1) (front : IsFront limit taken) where
+    pub byte_taken :
+        (E : Type 0) (new : Reader) (fed : Fed) → IsReader new → Feeds limit taken byte new fed
+        → (goes_on : Bool) → goes_on ≡ not fed.done → TakesByte {E = E} limit taken byte new (Ok goes_on)
+    byte_taken E new fed reader f goes_on is =
+        subst (λ g. TakesByte {E = E} limit taken byte new (Ok g)) (sym is) (by fed.done refl)
+      where
+        none : fed.done ≡ true → IsFront limit (taken ++ byte) → ⊥
+        none e front' =
+            let v = (f.done e).1 in
+            front_no_value limit (taken ++ byte) front' (taken ++ take fed.taken byte) (drop fed.taken byte) v.0
+            (ap (λ b. taken ++ b) (sym (take-append-drop fed.taken byte))
+            ∙ sym (append_assoc taken (take fed.taken byte) (drop fed.taken byte))) v.1
+
+        by : (done : Bool) → fed.done ≡ done → TakesByte {E = E} limit taken byte new (Ok (not done))
+        by false e =
+            let more = f.more e in (
+              reader,
+              subst (λ b. Leads limit (taken ++ b) new) (take_all fed.taken byte (omega (arith, more.0))) f.leads,
+              more.1,
+            )
+        by true e = one_decides taken byte one front (none e)
+
+    -- or what is refused
+    refused_here : (refusal : ReadRefusal) → RefusedIn limit (taken ++ byte) refusal
+        → refusal ≢ refusals.Memory → AreRefused limit (taken ++ byte)
+    refused_here refusal refused is =
+        elim ((unless_memory refusal ((n : ℕ) × (n ≤ length (taken ++ byte)) × IsRefused limit (take n (taken ++ byte)) refusal)).1 refused) [
+          | inl memory ↦ absurd (is memory)
+          | inr (m, within, at_m) ↦ (m, refusal, within, at_m)
+        ]
+
+    pub byte_refused :
+        {E : Type 0} (refusal : ReadRefusal) (new : Reader) (result : Result Bool E)
+        → RefusedIn limit (taken ++ byte) refusal → IfOk result (λ g. IsRefusal refusal g)
+        → TakesByte {E = E} limit taken byte new result
+    byte_refused refusal new (Ok true) refused h = let never : true ≡ false = h.0 in cc never
+    byte_refused refusal new (Ok false) refused h =
+        one_decides taken byte one front
+        (refused_no_front limit (taken ++ byte) (refused_here refusal refused h.1))
+    byte_refused refusal new (Err e) refused is = tt
+
+  -- ---- a piece
+
+  -- one byte more of it
+  pub next_byte :
+      (held piece : List ℕ) (n : ℕ)
+      → (held ++ take n piece) ++ take 1 (drop n piece) ≡ held ++ take (n + 1) piece
+  next_byte held piece n =
+      append_assoc held (take n piece) (take 1 (drop n piece))
+      ∙ ap (λ b. held ++ b) (sym (take-add n 1 piece))
+
+  -- the same where the byte is cut out of it
+  pub slice_next :
+      (held piece : List ℕ) (n k : ℕ) → k ≡ 1
+      → (held ++ take n piece) ++ take k (drop n piece) ≡ held ++ take (n + 1) piece
+  slice_next held piece n k one =
+      ap (λ k. (held ++ take n piece) ++ take k (drop n piece)) one ∙ next_byte held piece n
+
+  -- what the reader tells of it
+  pub piece_taken :
+      (held piece : List ℕ) (new : Reader) (fed : Fed) (t : Taken) → 0 < length piece
+      → IsFront limit held → Feeds limit held piece new fed → t.bytes ≡ fed.taken
+      → t.decided ≡ fed.done → TakesBytes limit held piece new t
+  piece_taken held piece new fed t some front f bytes decided = record {
+    some = omega (arith, bytes, some_taken fed.done refl);
+    within = omega (arith, bytes, f.within);
+    more = λ e.
+        let m = f.more (sym decided ∙ e) in
+        let all = sym (take_all t.bytes piece (omega (arith, bytes, m.0))) in
+        let same = ap (λ n. take n piece) (sym bytes) in
+        (subst (λ b. IsFront limit (held ++ b)) all m.1, subst (λ b. Leads limit (held ++ b) new) same f.leads);
+    last = λ e.
+        let v = (f.done (sym decided ∙ e)).1 in
+        let same = ap (λ n. held ++ take n piece) (sym bytes) in
+        subst (IsDecided limit) same
+        (value_decided (held ++ take fed.taken piece) v.0 f.leads.bytes v.1);
+  } where
+    some_taken : (done : Bool) → fed.done ≡ done → 0 < fed.taken
+    some_taken false e = omega (arith, (f.more e).0, some)
+    some_taken true e = by fed.taken refl where
+      by : (n : ℕ) → fed.taken ≡ n → 0 < fed.taken
+      by zero none =
+          let v = (f.done e).1 in
+          let same : held ++ take fed.taken piece ≡ held =
+          ap (λ n. held ++ take n piece) none ∙ append-nil held in
+          absurd (no_front_value held v.0 (subst (λ b. SpelledUnder limit b v.0) same v.1) front)
+      by (suc n) is = omega (arith, is)
+
+  -- what was found again of it
+  pub piece_found :
+      (held piece : List ℕ) (new : Reader) (t : Taken) → (0 < t.bytes) × (t.bytes ≤ length piece)
+      × IsDecided limit (held ++ take t.bytes piece) → t.decided ≡ true
+      → TakesBytes limit held piece new t
+  piece_found held piece new t (some, within, decided) is = record {
+    some = some;
+    within = within;
+    more = λ e. let never : true ≡ false = sym is ∙ e in cc never;
+    last = λ e. decided;
+  }

@@ -1,0 +1,4 @@
+pub mod LastLemmas
+pub mod SearchLemmas
+pub mod FeedLemmas
+pub mod AccountLemmas

@@ -1,0 +1,102 @@
+//! With which byte it is decided what some bytes begin with.
+
+ghost use Rattle.std.specs.Prelude.{◌≡◌, ◌<◌, ◌≤◌, ℕ, List, [], length, IfOk};
+ghost use Rattle.om_format.specs.Front.{IsFront};
+ghost use Rattle.om_read.specs.Reader.{IsReader, Leads};
+ghost use Rattle.om_searcher.specs.Last.{IsRefusal, TakesByte, FindsLast, ReadsSome};
+
+use om_model::Memory;
+use om_model::refusal::ReadRefusal;
+use om_read::Reader;
+use std::alloc::Global;
+
+// Takes a front again.
+fn take_front(reader: &mut Reader, bytes: &[u8]) -> Result<(), Memory>
+    requires { IsReader reader.old }
+    ensures { (limit : ℕ) → Leads limit [] reader.old → IsFront limit bytes.now
+        → IfOk result (λ done. IsReader reader.new × Leads limit bytes.now reader.new) }
+{
+    match reader.feed(bytes) {
+        Ok(_) => Ok(()),
+        Err(_) => Err(Memory),
+    }
+}
+
+// A refusal decides, where it is not for out of memory.
+fn is_decided(refusal: ReadRefusal) -> Result<bool, Memory>
+    ensures { IfOk result (λ goes_on. IsRefusal refusal goes_on) }
+{
+    match refusal {
+        ReadRefusal::Memory => Err(Memory),
+        _ => Ok(false),
+    }
+}
+
+// Takes one byte, and answers whether the bytes are a front still.
+fn take_byte(reader: &mut Reader, byte: &[u8]) -> Result<bool, Memory>
+    requires one { length byte.now ≡ 1 }
+    requires reader { IsReader reader.old }
+    ensures { (limit : ℕ) (taken : List ℕ) → Leads limit taken reader.old → IsFront limit taken
+        → TakesByte limit taken byte.now reader.new result }
+{
+    match reader.feed(byte) {
+        Ok(fed) => Ok(!fed.done),
+        Err(refusal) => is_decided(refusal),
+    }
+}
+
+// How many bytes of the piece, behind a front, decide what all begin with.
+fn find_last(alloc: Global, limit: u64, held: &[u8], piece: &[u8]) -> Result<usize, Memory>
+    requires front { IsFront limit held.now }
+    ensures { FindsLast limit held.now piece.now result }
+{
+    let mut reader = Reader::new(alloc, limit);
+    take_front(&mut reader, held)?;
+    let mut taken = 0;
+    while taken < piece.len() {
+        let goes_on = take_byte(&mut reader, &piece[taken..taken + 1])?;
+        if goes_on {
+            taken += 1;
+        } else {
+            return Ok(taken + 1);
+        }
+    }
+    // What the piece decided at first can only have been that memory ran out.
+    Err(Memory)
+}
+
+/// How many bytes of a piece were taken, and whether the last of them decides what all begin with.
+#[derive(Clone, Copy)]
+pub struct Taken {
+    pub bytes: usize,
+    pub decided: bool,
+}
+
+/// Takes the piece behind a front that the reader has, or the first bytes of it that decide what
+/// all begin with.
+pub fn read_some(
+    alloc: Global,
+    limit: u64,
+    held: &[u8],
+    reader: &mut Reader,
+    piece: &[u8],
+) -> Result<Taken, Memory>
+    requires some { 0 < length piece.now }
+    requires front { IsFront limit held.now }
+    requires leads { Leads limit held.now reader.old }
+    ensures { ReadsSome limit held.now piece.now reader.new result }
+{
+    match reader.feed(piece) {
+        Ok(fed) => Ok(Taken {
+            bytes: fed.taken,
+            decided: fed.done,
+        }),
+        Err(_) => {
+            let bytes = find_last(alloc, limit, held, piece)?;
+            Ok(Taken {
+                bytes,
+                decided: true,
+            })
+        }
+    }
+}
