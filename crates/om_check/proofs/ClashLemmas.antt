@@ -12,7 +12,8 @@ use Rattle.om_model.specs.declared.value.Obj.{Obj}
 use Rattle.om_types.specs.Table.{Table}
 use Rattle.om_check.specs.declared.visits.Visit.{Visit}
 use Rattle.om_check.specs.declared.visits.Visits.{Visits}
-use Rattle.om_check.specs.Visits.{listed, AreLinked, IsFirstAt, pair_cmp}
+use Rattle.om_check.specs.Visits.{listed, AreLinked, IsFirstAt}
+use Rattle.om_scan.specs.Seconds.{pair_cmp}
 use Rattle.om_scan.proofs.PlaceLemmas.{read_at}
 use Rattle.om_check.specs.Clash.{IsWithin, mutable_at, AreApart, ClashAt, NoneClash, ClashesBack, IsFirstOf, IsFirstClash}
 

@@ -11,4 +11,6 @@ pub mod DecideLemmas
 pub mod ExploredLemmas
 pub mod RowsLemmas
 pub mod ScannedLemmas
+pub mod SettleLemmas
+pub mod SettledLemmas
 pub mod MetLemmas

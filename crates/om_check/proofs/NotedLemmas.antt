@@ -1,22 +1,20 @@
 -- What is noted of the objects that were met, while visits are added.
-use Rattle.std.proofs.Common.{ℕ, zero, suc, ◌<◌, ◌≡◌, ◌∙◌, ◌⊎◌, inl, inr, ⊎_elim, Bool, true, false, List, [], ◌∷◌, ◌++◌, length, Option, Some, cond, refl, sym, ap, subst, arith}
+use Rattle.std.proofs.Common.{ℕ, zero, suc, ◌<◌, ◌≡◌, ◌∙◌, ◌⊎◌, inl, inr, ⊎_elim, true, List, [], ◌∷◌, ◌++◌, length, Option, Some, refl, sym, ap, subst, arith}
 use Rattle.std.specs.Prelude.{All, IsTrue, slice_get, slice_set, replicate}
 use Rattle.std.proofs.lemmas.List.Elements.{All-contains}
-use Rattle.std.specs.declared.cmp.Ordering.{Ordering}
-use Rattle.std.specs.Ordering.{is_eq, nat_cmp}
-use Rattle.std.specs.declared.cmp.Ordering.TheVariants.{Less, Equal, Greater}
 use Rattle.std.specs.List.{list_any}
 use Rattle.std.specs.BTreeMap.{is_at}
 use Rattle.std.specs.BTreeSet.{BTreeSet, contains, Updates}
 use Rattle.std.proofs.lemmas.Bool.{false≢true}
-use Rattle.std.proofs.lemmas.Map.Lookups.{exact_pairs, exact_unsigned}
 use Rattle.std.proofs.lemmas.Option.{same_Some, none-some, slice_get_within}
 use Rattle.om_model.proofs.Options.{same_or_not, slice_get-Contains}
 use Rattle.om_types.specs.Table.{Table}
 use Rattle.om_check.specs.declared.visits.Visit.{Visit}
 use Rattle.om_check.specs.declared.visits.Visits.{Visits}
-use Rattle.om_check.specs.Visits.{listed, IsMet, IsFirstAt, IsAppended, AreNoted, AreLinked, pair_cmp}
-use Rattle.om_scan.proofs.PlaceLemmas.{slice_get-append_left, slice_get-append_below, slice_get-push_cases, slice_get-last}
+use Rattle.om_check.specs.Visits.{listed, IsMet, IsFirstAt, IsAppended, AreNoted, AreLinked}
+use Rattle.om_scan.specs.Seconds.{pair_cmp}
+use Rattle.om_scan.proofs.PlaceLemmas.{slice_get-append_left, slice_get-append_below, slice_get-push_cases, slice_get-last, slice_set_here, slice_set_other}
+use Rattle.om_scan.proofs.SetLemmas.{later_before, later_kept}
 
 -- ---- lists
 
@@ -24,49 +22,6 @@ slice_get-zeros : (n k x : ℕ) → slice_get (replicate n 0) k ≡ Some x → x
 slice_get-zeros zero k x at_k = absurd (none-some x at_k)
 slice_get-zeros (suc n) zero x at_k = sym (same_Some 0 x at_k)
 slice_get-zeros (suc n) (suc k) x at_k = slice_get-zeros n k x at_k
-
-slice_set_here : (xs : List ℕ) (k x y : ℕ) → slice_get (slice_set xs k y) k ≡ Some x → x ≡ y
-slice_set_here [] k x y at_k = absurd (none-some x at_k)
-slice_set_here (z ∷ xs) zero x y at_k = sym (same_Some y x at_k)
-slice_set_here (z ∷ xs) (suc k) x y at_k = slice_set_here xs k x y at_k
-
-slice_set_other : (xs : List ℕ) (k j y : ℕ) → ¬ (j ≡ k) → slice_get (slice_set xs k y) j ≡ slice_get xs j
-slice_set_other [] k j y other = refl
-slice_set_other (z ∷ xs) zero zero y other = absurd (other refl)
-slice_set_other (z ∷ xs) zero (suc j) y other = refl
-slice_set_other (z ∷ xs) (suc k) zero y other = refl
-slice_set_other (z ∷ xs) (suc k) (suc j) y other = slice_set_other xs k j y (λ same. other (ap suc same))
-
--- ---- the set of what was met later
-
-equal_from : (o : Ordering) → is_eq o ≡ true → o ≡ Equal
-equal_from Less is = absurd (false≢true is)
-equal_from Equal is = refl
-equal_from Greater is = absurd (false≢true is)
-
-same_pair : (k q : ℕ × ℕ) → is_at (pair_cmp k) q ≡ true → k ≡ q
-same_pair k q is = exact_pairs nat_cmp nat_cmp exact_unsigned exact_unsigned k q (equal_from (pair_cmp k q) is)
-
-cond_true : (test other : Bool) → cond test true other ≡ true → (test ≡ true) ⊎ (other ≡ true)
-cond_true true other is = inl refl
-cond_true false other is = inr is
-
-cond_kept : (test other : Bool) → other ≡ true → cond test true other ≡ true
-cond_kept true other is = refl
-cond_kept false other is = is
-
-pub later_before :
-    (old new : BTreeSet (ℕ × ℕ)) (k q : ℕ × ℕ) → Updates pair_cmp old new k true → IsTrue (contains pair_cmp new q)
-    → IsTrue (contains pair_cmp old q) ⊎ (k ≡ q)
-later_before old new k q updates is = ⊎_elim
-    (λ same. inr (same_pair k q same))
-    (λ there. inl there)
-    (cond_true (is_at (pair_cmp k) q) (contains pair_cmp old q) (sym (updates.0 q) ∙ is))
-
-pub later_kept :
-    (old new : BTreeSet (ℕ × ℕ)) (k q : ℕ × ℕ) → Updates pair_cmp old new k true → IsTrue (contains pair_cmp old q)
-    → IsTrue (contains pair_cmp new q)
-later_kept old new k q updates is = updates.0 q ∙ cond_kept (is_at (pair_cmp k) q) (contains pair_cmp old q) is
 
 -- ---- the start
 

@@ -1,5 +1,5 @@
 -- What the types that a scan tells say of the value.
-use Rattle.std.proofs.Common.{ℕ, zero, suc, ◌+◌, ◌<◌, ◌≡◌, ◌∙◌, List, [], ◌∷◌, length, Option, Some, refl, sym, ap, arith}
+use Rattle.std.proofs.Common.{ℕ, zero, suc, ◌+◌, ◌<◌, ◌≡◌, ◌∙◌, List, [], ◌∷◌, ◌++◌, length, Option, Some, refl, sym, ap, arith}
 use Rattle.std.specs.Prelude.{slice_get, slice_index, map, Contains}
 use Rattle.std.proofs.lemmas.Option.{same_Some, none-some}
 use Rattle.om_model.proofs.Options.{slice_get-Contains}
@@ -11,11 +11,14 @@ use Rattle.om_types.specs.Typing.{HasType}
 use Rattle.om_typing.specs.StepLaws.{AreApart, key_of}
 use Rattle.om_scan.specs.declared.straight.Scanned.TheVariants as answers
 use Rattle.om_scan.specs.Paths.{HasPath, HavePaths}
-use Rattle.om_scan.specs.Scanned.{IsScanned}
+use Rattle.om_scan.specs.declared.seconds.Seconds.{Seconds}
+use Rattle.om_scan.specs.Seconds.{noted_in}
+use Rattle.om_scan.specs.Scanned.{IsScanned, pairs_with}
 use Rattle.om_scan.proofs.ScanLemmas.{pair_at}
 use Rattle.om_check.specs.Verdict.{IsYes}
 use Rattle.om_scan.proofs.IncreaseLemmas.{numbered}
-use Rattle.om_check.proofs.SpentLemmas.{mapped_at}
+use Rattle.std.proofs.lemmas.List.{length-append}
+use Rattle.om_scan.proofs.PlaceLemmas.{mapped_at, slice_get-append_left}
 
 -- number k stands at place k
 pub numbered_there : (s : ℕ) (ts : List ℕ) (k n : ℕ) → n ≡ s + k → k < length ts → slice_get (numbered_from s ts) k ≡ Some (n, slice_index ts k)
@@ -27,12 +30,37 @@ pub length_numbered : (s : ℕ) (ts : List ℕ) → length (numbered_from s ts) 
 length_numbered s [] = refl
 length_numbered s (t ∷ ts) = ap suc (length_numbered (suc s) ts)
 
-first_pair : (types : List ℕ) (t : ℕ) → slice_get types 0 ≡ Some t → Contains (numbered_from 0 types) (0, t)
+-- ---- types, and objects at further types
+
+slice_get-append_right : {X : Type 0} (xs ys : List X) (m : ℕ) → slice_get (xs ++ ys) (length xs + m) ≡ slice_get ys m
+slice_get-append_right [] ys m = let same : 0 + m ≡ m = omega arith in ap (slice_get ys) same
+slice_get-append_right (x ∷ xs) ys m =
+    let same : suc (length xs) + m ≡ suc (length xs + m) = omega arith in
+    ap (slice_get (x ∷ xs ++ ys)) same ∙ slice_get-append_right xs ys m
+
+pub length_pairs : (types : List ℕ) (seconds : Seconds) → length (pairs_with types seconds) ≡ length types + length (noted_in seconds)
+length_pairs types seconds = length-append (numbered_from 0 types) (noted_in seconds) ∙ ap (λ n. n + length (noted_in seconds)) (length_numbered 0 types)
+
+pub pair_first :
+    (types : List ℕ) (seconds : Seconds) (k : ℕ) → k < length types → slice_get (pairs_with types seconds) k ≡ Some (k, slice_index types k)
+pair_first types seconds k less =
+    slice_get-append_left (numbered_from 0 types) (noted_in seconds) k (k, slice_index types k) (numbered_there 0 types k k (omega arith) less)
+
+pub pair_later :
+    (types : List ℕ) (seconds : Seconds) (k m : ℕ) (p : ℕ × ℕ) → k ≡ length types + m → slice_get (noted_in seconds) m ≡ Some p
+    → slice_get (pairs_with types seconds) k ≡ Some p
+pair_later types seconds k m p is at_m =
+    ap (slice_get (pairs_with types seconds)) (is ∙ ap (λ n. n + m) (sym (length_numbered 0 types)))
+    ∙ slice_get-append_right (numbered_from 0 types) (noted_in seconds) m ∙ at_m
+
+-- ---- what is said of the value
+
+pub first_pair : (types : List ℕ) (t : ℕ) → slice_get types 0 ≡ Some t → Contains (numbered_from 0 types) (0, t)
 first_pair [] t at_0 = absurd (none-some t at_0)
 first_pair (u ∷ types) t at_0 = slice_get-Contains (numbered_from 0 (u ∷ types)) 0 (0, t) (ap (λ w. Some (0, w)) (same_Some u t at_0))
 
 -- numbers differ, so the pairs do
-numbers_apart : (table : Table) (types : List ℕ) → AreApart (map (key_of table) (numbered_from 0 types))
+pub numbers_apart : (table : Table) (types : List ℕ) → AreApart (map (key_of table) (numbered_from 0 types))
 numbers_apart table types j k key at_j at_k =
     let p = mapped_at (key_of table) (numbered_from 0 types) j key at_j in
     let q = mapped_at (key_of table) (numbered_from 0 types) k key at_k in

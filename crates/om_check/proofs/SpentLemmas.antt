@@ -19,15 +19,10 @@ use Rattle.om_scan.specs.Scanned as scans
 use Rattle.om_scan.specs.declared.taken.Taken.{Taken}
 use Rattle.om_scan.specs.Taken.{types_in, all_fields, seen_of, size_of, rest_of}
 use Rattle.om_scan.specs.Scanned.{AreTaken, left_of}
-use Rattle.om_scan.proofs.PlaceLemmas.{place_of, read_at}
+use Rattle.om_scan.proofs.PlaceLemmas.{place_of, read_at, mapped_at}
 use Rattle.om_scan.proofs.ScanLemmas.{pair_at, types_entries}
 use Rattle.om_scan.proofs.SizeLemmas.{sizes_are_few}
 use Rattle.om_check.proofs.VisitLemmas.{visit_within, visits_apart}
-
-pub mapped_at : {X Y : Type 0} (f : X → Y) (xs : List X) (k : ℕ) (y : Y) → slice_get (map f xs) k ≡ Some y → (x : X) × (slice_get xs k ≡ Some x) × (f x ≡ y)
-mapped_at f [] k y at_k = absurd (none-some y at_k)
-mapped_at f (x ∷ xs) zero y at_k = (x, refl, same_Some (f x) y at_k)
-mapped_at f (x ∷ xs) (suc k) y at_k = mapped_at f xs k y at_k
 
 -- ---- lists whose elements are apart
 

@@ -4,6 +4,7 @@ pub mod Visits
 pub mod Told
 pub mod Explored
 pub mod Search
+pub mod Settled
 pub mod Typing
 pub mod Clash
 pub mod Verdict

@@ -9,3 +9,4 @@ use Rattle.om_check.specs.Visits.{listed}
 abbrev pub pairs_in : Pairs → List (ℕ × ℕ)
 pairs_in (forms.Searched visits) = pairs_of (listed visits)
 pairs_in (forms.Scanned types) = numbered_from 0 types
+pairs_in (forms.Settled settled) = settled

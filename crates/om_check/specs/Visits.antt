@@ -1,9 +1,8 @@
 -- The visits of a check, and what is noted of the objects that they are of.
 use Rattle.std.specs.Prelude.{ℕ, suc, ◌≡◌, ◌⊎◌, ◌<◌, List, [], ◌∷◌, ◌++◌, length, IsTrue, Option, Some, slice_get}
-use Rattle.std.specs.declared.cmp.Ordering.{Ordering}
-use Rattle.std.specs.Ordering.{nat_cmp, ordering_then}
 use Rattle.std.specs.BTreeSet.{contains}
 use Rattle.om_types.specs.Table.{Table}
+use Rattle.om_scan.specs.Seconds.{pair_cmp}
 use Rattle.om_check.specs.declared.visits.Visit.{Visit}
 use Rattle.om_check.specs.declared.visits.Visits.{Visits}
 
@@ -24,10 +23,6 @@ pub record IsFirstAt (all : List Visit) (o t : ℕ) : Type 0 where
   pub object : visit.object ≡ o
   pub type : visit.ty ≡ t
   pub none : (j : ℕ) (v : Visit) → j < place → slice_get all j ≡ Some v → ¬ (v.object ≡ o)
-
--- objects with classes are ordered by the object, then by the class
-abbrev pub pair_cmp : ℕ × ℕ → ℕ × ℕ → Ordering
-pair_cmp x y = ordering_then (nat_cmp x.0 y.0) (nat_cmp x.1 y.1)
 
 -- For each object it is noted at which type it was met first, and at which other classes.
 pub record AreNoted (table : Table) (all : List Visit) (first : List ℕ) (later : ℕ → ℕ → Type 0)

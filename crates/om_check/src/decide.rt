@@ -8,7 +8,9 @@ ghost use Rattle.om_types.specs.Steps.{most_steps};
 ghost use Rattle.om_type_table.specs.Made.{table_of, IsLawful};
 ghost use Rattle.om_scan.specs.FittingRows.{AreRows};
 ghost use Rattle.om_scan.specs.Taken.{types_in};
-ghost use Rattle.om_scan.specs.Scanned.{AreTaken, cost_of, left_of};
+ghost use Rattle.om_scan.specs.declared.straight.Scanned.TheVariants as answers;
+ghost use Rattle.om_scan.specs.Paths.{HavePaths};
+ghost use Rattle.om_scan.specs.Scanned.{AreTaken, Tells, cost_of, left_of};
 ghost use Rattle.om_check.specs.Told.{AreOrdered, IsClashOf};
 ghost use Rattle.om_check.specs.Visits.{listed};
 ghost use Rattle.om_check.specs.Verdict.{IsVerdict, PairsHavePaths};
@@ -16,6 +18,7 @@ ghost use Rattle.om_check.specs.Verdict.{IsVerdict, PairsHavePaths};
 use crate::clash::first_clash;
 use crate::path::path_of;
 use crate::search::search;
+use crate::settle::settle;
 use crate::typing::Typing;
 use crate::verdict::Verdict;
 use crate::visits::Visits;
@@ -24,7 +27,7 @@ use om_heap::Heap;
 use om_model::Memory;
 use om_model::path::Path;
 use om_model::value::Val;
-use om_scan::{Scanned, Steps, Taken, rows_of, scan};
+use om_scan::{Noted, Scanned, Steps, Taken, rows_of, scan};
 use om_type_table::TypeTable;
 use om_types::fault::Fault;
 use std::alloc::Global;
@@ -77,8 +80,56 @@ fn check_object(
     }
     match scan(alloc, heap, table, &rows, steps)? {
         Scanned::Told(types) => Ok(Verdict::Yes(Typing::scanned(types))),
+        Scanned::Noted(noted) => settle_noted(alloc, heap, objects, table, &rows, noted, steps),
         Scanned::Stopped(taken) => {
             search_object(alloc, heap, objects, object, table, &rows, &taken, steps)
+        }
+    }
+}
+
+/// The same of the first object, where a scan met objects at second classes: mostly they are
+/// settled, and else a search of the heap, which has so many objects, tells it.
+fn settle_noted(
+    alloc: Global,
+    heap: &Heap,
+    objects: u64,
+    table: &TypeTable,
+    rows: &[Row],
+    noted: Noted,
+    steps: &mut Steps,
+) -> Result<Verdict, Memory>
+    requires graph { IsGraph heap.now }
+    requires objects { objects ≡ length heap.now }
+    requires some { 0 < length heap.now }
+    requires rows { AreRows table.now.nodes rows.now }
+    requires table { IsLawful (table_of table.now) }
+    requires fits { (table_shapes (table_of table.now)).fits heap.now (vals.Ref 0) 0 }
+    requires told { Tells (table_of table.now) heap.now (answers.Noted noted) }
+    requires paths { HavePaths (table_of table.now) heap.now (answers.Noted noted) }
+    requires all { noted.all ≤ cost_of heap.now noted.taken.types }
+    requires before { noted.before + left_of heap.now noted.taken
+        ≤ cost_of heap.now (types_in noted.taken) }
+    ensures verdict { IfOk result (IsVerdict (table_of table.now) heap.now (vals.Ref 0)) }
+    ensures paths { IfOk result (PairsHavePaths (table_of table.now) heap.now (vals.Ref 0)) }
+    ensures steps { steps.new + 1 ≤ steps.old + most_steps (table_of table.now) heap.now }
+{
+    let Noted {
+        taken,
+        seconds,
+        before,
+        all,
+    } = noted;
+    let mut more = Steps::new();
+    match settle(heap, table, rows, &taken.types, seconds, &mut more)? {
+        Some(seconds) => {
+            let typing = Typing::settled(taken.types, seconds)?;
+            steps.raise_by(all);
+            steps.raise_by(more.taken());
+            Ok(Verdict::Yes(typing))
+        }
+        None => {
+            steps.raise_by(before);
+            search_object(alloc, heap, objects, 0, table, rows, &taken, steps)
         }
     }
 }

@@ -8,6 +8,8 @@ mod meetings;
 mod path;
 mod rest;
 mod search;
+mod settle;
+mod settled;
 mod trail;
 mod typing;
 mod verdict;

@@ -1,21 +1,26 @@
 //! The typing of a value that has its type.
 
-ghost use Rattle.std.specs.Prelude.{◌≡◌, ◌<◌, length, slice_get, Some};
+ghost use Rattle.std.specs.Prelude.{◌≡◌, ◌<◌, length, slice_get, Some, IfOk};
 ghost use Rattle.om_types.specs.Fitting.{numbered_from};
 ghost use Rattle.om_check.specs.Search.{pairs_of};
+ghost use Rattle.om_scan.specs.Scanned.{pairs_with};
 ghost use Rattle.om_check.specs.Typing.{pairs_in};
 ghost use Rattle.om_check.specs.Visits.{listed};
 
+use crate::settled::Settled;
 use crate::visits::Visits;
-use om_scan::Cells;
+use om_model::Memory;
+use om_scan::{Cells, Seconds};
 use std::marker::Model;
 
-/// Objects at types, as a search met them or as a scan told them.
+/// Objects at types, as a search met them, or as a scan told or noted them.
 #[derive(Drop)]
 pub enum Pairs {
     Searched(Visits),
     /// The type of each object, by its number.
     Scanned(Cells),
+    /// The same, and then objects at further types.
+    Settled(Settled),
 }
 
 /// Objects at types that justify one another, in the order in which they were met.
@@ -53,6 +58,16 @@ impl Typing {
         }
     }
 
+    /// Each object at its type, and then those that were noted.
+    pub fn settled(types: Cells, seconds: Seconds) -> Result<Typing, Memory>
+        ensures { IfOk result (λ typing. typing ≡ pairs_with types seconds) }
+    {
+        let settled = Settled::new(types, seconds)?;
+        Ok(Typing {
+            pairs: Pairs::Settled(settled),
+        })
+    }
+
     /// How many there are.
     pub fn len(&self) -> usize
         ensures { result ≡ length self.now }
@@ -76,6 +91,7 @@ fn count_in(pairs: &Pairs) -> usize
     match pairs {
         Pairs::Searched(visits) => visits.len(),
         Pairs::Scanned(types) => types.len(),
+        Pairs::Settled(settled) => settled.len(),
     }
 }
 
@@ -90,5 +106,6 @@ fn pair_at(pairs: &Pairs, k: usize) -> (u64, usize)
             (visit.object, visit.ty)
         }
         Pairs::Scanned(types) => (k as u64, types.get(k) as usize),
+        Pairs::Settled(settled) => settled.get(k),
     }
 }

@@ -7,4 +7,7 @@ pub mod PathLemmas
 pub mod MarkLemmas
 pub mod ScanLemmas
 pub mod StopLemmas
+pub mod NoteLemmas
 pub mod SizeLemmas
+pub mod SetLemmas
+pub mod SecondLemmas

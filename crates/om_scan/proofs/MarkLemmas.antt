@@ -1,9 +1,8 @@
 -- Marks that grow, and what they tell.
-use Rattle.std.proofs.Common.{ℕ, zero, suc, ◌+◌, ◌%◌, ◌<◌, ◌≡◌, ◌≢◌, ◌∙◌, ◌⊎◌, inl, inr, ⊎_elim, Bool, true, false, List, length, Some, refl, sym, ap, subst, arith}
+use Rattle.std.proofs.Common.{ℕ, zero, suc, ◌+◌, ◌^◌, ◌%◌, ◌<◌, ◌≡◌, ◌≢◌, ◌∙◌, ◌⊎◌, inl, inr, ⊎_elim, Bool, true, false, List, [], ◌∷◌, length, Option, Some, None, refl, sym, ap, subst, arith}
 use Rattle.std.specs.Bool.{OnTrue}
-use Rattle.std.specs.Prelude.{slice_get, slice_index, slice_set, replicate, not, ◌==◌, IsTrue}
+use Rattle.std.specs.Prelude.{slice_get, slice_index, slice_set, replicate, Contains, IsTrue, MatchOption}
 use Rattle.std.proofs.lemmas.List.{get_or-set_same, get_or-set_other, length-set, length-replicate}
-use Rattle.std.proofs.lemmas.Bool.{false≢true}
 use Rattle.std.proofs.lemmas.Option.{same_Some}
 use Rattle.om_model.specs.declared.value.Val.{Val}
 use Rattle.om_model.specs.declared.value.Val.TheVariants as vals
@@ -13,9 +12,17 @@ use Rattle.om_model.specs.Graph.{IsValue, IsGraph}
 use Rattle.om_heap.specs.Heap.{key_of, field_at, word_of, IsFieldWord}
 use Rattle.om_heap.proofs.ReadLemmas.{word_of-inj}
 use Rattle.om_fits.proofs.RowLemmas.{is_reference}
+use Rattle.om_model.proofs.Options.{Contains-none}
+use Rattle.om_types.specs.Typing.{IsListed}
+use Rattle.om_scan.specs.declared.notes.First.{First}
+use Rattle.om_scan.specs.declared.notes.Notes.{Notes}
+use Rattle.om_scan.specs.declared.notes.Unmet.{Unmet}
+use Rattle.om_scan.specs.declared.seconds.Seconds.{Seconds}
 use Rattle.om_scan.specs.Paths.{HasPath}
+use Rattle.om_scan.specs.Seconds.{noted_in, AreSeconds, IsNoting}
 use Rattle.om_scan.specs.Scanned.{object_needs}
-use Rattle.om_scan.specs.Scan.{AreMarks, AreKept, IsMet, IsUnfit, AreMet, IsMeeting, IsTaken}
+use Rattle.om_scan.specs.Scan.{first_or, AreMarks, AreKept, IsSecond, AreNoted, AreStillNoted, IsMet, IsOther, IsNoted, IsUnfit, AreMet, IsUnmet, IsFirstOf, IsToldIn, IsWhole, IsMeeting, IsTaken}
+use Rattle.om_scan.proofs.PlaceLemmas.{contains_push, contains_left, contains_last}
 
 -- ---- numbers
 
@@ -77,37 +84,231 @@ module _ (table : Table) (graph : List Obj) where
   kept_twice old middle new first second key some =
       let is = first key some in second key (omega (arith, is, some)) ∙ is
 
-  pub all_kept : (old new : List ℕ) (o t r : ℕ) → AreKept old new → AreMet table graph old o t r → AreMet table graph new o t r
-  all_kept old new o t r kept met j i a less at_j = met_kept old new (field_at graph o i) a kept (met j i a less at_j)
+  -- where nothing is noted
+  pub never_noted : (v : Val) (t : ℕ) → IsNoted table [] v t → ⊥
+  never_noted (vals.Int z) t noted = noted
+  never_noted (vals.Atom tag) t noted = noted
+  never_noted (vals.Ref o) t noted = Contains-none (o, noted.0) noted.1
 
-  pub taken_kept : (old new : List ℕ) (o t : ℕ) → AreKept old new → IsTaken table graph old o t → IsTaken table graph new o t
-  taken_kept old new o t kept taken = record {
+  -- an object that is noted still is
+  noted_still : (old new : List (ℕ × ℕ)) (v : Val) (t : ℕ) → AreStillNoted old new → IsNoted table old v t → IsNoted table new v t
+  noted_still old new (vals.Int z) t still noted = noted
+  noted_still old new (vals.Atom tag) t still noted = noted
+  noted_still old new (vals.Ref o) t still noted = (noted.0, still (o, noted.0) noted.1, noted.2)
+
+  pub all_kept :
+      (old new : List ℕ) (before noted : List (ℕ × ℕ)) (o t r : ℕ) → AreKept old new → AreStillNoted before noted
+      → AreMet table graph old before o t r → AreMet table graph new noted o t r
+  all_kept old new before noted o t r kept still met j i a less at_j = ⊎_elim
+      (λ own. inl (met_kept old new (field_at graph o i) a kept own))
+      (λ other. inr (noted_still before noted (field_at graph o i) a still other))
+      (met j i a less at_j)
+
+  pub unmet_kept :
+      (old new : List ℕ) (o t : ℕ) (unmet : Unmet) → AreKept old new → IsUnmet table graph old [] o t unmet → IsUnmet table graph new [] o t unmet
+  unmet_kept old new o t unmet kept is = record {
+    type = is.type;
+    at = is.at;
+    met = all_kept old new [] [] o t unmet.place kept (λ p among. among) is.met;
+    unfit = is.unfit;
+    small = is.small;
+  }
+
+  pub taken_kept :
+      (old new : List ℕ) (before noted : List (ℕ × ℕ)) (o t : ℕ) → AreKept old new → AreStillNoted before noted
+      → IsTaken table graph old before o t → IsTaken table graph new noted o t
+  taken_kept old new before noted o t kept still taken = record {
     marked = kept (key_of graph o) (let is = taken.marked in omega (arith, is)) ∙ taken.marked;
     fits = taken.fits;
-    met = all_kept old new o t (length (object_needs table graph o t)) kept taken.met;
+    met = all_kept old new before noted o t (length (object_needs table graph o t)) kept still taken.met;
   }
+
+  -- ---- what is noted
+
+  second_kept : (old new : List ℕ) (o t : ℕ) → AreKept old new → IsSecond table graph old o t → IsSecond table graph new o t
+  second_kept old new o t kept second = record {
+    inside = second.inside;
+    within = second.within;
+    path = second.path;
+    first = second.first;
+    marked = kept (key_of graph o) (let is = second.marked in omega (arith, is)) ∙ second.marked;
+    other = second.other;
+  }
+
+  noted_kept : (old new : List ℕ) (seconds : Seconds) → AreKept old new → AreNoted table graph old seconds → AreNoted table graph new seconds
+  noted_kept old new seconds kept noted = record {
+    valid = noted.valid;
+    all = λ o t among. second_kept old new o t kept (noted.all o t among);
+  }
+
+  -- one more may be noted
+  noted_more :
+      (marks : List ℕ) (old new : Seconds) (o t : ℕ) → AreNoted table graph marks old → AreSeconds table new
+      → IsNoting table (noted_in old) (noted_in new) o t → IsSecond table graph marks o t → AreNoted table graph marks new
+  noted_more marks old new o t noted valid noting second = record {
+    valid = valid;
+    all = λ p u among. ⊎_elim
+        (λ same. noted.all p u (subst (λ xs. Contains xs (p, u)) same.1 among))
+        (λ pushed. ⊎_elim
+        (λ before. noted.all p u before)
+        (λ last.
+        let object : o ≡ p = ap (λ (y : ℕ × ℕ). y.0) last in
+        let type : t ≡ u = ap (λ (y : ℕ × ℕ). y.1) last in
+        subst (λ n. IsSecond table graph marks n u) object (subst (IsSecond table graph marks o) type second))
+        (contains_push (noted_in old) (o, t) (p, u) (subst (λ xs. Contains xs (p, u)) pushed.1 among)))
+        noting;
+  }
+
+  noting_still : (old new : List (ℕ × ℕ)) (o t : ℕ) → IsNoting table old new o t → AreStillNoted old new
+  noting_still old new o t noting p among = ⊎_elim
+      (λ same. subst (λ xs. Contains xs p) (sym same.1) among)
+      (λ pushed. subst (λ xs. Contains xs p) (sym pushed.1) (contains_left old ((o, t) ∷ []) p among))
+      noting
+
+  pub noting_listed : (old new : List (ℕ × ℕ)) (o t : ℕ) → IsNoting table old new o t → IsListed (table_shapes table) new (vals.Ref o) t
+  noting_listed old new o t noting = ⊎_elim
+      (λ same. subst (λ xs. IsListed (table_shapes table) xs (vals.Ref o) t) (sym same.1) same.0)
+      (λ pushed. (t, subst (λ xs. Contains xs (o, t)) (sym pushed.1) (contains_last old (o, t)), refl))
+      noting
+
+  -- ---- where the first object was noted
+
+  first_kept : (old new : List ℕ) (o t steps : ℕ) (first : First) → AreKept old new → IsFirstOf table graph old o t steps first → IsFirstOf table graph new o t steps first
+  first_kept old new o t steps first kept is = record {
+    object = is.object;
+    type = is.type;
+    before = is.before;
+    unmet = unmet_kept old new o t first.unmet kept is.unmet;
+  }
+
+  told_kept :
+      (old new : List ℕ) (o t steps : ℕ) (before notes : Notes) → AreKept old new
+      → IsToldIn table graph old o t steps before notes → IsToldIn table graph new o t steps before notes
+  told_kept old new o t steps before notes kept told = by_before before.first told where
+    by_new :
+        (found : Option First) → MatchOption found (noted_in notes.seconds ≡ []) (IsFirstOf table graph old o t steps)
+        → MatchOption found (noted_in notes.seconds ≡ []) (IsFirstOf table graph new o t steps)
+    by_new None none = none
+    by_new (Some first) is = first_kept old new o t steps first kept is
+
+    by_before :
+        (found : Option First)
+        → MatchOption found (MatchOption notes.first (noted_in notes.seconds ≡ []) (IsFirstOf table graph old o t steps)) (λ first. notes.first ≡ Some first)
+        → MatchOption found (MatchOption notes.first (noted_in notes.seconds ≡ []) (IsFirstOf table graph new o t steps)) (λ first. notes.first ≡ Some first)
+    by_before None is = by_new notes.first is
+    by_before (Some first) is = is
+
+  told_first : (marks : List ℕ) (o t steps : ℕ) (notes : Notes) → IsWhole notes → IsToldIn table graph marks o t steps notes notes
+  told_first marks o t steps notes whole = by_first notes.first refl whole where
+    by_first :
+        (found : Option First) → notes.first ≡ found → MatchOption found (noted_in notes.seconds ≡ []) (λ first. Unit {0})
+        → MatchOption found (MatchOption notes.first (noted_in notes.seconds ≡ []) (IsFirstOf table graph marks o t steps)) (λ first. notes.first ≡ Some first)
+    by_first None is none = subst (λ found. MatchOption found (noted_in notes.seconds ≡ []) (IsFirstOf table graph marks o t steps)) (sym is) none
+    by_first (Some first) is some = is
+
+  -- an object is noted at a need of this one
+  told_more :
+      (marks : List ℕ) (o t steps : ℕ) (before now new : Notes) (first : First) → IsToldIn table graph marks o t steps before now
+      → new.first ≡ first_or now.first first → first.object ≡ o → first.ty ≡ t → first.steps ≡ steps
+      → (noted_in now.seconds ≡ [] → IsUnmet table graph marks [] o t first.unmet)
+      → IsToldIn table graph marks o t steps before new
+  told_more marks o t steps before now new first told is object type taken unmet = by_before before.first told where
+    by_now :
+        (found : Option First) → now.first ≡ found → MatchOption found (noted_in now.seconds ≡ []) (IsFirstOf table graph marks o t steps)
+        → (last : First) × (new.first ≡ Some last) × IsFirstOf table graph marks o t steps last
+    by_now None none empty = (first, is ∙ ap (λ f. first_or f first) none, record { object = object; type = type; before = taken; unmet = unmet empty })
+    by_now (Some known) some own = (known, is ∙ ap (λ f. first_or f first) some, own)
+
+    by_before :
+        (found : Option First)
+        → MatchOption found (MatchOption now.first (noted_in now.seconds ≡ []) (IsFirstOf table graph marks o t steps)) (λ known. now.first ≡ Some known)
+        → MatchOption found (MatchOption new.first (noted_in new.seconds ≡ []) (IsFirstOf table graph marks o t steps)) (λ known. new.first ≡ Some known)
+    by_before None own =
+        let last = by_now now.first refl own in
+        subst (λ found. MatchOption found (noted_in new.seconds ≡ []) (IsFirstOf table graph marks o t steps)) (sym last.1) last.2
+    by_before (Some known) some = is ∙ ap (λ f. first_or f first) some
 
   -- ---- needs
 
-  pub meeting_first : (marks : List ℕ) (o t : ℕ) → AreMarks table graph marks → IsMeeting table graph marks marks o t 0
-  meeting_first marks o t are = record { marks = are; kept = λ key some. refl; met = λ j i a less at_j. absurd (omega (arith, less)) }
+  pub meeting_first :
+      (marks : List ℕ) (notes : Notes) (o t steps : ℕ) → AreMarks table graph marks → AreNoted table graph marks notes.seconds → IsWhole notes
+      → IsMeeting table graph marks marks notes notes o t 0 steps
+  meeting_first marks notes o t steps are noted whole = record {
+    marks = are;
+    kept = λ key some. refl;
+    noted = noted;
+    still = λ p among. among;
+    told = told_first marks o t steps notes whole;
+    met = λ j i a less at_j. absurd (omega (arith, less));
+  }
+
+  one_more :
+      (now new : List ℕ) (before noted : List (ℕ × ℕ)) (o t r i a : ℕ) → AreKept now new → AreStillNoted before noted → AreMet table graph now before o t r
+      → slice_get (object_needs table graph o t) r ≡ Some (i, a) → IsMet table graph new (field_at graph o i) a ⊎ IsNoted table noted (field_at graph o i) a
+      → AreMet table graph new noted o t (r + 1)
+  one_more now new before noted o t r i a kept still all at_r own j x b less at_j = ⊎_elim
+      (λ same.
+      let pair = same_Some (i, a) (x, b) (sym at_r ∙ ap (slice_get (object_needs table graph o t)) (sym same) ∙ at_j) in
+      subst (λ (need : ℕ × ℕ). IsMet table graph new (field_at graph o need.0) need.1 ⊎ IsNoted table noted (field_at graph o need.0) need.1) pair own)
+      (λ apart. all_kept now new before noted o t r kept still all j x b (below apart less) at_j)
+      (same_or_not j r) where
+        below : {j : ℕ} → j ≢ r → j < r + 1 → j < r
+        below {j} apart less = omega (arith, apart, less)
 
   pub meeting_more :
-      (old now new : List ℕ) (o t r i a : ℕ) → IsMeeting table graph old now o t r → AreMarks table graph new → AreKept now new
+      (old now new : List ℕ) (before notes : Notes) (o t r i a steps : ℕ) → IsMeeting table graph old now before notes o t r steps → AreMarks table graph new → AreKept now new
       → slice_get (object_needs table graph o t) r ≡ Some (i, a) → IsMet table graph new (field_at graph o i) a
-      → IsMeeting table graph old new o t (r + 1)
-  meeting_more old now new o t r i a meeting marks kept at_r met = record {
+      → IsMeeting table graph old new before notes o t (r + 1) steps
+  meeting_more old now new before notes o t r i a steps meeting marks kept at_r met = record {
     marks = marks;
     kept = kept_twice old now new meeting.kept kept;
-    met = λ j x b less at_j. ⊎_elim
-        (λ same.
-        let pair = same_Some (i, a) (x, b) (sym at_r ∙ ap (slice_get (object_needs table graph o t)) (sym same) ∙ at_j) in
-        subst (λ (need : ℕ × ℕ). IsMet table graph new (field_at graph o need.0) need.1) pair met)
-        (λ apart. met_kept now new (field_at graph o x) b kept (meeting.met j x b (below apart less) at_j))
-        (same_or_not j r);
-  } where
-    below : {j : ℕ} → j ≢ r → j < r + 1 → j < r
-    below {j} apart less = omega (arith, apart, less)
+    noted = noted_kept now new notes.seconds kept meeting.noted;
+    still = meeting.still;
+    told = told_kept now new o t steps before notes kept meeting.told;
+    met = one_more now new (noted_in notes.seconds) (noted_in notes.seconds) o t r i a kept (λ p among. among) meeting.met at_r (inl met);
+  }
+
+  -- the same where the marks alone changed
+  pub meeting_kept :
+      (old now new : List ℕ) (before notes : Notes) (o t r steps : ℕ) → IsMeeting table graph old now before notes o t r steps → AreMarks table graph new → AreKept now new
+      → IsMeeting table graph old new before notes o t r steps
+  meeting_kept old now new before notes o t r steps meeting marks kept = record {
+    marks = marks;
+    kept = kept_twice old now new meeting.kept kept;
+    noted = noted_kept now new notes.seconds kept meeting.noted;
+    still = meeting.still;
+    told = told_kept now new o t steps before notes kept meeting.told;
+    met = all_kept now new (noted_in notes.seconds) (noted_in notes.seconds) o t r kept (λ p among. among) meeting.met;
+  }
+
+  -- the value of a need is an object that is marked with another type, and noted at the need's
+  pub meeting_noted :
+      (old now new : List ℕ) (before notes more : Notes) (o t r i a steps p : ℕ) (first : First) → IsMeeting table graph old now before notes o t r steps
+      → AreMarks table graph new → AreKept now new → slice_get (object_needs table graph o t) r ≡ Some (i, a) → field_at graph o i ≡ vals.Ref p → p < length graph
+      → a < length table.nodes → HasPath table graph (vals.Ref 0) p a → IsOther table graph new (vals.Ref p) a
+      → AreSeconds table more.seconds → IsNoting table (noted_in notes.seconds) (noted_in more.seconds) p a
+      → more.first ≡ first_or notes.first first → first.object ≡ o → first.ty ≡ t → first.steps ≡ steps
+      → first.unmet.place ≡ r → first.unmet.field ≡ i → (IsTrue first.unmet.unfit → ⊥) → i + 1 < 2 ^ 64
+      → IsMeeting table graph old new before more o t (r + 1) steps
+  meeting_noted old now new before notes more o t r i a steps p first meeting marks kept at_r is inside within path other valid noting told object type taken place field never small =
+      let grown = meeting_kept old now new before notes o t r steps meeting marks kept in
+      let second : IsSecond table graph new p a = record { inside = inside; within = within; path = path; first = other.0; marked = other.1; other = other.2 } in
+      let still = noting_still (noted_in notes.seconds) (noted_in more.seconds) p a noting in
+      record {
+        marks = marks;
+        kept = grown.kept;
+        noted = noted_more new notes.seconds more.seconds p a grown.noted valid noting second;
+        still = λ q among. still q (grown.still q among);
+        told = told_more new o t steps before notes more first grown.told told object type taken (λ none. record {
+          type = a;
+          at = ap (slice_get (object_needs table graph o t)) place ∙ at_r ∙ ap (λ n. Some (n, a)) (sym field);
+          met = subst (λ n. AreMet table graph new [] o t n) (sym place) (subst (λ xs. AreMet table graph new xs o t r) none grown.met);
+          unfit = λ unfit. absurd (never unfit);
+          small = omega (arith, small, field);
+        });
+        met = one_more new new (noted_in notes.seconds) (noted_in more.seconds) o t r i a (λ key some. refl) still grown.met at_r
+            (inr (subst (λ v. IsNoted table (noted_in more.seconds) v a) (sym is) (noting_listed (noted_in notes.seconds) (noted_in more.seconds) p a noting)));
+      }
 
 -- what is true holds also where it is asked for in one case
 pub told : (test : Bool) (X : Type 0) → X → OnTrue test X
@@ -128,13 +329,22 @@ marked_met table graph marks word key t u graph' field even keys marked same v v
     subst (λ w. IsMet table graph marks w t) (sym named)
     (u, ap (slice_index marks) (sym (keys r.0 r.1 r.2)) ∙ marked, same)
 
-odd_word : (word : ℕ) → IsTrue (not (word % 8 == 0)) → word % 8 ≢ 0
-odd_word word odd even = false≢true (sym (ap (λ n. not (n == 0)) even) ∙ odd)
+-- the same of an unequal type
+pub marked_other :
+    (table : Table) (graph : List Obj) (marks : List ℕ) (word key t u : ℕ) → IsGraph graph → IsFieldWord graph word → word % 8 ≡ 0
+    → ((o : ℕ) → o < length graph → word ≡ word_of graph (vals.Ref o) → key ≡ key_of graph o)
+    → slice_index marks key ≡ suc u → (¬ (table_shapes table).equal u t)
+    → (v : Val) → IsValue (length graph) v → word ≡ word_of graph v → IsOther table graph marks v t
+marked_other table graph marks word key t u graph' field even keys marked other v valid is =
+    let r = is_reference graph word field even in
+    let named : v ≡ vals.Ref r.0 = word_of-inj graph v (vals.Ref r.0) graph' valid r.1 (sym is ∙ r.2) in
+    subst (λ w. IsOther table graph marks w t) (sym named)
+    (u, ap (slice_index marks) (sym (keys r.0 r.1 r.2)) ∙ marked, other)
 
 -- a word that names no object, of a value that does not fit
 pub word_unfit :
-    (table : Table) (graph : List Obj) (v : Val) (t word : ℕ) → word ≡ word_of graph v → IsTrue (not (word % 8 == 0))
-    → (word % 8 ≢ 0 → ¬ (table_shapes table).fits graph v t) → IsUnfit table graph v t
-word_unfit table graph (vals.Int z) t word is odd unfit = unfit (odd_word word odd)
-word_unfit table graph (vals.Atom tag) t word is odd unfit = unfit (odd_word word odd)
-word_unfit table graph (vals.Ref o) t word is odd unfit = absurd (odd_word word odd (omega (arith, is)))
+    (table : Table) (graph : List Obj) (v : Val) (t word : ℕ) → word ≡ word_of graph v → word % 8 ≢ 0
+    → ¬ (table_shapes table).fits graph v t → IsUnfit table graph v t
+word_unfit table graph (vals.Int z) t word is odd unfit = unfit
+word_unfit table graph (vals.Atom tag) t word is odd unfit = unfit
+word_unfit table graph (vals.Ref o) t word is odd unfit = absurd (odd (omega (arith, is)))

@@ -1,5 +1,5 @@
 -- Objects that are taken one after another, and what they make when all are taken.
-use Rattle.std.proofs.Common.{ℕ, zero, suc, ◌+◌, ◌<◌, ◌≤◌, ◌≡◌, ◌∙◌, inl, ⊎_elim, ◌++◌, List, [], ◌∷◌, length, Option, Some, refl, sym, ap, subst, arith}
+use Rattle.std.proofs.Common.{ℕ, zero, suc, ◌+◌, ◌<◌, ◌≤◌, ◌≡◌, ◌∙◌, ◌⊎◌, inl, ⊎_elim, ◌++◌, List, [], ◌∷◌, length, Option, Some, refl, sym, ap, subst, arith}
 use Rattle.std.specs.Prelude.{slice_get, slice_index, slice_set, replicate, map, sum_by, Contains, IsSomeAnd}
 use Rattle.std.proofs.lemmas.List.{length-append, get_or-set_same}
 use Rattle.std.proofs.lemmas.List.Sums.{sum_by_push}
@@ -20,12 +20,14 @@ use Rattle.om_type_table.specs.Made.{IsLawful}
 use Rattle.om_scan.specs.declared.straight.Scanned.TheVariants as answers
 use Rattle.om_scan.specs.Paths.{HasPath, HavePaths}
 use Rattle.om_scan.specs.Taken.{size_of}
-use Rattle.om_scan.specs.Scanned.{object_needs, IsScanned, cost_of}
-use Rattle.om_scan.specs.Scan.{mark_of, AreMarks, AreKept, IsMet, AreMet, IsTaken, IsScanning}
-use Rattle.om_scan.proofs.PlaceLemmas.{place_of, slice_get-push_cases}
+use Rattle.om_scan.specs.declared.seconds.Seconds.{Seconds}
+use Rattle.om_scan.specs.Seconds.{noted_in}
+use Rattle.om_scan.specs.Scanned.{object_needs, IsScanned, IsFoundIn, IsScannedBut, cost_of}
+use Rattle.om_scan.specs.Scan.{mark_of, AreMarks, AreKept, AreNoted, AreStillNoted, IsMet, IsNoted, AreMet, IsTaken, IsScanning}
+use Rattle.om_scan.proofs.PlaceLemmas.{place_of, slice_get-push_cases, contains_left, contains_right}
 use Rattle.om_scan.proofs.FieldLemmas.{field_there, field_valid}
 use Rattle.om_scan.proofs.NeedLemmas.{need_field, needs_few}
-use Rattle.om_scan.proofs.MarkLemmas.{marks_none, marks_more, taken_kept}
+use Rattle.om_scan.proofs.MarkLemmas.{marks_none, marks_more, taken_kept, never_noted}
 use Rattle.om_scan.proofs.PathLemmas.{same_from_key, root_path}
 use Rattle.om_scan.proofs.SizeLemmas.{sizes_are_few}
 
@@ -78,8 +80,8 @@ module _ (table : Table) (graph : List Obj) where
 
   pub scanning_none :
       (marks : List ℕ) (n key steps : ℕ) → IsGraph graph → 0 < length graph → 0 < length table.nodes → ((o : ℕ) → o < length graph → heap.key_of graph o < n)
-      → key ≡ heap.key_of graph 0 → marks ≡ slice_set (replicate n 0) key 1 → steps ≡ 0 → IsScanning table graph marks [] 0 steps
-  scanning_none marks n key steps is_graph some rooted keys is made none =
+      → key ≡ heap.key_of graph 0 → marks ≡ slice_set (replicate n 0) key 1 → steps ≡ 0 → (noted : List (ℕ × ℕ)) → IsScanning table graph marks noted [] 0 steps
+  scanning_none marks n key steps is_graph some rooted keys is made none noted =
       let zeros = marks_none table graph n keys in
       let inside : key < length {A = ℕ} (replicate n 0) = subst (λ k. k < length {A = ℕ} (replicate n 0)) (sym is) (zeros.keyed 0 some) in
       record {
@@ -94,44 +96,46 @@ module _ (table : Table) (graph : List Obj) where
   -- ---- one object more
 
   pub scanning_more :
-      (old new types : List ℕ) (o t steps more : ℕ) → o < length graph → IsScanning table graph old types o steps → AreMarks table graph new → AreKept old new
+      (old new : List ℕ) (before noted : List (ℕ × ℕ)) (types : List ℕ) (o t steps more : ℕ) → o < length graph → IsScanning table graph old before types o steps
+      → AreMarks table graph new → AreKept old new → AreStillNoted before noted
       → mark_of graph old o ≡ suc t → (table_shapes table).fits graph (vals.Ref o) t
-      → AreMet table graph new o t (length (object_needs table graph o t))
-      → more ≤ steps + (1 + length (object_needs table graph o t)) → IsScanning table graph new (types ++ t ∷ []) (o + 1) more
-  scanning_more old new types o t steps more inside scanning valid kept marked fits met few =
-      let own : IsTaken table graph new o t = record { marked = kept (heap.key_of graph o) (omega (arith, marked)) ∙ marked; fits = fits; met = met } in
+      → AreMet table graph new noted o t (length (object_needs table graph o t))
+      → more ≤ steps + (1 + length (object_needs table graph o t)) → IsScanning table graph new noted (types ++ t ∷ []) (o + 1) more
+  scanning_more old new before noted types o t steps more inside scanning valid kept still marked fits met few =
+      let own : IsTaken table graph new noted o t = record { marked = kept (heap.key_of graph o) (omega (arith, marked)) ∙ marked; fits = fits; met = met } in
       record {
         valid = valid;
         root = kept (heap.key_of graph 0) (let is = scanning.root in omega (arith, is)) ∙ scanning.root;
         many = length-append types (t ∷ []) ∙ ap (λ n. n + 1) scanning.many;
         taken = λ k u at_k. ⊎_elim
-            (λ before. taken_kept table graph old new k u kept (scanning.taken k u before))
-            (λ last. subst (λ n. IsTaken table graph new n u) (sym (last.0 ∙ scanning.many)) (subst (IsTaken table graph new o) last.1 own))
+            (λ there. taken_kept table graph old new before noted k u kept still (scanning.taken k u there))
+            (λ last. subst (λ n. IsTaken table graph new noted n u) (sym (last.0 ∙ scanning.many)) (subst (IsTaken table graph new noted o) last.1 own))
             (slice_get-push_cases types t k u at_k);
         few =
             let cost = cost_more graph types t in
             let own_cost = ap (size_of graph) scanning.many in
             let own_needs = needs_few table graph o t inside in
-            let before = scanning.few in
-            omega (arith, few, cost, own_cost, own_needs, before);
+            let spent = scanning.few in
+            omega (arith, few, cost, own_cost, own_needs, spent);
       }
 
-  -- the same with more marks
+  -- the same with more marks, and fewer steps
   pub scanning_kept :
-      (old new types : List ℕ) (n steps : ℕ) → IsScanning table graph old types n steps → AreMarks table graph new → AreKept old new
-      → IsScanning table graph new types n steps
-  scanning_kept old new types n steps scanning valid kept = record {
+      (old new : List ℕ) (before noted : List (ℕ × ℕ)) (types : List ℕ) (n steps fewer : ℕ) → fewer ≤ steps → IsScanning table graph old before types n steps
+      → AreMarks table graph new → AreKept old new → AreStillNoted before noted
+      → IsScanning table graph new noted types n fewer
+  scanning_kept old new before noted types n steps fewer less scanning valid kept still = record {
     valid = valid;
     root = kept (heap.key_of graph 0) (let is = scanning.root in omega (arith, is)) ∙ scanning.root;
     many = scanning.many;
-    taken = λ k u at_k. taken_kept table graph old new k u kept (scanning.taken k u at_k);
-    few = scanning.few;
+    taken = λ k u at_k. taken_kept table graph old new before noted k u kept still (scanning.taken k u at_k);
+    few = let few = scanning.few in omega (arith, few, less);
   }
 
   -- ---- the first objects
 
-  pub scanned_within : (marks types : List ℕ) (n steps o t : ℕ) → IsScanning table graph marks types n steps → slice_get types o ≡ Some t → t < length table.nodes
-  scanned_within marks types n steps o t scanning at_o =
+  pub scanned_within : (marks : List ℕ) (noted : List (ℕ × ℕ)) (types : List ℕ) (n steps o t : ℕ) → IsScanning table graph marks noted types n steps → slice_get types o ≡ Some t → t < length table.nodes
+  scanned_within marks noted types n steps o t scanning at_o =
       let marked = (scanning.taken o t at_o).marked in
       let small = scanning.valid.small (heap.key_of graph o) in
       omega (arith, marked, small)
@@ -156,7 +160,8 @@ module _ (table : Table) (graph : List Obj) where
 
   -- ---- all objects
 
-  module _ (marks types : List ℕ) (steps : ℕ) (lawful : IsLawful table) (is_graph : IsGraph graph) (scanning : IsScanning table graph marks types (length graph) steps) where
+  module _ (marks : List ℕ) (noted : List (ℕ × ℕ)) (types : List ℕ) (steps : ℕ) (lawful : IsLawful table) (is_graph : IsGraph graph)
+      (scanning : IsScanning table graph marks noted types (length graph) steps) where
     all_there : (o : ℕ) → o < length graph → (t : ℕ) × (slice_get types o ≡ Some t)
     all_there o inside = slice_get_there types o (let many = scanning.many in omega (arith, many, inside))
 
@@ -169,21 +174,35 @@ module _ (table : Table) (graph : List Obj) where
         let small = scanning.valid.small (heap.key_of graph o) in
         omega (arith, marked, small)
 
+    root_typed : 0 < length graph → slice_get types 0 ≡ Some 0
+    root_typed some =
+        let first = all_there 0 some in
+        let is : first.0 ≡ 0 = let marked = (scanning.taken 0 first.0 first.1).marked in let root = scanning.root in omega (arith, marked, root) in
+        first.1 ∙ ap (λ t. Some t) is
+
+    -- what a value that is met is marked with is the type of its object
+    met_type : (p u : ℕ) → p < length graph → mark_of graph marks p ≡ suc u → slice_get types p ≡ Some u
+    met_type p u inside marked =
+        let there = all_there p inside in
+        let same : there.0 ≡ u = let is = (scanning.taken p there.0 there.1).marked in omega (arith, is, marked) in
+        there.1 ∙ ap (λ t. Some t) same
+
     held_of : (v : Val) (t : ℕ) → IsValue (length graph) v → IsMet table graph marks v t → IsHeld (table_shapes table) graph (numbered_from 0 types) v t
     held_of (vals.Int z) t valid met = record { fits = met; listed = tt }
     held_of (vals.Atom tag) t valid met = record { fits = met; listed = tt }
     held_of (vals.Ref p) t valid met =
-        let there = all_there p valid in
-        let taken = scanning.taken p there.0 there.1 in
-        let same : there.0 ≡ met.0 = let is = taken.marked in let other = met.1 in omega (arith, is, other) in
-        let equal : (table_shapes table).equal there.0 t = ap (slice_get table.classes) same ∙ met.2 in
+        let at_p = met_type p met.0 valid met.1 in
         record {
-          fits = lawful.lawful.fits graph (vals.Ref p) there.0 t (inl tt) equal taken.fits;
-          listed = (there.0, pair_there types p there.0 there.1, equal);
+          fits = lawful.lawful.fits graph (vals.Ref p) met.0 t (inl tt) met.2 (scanning.taken p met.0 at_p).fits;
+          listed = (met.0, pair_there types p met.0 at_p, met.2);
         }
 
-    all_typed : IsTyping (table_shapes table) graph (numbered_from 0 types)
-    all_typed = record {
+    -- nothing was noted
+    only_met : noted ≡ [] → (v : Val) (t : ℕ) → IsMet table graph marks v t ⊎ IsNoted table noted v t → IsMet table graph marks v t
+    only_met none v t = ⊎_elim (λ met. met) (λ other. absurd (never_noted table graph v t (subst (λ xs. IsNoted table xs v t) none other)))
+
+    all_typed : noted ≡ [] → IsTyping (table_shapes table) graph (numbered_from 0 types)
+    all_typed none = record {
       fits = λ o t among. (scanning.taken o t (pair_at types o t among)).fits;
       held = λ o t i u among needed.
           let at_o = pair_at types o t among in
@@ -192,22 +211,48 @@ module _ (table : Table) (graph : List Obj) where
           let short = need_field table graph o t j.0 i u inside j.1 in
           let below = slice_get_within (object_needs table graph o t) j.0 (i, u) j.1 in
           subst (λ value. IsSomeAnd value (λ v. IsHeld (table_shapes table) graph (numbered_from 0 types) v u)) (sym (field_there graph o i inside short))
-          (held_of (field_at graph o i) u (field_valid graph o i inside short is_graph) ((scanning.taken o t at_o).met j.0 i u below j.1));
+          (held_of (field_at graph o i) u (field_valid graph o i inside short is_graph)
+          (only_met none (field_at graph o i) u ((scanning.taken o t at_o).met j.0 i u below j.1)));
       one_type = λ o t u one other mutable.
           let same = same_Some t u (sym (pair_at types o t one) ∙ pair_at types o u other) in
           ap (slice_get table.classes) same;
     }
 
-    pub all_scanned : 0 < length graph → IsScanned table graph types
-    all_scanned some =
-        let first = all_there 0 some in
-        let is : first.0 ≡ 0 = let marked = (scanning.taken 0 first.0 first.1).marked in let root = scanning.root in omega (arith, marked, root) in
-        record {
-          many = scanning.many;
-          within = within_of;
-          root = first.1 ∙ ap (λ t. Some t) is;
-          typing = all_typed;
-        }
+    pub all_scanned : 0 < length graph → noted ≡ [] → IsScanned table graph types
+    all_scanned some none = record { many = scanning.many; within = within_of; root = root_typed some; typing = all_typed none }
+
+    -- ---- where objects were noted
+
+    found_of : (v : Val) (t : ℕ) → IsValue (length graph) v → IsMet table graph marks v t ⊎ IsNoted table noted v t → IsFoundIn table graph (numbered_from 0 types ++ noted) v t
+    found_of (vals.Int z) t valid met = ⊎_elim (λ fits. fits) (λ never. absurd never) met
+    found_of (vals.Atom tag) t valid met = ⊎_elim (λ fits. fits) (λ never. absurd never) met
+    found_of (vals.Ref p) t valid met = ⊎_elim
+        (λ own.
+        (own.0, contains_left (numbered_from 0 types) noted (p, own.0) (pair_there types p own.0 (met_type p own.0 valid own.1)), own.2))
+        (λ other. (other.0, contains_right (numbered_from 0 types) noted (p, other.0) other.1, other.2))
+        met
+
+    pub all_noted : (seconds : Seconds) → 0 < length graph → noted_in seconds ≡ noted → AreNoted table graph marks seconds → IsScannedBut table graph types seconds
+    all_noted seconds some is are = record {
+      many = scanning.many;
+      within = within_of;
+      root = root_typed some;
+      fits = λ o t at_o. (scanning.taken o t at_o).fits;
+      found = λ o t i a at_o needed.
+          let inside = inside_of o t at_o in
+          let j = place_of (object_needs table graph o t) (i, a) needed in
+          let short = need_field table graph o t j.0 i a inside j.1 in
+          let below = slice_get_within (object_needs table graph o t) j.0 (i, a) j.1 in
+          subst (λ xs. IsFoundIn table graph (numbered_from 0 types ++ xs) (field_at graph o i) a) (sym is)
+          (found_of (field_at graph o i) a (field_valid graph o i inside short is_graph) ((scanning.taken o t at_o).met j.0 i a below j.1));
+      valid = are.valid;
+      noted = λ o t among.
+          let second = are.all o t among in
+          record { inside = second.inside; within = second.within; first = second.first; typed = met_type o second.first second.inside second.marked; other = second.other };
+    }
+
+    pub types_paths : (o t : ℕ) → slice_get types o ≡ Some t → HasPath table graph (vals.Ref 0) o t
+    types_paths o t at_o = scanning.valid.paths o t (inside_of o t at_o) (scanning.taken o t at_o).marked
 
     pub all_few : 1 + steps ≤ most_steps table graph
     all_few =
@@ -217,4 +262,4 @@ module _ (table : Table) (graph : List Obj) where
         omega (arith, most, few)
 
     pub all_paths : HavePaths table graph (answers.Told types)
-    all_paths o t at_o = scanning.valid.paths o t (inside_of o t at_o) (scanning.taken o t at_o).marked
+    all_paths o t at_o = types_paths o t at_o

@@ -10,12 +10,13 @@ use Rattle.om_model.specs.declared.value.Obj.{Obj}
 use Rattle.om_types.specs.Table.{Table, table_shapes}
 use Rattle.om_heap.specs.Heap.{field_at, key_of}
 use Rattle.om_type_table.specs.Made.{IsLawful}
-use Rattle.om_scan.specs.declared.straight.Unmet.{Unmet}
+use Rattle.om_scan.specs.declared.notes.Unmet.{Unmet}
 use Rattle.om_scan.specs.declared.taken.Taken.{Taken}
 use Rattle.om_scan.specs.declared.taken.Unfit.TheVariants as unfits
 use Rattle.om_scan.specs.Taken.{types_in, all_fields, seen_of, is_unfit_field, is_unfit_object, size_of, rest_of}
 use Rattle.om_scan.specs.Scanned.{object_needs, IsSeen, AreTaken, cost_of, left_of}
-use Rattle.om_scan.specs.Scan.{mark_of, IsMet, IsUnfit, IsUnmet, IsScanning}
+use Rattle.om_scan.specs.Scan.{mark_of, IsMet, IsNoted, IsUnfit, IsUnmet, IsScanning}
+use Rattle.om_scan.proofs.MarkLemmas.{never_noted}
 use Rattle.om_scan.proofs.IncreaseLemmas.{numbers_compare, place_before, place_same}
 use Rattle.om_scan.proofs.PlaceLemmas.{place_of, slice_get-push_cases}
 use Rattle.om_scan.proofs.NeedLemmas.{increase}
@@ -122,6 +123,12 @@ module _ (table : Table) (graph : List Obj) (lawful : IsLawful table) (marks : L
         w.2 (lawful.lawful.fits graph (vals.Ref p) a w.0 (inl tt) (sym met.2 ∙ ap (slice_get table.classes) same) fits);
   }
 
+  -- nothing is noted
+  need_seen :
+      (o i : ℕ) (v : Val) (a : ℕ) → AreMarked → is_unfit_field taken.unfit o i ≡ false → IsMet table graph marks v a ⊎ IsNoted table [] v a
+      → IsSeen table graph taken o i v a
+  need_seen o i v a marked none = ⊎_elim (λ met. met_seen o i v a marked none met) (λ noted. absurd (never_noted table graph v a noted))
+
   unfit_seen : (o i : ℕ) (v : Val) (a : ℕ) → is_unfit_field taken.unfit o i ≡ true → IsUnfit table graph v a → IsSeen table graph taken o i v a
   unfit_seen o i (vals.Int z) a is unfit =
       subst (λ b. MatchBool b (¬ (table_shapes table).fits graph (vals.Int z) a) ((table_shapes table).fits graph (vals.Int z) a)) (sym is) unfit
@@ -131,24 +138,24 @@ module _ (table : Table) (graph : List Obj) (lawful : IsLawful table) (marks : L
 
   -- an object whose needs are all met
   wholly_seen :
-      (types : List ℕ) (n steps o t i a : ℕ) → AreMarked → IsScanning table graph marks types n steps → slice_get types o ≡ Some t
+      (types : List ℕ) (n steps o t i a : ℕ) → AreMarked → IsScanning table graph marks [] types n steps → slice_get types o ≡ Some t
       → is_unfit_field taken.unfit o i ≡ false → Contains (object_needs table graph o t) (i, a) → IsSeen table graph taken o i (field_at graph o i) a
   wholly_seen types n steps o t i a marked scanning at_o none needed =
       let needs = object_needs table graph o t in
       let j = place_of needs (i, a) needed in
-      met_seen o i (field_at graph o i) a marked none ((scanning.taken o t at_o).met j.0 i a (slice_get_within needs j.0 (i, a) j.1) j.1)
+      need_seen o i (field_at graph o i) a marked none ((scanning.taken o t at_o).met j.0 i a (slice_get_within needs j.0 (i, a) j.1) j.1)
 
   -- ---- the scan stopped before an object
 
   pub before_taken :
-      (n steps : ℕ) → n ≤ length graph → IsScanning table graph marks (types_in taken) n steps
+      (n steps : ℕ) → n ≤ length graph → IsScanning table graph marks [] (types_in taken) n steps
       → ((p : ℕ) → IsTrue (is_unfit_object taken.unfit p) → (t : ℕ) × (mark_of graph marks p ≡ suc t) × ¬ (table_shapes table).fits graph (vals.Ref p) t)
       → ((o i : ℕ) → is_unfit_field taken.unfit o i ≡ false) → AreTaken table graph taken
   before_taken n steps inside scanning unfit none =
       let marked : AreMarked = record { types = λ p t at_p. (scanning.taken p t at_p).marked; unfit = unfit } in
       record {
         many = let many = scanning.many in omega (arith, many, inside);
-        within = λ o t at_o. scanned_within table graph marks (types_in taken) n steps o t scanning at_o;
+        within = λ o t at_o. scanned_within table graph marks [] (types_in taken) n steps o t scanning at_o;
         fits = λ o t at_o. (scanning.taken o t at_o).fits;
         seen = λ o t i a at_o less needed. wholly_seen (types_in taken) n steps o t i a marked scanning at_o (none o i) needed;
       }
@@ -156,8 +163,8 @@ module _ (table : Table) (graph : List Obj) (lawful : IsLawful table) (marks : L
   -- ---- the scan stopped at a need of an object
 
   pub until_taken :
-      (types : List ℕ) (o t steps : ℕ) (unmet : Unmet) → o < length graph → types_in taken ≡ types ++ t ∷ [] → IsScanning table graph marks types o steps
-      → mark_of graph marks o ≡ suc t → (table_shapes table).fits graph (vals.Ref o) t → IsUnmet table graph marks o t unmet → SeesUntil taken o unmet
+      (types : List ℕ) (o t steps : ℕ) (unmet : Unmet) → o < length graph → types_in taken ≡ types ++ t ∷ [] → IsScanning table graph marks [] types o steps
+      → mark_of graph marks o ≡ suc t → (table_shapes table).fits graph (vals.Ref o) t → IsUnmet table graph marks [] o t unmet → SeesUntil taken o unmet
       → AreTaken table graph taken
   until_taken types o t steps unmet inside are scanning mark fits stop sees = record {
     many =
@@ -165,7 +172,7 @@ module _ (table : Table) (graph : List Obj) (lawful : IsLawful table) (marks : L
         let long = ap length are ∙ length-append types (t ∷ []) in
         omega (arith, many, long, inside);
     within = λ k u at_k. ⊎_elim
-        (λ before. scanned_within table graph marks types o steps k u scanning before)
+        (λ before. scanned_within table graph marks [] types o steps k u scanning before)
         (λ last. let small = scanning.valid.small (key_of graph o) in omega (arith, last.1, mark, small))
         (cases k u at_k);
     fits = λ k u at_k. ⊎_elim
@@ -205,7 +212,7 @@ module _ (table : Table) (graph : List Obj) (lawful : IsLawful table) (marks : L
         ⊎_elim
         (λ before.
         let place = place_before needs (increase table graph o t) j.0 unmet.place i unmet.field a stop.type j.1 stop.at before.0 in
-        met_seen o i (field_at graph o i) a marked before.1 (stop.met j.0 i a place j.1))
+        need_seen o i (field_at graph o i) a marked before.1 (stop.met j.0 i a place j.1))
         (λ this.
         let type : a ≡ stop.type = place_same needs (increase table graph o t) j.0 unmet.place i unmet.field a stop.type j.1 stop.at this.0 in
         unfit_seen o i (field_at graph o i) a this.1.0

@@ -1,6 +1,7 @@
 pub mod Row
 pub mod FittingRows
 pub mod Taken
+pub mod Seconds
 pub mod Paths
 pub mod Scanned
 pub mod Scan

@@ -1,5 +1,5 @@
 -- Which objects of a value are met at which types.
-use Rattle.std.specs.Prelude.{ℕ, ◌≡◌, List, Some, slice_get}
+use Rattle.std.specs.Prelude.{ℕ, ◌≡◌, List, Some, slice_get, Contains}
 use Rattle.om_model.specs.declared.value.Val.{Val}
 use Rattle.om_model.specs.declared.value.Val.TheVariants as vals
 use Rattle.om_model.specs.declared.value.Obj.{Obj}
@@ -7,6 +7,7 @@ use Rattle.om_types.specs.Fault.{value_at}
 use Rattle.om_types.specs.Table.{Table, table_shapes}
 use Rattle.om_scan.specs.declared.straight.Scanned.{Scanned}
 use Rattle.om_scan.specs.declared.straight.Scanned.TheVariants as answers
+use Rattle.om_scan.specs.Seconds.{noted_in}
 
 -- some path from the value, which is at type 0, leads to the object at the type
 abbrev pub HasPath : Table → List Obj → Val → ℕ → ℕ → Type 0
@@ -14,8 +15,13 @@ HasPath table graph root o t =
     (path : List ℕ)
     × (value_at (table_shapes table) graph root 0 path ≡ Some (vals.Ref o, t))
 
--- some path from the first object leads to each object at the type that is told
+-- some path from the first object leads to each object at the type that is told, and at those at
+-- which it is noted
 abbrev pub HavePaths : Table → List Obj → Scanned → Type 0
 HavePaths table graph (answers.Told types) =
     (o t : ℕ) → slice_get types o ≡ Some t → HasPath table graph (vals.Ref 0) o t
+HavePaths table graph (answers.Noted noted) =
+    ((o t : ℕ) → slice_get noted.taken.types o ≡ Some t → HasPath table graph (vals.Ref 0) o t)
+    × ((o t : ℕ) → Contains (noted_in noted.seconds) (o, t)
+    → HasPath table graph (vals.Ref 0) o t)
 HavePaths table graph (answers.Stopped taken) = Unit {0}

@@ -1,5 +1,5 @@
 -- What a scan answers.
-use Rattle.std.specs.Prelude.{ℕ, ◌≡◌, ◌<◌, ◌≤◌, ◌+◌, ◌-◌, List, length, Some, Result, Ok, Err, slice_get, sum_by, Contains, IsTrue, MatchBool}
+use Rattle.std.specs.Prelude.{ℕ, ◌≡◌, ◌<◌, ◌≤◌, ◌+◌, ◌-◌, ◌++◌, List, length, Some, Result, Ok, Err, slice_get, sum_by, Contains, IsTrue, MatchBool}
 use Rattle.om_model.specs.declared.out_of_memory.Memory.{Memory}
 use Rattle.om_model.specs.declared.value.Val.{Val}
 use Rattle.om_model.specs.declared.value.Val.TheVariants as vals
@@ -7,11 +7,13 @@ use Rattle.om_model.specs.declared.value.Obj.{Obj}
 use Rattle.om_types.specs.Fitting.{numbered_from}
 use Rattle.om_types.specs.Steps.{most_steps}
 use Rattle.om_types.specs.Table.{Table, table_shapes}
-use Rattle.om_types.specs.Typing.{IsTyping}
+use Rattle.om_types.specs.Typing.{IsListed, IsTyping}
 use Rattle.om_heap.specs.Heap.{field_at}
+use Rattle.om_scan.specs.declared.seconds.Seconds.{Seconds}
 use Rattle.om_scan.specs.declared.straight.Scanned.{Scanned}
 use Rattle.om_scan.specs.declared.straight.Scanned.TheVariants as answers
 use Rattle.om_scan.specs.declared.taken.Taken.{Taken}
+use Rattle.om_scan.specs.Seconds.{noted_in, AreSeconds}
 use Rattle.om_scan.specs.Taken.{types_in, seen_of, is_unfit_field, is_unfit_object, size_of, rest_of}
 
 -- what an object needs at a type
@@ -25,6 +27,43 @@ pub record IsScanned (table : Table) (graph : List Obj) (types : List ℕ) : Typ
   pub within : (o t : ℕ) → slice_get types o ≡ Some t → t < length table.nodes
   pub root : slice_get types 0 ≡ Some 0
   pub typing : IsTyping (table_shapes table) graph (numbered_from 0 types)
+
+-- ---- objects that were met at a second class
+
+-- a value that is no object fits; an object is listed at an equal type
+abbrev pub IsFoundIn : Table → List Obj → List (ℕ × ℕ) → Val → ℕ → Type 0
+IsFoundIn table graph pairs (vals.Int z) t = (table_shapes table).fits graph (vals.Int z) t
+IsFoundIn table graph pairs (vals.Atom tag) t = (table_shapes table).fits graph (vals.Atom tag) t
+IsFoundIn table graph pairs (vals.Ref o) t = IsListed (table_shapes table) pairs (vals.Ref o) t
+
+-- objects at their types, and then those that were noted
+abbrev pub pairs_with : List ℕ → Seconds → List (ℕ × ℕ)
+pairs_with types seconds = numbered_from 0 types ++ noted_in seconds
+
+-- an object that is noted at a class other than that of its type
+pub record IsNotedOver (table : Table) (graph : List Obj) (types : List ℕ) (o t : ℕ)
+    : Type 0 where
+  pub inside : o < length graph
+  pub within : t < length table.nodes
+  pub first : ℕ
+  pub typed : slice_get types o ≡ Some first
+  pub other : ¬ (table_shapes table).equal first t
+
+-- The type of each object, by its number, is one that it fits; the first is at type 0. Each value
+-- that an object needs is found at the need's type, among the types or what was noted.
+pub record IsScannedBut (table : Table) (graph : List Obj) (types : List ℕ) (seconds : Seconds)
+    : Type 0 where
+  pub many : length types ≡ length graph
+  pub within : (o t : ℕ) → slice_get types o ≡ Some t → t < length table.nodes
+  pub root : slice_get types 0 ≡ Some 0
+  pub fits : (o t : ℕ) → slice_get types o ≡ Some t
+      → (table_shapes table).fits graph (vals.Ref o) t
+  pub found :
+      (o t i a : ℕ) → slice_get types o ≡ Some t → Contains (object_needs table graph o t) (i, a)
+      → IsFoundIn table graph (pairs_with types seconds) (field_at graph o i) a
+  pub valid : AreSeconds table seconds
+  pub noted :
+      (o t : ℕ) → Contains (noted_in seconds) (o, t) → IsNotedOver table graph types o t
 
 -- ---- where the scan stopped
 
@@ -57,9 +96,11 @@ pub record AreTaken (table : Table) (graph : List Obj) (taken : Taken) : Type 0 
       → Contains (object_needs table graph o t) (i, a)
       → IsSeen table graph taken o i (field_at graph o i) a
 
--- the type of each object, or of the first ones
+-- the type of each object, also but for those that were noted, or of the first ones
 abbrev pub Tells : Table → List Obj → Scanned → Type 0
 Tells table graph (answers.Told types) = IsScanned table graph types
+Tells table graph (answers.Noted noted) =
+    IsScannedBut table graph noted.taken.types noted.seconds × AreTaken table graph noted.taken
 Tells table graph (answers.Stopped taken) = AreTaken table graph taken
 
 -- one for each object, and one for each of its fields
@@ -72,9 +113,14 @@ left_of graph taken = rest_of (size_of graph (taken.objects - 1)) taken.seen
 
 -- Where the scan has told the types, its steps and one more are no more than the most; where it
 -- stopped, they and what is left of the last object are no more than the objects taken and their
--- fields.
+-- fields. Where it noted objects, none is counted, and both are told: the steps of all objects, and
+-- those of the objects that were taken before.
 abbrev pub AreCounted : Table → List Obj → ℕ → ℕ → Result Scanned Memory → Type 0
 AreCounted table graph old new (Ok (answers.Told types)) = new + 1 ≤ old + most_steps table graph
+AreCounted table graph old new (Ok (answers.Noted noted)) =
+    (new ≡ old)
+    × ((noted.all ≤ cost_of graph noted.taken.types)
+    × (noted.before + left_of graph noted.taken ≤ cost_of graph (types_in noted.taken)))
 AreCounted table graph old new (Ok (answers.Stopped taken)) =
     new + left_of graph taken ≤ old + cost_of graph (types_in taken)
 AreCounted table graph old new (Err memory) = new ≡ old

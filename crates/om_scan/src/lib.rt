@@ -1,9 +1,11 @@
-//! Objects in the order of their numbers, each at one type.
+//! Objects in the order of their numbers, each at one type, and those that are met at another.
 #![tactic(auto)]
 
 mod cells;
 mod fitting;
+mod notes;
 mod rows;
+mod seconds;
 mod steps;
 mod straight;
 mod taken;
@@ -11,6 +13,7 @@ mod taken;
 pub use cells::Cells;
 pub use fitting::fits_type;
 pub use rows::rows_of;
+pub use seconds::Seconds;
 pub use steps::Steps;
-pub use straight::{Scanned, scan};
+pub use straight::{Noted, Scanned, scan};
 pub use taken::{Taken, Unfit};

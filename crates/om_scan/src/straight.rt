@@ -1,11 +1,11 @@
 //! The types of the objects in the order of their numbers.
 
-ghost use Rattle.std.specs.Prelude.{ℕ, ◌≡◌, ◌≢◌, ◌<◌, ◌≤◌, ◌+◌, ◌%◌, ◌↔◌, length, take, slice_get, IsTrue, IfOk, OnOk, MatchOption};
+ghost use Rattle.std.specs.Prelude.{ℕ, ◌≡◌, ◌≢◌, ◌<◌, ◌≤◌, ◌+◌, ◌%◌, ◌^◌, ◌↔◌, [], length, take, slice_get, IsTrue, Some, Ok, IfOk, OnOk, MatchOption};
 ghost use Rattle.std.specs.Bool.{OnTrue, OnFalse};
 ghost use Rattle.om_model.specs.Graph.{IsValue, IsGraph};
 ghost use Rattle.om_model.specs.declared.value.Val.{Val};
 ghost use Rattle.om_model.specs.declared.value.Val.TheVariants as vals;
-ghost use Rattle.om_heap.specs.Heap.{word_of, IsFieldWord};
+ghost use Rattle.om_heap.specs.Heap.{word_of, field_at, IsFieldWord, IsReferenceWord};
 ghost use Rattle.om_types.specs.Table.{table_shapes};
 ghost use Rattle.om_fits.specs.Needs.{needs_in};
 ghost use Rattle.om_type_table.specs.Made.{table_of, IsLawful};
@@ -13,10 +13,13 @@ ghost use Rattle.om_scan.specs.FittingRows.{AreRows};
 ghost use Rattle.om_scan.specs.Taken.{types_in};
 ghost use Rattle.om_scan.specs.Paths.{HasPath, HavePaths};
 ghost use Rattle.om_scan.specs.Scanned.{object_needs, Tells, AreTaken, AreCounted, cost_of, left_of};
-ghost use Rattle.om_scan.specs.Scan.{AreMarks, AreKept, IsMet, AreMet, IsUnmet, IsScanning, Stops, IsTurned};
+ghost use Rattle.om_scan.specs.Seconds.{noted_in, AreSeconds};
+ghost use Rattle.om_scan.specs.Scan.{AreMarks, AreKept, IsMet, IsOther, AreMet, IsUnmet, AreNoted, AreStillNoted, IsNotedAt, first_or, first_of, Continues, IsUnfit, IsWhole, IsToldIn, IsInRow, IsStoppedAt, IsGoing, IsStopped, IsScanning, Stops, IsTurned};
 
 use crate::cells::Cells;
 use crate::fitting::fits_type;
+use crate::notes::{First, Notes, Unmet};
+use crate::seconds::Seconds;
 use crate::steps::Steps;
 use crate::taken::{Taken, Unfit};
 use om_fits::{Needs, Row, known_needs};
@@ -31,11 +34,28 @@ use std::alloc::Global;
 pub enum Scanned {
     /// The type of each object.
     Told(Cells),
+    /// The same, but some objects were met at other types too.
+    Noted(Noted),
     /// The scan cannot tell: it stopped at the object after these.
     Stopped(Taken),
 }
 
+/// What a scan tells that met objects at a second class.
+#[derive(Drop)]
+pub struct Noted {
+    /// The type of each object, and which objects the scan had taken when it met the first one at a
+    /// second class.
+    pub taken: Taken,
+    /// The objects at the other types.
+    pub seconds: Seconds,
+    /// The steps that were taken until then ..
+    pub before: u64,
+    /// .. and all.
+    pub all: u64,
+}
+
 /// Why the turn of an object ends a scan.
+#[derive(Clone, Copy)]
 enum Stop {
     /// It is not marked.
     Unmarked,
@@ -45,21 +65,11 @@ enum Stop {
     Needs(usize, Unmet),
 }
 
-/// The first need of an object that is not met.
-#[derive(Clone, Copy)]
-struct Unmet {
-    /// How many needs come before it.
-    place: u64,
-    field: u64,
-    /// Whether the field is no object, and does not fit; else it is an object that was met at
-    /// another type.
-    unfit: bool,
-}
-
 /// Tries the objects in the order of their numbers, the first at type 0, which it fits, and each
-/// other at the type at which it was met first. Where each is met before its turn, at equal types
-/// only, and all fits, the answer is the type of each; where not, what was taken until then. A step
-/// is counted for each object taken, and for each need tested.
+/// other at the type at which it was met first. Where each is met before its turn and all fits, the
+/// answer is the type of each, with what was met at unequal types too; where not, what was taken
+/// until then, or until the first that was met at an unequal type. A step is counted for each
+/// object taken, and for each need tested.
 pub fn scan(
     alloc: Global,
     heap: &Heap,
@@ -80,73 +90,168 @@ pub fn scan(
     let mut marks = Cells::new(alloc, heap.keys(), most)?;
     marks.set(heap.key(heap.word(Val::Ref(0))), 1)?;
     let mut types = Cells::new(alloc, heap.count() as usize, most)?;
+    let mut notes = Notes::none(alloc);
     let mut taken = Steps::new();
     for o in 0..heap.count() {
-        if let Some(stop) = take_object(heap, table, rows, &mut marks, &mut types, o, &mut taken)? {
-            let stopped = stop_at(heap, table, &marks, types, o, stop, &mut taken)?;
-            steps.raise_by(taken.taken());
-            return Ok(Scanned::Stopped(stopped));
+        if let Some(stop) = take_object(
+            heap, table, rows, &mut marks, &mut notes, &mut types, o, &mut taken,
+        )? {
+            let (first, before) = stopped(heap, table, &marks, &notes, types, o, stop, taken);
+            steps.raise_by(before);
+            return Ok(Scanned::Stopped(first));
         }
     }
-    steps.raise_by(taken.taken());
-    Ok(Scanned::Told(types))
+    Ok(told(heap, table, &marks, notes, types, taken, steps))
 }
 
-/// What is taken where the turn of object o ends the scan: the object too where it fits.
+/// What is told where all objects were taken.
+#[inline(never)]
+fn told(
+    heap: &Heap,
+    table: &TypeTable,
+    marks: &Cells,
+    notes: Notes,
+    types: Cells,
+    taken: Steps,
+    steps: &mut Steps,
+) -> Scanned
+    requires graph { IsGraph heap.now }
+    requires lawful { IsLawful (table_of table.now) }
+    requires some { 0 < length heap.now }
+    requires many { length types ≡ length heap.now }
+    requires going { IsGoing (table_of table.now) heap.now marks.now types notes (length heap.now)
+        taken }
+    ensures types { Tells (table_of table.now) heap.now result }
+    ensures paths { HavePaths (table_of table.now) heap.now result }
+    ensures steps { AreCounted (table_of table.now) heap.now steps.old steps.new (Ok result) }
+{
+    let Some(first) = notes.first else {
+        steps.raise_by(taken.taken());
+        return Scanned::Told(types);
+    };
+    let (taken_before, before) = until_first(heap, table, marks, types, first);
+    Scanned::Noted(Noted {
+        taken: taken_before,
+        seconds: notes.seconds,
+        before,
+        all: taken.taken(),
+    })
+}
+
+/// What is taken where the turn of object o ends the scan, and in how many steps: where objects
+/// were noted, what was taken before the first of them was.
+#[inline(never)]
+fn stopped(
+    heap: &Heap,
+    table: &TypeTable,
+    marks: &Cells,
+    notes: &Notes,
+    types: Cells,
+    o: u64,
+    stop: Stop,
+    taken: Steps,
+) -> (Taken, u64)
+    requires lawful { IsLawful (table_of table.now) }
+    requires object { o < length heap.now }
+    requires many { length types ≡ length heap.now }
+    requires stopped { IsStopped (table_of table.now) heap.now marks.now types notes.now o taken
+        stop }
+    ensures types { AreTaken (table_of table.now) heap.now result.0 }
+    ensures steps { result.1 + left_of heap.now result.0 ≤ cost_of heap.now (types_in result.0) }
+{
+    match notes.first {
+        Some(first) => until_first(heap, table, marks, types, first),
+        None => stop_at(heap, table, marks, types, o, stop, taken),
+    }
+}
+
+/// What was taken before the first object was noted, and in how many steps.
+#[inline(never)]
+fn until_first(
+    heap: &Heap,
+    table: &TypeTable,
+    marks: &Cells,
+    types: Cells,
+    first: First,
+) -> (Taken, u64)
+    requires lawful { IsLawful (table_of table.now) }
+    requires many { length types ≡ length heap.now }
+    requires stopped { IsStoppedAt (table_of table.now) heap.now marks.now types (length heap.now)
+        first }
+    ensures row { result.0.types ≡ types }
+    ensures types { AreTaken (table_of table.now) heap.now result.0 }
+    ensures steps { result.1 + left_of heap.now result.0 ≤ cost_of heap.now (types_in result.0) }
+{
+    let mut before = Steps::new();
+    before.raise_by(first.steps);
+    let stop = Stop::Needs(first.ty, first.unmet);
+    stop_at(heap, table, marks, types, first.object, stop, before)
+}
+
+/// What is taken where the turn of object o ends a scan that noted nothing, and in how many steps:
+/// the object too where it fits.
 #[inline(never)]
 fn stop_at(
     _heap: &Heap,
     _table: &TypeTable,
     _marks: &Cells,
-    mut types: Cells,
+    types: Cells,
     o: u64,
     stop: Stop,
-    taken: &mut Steps,
-) -> Result<Taken, Memory>
+    mut taken: Steps,
+) -> (Taken, u64)
     requires lawful { IsLawful (table_of _table.now) }
     requires object { o < length _heap.now }
     requires many { length types ≡ length _heap.now }
-    requires scanning { IsScanning (table_of _table.now) _heap.now _marks.now (take o types) o
-        taken.old }
-    requires stops { Stops (table_of _table.now) _heap.now _marks.now o stop }
-    ensures types { IfOk result (AreTaken (table_of _table.now) _heap.now) }
-    ensures steps { IfOk result
-        (λ stopped. taken.new + left_of _heap.now stopped ≤ cost_of _heap.now (types_in stopped)) }
+    requires scanning { IsScanning (table_of _table.now) _heap.now _marks.now [] (take o types) o
+        taken }
+    requires stops { Stops (table_of _table.now) _heap.now _marks.now [] o stop }
+    requires row { IsInRow types o stop }
+    ensures row { result.0.types ≡ types }
+    ensures types { AreTaken (table_of _table.now) _heap.now result.0 }
+    ensures steps { result.1 + left_of _heap.now result.0 ≤ cost_of _heap.now (types_in result.0) }
 {
     let objects = o as usize;
     match stop {
-        Stop::Needs(ty, unmet) => {
-            types.set(objects, ty as u64)?;
+        Stop::Needs(_ty, unmet) => {
             taken.raise();
             taken.raise_by(unmet.place);
             if unmet.unfit {
                 taken.raise();
-                return Ok(Taken {
+                let stopped = Taken {
                     types,
                     objects: objects + 1,
                     seen: unmet.field + 1,
                     unfit: Unfit::Field(o, unmet.field),
-                });
+                };
+                return (stopped, taken.taken());
             }
-            Ok(Taken {
+            let stopped = Taken {
                 types,
                 objects: objects + 1,
                 seen: unmet.field,
                 unfit: Unfit::Nothing,
-            })
+            };
+            (stopped, taken.taken())
         }
-        Stop::Misfits => Ok(Taken {
-            types,
-            objects,
-            seen: u64::MAX,
-            unfit: Unfit::Object(o),
-        }),
-        Stop::Unmarked => Ok(Taken {
-            types,
-            objects,
-            seen: u64::MAX,
-            unfit: Unfit::Nothing,
-        }),
+        Stop::Misfits => {
+            let stopped = Taken {
+                types,
+                objects,
+                seen: u64::MAX,
+                unfit: Unfit::Object(o),
+            };
+            (stopped, taken.taken())
+        }
+        Stop::Unmarked => {
+            let stopped = Taken {
+                types,
+                objects,
+                seen: u64::MAX,
+                unfit: Unfit::Nothing,
+            };
+            (stopped, taken.taken())
+        }
     }
 }
 
@@ -158,6 +263,7 @@ fn take_object(
     table: &TypeTable,
     rows: &[Row],
     marks: &mut Cells,
+    notes: &mut Notes,
     types: &mut Cells,
     o: u64,
     taken: &mut Steps,
@@ -167,12 +273,12 @@ fn take_object(
     requires lawful { IsLawful (table_of table.now) }
     requires object { o < length heap.now }
     requires many { length types.old ≡ length heap.now }
-    requires scanning { IsScanning (table_of table.now) heap.now marks.old (take o types.old) o
+    requires going { IsGoing (table_of table.now) heap.now marks.old types.old notes.old o
         taken.old }
     requires root { (table_shapes (table_of table.now)).fits heap.now (vals.Ref 0) 0 }
     ensures many { OnOk result (length types.new ≡ length heap.now) }
     ensures turned { IfOk result
-        (IsTurned (table_of table.now) heap.now marks.new types.new o taken.new) }
+        (IsTurned (table_of table.now) heap.now marks.new types.new notes.new o taken.new) }
 {
     let word = heap.word(Val::Ref(o));
     let mark = marks.get(heap.key(word));
@@ -187,10 +293,10 @@ fn take_object(
         return Ok(Some(Stop::Misfits));
     };
     let many = needs.len();
-    if let Some(unmet) = meet_all(heap, table, rows, marks, o, word, ty, needs)? {
+    types.set(o as usize, ty as u64)?;
+    if let Some(unmet) = meet_all(heap, table, rows, marks, notes, o, word, ty, needs, taken)? {
         return Ok(Some(Stop::Needs(ty, unmet)));
     }
-    types.set(o as usize, ty as u64)?;
     taken.raise();
     taken.raise_by(many);
     Ok(None)
@@ -221,10 +327,12 @@ fn meet_all(
     table: &TypeTable,
     rows: &[Row],
     marks: &mut Cells,
+    notes: &mut Notes,
     o: u64,
     word: u64,
     ty: usize,
     needs: Needs<'_>,
+    taken: &Steps,
 ) -> Result<Option<Unmet>, Memory>
     requires graph { IsGraph heap.now }
     requires rows { AreRows table.now.nodes rows.now }
@@ -234,14 +342,22 @@ fn meet_all(
     requires node { ty < length table.now.nodes }
     requires needs { object_needs (table_of table.now) heap.now o ty ≡ needs_in needs }
     requires marks { AreMarks (table_of table.now) heap.now marks.old }
+    requires noted { AreNoted (table_of table.now) heap.now marks.old notes.old.seconds }
+    requires whole { IsWhole notes.old }
     requires path { HasPath (table_of table.now) heap.now (vals.Ref 0) o ty }
     ensures marks { OnOk result (AreMarks (table_of table.now) heap.now marks.new) }
     ensures kept { OnOk result (AreKept marks.old marks.new) }
+    ensures noted { OnOk result
+        (AreNoted (table_of table.now) heap.now marks.new notes.new.seconds) }
+    ensures still { OnOk result
+        (AreStillNoted (noted_in notes.old.seconds) (noted_in notes.new.seconds)) }
+    ensures told { OnOk result
+        (IsToldIn (table_of table.now) heap.now marks.new o ty taken.now notes.old notes.new) }
     ensures met { IfOk result
         (λ unmet. MatchOption unmet
-        (AreMet (table_of table.now) heap.now marks.new o ty
+        (AreMet (table_of table.now) heap.now marks.new (noted_in notes.new.seconds) o ty
         (length (object_needs (table_of table.now) heap.now o ty)))
-        (IsUnmet (table_of table.now) heap.now marks.new o ty)) }
+        (IsUnmet (table_of table.now) heap.now marks.new (noted_in notes.new.seconds) o ty)) }
 {
     match needs {
         Needs::Listed(types) => meet_each(
@@ -249,12 +365,14 @@ fn meet_all(
             table,
             rows,
             marks,
+            notes,
             o,
             word,
             ty,
             Needs::Listed(types),
+            taken,
         ),
-        _ => meet_each(heap, table, rows, marks, o, word, ty, needs),
+        _ => meet_each(heap, table, rows, marks, notes, o, word, ty, needs, taken),
     }
 }
 
@@ -265,10 +383,12 @@ fn meet_each(
     table: &TypeTable,
     rows: &[Row],
     marks: &mut Cells,
+    notes: &mut Notes,
     o: u64,
     word: u64,
     ty: usize,
     needs: Needs<'_>,
+    taken: &Steps,
 ) -> Result<Option<Unmet>, Memory>
     requires graph { IsGraph heap.now }
     requires rows { AreRows table.now.nodes rows.now }
@@ -278,14 +398,22 @@ fn meet_each(
     requires node { ty < length table.now.nodes }
     requires needs { object_needs (table_of table.now) heap.now o ty ≡ needs_in needs }
     requires marks { AreMarks (table_of table.now) heap.now marks.old }
+    requires noted { AreNoted (table_of table.now) heap.now marks.old notes.old.seconds }
+    requires whole { IsWhole notes.old }
     requires path { HasPath (table_of table.now) heap.now (vals.Ref 0) o ty }
     ensures marks { OnOk result (AreMarks (table_of table.now) heap.now marks.new) }
     ensures kept { OnOk result (AreKept marks.old marks.new) }
+    ensures noted { OnOk result
+        (AreNoted (table_of table.now) heap.now marks.new notes.new.seconds) }
+    ensures still { OnOk result
+        (AreStillNoted (noted_in notes.old.seconds) (noted_in notes.new.seconds)) }
+    ensures told { OnOk result
+        (IsToldIn (table_of table.now) heap.now marks.new o ty taken.now notes.old notes.new) }
     ensures met { IfOk result
         (λ unmet. MatchOption unmet
-        (AreMet (table_of table.now) heap.now marks.new o ty
+        (AreMet (table_of table.now) heap.now marks.new (noted_in notes.new.seconds) o ty
         (length (object_needs (table_of table.now) heap.now o ty)))
-        (IsUnmet (table_of table.now) heap.now marks.new o ty)) }
+        (IsUnmet (table_of table.now) heap.now marks.new (noted_in notes.new.seconds) o ty)) }
 {
     if needs.len() == 0 {
         return Ok(None);
@@ -294,15 +422,117 @@ fn meet_each(
     for k in 0..needs.len() {
         let (step, needed) = needs.get(k);
         let value = words[step as usize];
-        if !meet(heap, table, rows, marks, value, needed)? {
+        if !meet_need(
+            heap, table, rows, marks, notes, o, ty, k, step, taken, value, needed,
+        )? {
             return Ok(Some(Unmet {
                 place: k,
                 field: step,
-                unfit: value % 8 != 0,
+                unfit: true,
             }));
         }
     }
     Ok(None)
+}
+
+/// Tests need `place` of an object at a type, whose field has this word. An object that was met
+/// before at another class is noted.
+#[inline(always)]
+fn meet_need(
+    heap: &Heap,
+    table: &TypeTable,
+    rows: &[Row],
+    marks: &mut Cells,
+    notes: &mut Notes,
+    o: u64,
+    ty: usize,
+    place: u64,
+    field: u64,
+    taken: &Steps,
+    word: u64,
+    needed: usize,
+) -> Result<bool, Memory>
+    requires graph { IsGraph heap.now }
+    requires rows { AreRows table.now.nodes rows.now }
+    requires lawful { IsLawful (table_of table.now) }
+    requires object { o < length heap.now }
+    requires node { ty < length table.now.nodes }
+    requires need { slice_get (object_needs (table_of table.now) heap.now o ty) place
+        ≡ Some (field, needed) }
+    requires word { word ≡ word_of heap.now (field_at heap.now o field) }
+    requires small { field + 1 < 2 ^ 64 }
+    requires marks { AreMarks (table_of table.now) heap.now marks.old }
+    requires noted { AreNoted (table_of table.now) heap.now marks.old notes.old.seconds }
+    requires path { HasPath (table_of table.now) heap.now (vals.Ref 0) o ty }
+    ensures next { IfOk result
+        (λ met. OnTrue met
+        (Continues (table_of table.now) heap.now marks.old marks.new notes.old notes.new o ty
+        taken.now place (place + 1))) }
+    ensures unfit { IfOk result
+        (λ met. OnFalse met
+        (Continues (table_of table.now) heap.now marks.old marks.new notes.old notes.new o ty
+        taken.now place place
+        × IsUnfit (table_of table.now) heap.now (field_at heap.now o field) needed)) }
+{
+    if meet(heap, table, rows, marks, word, needed)? {
+        return Ok(true);
+    }
+    if word % 8 != 0 {
+        return Ok(false);
+    }
+    note(heap, table, notes, o, ty, place, field, taken, word, needed)?;
+    Ok(true)
+}
+
+/// Notes the object of a word, which was met before at another class, at a type. It is the value of
+/// a need of object o.
+#[inline(never)]
+fn note(
+    heap: &Heap,
+    table: &TypeTable,
+    notes: &mut Notes,
+    o: u64,
+    ty: usize,
+    place: u64,
+    field: u64,
+    taken: &Steps,
+    word: u64,
+    needed: usize,
+) -> Result<(), Memory>
+    requires word { IsReferenceWord heap.now word }
+    requires node { needed < length table.now.classes }
+    requires valid { AreSeconds (table_of table.now) notes.old.seconds }
+    ensures valid { OnOk result (AreSeconds (table_of table.now) notes.new.seconds) }
+    ensures noted { OnOk result
+        (IsNotedAt (table_of table.now) heap.now (noted_in notes.old.seconds)
+        (noted_in notes.new.seconds) word needed) }
+    ensures first { OnOk result
+        (notes.new.first
+        ≡ first_or notes.old.first (first_of o ty place field taken.now)) }
+{
+    let own = First {
+        object: o,
+        ty,
+        unmet: Unmet {
+            place,
+            field,
+            unfit: false,
+        },
+        steps: taken.taken(),
+    };
+    notes.first = first_or(notes.first, own);
+    notes.seconds.note(table, heap.number(word), needed)?;
+    Ok(())
+}
+
+/// The first that is told, or this one.
+fn first_or(told: Option<First>, own: First) -> Option<First>
+    ensures { result ≡ first_or told own }
+{
+    match told {
+        Some(first) => Some(first),
+        None => Some(own),
+    }
 }
 
 /// Tests the value of a word at a type: an object that is not marked is marked with the type, and
@@ -334,6 +564,10 @@ fn meet(
         (λ met. OnFalse met
         (word % 8 ≢ 0 → (v : Val) → IsValue (length heap.now) v → word ≡ word_of heap.now v
         → ¬ (table_shapes (table_of table.now)).fits heap.now v ty)) }
+    ensures other { IfOk result
+        (λ met. OnFalse met
+        (word % 8 ≡ 0 → (v : Val) → IsValue (length heap.now) v → word ≡ word_of heap.now v
+        → IsOther (table_of table.now) heap.now marks.new v ty)) }
 {
     if word % 8 != 0 {
         return Ok(fits_type(heap, table, rows, ty, word));
@@ -356,7 +590,7 @@ fn meet(
 fn is_same(table: &TypeTable, t: usize, u: usize) -> bool
     requires t { t < length table.now.classes }
     requires u { u < length table.now.classes }
-    ensures { OnTrue result (slice_get table.now.classes t ≡ slice_get table.now.classes u) }
+    ensures { IsTrue result ↔ (slice_get table.now.classes t ≡ slice_get table.now.classes u) }
 {
     table.class(t) == table.class(u)
 }

@@ -35,3 +35,13 @@ returns-in-Told-clause-paths c =
     λ o t among.
     subst (λ p. HasPath table graph (vals.Ref p) o t) (sym c.if-object-ne0.false)
     (scanned_paths table graph c.in-Told.types led o t (subst (λ pairs. Contains pairs (o, t)) c.scanned.ensures among))
+
+pub settle_noted-requires-clause-told : goal.settle_noted-requires-clause-told
+settle_noted-requires-clause-told c = subst (Tells (table_of c.args.table.now) c.args.heap.now) c.in-Noted.is c.in_ok-types.ensures.types
+
+pub settle_noted-requires-clause-paths : goal.settle_noted-requires-clause-paths
+settle_noted-requires-clause-paths c = subst (HavePaths (table_of c.args.table.now) c.args.heap.now) c.in-Noted.is c.in_ok-types.ensures.paths
+
+pub settle_noted-requires-clause-fits : goal.settle_noted-requires-clause-fits
+settle_noted-requires-clause-fits c =
+    subst (λ o. (table_shapes (table_of c.args.table.now)).fits c.args.heap.now (vals.Ref o) 0) c.if-object-ne0.false c.requires.fits

@@ -6,3 +6,6 @@ use Rattle.om_check.proofs.typing.count_in.Goals as goal
 pub returns-in-Scanned : goal.returns-in-Scanned
 returns-in-Scanned c =
     c.len-in-Scanned.ensures ∙ sym (ap (λ pairs. length (pairs_in pairs)) c.in-Scanned.is ∙ length_numbered 0 c.in-Scanned.types)
+
+pub returns-in-Settled : goal.returns-in-Settled
+returns-in-Settled c = c.len-in-Settled.ensures ∙ sym (ap (λ pairs. length (pairs_in pairs)) c.in-Settled.is)

@@ -23,3 +23,6 @@ returns-in-Scanned c =
     ap (λ pairs. slice_get (pairs_in pairs) c.args.k) c.in-Scanned.is
     ∙ numbered_there 0 c.in-Scanned.types c.args.k c.args.k (omega arith) inside
     ∙ ap (λ t. Some (c.args.k, t)) (sym c.get.ensures)
+
+pub returns-in-Settled : goal.returns-in-Settled
+returns-in-Settled c = ap (λ pairs. slice_get (pairs_in pairs) c.args.k) c.in-Settled.is ∙ c.get-in-Settled.ensures

@@ -3,7 +3,8 @@ use Rattle.std.specs.BTreeSet.{Updates}
 use Rattle.std.proofs.lemmas.Bool.{false≢true}
 use Rattle.std.proofs.lemmas.Option.{same_Some}
 use Rattle.om_type_table.specs.Made.{table_of}
-use Rattle.om_check.specs.Visits.{listed, IsMet, pair_cmp}
+use Rattle.om_check.specs.Visits.{listed, IsMet}
+use Rattle.om_scan.specs.Seconds.{pair_cmp}
 use Rattle.om_scan.proofs.PlaceLemmas.{read_at}
 use Rattle.om_check.proofs.NotedLemmas.{later_in, met_first, met_nowhere, linked_later, first_classed}
 use Rattle.om_check.proofs.visits.Visits.enter_again.Goals as goal

@@ -1,0 +1,93 @@
+use Rattle.std.proofs.Common.{◌≡◌, ◌%◌, ◌≢◌, ◌∙◌, length, refl, sym, subst, arith}
+use Rattle.std.specs.Bool.{OnTrue, OnFalse}
+use Rattle.std.proofs.lemmas.Bool.{false≢true}
+use Rattle.om_model.specs.Graph.{IsValue}
+use Rattle.om_model.specs.declared.value.Val.{Val}
+use Rattle.om_model.specs.declared.value.Val.TheVariants as vals
+use Rattle.om_type_table.specs.Made.{table_of}
+use Rattle.om_types.specs.Table.{table_shapes}
+use Rattle.om_heap.specs.Heap.{field_at, word_of}
+use Rattle.om_heap.proofs.ReadLemmas.{word_of-inj}
+use Rattle.om_fits.proofs.RowLemmas.{is_reference}
+use Rattle.om_scan.specs.Scan.{first_of, IsMet, IsOther}
+use Rattle.om_scan.proofs.FieldLemmas.{field_valid}
+use Rattle.om_scan.proofs.NeedLemmas.{need_field, need_node}
+use Rattle.om_scan.proofs.PathLemmas.{need_path}
+use Rattle.om_scan.proofs.MarkLemmas.{meeting_more, meeting_kept, meeting_noted, word_unfit}
+use Rattle.om_scan.proofs.straight.meet_need.Goals as goal
+
+pub meet-requires-clause-word : goal.meet-requires-clause-word
+meet-requires-clause-word c =
+    let short = need_field (table_of c.args.table.now) c.args.heap.now c.args.o c.args.ty c.args.place c.args.field c.args.needed c.requires.object c.requires.need in (
+      field_at c.args.heap.now c.args.o c.args.field,
+      field_valid c.args.heap.now c.args.o c.args.field c.requires.object short c.requires.graph,
+      c.requires.word,
+    )
+
+pub meet-requires-clause-node : goal.meet-requires-clause-node
+meet-requires-clause-node c =
+    need_node (table_of c.args.table.now) c.args.heap.now c.requires.lawful c.args.o c.args.ty c.args.place c.args.field c.args.needed c.requires.node c.requires.need
+
+pub meet-requires-clause-paths : goal.meet-requires-clause-paths
+meet-requires-clause-paths c = λ p inside is.
+    let graph = c.args.heap.now in
+    let short = need_field (table_of c.args.table.now) graph c.args.o c.args.ty c.args.place c.args.field c.args.needed c.requires.object c.requires.need in
+    let valid = field_valid graph c.args.o c.args.field c.requires.object short c.requires.graph in
+    let same = word_of-inj graph (field_at graph c.args.o c.args.field) (vals.Ref p) c.requires.graph valid inside (sym c.requires.word ∙ is) in
+    need_path (table_of c.args.table.now) graph (vals.Ref 0) c.args.o c.args.ty c.args.place c.args.field c.args.needed p c.requires.object c.requires.path c.requires.need same
+
+pub returns-then-branch-clause-next : goal.returns-then-branch-clause-next
+returns-then-branch-clause-next c = λ old before meeting.
+    let t = table_of c.args.table.now in
+    let graph = c.args.heap.now in
+    let short = need_field t graph c.args.o c.args.ty c.args.place c.args.field c.args.needed c.requires.object c.requires.need in
+    let valid = field_valid graph c.args.o c.args.field c.requires.object short c.requires.graph in
+    let met = subst (λ test. OnTrue test ((v : Val) → IsValue (length graph) v → c.args.word ≡ word_of graph v → IsMet t graph c.meet.new.marks v c.args.needed)) c.if-branch.true c.in_ok-meet.ensures.met in
+    meeting_more t graph old c.args.marks.now c.meet.new.marks before c.args.notes.now c.args.o c.args.ty c.args.place c.args.field c.args.needed c.args.taken.now
+    meeting c.in_ok-meet.ensures.marks c.in_ok-meet.ensures.kept c.requires.need (met (field_at graph c.args.o c.args.field) valid c.requires.word)
+
+pub returns-then-word-ne0-clause-unfit : goal.returns-then-word-ne0-clause-unfit
+returns-then-word-ne0-clause-unfit c =
+    let t = table_of c.args.table.now in
+    let graph = c.args.heap.now in
+    let short = need_field t graph c.args.o c.args.ty c.args.place c.args.field c.args.needed c.requires.object c.requires.need in
+    let valid = field_valid graph c.args.o c.args.field c.requires.object short c.requires.graph in
+    let unmet = subst (λ test. OnFalse test (c.args.word % 8 ≢ 0 → (v : Val) → IsValue (length graph) v → c.args.word ≡ word_of graph v → ¬ (table_shapes t).fits graph v c.args.needed))
+    c.if-branch.false c.in_ok-meet.ensures.unmet in (
+      λ old before meeting. meeting_kept t graph old c.args.marks.now c.meet.new.marks before c.args.notes.now c.args.o c.args.ty c.args.place c.args.taken.now
+          meeting c.in_ok-meet.ensures.marks c.in_ok-meet.ensures.kept,
+      word_unfit t graph (field_at graph c.args.o c.args.field) c.args.needed c.args.word c.requires.word c.if-word-ne0.true
+          (unmet c.if-word-ne0.true (field_at graph c.args.o c.args.field) valid c.requires.word),
+    )
+
+pub note-requires-clause-word : goal.note-requires-clause-word
+note-requires-clause-word c =
+    let graph = c.args.heap.now in
+    let short = need_field (table_of c.args.table.now) graph c.args.o c.args.ty c.args.place c.args.field c.args.needed c.requires.object c.requires.need in
+    let valid = field_valid graph c.args.o c.args.field c.requires.object short c.requires.graph in
+    is_reference graph c.args.word (field_at graph c.args.o c.args.field, valid, c.requires.word) c.if-word-ne0.false
+
+pub note-requires-clause-node : goal.note-requires-clause-node
+note-requires-clause-node c =
+    let node = need_node (table_of c.args.table.now) c.args.heap.now c.requires.lawful c.args.o c.args.ty c.args.place c.args.field c.args.needed c.requires.node c.requires.need in
+    let classed = c.requires.lawful.classed in
+    omega (arith, node, classed)
+
+pub returns-clause-next : goal.returns-clause-next
+returns-clause-next c = λ old before meeting.
+    let t = table_of c.args.table.now in
+    let graph = c.args.heap.now in
+    let i = c.args.field in
+    let v = field_at graph c.args.o i in
+    let short = need_field t graph c.args.o c.args.ty c.args.place i c.args.needed c.requires.object c.requires.need in
+    let valid = field_valid graph c.args.o i c.requires.object short c.requires.graph in
+    let node = need_node t graph c.requires.lawful c.args.o c.args.ty c.args.place i c.args.needed c.requires.node c.requires.need in
+    let noted = c.in_ok-note.ensures.noted in
+    let same : v ≡ vals.Ref noted.0 = word_of-inj graph v (vals.Ref noted.0) c.requires.graph valid noted.1 (sym c.requires.word ∙ noted.2) in
+    let path = need_path t graph (vals.Ref 0) c.args.o c.args.ty c.args.place i c.args.needed noted.0 c.requires.object c.requires.path c.requires.need same in
+    let other = subst (λ test. OnFalse test (c.args.word % 8 ≡ 0 → (w : Val) → IsValue (length graph) w → c.args.word ≡ word_of graph w → IsOther t graph c.meet.new.marks w c.args.needed))
+    c.if-branch.false c.in_ok-meet.ensures.other in
+    meeting_noted t graph old c.args.marks.now c.meet.new.marks before c.args.notes.now c.note.new.notes c.args.o c.args.ty c.args.place i c.args.needed c.args.taken.now noted.0
+    (first_of c.args.o c.args.ty c.args.place i c.args.taken.now) meeting c.in_ok-meet.ensures.marks c.in_ok-meet.ensures.kept c.requires.need same noted.1 node path
+    (other c.if-word-ne0.false (vals.Ref noted.0) noted.1 noted.2) c.in_ok-note.ensures.valid noted.3 c.in_ok-note.ensures.first refl refl refl refl refl
+    (λ never. false≢true never) c.requires.small

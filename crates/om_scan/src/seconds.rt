@@ -1,0 +1,65 @@
+//! Objects that were met at a second class or a later one.
+
+ghost use Rattle.std.specs.Prelude.{◌≡◌, ◌<◌, length, slice_get, Some, OnOk};
+ghost use Rattle.om_type_table.specs.Made.{table_of};
+ghost use Rattle.om_scan.specs.Seconds.{noted_in, AreSeconds, IsNoting};
+
+use om_model::Memory;
+use om_type_table::TypeTable;
+use std::alloc::Global;
+use std::collections::BTreeSet;
+
+/// Objects at types, no object twice at one class.
+#[derive(Drop)]
+pub struct Seconds {
+    /// In the order in which they were noted.
+    pub listed: Vec<(u64, usize)>,
+    /// The same objects, each with the class of its type.
+    pub known: BTreeSet<(u64, usize)>,
+}
+
+impl Seconds {
+    /// None.
+    pub fn none(alloc: Global) -> Seconds
+        ensures none { length (noted_in result) ≡ 0 }
+        ensures known { length result.known.keys ≡ 0 }
+    {
+        Seconds {
+            listed: Vec::new(alloc),
+            known: BTreeSet::new(alloc),
+        }
+    }
+
+    /// How many there are.
+    pub fn len(&self) -> usize
+        ensures { result ≡ length (noted_in self.now) }
+    {
+        self.listed.len()
+    }
+
+    /// Object and type number k.
+    pub fn get(&self, k: usize) -> (u64, usize)
+        requires { k < length (noted_in self.now) }
+        ensures { slice_get (noted_in self.now) k ≡ Some (result.0, result.1) }
+    {
+        self.listed[k]
+    }
+
+    /// Notes an object at a type, unless it is there at an equal one.
+    #[inline(never)]
+    pub fn note(&mut self, table: &TypeTable, object: u64, ty: usize) -> Result<(), Memory>
+        requires ty { ty < length table.now.classes }
+        requires seconds { AreSeconds (table_of table.now) self.old }
+        ensures seconds { OnOk result (AreSeconds (table_of table.now) self.new) }
+        ensures notes { OnOk result
+            (IsNoting (table_of table.now) (noted_in self.old) (noted_in self.new) object ty) }
+    {
+        let class = table.class(ty);
+        if self.known.contains(&(object, class)) {
+            return Ok(());
+        }
+        self.known.insert((object, class))?;
+        self.listed.push((object, ty))?;
+        Ok(())
+    }
+}
