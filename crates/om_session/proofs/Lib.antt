@@ -1,5 +1,6 @@
 pub mod VerdictLemmas
 pub mod ReadLemmas
+pub mod GlimpseLemmas
 pub mod TypedLemmas
 pub mod EditLemmas
 pub mod AccountLemmas

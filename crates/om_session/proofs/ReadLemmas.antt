@@ -70,7 +70,7 @@ front_goes_on (jobs.Edit e most) limit trees rest stop may are_bytes front at = 
 front_goes_on (jobs.Compare most) limit trees rest stop may are_bytes front at = let two = at.0 in omega (arith, may, two)
 
 -- and where none come, nothing stops the run
-none_goes_on : (w : Job) (limit : ℕ) (trees : List Tree) (stop : outcome.Stop) → StopsAt declared_types (work_of w) limit trees [] stop → ⊥
+pub none_goes_on : (w : Job) (limit : ℕ) (trees : List Tree) (stop : outcome.Stop) → StopsAt declared_types (work_of w) limit trees [] stop → ⊥
 none_goes_on (jobs.Say (speeches.Tell r saying) most) limit trees stop at = at
 none_goes_on (jobs.Say speeches.Dump most) limit trees stop at = at
 none_goes_on (jobs.Edit e most) limit trees stop at =
@@ -378,7 +378,7 @@ next_as w known is taken said values v out new result next =
     subst P (sym is) next v
 
 -- there are no more values than bytes
-spell_count : (limit : ℕ) (bytes rest : List ℕ) (trees : List Tree) → SpellAll limit bytes trees rest → length trees + length rest ≤ length bytes
+pub spell_count : (limit : ℕ) (bytes rest : List ℕ) (trees : List Tree) → SpellAll limit bytes trees rest → length trees + length rest ≤ length bytes
 spell_count limit bytes rest [] same = let e : length bytes ≡ length rest = ap length same in omega (arith, e)
 spell_count limit bytes rest (tree ∷ trees) (first, more, same, spelled, all) =
     let some = spelled_some limit first tree spelled in
@@ -425,7 +425,7 @@ full_stops (jobs.Compare most) trees front rest full some =
 
 -- a halt, in what is in hand
 module _ (w : Job) (taken : List ℕ) (said : List Said) (values : Values) (h : HasRead w values taken said) (rest : List ℕ) where
-  abbrev Halts : Change ByteState → Halt → Type 0
+  abbrev pub Halts : Change ByteState → Halt → Type 0
   Halts out halt = HaltsIn (commands declared_types) (task_of w) taken rest said out halt
 
   pub stops_now : (stop : Stop) → StopsIn w h.trees (h.front ++ rest) stop → (a b : ByteState) → Puts (change a b) [] → Halts (change a b) (halts.Stop stop)

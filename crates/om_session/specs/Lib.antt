@@ -1,6 +1,7 @@
 pub mod Verdict
 pub mod Copied
 pub mod Edits
+pub mod Glimpse
 pub mod Telling
 pub mod Values
 pub mod Asked

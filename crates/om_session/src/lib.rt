@@ -4,6 +4,7 @@
 mod build;
 mod commands;
 mod edit;
+mod glimpse;
 mod top;
 mod values;
 mod verdict;

@@ -1,6 +1,6 @@
 //! The values of the input, one by one, as their bytes come.
 
-ghost use Rattle.std.specs.Prelude.{◌≡◌, ◌<◌, ◌+◌, ◌^◌, ◌++◌, ◌∷◌, ℕ, List, [], length, OnOk, MatchBool};
+ghost use Rattle.std.specs.Prelude.{◌≡◌, ◌<◌, ◌+◌, ◌^◌, ◌++◌, ◌∷◌, ℕ, List, [], length, OnOk, IfSome, MatchBool};
 ghost use Rattle.om_model.specs.Graph.{IsValue};
 ghost use Rattle.om_format.specs.Tree.{Tree};
 ghost use Rattle.om_outcome.specs.Outcome.{Said, Task, comparison};
@@ -12,10 +12,12 @@ ghost use Rattle.om_session.specs.declared.values.Job.TheVariants as jobs;
 ghost use Rattle.om_declared.specs.Language.{TypeOver, declared_types};
 ghost use Rattle.om_session.specs.Verdict.{IsReadySpeech};
 ghost use Rattle.om_session.specs.SaidOfValue.{PutsSaid};
+ghost use Rattle.om_session.specs.Glimpse.{IsSeen, IsBetween};
 ghost use Rattle.om_session.specs.Values.{IsReadyJob, IsStopOf, AreValues, IsFull, MayTake, HasRead, IsValueRead, KeepsNext, PutsNext, Compares, EndsScript, task_of, word_limit};
 
 use crate::edit::{Edits, edit_value, line_past};
-use crate::verdict::{Speech, line_of};
+use crate::glimpse::{Looks, glimpse};
+use crate::verdict::{Saying, Speech, line_of};
 use om_edge::{Sink, put_all};
 use om_heap::Heap;
 use om_iso::same;
@@ -45,6 +47,20 @@ impl Job<'_> {
             Job::Say(_, limit) => limit,
             Job::Edit(_, limit) => limit,
             Job::Compare(limit) => limit,
+        }
+    }
+
+    /// How many bytes in hand are the next value, if only the verdict is told of each, and a look
+    /// at them shows that it has the type.
+    fn glimpse(self, alloc: Global, looks: &mut Looks, in_hand: &[u8]) -> Option<usize>
+        requires { IsReadyJob self }
+        ensures { IfSome result (IsSeen self.entry in_hand.now) }
+    {
+        match self {
+            Job::Say(Speech::Tell(requested, Saying::Verdict), limit) => {
+                glimpse(alloc, requested, limit, looks, in_hand)
+            }
+            _ => None,
         }
     }
 }
@@ -221,6 +237,46 @@ impl Values {
         }
     }
 
+    /// How many bytes in hand are the next value, if nothing of it was taken, and a look shows that
+    /// it has the type and nothing else is told of it.
+    fn glimpse(
+        &self,
+        alloc: Global,
+        job: Job<'_>,
+        looks: &mut Looks,
+        in_hand: &[u8],
+    ) -> Option<usize>
+        requires { (taken : List ℕ) × (said : List Said) × HasRead job self.now taken said }
+        ensures { IfSome result (λ n. IsBetween self.now × IsSeen job.entry in_hand.now n) }
+    {
+        match self.reader.at_end() {
+            Ok(()) => job.glimpse(alloc, looks, in_hand),
+            Err(_) => None,
+        }
+    }
+
+    /// Takes the first bytes in hand, the next value, of which a look showed that it has the type,
+    /// and puts its line.
+    fn take_seen<K: Sink>(
+        &mut self,
+        job: Job<'_>,
+        in_hand: &[u8],
+        n: usize,
+        out: &mut K,
+    ) -> Result<usize, Halt>
+        requires reads { (taken : List ℕ) × (said : List Said) × HasRead job self.old taken said
+            × (length taken + length in_hand.now < 2 ^ 63) }
+        requires between { IsBetween self.old }
+        requires seen { IsSeen job in_hand.now n }
+        ensures { Feeds (commands declared_types) (task_of job.entry) (HasRead job.entry self.old)
+            (HasRead job.entry self.new) in_hand.now
+            (change (K.state out.old) (K.state out.new)) result }
+    {
+        put_all(out, b"yes\n")?;
+        self.count += 1;
+        Ok(n)
+    }
+
     /// Takes bytes up to the end of a value, of which is said what is to be, or all of them.
     fn read_some<K: Sink>(
         &mut self,
@@ -279,11 +335,12 @@ impl Values {
     }
 }
 
-/// A job, and the values so far.
+/// A job, the values so far, and whether the next one is looked at.
 #[derive(Drop)]
 pub struct Progress<'a> {
     job: Job<'a>,
     values: Values,
+    looks: Looks,
 }
 
 impl<'a> Progress<'a> {
@@ -296,6 +353,7 @@ impl<'a> Progress<'a> {
         Progress {
             job,
             values: Values::new(alloc, job),
+            looks: Looks::new(),
         }
     }
 }
@@ -314,7 +372,13 @@ impl Work for Progress<'_> {
     }
 
     fn feed<K: Sink>(&mut self, alloc: Global, in_hand: &[u8], out: &mut K) -> Result<usize, Halt> {
-        self.values.read_some(alloc, self.job, in_hand, out)
+        match self
+            .values
+            .glimpse(alloc, self.job, &mut self.looks, in_hand)
+        {
+            Some(n) => self.values.take_seen(self.job, in_hand, n, out),
+            None => self.values.read_some(alloc, self.job, in_hand, out),
+        }
     }
 
     fn end<K: Sink>(&mut self, alloc: Global, out: &mut K) -> Result<bool, Halt> {
