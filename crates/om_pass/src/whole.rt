@@ -33,14 +33,10 @@ fn is_there(head: &Head, start: usize, bytes: usize) -> bool {
     head.length <= bytes && start as u64 <= bytes - head.length
 }
 
-/// Room for the types of the objects: as many as the header states, and no more than there are
+/// Room for the types of the objects: as many as the header states, and no more than the value has
 /// bytes.
-fn room_for(head: &Head, bytes: usize) -> usize {
-    if head.objects < bytes as u64 {
-        head.objects as usize
-    } else {
-        bytes
-    }
+fn room_for(head: &Head) -> usize {
+    head.objects.min(head.length) as usize
 }
 
 /// Whether all came that the header states.
@@ -71,7 +67,8 @@ fn run<'a>(
 {
     let mut at = start;
     let mut marks = Vec::new(alloc);
-    let mut left = bytes.len() as u64;
+    // Tokens are looked at again as often as the value has bytes, whatever comes after it.
+    let mut left = head.length;
     let mut now = state.places.now;
     let mut words = state.words;
     // Each turn takes a byte, so this ends long before.
@@ -140,7 +137,7 @@ pub fn pass(
     if !is_there(&head, start, bytes.len()) {
         return Ok(None);
     }
-    let types = Vec::with_capacity(alloc, room_for(&head, bytes.len()))?;
+    let types = Vec::with_capacity(alloc, room_for(&head))?;
     let mut state = State {
         places: Places::root(alloc),
         types,
