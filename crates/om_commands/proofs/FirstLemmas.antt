@@ -1,5 +1,5 @@
 -- What is said of the first values is said of the first items, and more has to come after them.
-use Rattle.std.proofs.Common.{◌≡◌, ◌⊎◌, ℕ, suc, ◌+◌, List, [], ◌∷◌, ◌++◌, length, inl, inr, refl, sym, subst, length-append, arith}
+use Rattle.std.proofs.Common.{◌≡◌, ◌⊎◌, ℕ, List, [], ◌∷◌, ◌++◌, length, inl, inr, refl, sym, ap, ◌∙◌, subst, arith}
 use Rattle.om_model.specs.Bytes.{AreBytes}
 use Rattle.om_model.specs.declared.refusal.ReadRefusal.{ReadRefusal}
 use Rattle.om_format.proofs.JudgementLaws.{one_judgement_lem}
@@ -11,15 +11,7 @@ use Rattle.om_outcome.specs.Outcome.{Stop, Said, Language, Task, SayFirst, Stops
 use Rattle.om_promises.specs.Commands.{Item, value, Cut, AllSay, SaysFirst, GoesOn}
 use Rattle.om_promises.proofs.StreamLemmas.{value_or_tail, streams_once}
 use Rattle.om_commands.specs.Tasks.{items_of, IsRefused, StopsHere, commands}
-use Rattle.om_commands.proofs.ItemLemmas.{items_once}
-
--- one item more
-one_more : (before : List Item) (item : Item) (k : ℕ)
-    → length before ≡ k → length (before ++ item ∷ []) ≡ suc k
-one_more before item k at =
-    let all : length (before ++ item ∷ []) ≡ length before + length (item ∷ []) =
-    length-append before (item ∷ []) in
-    omega arith
+use Rattle.om_commands.proofs.ItemLemmas.{items_once, items_more}
 
 -- a front is nothing, or a value that is cut
 pub front_end : (limit : ℕ) (rest : List ℕ) → IsFront limit rest
@@ -42,19 +34,17 @@ module _ {D T E : Type 0} (language : Language D T E) where
     )
 
     say_of :
-        (before : List Item) (k : ℕ) → length before ≡ k → (trees : List Tree) (said : List Said)
-        → outcome.AllSay language a.work k trees said
+        (before : List Item) (earlier : List Tree) → before ≡ items_of earlier
+        → (trees : List Tree) (said : List Said)
+        → outcome.AllSay language a.work earlier trees said
         → AllSay (commands language) a before (items_of trees) said
-    say_of before k at [] [] h = tt
-    say_of before k at [] (s ∷ said) h = absurd h
-    say_of before k at (t ∷ trees) [] h = absurd h
-    say_of before k at (t ∷ trees) (s ∷ said) (says, more) = (
-      record {
-        tree = t;
-        is = refl;
-        says = subst (λ n. outcome.Says language a.work n t s) (sym at) says;
-      },
-      say_of (before ++ value t ∷ []) (suc k) (one_more before (value t) k at) trees said more,
+    say_of before earlier at [] [] h = tt
+    say_of before earlier at [] (s ∷ said) h = absurd h
+    say_of before earlier at (t ∷ trees) [] h = absurd h
+    say_of before earlier at (t ∷ trees) (s ∷ said) (says, more) = (
+      record { earlier = earlier; are = at; tree = t; is = refl; says = says },
+      say_of (before ++ value t ∷ []) (earlier ++ t ∷ [])
+          (ap (λ items. items ++ value t ∷ []) at ∙ sym (items_more earlier t)) trees said more,
     )
 
     -- the first values, as items
@@ -64,7 +54,7 @@ module _ {D T E : Type 0} (language : Language D T E) where
         → SaysFirst (commands language) a bytes (items_of trees) said rest
     says_first bytes trees said rest h = record {
       cut = cut_of bytes trees rest h.spelled;
-      all_say = say_of [] 0 refl trees said h.all_say;
+      all_say = say_of [] [] refl trees said h.all_say;
     }
 
   module _ (a : Task T E) (trees : List Tree) (rest : List ℕ) (are_bytes : AreBytes rest) where

@@ -6,7 +6,7 @@ use Rattle.om_format.proofs.JudgementLaws.{one_judgement_lem}
 use Rattle.om_format.specs.Stream.{SpellAll, End, clean, refused, cut, IsTail}
 use Rattle.om_format.specs.Tree.{Tree}
 use Rattle.om_outcome.specs.Outcome as outcome
-use Rattle.om_outcome.specs.Outcome.{Stop, not_two_values, value, script_line, Unedited, untyped, refused_line, too_large, unedited_stop, Said, says, Reply, stops, Language, Work, tells, edits, dumps, compares, Task, task, lines_for, line_past, ends_script, comparison, AreSame, IsUnedited, Finishes}
+use Rattle.om_outcome.specs.Outcome.{Stop, not_two_values, value, script_line, Unedited, untyped, refused_line, too_large, unedited_stop, Said, says, Reply, stops, Language, Work, tells, edits, dumps, compares, Task, task, line_past, ends_script, comparison, AreSame, IsUnedited, Finishes}
 use Rattle.om_outcome.specs.RefusalText.{refusal_text, truncated_text}
 use Rattle.om_promises.specs.Commands.{Item, value as value_item}
 use Rattle.om_promises.specs.Lawful.{IsOnce, IsInner, AreLawfulAt}
@@ -33,6 +33,12 @@ items_once (t ∷ trees) (u ∷ others) e =
 pub items_length : (trees : List Tree) → length (items_of trees) ≡ length trees
 items_length [] = refl
 items_length (t ∷ trees) = omega (arith, items_length trees)
+
+-- one value more
+pub items_more : (trees : List Tree) (tree : Tree)
+    → items_of (trees ++ tree ∷ []) ≡ items_of trees ++ value_item tree ∷ []
+items_more [] tree = refl
+items_more (t ∷ trees) tree = ap (λ items. value_item t ∷ items) (items_more trees tree)
 
 -- the value of an item is one
 pub tree_once : (item : Item) (t u : Tree) → item ≡ value_item t → item ≡ value_item u → t ≡ u
@@ -96,18 +102,18 @@ unedited_inner k (too_large refusal) = tt
 
 module _ {D T E : Type 0} (language : Language D T E) (lawful : IsLawful language) where
   says_once :
-      (work : Work T E) → IsGivenWork language work → (k : ℕ) (tree : Tree)
-      → IsOnce (outcome.Says language work k tree)
-  says_once (tells saying type) given k tree said other (text, is, e) (text', is', e') =
+      (work : Work T E) → IsGivenWork language work → (earlier : List Tree) (tree : Tree)
+      → IsOnce (outcome.Says language work earlier tree)
+  says_once (tells saying type) given earlier tree said other (text, is, e) (text', is', e') =
       let one = lawful.line_once saying type given tree text text' said.well other.well is is' in
       both_same said other (e ∙ (ap outcome.line one.0 ∙ sym e')) one.1
-  says_once (edits type script compat) given k tree said other (is, well) (is', well') =
-      let one = lawful.bytes_once type given (lines_for language script k) compat tree
+  says_once (edits type script compat) given earlier tree said other (is, well) (is', well') =
+      let one = lawful.bytes_once type given script compat earlier tree
       (Ok said.text) (Ok other.text) is is' in
       both_same said other (cc one) (well ∙ sym well')
-  says_once dumps given k tree said other (text, well) (text', well') =
+  says_once dumps given earlier tree said other (text, well) (text', well') =
       both_same said other (text ∙ sym text') (well ∙ sym well')
-  says_once compares given k tree said other (few, is) (few', is') = is ∙ sym is'
+  says_once compares given earlier tree said other (few, is) (few', is') = is ∙ sym is'
 
   -- ---- where the run stops
 
@@ -118,9 +124,9 @@ module _ {D T E : Type 0} (language : Language D T E) (lawful : IsLawful languag
     stops_once (tells saying type) given stop other h k = absurd h
     stops_once (edits type script compat) given stop other h k =
         let same = (value_once limit bytes are_bytes h.tree k.tree h.more k.more h.spelled k.spelled).0 in
-        let one = lawful.bytes_once type given (lines_for language script (length trees)) compat k.tree
+        let one = lawful.bytes_once type given script compat trees k.tree
         (Err h.why) (Err k.why)
-        (subst (λ t. language.BytesOf type (lines_for language script (length trees)) compat t (Err h.why))
+        (subst (λ t. language.BytesOf type script compat trees t (Err h.why))
         same h.refused)
         k.refused in
         let why : h.why ≡ k.why = cc one in
@@ -161,15 +167,15 @@ module _ {D T E : Type 0} (language : Language D T E) (lawful : IsLawful languag
     why_apart :
         (work : Work T E) → IsGivenWork language work → (tree : Tree) (more : List ℕ) (said : Said)
         (stop : Stop) → SpellAll limit bytes (tree ∷ []) more
-        → outcome.Says language work (length trees) tree said → Why work stop → ⊥
+        → outcome.Says language work trees tree said → Why work stop → ⊥
     why_apart work given tree more said stop first told (inr r) =
         no_tail limit bytes are_bytes tree more (refused r.refusal) first r.tail
     why_apart (tells saying type) given tree more said stop first told (inl at) = at
     why_apart (edits type script compat) given tree more said stop first told (inl at) =
         let same = (value_once limit bytes are_bytes at.tree tree at.more more at.spelled first).0 in
-        let one = lawful.bytes_once type given (lines_for language script (length trees)) compat tree
+        let one = lawful.bytes_once type given script compat trees tree
         (Err at.why) (Ok said.text)
-        (subst (λ t. language.BytesOf type (lines_for language script (length trees)) compat t (Err at.why))
+        (subst (λ t. language.BytesOf type script compat trees t (Err at.why))
         same at.refused)
         told.0 in
         cc one
@@ -247,8 +253,11 @@ module _ {D T E : Type 0} (language : Language D T E) (lawful : IsLawful languag
     said_once : (items : List Item) (item : Item) → IsOnce (SaysOf language a.work items item)
     said_once items item said other h k =
         let same = tree_once item h.tree k.tree h.is k.is in
-        says_once a.work given (length items) k.tree said other
-        (subst (λ t. outcome.Says language a.work (length items) t said) same h.says) k.says
+        let before = items_once h.earlier k.earlier (sym h.are ∙ k.are) in
+        says_once a.work given k.earlier k.tree said other
+        (subst (λ ts. outcome.Says language a.work ts k.tree said) before
+        (subst (λ t. outcome.Says language a.work h.earlier t said) same h.says))
+        k.says
 
     stop_once :
         (items : List Item) (bytes : List ℕ) → AreBytes bytes
@@ -312,10 +321,10 @@ module _ {D T E : Type 0} (language : Language D T E) (lawful : IsLawful languag
         → StopsHere language a items bytes stop → ⊥
     said_apart items bytes are_bytes item more said stop first told h =
         let same = tree_once item told.tree first.tree told.is first.is in
-        let number : length items ≡ length h.trees = ap length h.are ∙ items_length h.trees in
+        let before = items_once told.earlier h.trees (sym told.are ∙ h.are) in
         why_apart a.limit h.trees bytes are_bytes a.work given first.tree more said stop first.spelled
-        (subst (λ n. outcome.Says language a.work n first.tree said) number
-        (subst (λ t. outcome.Says language a.work (length items) t said) same told.says))
+        (subst (λ ts. outcome.Says language a.work ts first.tree said) before
+        (subst (λ t. outcome.Says language a.work told.earlier t said) same told.says))
         h.why
 
     pub lawful_at : AreLawfulAt (commands language) a

@@ -58,12 +58,14 @@ module _ {D T E : Type 0} (language : Language D T E) where
     pub is : item ≡ value_item tree
     pub spelled : SpellAll limit bytes (tree ∷ []) more
 
-  -- this is said of the next value
+  -- after these values this is said of the next
   pub record SaysOf (work : Work T E) (items : List Item) (item : Item) (said : Said)
       : Type 0 where
+    pub earlier : List Tree
+    pub are : items ≡ items_of earlier
     pub tree : Tree
     pub is : item ≡ value_item tree
-    pub says : outcome.Says language work (length items) tree said
+    pub says : outcome.Says language work earlier tree said
 
   -- after so many values one more may come
   abbrev pub MayCome : Work T E → ℕ → Type 0

@@ -1,5 +1,5 @@
 -- What is read of a text is one thing, and a value has one line at a type that is read.
-use Rattle.std.proofs.Common.{◌≡◌, ℕ, Bool, List, Option, Some, None, Result, Ok, Err, inl, inr, sym, ap, ◌∙◌, subst}
+use Rattle.std.proofs.Common.{◌≡◌, ℕ, Bool, List, [], ◌∷◌, ◌++◌, length, Option, Some, None, Result, Ok, Err, inl, inr, sym, ap, ◌∙◌, subst}
 use Rattle.om_model.specs.declared.value.Val.{Val}
 use Rattle.om_model.specs.declared.value.Obj.{Obj}
 use Rattle.om_types.specs.declared.decl.Decl.{Decl}
@@ -23,13 +23,14 @@ use Rattle.om_path.specs.declared.edits.ScriptFault.{ScriptFault}
 use Rattle.om_path.specs.declared.edits.ScriptLine.{ScriptLine}
 use Rattle.om_canonical.proofs.SameTree.{one_tree_only}
 use Rattle.om_edit.specs.EditedValues.{Edited}
+use Rattle.om_edit.specs.Grafts.{Other}
 use Rattle.om_edit.specs.Laws.{EditsHaveOneAnswer}
 use Rattle.om_format.specs.Compat.{too_large_for_32}
 use Rattle.om_path.specs.declared.fault.PathFault.{PathFault}
 use Rattle.om_trees.specs.Laws.{TreeVerdictsAreOne}
 use Rattle.om_outcome.specs.Outcome.{Said, Saying, the_verdict, the_text, the_part, the_trees, Unedited, untyped}
 use Rattle.om_declared.proofs.GivenLemmas.{given_sound}
-use Rattle.om_declared.specs.Language.{TypeOver, declared_types, ReadsPath, IsRefusal, ReachesFew, IsTooMuch, IsAccepted, IsToldOf, judged, IsTypeLine, IsBytesLine, AreBytesOf, AreBytesAfter, bytes_for, ReadsType, ReadsScript, script_refusal}
+use Rattle.om_declared.specs.Language.{TypeOver, declared_types, ReadsPath, IsRefusal, ReachesFew, IsTooMuch, IsAccepted, IsToldOf, judged, IsTypeLine, IsBytesLine, lines_of_value, AreDone, AreBytesIn, AreBytesOf, AreBytesAfter, bytes_for, ReadsType, ReadsScript, script_refusal}
 use Rattle.om_promises.specs.LawfulLanguage.{IsGiven, IsLawful}
 
 -- ---- answers
@@ -156,23 +157,38 @@ module _ (files_once : HasOneAnswer IsFileAnswer) (types_once : (decls : List De
     lines_once verdicts_once saying line other one two (inl has) (inr is) = absurd (never_both t.decls t.type few.types well sound few.reached graph v is.why.fault is.why.least.is_fault has.has)
     lines_once verdicts_once saying line other one two (inr is) (inl has) = absurd (never_both t.decls t.type few.types well sound few.reached graph v is.why.fault is.why.least.is_fault has.has)
 
-    bytes_once : (lines : List ScriptLine) (compat : Bool) (answer other : Result (List ℕ) Unedited) → IsBytesLine t lines compat graph v answer → IsBytesLine t lines compat graph v other → answer ≡ other
-    bytes_once lines compat answer other (inl is) (inl its) =
-        let same : is.edited ≡ its.edited = edits_once.in_order t.decls t.type few.types well sound few.reached lines graph v is.edited its.edited is.made its.made in
+    bytes_once : (others : List Other) (lines : List ScriptLine) (compat : Bool) (answer other : Result (List ℕ) Unedited) → IsBytesLine t others lines compat graph v answer → IsBytesLine t others lines compat graph v other → answer ≡ other
+    bytes_once others lines compat answer other (inl is) (inl its) =
+        let same : is.edited ≡ its.edited = edits_once.in_order t.decls t.type few.types well sound few.reached others lines graph v is.edited its.edited is.made its.made in
         bytes_after_once compat its.edited answer other (subst (λ e. AreBytesAfter compat e answer) same is.bytes) its.bytes
-    bytes_once lines compat answer other (inr is) (inr its) =
+    bytes_once others lines compat answer other (inr is) (inr its) =
         is.is ∙ (ap (λ text. Err (untyped text)) (no_line_once (declared_shapes t.decls) graph v t.type type_text is.text its.text is.why its.why) ∙ sym its.is)
-    bytes_once lines compat answer other (inl is) (inr its) = absurd (never_both t.decls t.type few.types well sound few.reached graph v its.why.fault its.why.least.is_fault is.has)
-    bytes_once lines compat answer other (inr is) (inl its) = absurd (never_both t.decls t.type few.types well sound few.reached graph v is.why.fault is.why.least.is_fault its.has)
+    bytes_once others lines compat answer other (inl is) (inr its) = absurd (never_both t.decls t.type few.types well sound few.reached graph v its.why.fault its.why.least.is_fault is.has)
+    bytes_once others lines compat answer other (inr is) (inl its) = absurd (never_both t.decls t.type few.types well sound few.reached graph v is.why.fault is.why.least.is_fault its.has)
 
   given_once : TreeVerdictsAreOne → (saying : Saying) (t : TypeOver) → IsGiven declared_types t → (tree : Tree) (line other : List ℕ) (one two : Bool)
       → IsTypeLine saying t (objects_of tree 0) (root tree 0) line one → IsTypeLine saying t (objects_of tree 0) (root tree 0) other two → (line ≡ other) × (one ≡ two)
   given_once verdicts_once saying t given tree =
       let s = given_sound files_well types_sound t given in lines_once t s.well s.sound s.few (objects_of tree 0) (root tree 0) verdicts_once saying
 
-  edited_once : (t : TypeOver) → IsGiven declared_types t → (lines : List ScriptLine) (compat : Bool) (tree : Tree) (answer other : Result (List ℕ) Unedited)
-      → IsBytesLine t lines compat (objects_of tree 0) (root tree 0) answer → IsBytesLine t lines compat (objects_of tree 0) (root tree 0) other → answer ≡ other
-  edited_once t given lines compat tree = let s = given_sound files_well types_sound t given in bytes_once t s.well s.sound s.few (objects_of tree 0) (root tree 0) lines compat
+  -- what the lines make of the earlier values is one
+  done_once : (t : TypeOver) → AreWellFormed t.decls → IsSoundType t.decls t.type → (few : ReachesFew t.decls t.type)
+      → (script : List ScriptLine) (done : List Other) (earlier : List Tree) (others second : List Other)
+      → AreDone t script done earlier others → AreDone t script done earlier second → others ≡ second
+  done_once t well sound few script done [] others second is its = is ∙ sym its
+  done_once t well sound few script done (tree ∷ earlier) others second (v, made, more) (u, made', more') =
+      let same : ◌≡◌ {A = Edited Ty} (Ok v) (Ok u) =
+      edits_once.in_order t.decls t.type few.types well sound few.reached done (lines_of_value (length done) script) (objects_of tree 0) (root tree 0) (Ok v) (Ok u) made made' in
+      let one : u ≡ v = cc same in
+      done_once t well sound few script (done ++ v ∷ []) earlier others second more (subst (λ (w : Other). AreDone t script (done ++ w ∷ []) earlier second) one more')
+
+  edited_once : (t : TypeOver) → IsGiven declared_types t → (script : List ScriptLine) (compat : Bool) (earlier : List Tree) (tree : Tree) (answer other : Result (List ℕ) Unedited)
+      → AreBytesIn t script compat earlier tree answer → AreBytesIn t script compat earlier tree other → answer ≡ other
+  edited_once t given script compat earlier tree answer other (others, done, is) (second, done', its) =
+      let s = given_sound files_well types_sound t given in
+      let same = done_once t s.well s.sound s.few script [] earlier second others done' done in
+      bytes_once t s.well s.sound s.few (objects_of tree 0) (root tree 0) others (lines_of_value (length earlier) script) compat answer other is
+      (subst (λ os. IsBytesLine t os (lines_of_value (length earlier) script) compat (objects_of tree 0) (root tree 0) other) same its)
 
   pub declared_lawful : TreeVerdictsAreOne → IsLawful declared_types
   declared_lawful verdicts_once = record {

@@ -175,6 +175,7 @@ lines_refused : (text : List ℕ) (fault : ScriptFault) → UnlessMemoryInScript
     → StopsByLine text stop ⊎ (stop_of stop ≡ out_of_memory)
 lines_refused text (script_faults.Lex number fault) refused stop is = inl ((number, lexer_text fault), (script_faults.Lex number fault, refused, refl), is)
 lines_refused text (script_faults.Syntax number place) refused stop is = inl ((number, placed_text (codes "Syntax") place), (script_faults.Syntax number place, refused, refl), is)
+lines_refused text (script_faults.Later number) refused stop is = inl ((number, codes "Later"), (script_faults.Later number, refused, refl), is)
 lines_refused text script_faults.Memory refused stop is = inr is
 
 module _ (name : List ℕ) where

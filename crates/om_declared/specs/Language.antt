@@ -1,6 +1,6 @@
 -- The language of declared types: FILE has declarations, TYPE is a type over them, and SCRIPT is a
 -- list of edits.
-use Rattle.std.specs.Prelude.{ℕ, ◌≤◌, ◌≡◌, ◌≢◌, ◌⊎◌, Bool, true, false, List, length, Option, Some, None, Result, Ok, Err, codes}
+use Rattle.std.specs.Prelude.{ℕ, ◌≤◌, ◌≡◌, ◌==◌, ◌≢◌, ◌⊎◌, Bool, true, false, List, [], ◌∷◌, ◌++◌, length, filter, Option, Some, None, Result, Ok, Err, codes}
 use Rattle.om_model.specs.declared.value.Val.{Val}
 use Rattle.om_model.specs.declared.value.Obj.{Obj}
 use Rattle.om_types.specs.declared.decl.Decl.{Decl}
@@ -20,7 +20,9 @@ use Rattle.om_format.specs.Tree.{Tree, root, objects_of}
 use Rattle.om_decl.specs.Answer.{Answer, accepted, IsFileAnswer, IsTypeAnswer}
 use Rattle.om_decl.specs.Read.{IsDeclared, IsTypeOf}
 use Rattle.om_decl.specs.Text.{answer_text, lexer_text, placed_text}
-use Rattle.om_edit.specs.EditedValues.{Edited, AreEdited}
+use Rattle.om_edit.specs.EditedLines.{AreEdited}
+use Rattle.om_edit.specs.EditedValues.{Edited}
+use Rattle.om_edit.specs.Grafts.{Other}
 use Rattle.om_edit.specs.Reasons.{reason_text}
 use Rattle.om_path.specs.Answer.{IsAnswer}
 use Rattle.om_path.specs.declared.fault.PathFault.{PathFault}
@@ -112,14 +114,14 @@ AreBytesAfter compat (Err refused) answer =
     answer ≡ Err (refused_line refused.0 (reason_text type_text refused.1))
 
 -- the value has the type, and each closed instance of it, and these are the bytes of what the
--- lines make of it
-pub record IsEdited (t : TypeOver) (lines : List ScriptLine) (compat : Bool) (graph : List Obj)
-    (v : Val) (answer : Result (List ℕ) Unedited) : Type 0 where
+-- lines make of it, after these values
+pub record IsEdited (t : TypeOver) (others : List Other) (lines : List ScriptLine) (compat : Bool)
+    (graph : List Obj) (v : Val) (answer : Result (List ℕ) Unedited) : Type 0 where
   pub has : HasType (declared_shapes t.decls) graph v t.type
   pub each : HasEachInstance t.decls graph v t.type
   pub edited : Edited Ty
-  pub made : AreEdited (shape t.decls) (names_of t.decls) (Equal t.decls) t.type lines graph v
-      edited
+  pub made : AreEdited (shape t.decls) (names_of t.decls) (Equal t.decls) t.type others lines graph
+      v edited
   pub bytes : AreBytesAfter compat edited answer
 
 -- it has not the type, nor each closed instance of it
@@ -130,11 +132,32 @@ pub record IsUntyped (t : TypeOver) (graph : List Obj) (v : Val) (answer : Resul
   pub some_not : ¬ HasEachInstance t.decls graph v t.type
   pub is : answer ≡ Err (untyped text)
 
--- what lines of a script make of a value at a type
-abbrev pub IsBytesLine : TypeOver → List ScriptLine → Bool → List Obj → Val
+-- what lines of a script make of a value at a type, after these values
+abbrev pub IsBytesLine : TypeOver → List Other → List ScriptLine → Bool → List Obj → Val
     → Result (List ℕ) Unedited → Type 0
-IsBytesLine t lines compat graph v answer =
-    IsEdited t lines compat graph v answer ⊎ IsUntyped t graph v answer
+IsBytesLine t others lines compat graph v answer =
+    IsEdited t others lines compat graph v answer ⊎ IsUntyped t graph v answer
+
+-- the lines that edit value k, in their order
+abbrev pub lines_of_value : ℕ → List ScriptLine → List ScriptLine
+lines_of_value k script = filter (λ line. line.value == k) script
+
+-- after the first values, which are done so, the next ones are edited by their own lines, in turn
+abbrev pub AreDone : TypeOver → List ScriptLine → List Other → List Tree → List Other → Type 0
+AreDone t script done [] others = others ≡ done
+AreDone t script done (tree ∷ trees) others =
+    (made : List Obj × Val)
+    × AreEdited (shape t.decls) (names_of t.decls) (Equal t.decls) t.type done
+    (lines_of_value (length done) script) (objects_of tree 0) (root tree 0) (Ok made)
+    × AreDone t script (done ++ made ∷ []) trees others
+
+-- what a script makes of a value at a type that comes after these
+abbrev pub AreBytesIn : TypeOver → List ScriptLine → Bool → (earlier : List Tree) → Tree
+    → Result (List ℕ) Unedited → Type 0
+AreBytesIn t script compat earlier tree answer =
+    (others : List Other) × AreDone t script [] earlier others
+    × IsBytesLine t others (lines_of_value (length earlier) script) compat (objects_of tree 0)
+    (root tree 0) answer
 
 -- ---- what is read
 
@@ -183,6 +206,7 @@ abbrev pub script_refusal : ScriptFault → Option (ℕ × List ℕ)
 script_refusal (script_faults.Lex number fault) = Some (number, lexer_text fault)
 script_refusal (script_faults.Syntax number place) =
     Some (number, placed_text (codes "Syntax") place)
+script_refusal (script_faults.Later number) = Some (number, codes "Later")
 script_refusal script_faults.Memory = None
 
 -- the text is a script of these lines, or has this fault
@@ -201,8 +225,6 @@ declared_types = record {
   line_value = λ line. line.value;
   LineOf =
       λ saying t tree text well. IsTypeLine saying t (objects_of tree 0) (root tree 0) text well;
-  BytesOf =
-      λ t lines compat tree answer. IsBytesLine t lines compat (objects_of tree 0) (root tree 0)
-      answer;
+  BytesOf = AreBytesIn;
   lines_of = λ tree. dump_text (objects_of tree 0) (root tree 0);
 }

@@ -66,6 +66,7 @@ fn script_stop(fault: ScriptFault) -> Stop<'static>
     match fault {
         ScriptFault::Lex(number, fault) => Stop::Script(number, DeclFault::Lex(fault)),
         ScriptFault::Syntax(number, place) => Stop::Script(number, DeclFault::Syntax(place)),
+        ScriptFault::Later(number) => Stop::Later(number),
         ScriptFault::Memory => Stop::Memory,
     }
 }

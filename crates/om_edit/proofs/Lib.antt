@@ -4,3 +4,4 @@ pub mod AlikeLemmas
 pub mod ApplyLemmas
 pub mod GraftLemmas
 pub mod GraftAnswers
+pub mod LineLemmas

@@ -20,10 +20,9 @@ use Rattle.om_literal.specs.LiteralAnswers.{byte_of, in_bytes}
 use Rattle.om_literal.specs.Reading.{Reading, Refusal, reading, literal_read}
 use Rattle.om_path.specs.declared.edits.Edit.{Edit}
 use Rattle.om_path.specs.declared.edits.Edit.TheVariants as edits
-use Rattle.om_path.specs.declared.edits.ScriptLine.{ScriptLine}
 use Rattle.om_edit.specs.declared.spots.Place.{Place}
 use Rattle.om_edit.specs.Reasons.{Reason, no_field, not_block, no_literal, misread, ill_typed}
-use Rattle.om_edit.specs.EditedValues.{Answer, Edited, put_at, linked, copied, object_of, unshared, IsSetAt, IsSet, IsMade, IsAnswer, IsContinued, AreEdited, place_in}
+use Rattle.om_edit.specs.EditedValues.{Answer, put_at, linked, copied, object_of, unshared, IsSetAt, IsSet, IsMade, IsAnswer, place_in}
 
 -- ---- set
 
@@ -168,18 +167,3 @@ module _ {T : Type 0} (shape : T → ShapeOf T) (names : T → Names) (Equal : T
         let one = parted edit graph root answer is in
         let two = parted edit graph root other its in
         follows_once two.0 answer other (subst (λ m. Follows m answer) (made_once edit graph root one.0 two.0 one.1 two.1) one.2) two.2
-
-    continued_once : (number : ℕ) (Rest : List Obj → Val → Edited T → Type 0)
-        → ((graph : List Obj) (root : Val) (all other : Edited T) → Rest graph root all → Rest graph root other → all ≡ other)
-        → (first : Answer T) (all other : Edited T) → IsContinued shape names Equal t number Rest first all → IsContinued shape names Equal t number Rest first other
-        → all ≡ other
-    continued_once number Rest once (Ok edited) all other one two = once edited.0 edited.1 all other one two
-    continued_once number Rest once (Err reason) all other one two = one ∙ sym two
-
-    pub edited_once : (lines : List ScriptLine) (graph : List Obj) (root : Val) (all other : Edited T)
-        → AreEdited shape names Equal t lines graph root all → AreEdited shape names Equal t lines graph root other → all ≡ other
-    edited_once [] graph root all other one two = one ∙ sym two
-    edited_once (line ∷ lines) graph root all other (first, is, on) (second, its, after) =
-        continued_once line.number (AreEdited shape names Equal t lines) (edited_once lines) first all other on
-        (subst (λ a. IsContinued shape names Equal t line.number (AreEdited shape names Equal t lines) a other)
-        (answer_once line.edit graph root second first its is) after)

@@ -19,7 +19,6 @@ use Rattle.om_literal.specs.LiteralAnswers.{byte_of, in_bytes}
 use Rattle.om_literal.specs.Reading.{Refusal, IsRead, IsRefused}
 use Rattle.om_path.specs.declared.edits.Edit.{Edit}
 use Rattle.om_path.specs.declared.edits.Edit.TheVariants as edits
-use Rattle.om_path.specs.declared.edits.ScriptLine.{ScriptLine}
 use Rattle.om_edit.specs.declared.spots.Spot.{Spot}
 use Rattle.om_edit.specs.declared.spots.Spot.TheVariants as spots
 use Rattle.om_edit.specs.declared.spots.Place.{Place}
@@ -130,15 +129,3 @@ module _ {T : Type 0} (shape : T → ShapeOf T) (names : T → Names) where
     IsAnswer edit graph root (Ok edited) = IsEdited edit graph root edited
     IsAnswer edit graph root (Err (ill_typed fault)) = IsIllTyped edit graph root fault
     IsAnswer edit graph root (Err reason) = IsMade edit graph root (Err reason)
-
-    -- ---- lines one after the other, each of what those before it made
-
-    abbrev pub IsContinued : ℕ → (List Obj → Val → Edited T → Type 0) → Answer T → Edited T → Type 0
-    IsContinued number Rest (Ok edited) all = Rest edited.0 edited.1 all
-    IsContinued number Rest (Err reason) all = all ≡ Err (number, reason)
-
-    abbrev pub AreEdited : List ScriptLine → List Obj → Val → Edited T → Type 0
-    AreEdited [] graph root all = all ≡ Ok (graph, root)
-    AreEdited (line ∷ lines) graph root all =
-        (first : Answer T) × IsAnswer line.edit graph root first
-        × IsContinued line.number (AreEdited lines) first all

@@ -15,7 +15,9 @@ use Rattle.om_type_table.specs.Made.{table_of, IsLawful, IsTypeTable}
 use Rattle.om_fault.specs.Text.{text_at}
 use Rattle.om_path.specs.declared.edits.Edit.{Edit}
 use Rattle.om_path.specs.declared.edits.ScriptLine.{ScriptLine}
-use Rattle.om_edit.specs.EditedValues.{Answer, Edited, IsAnswer, AreEdited}
+use Rattle.om_edit.specs.EditedLines.{AreEdited}
+use Rattle.om_edit.specs.EditedValues.{Answer, Edited, IsAnswer}
+use Rattle.om_edit.specs.Grafts.{Other}
 use Rattle.om_edit.specs.Reasons.{reason_text}
 use Rattle.om_edit.specs.Tables.{IsAnswerIn}
 
@@ -24,10 +26,11 @@ abbrev pub IsDeclaredAnswer : List Decl → Ty → Edit → List Obj → Val →
 IsDeclaredAnswer decls t edit graph root answer =
     IsAnswer (shape decls) (names_of decls) (Equal decls) t edit graph root answer
 
--- what lines, one after the other, make of a value of a declared type
-abbrev pub AreDeclaredEdits : List Decl → Ty → List ScriptLine → List Obj → Val → Edited Ty → Type 0
-AreDeclaredEdits decls t lines graph root all =
-    AreEdited (shape decls) (names_of decls) (Equal decls) t lines graph root all
+-- what lines, one after the other, make of a value of a declared type, after these values
+abbrev pub AreDeclaredEdits : List Decl → Ty → List Other → List ScriptLine → List Obj → Val
+    → Edited Ty → Type 0
+AreDeclaredEdits decls t others lines graph root all =
+    AreEdited (shape decls) (names_of decls) (Equal decls) t others lines graph root all
 
 -- there are no two
 abbrev pub IsAtMostOne : {A : Type 0} → (A → Type 0) → Type 0
@@ -44,8 +47,8 @@ pub record EditsHaveOneAnswer : Type 0 where
       → IsAtMostOne (IsDeclaredAnswer decls t edit graph root)
   pub in_order : (decls : List Decl) (t : Ty) (types : List Ty) → AreWellFormed decls
       → IsSoundType decls t → IsReached decls t types
-      → (lines : List ScriptLine) (graph : List Obj) (root : Val)
-      → IsAtMostOne (AreDeclaredEdits decls t lines graph root)
+      → (others : List Other) (lines : List ScriptLine) (graph : List Obj) (root : Val)
+      → IsAtMostOne (AreDeclaredEdits decls t others lines graph root)
 
 -- the same value, or reasons of one text
 abbrev pub SayTheSame : TypeTable → Answer ℕ → Answer Ty → Type 0

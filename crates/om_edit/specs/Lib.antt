@@ -4,5 +4,7 @@ pub mod EditedValues
 pub mod Tables
 pub mod Laws
 pub mod Grafts
+pub mod EditedLines
 pub mod GraftLaws
+pub mod LineLaws
 pub mod WorkedEdits

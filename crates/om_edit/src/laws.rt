@@ -2,6 +2,7 @@
 
 ghost use Rattle.om_edit.specs.GraftLaws.{GraftsAreTheSame, GraftsHaveOneAnswer, TablesGraftAlike};
 ghost use Rattle.om_edit.specs.Laws.{EditsHaveOneAnswer, TablesEditAlike};
+ghost use Rattle.om_edit.specs.LineLaws.{TablesAnswerLinesAlike};
 ghost use Rattle.om_edit.specs.WorkedEdits.{Rows};
 
 /// An edit of a value has one answer at most.
@@ -34,4 +35,9 @@ pub fn grafts_have_one_answer()
 /// What a table of types says of grafts is what its types say.
 pub fn tables_graft_alike()
     ensures { TablesGraftAlike }
+{}
+
+/// What a table of types says of the lines of a script is what its types say.
+pub fn tables_answer_lines_alike()
+    ensures { TablesAnswerLinesAlike }
 {}

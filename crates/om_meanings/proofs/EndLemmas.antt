@@ -28,7 +28,7 @@ module _ {D T E : Type 0} (language : Language D T E) where
   -- where the command does not stop after values of which something is said, one more may come
   may_come :
       (work : Work T E) (limit : ℕ) (trees : List Tree) (said : List Said) (rest : List ℕ)
-      → AreSaid language work 0 trees said → (rest ≡ [] → ⊥)
+      → AreSaid language work [] trees said → (rest ≡ [] → ⊥)
       → ((stop : Stop) → StopsAt language work limit trees rest stop → ⊥)
       → MayCome language work (length trees)
   may_come (tells saying type) limit trees said rest told some none = tt
@@ -43,7 +43,7 @@ module _ {D T E : Type 0} (language : Language D T E) where
 
   end_row :
       (a : Task T E) (bytes : List ℕ) (trees : List Tree) (said : List Said) (rest : List ℕ)
-      (last : Reply) → SpellAll a.limit bytes trees rest → AreSaid language a.work 0 trees said
+      (last : Reply) → SpellAll a.limit bytes trees rest → AreSaid language a.work [] trees said
       → ((stop : Stop) → StopsAt language a.work a.limit trees rest stop → ⊥)
       → (end : End) → IsTail a.limit rest end → EndsBy language a.work trees end last
       → EndWith language a bytes (ending_of (replies said last)).status
@@ -73,10 +73,10 @@ module _ {D T E : Type 0} (language : Language D T E) where
   end_with a bytes said last h =
       end_row a bytes h.ends.trees said h.rest last
       (subst (λ trees. SpellAll a.limit bytes trees h.rest) same values.2)
-      (subst (λ trees. AreSaid language a.work 0 trees said) same values.3) none h.ends.end
+      (subst (λ trees. AreSaid language a.work [] trees said) same values.3) none h.ends.end
       h.ends.tail h.ends.ends where
         values : (trees : List Tree) × (h.items ≡ items_of trees)
-            × SpellAll a.limit bytes trees h.rest × AreSaid language a.work 0 trees said
+            × SpellAll a.limit bytes trees h.rest × AreSaid language a.work [] trees said
         values = say_first language a bytes h.items said h.rest h.first
 
         same : values.0 ≡ h.ends.trees
@@ -128,7 +128,7 @@ module _ {D T E : Type 0} (language : Language D T E) where
 
     ended :
         (bytes : List ℕ) (said : List Said) (last : Reply) → SpellAll a.limit bytes trees rest
-        → AreSaid language a.work 0 trees said → EndsBy language a.work trees end last
+        → AreSaid language a.work [] trees said → EndsBy language a.work trees end last
         → HoldEnd (commands language) a bytes said last
     ended bytes said last spelled told ends = record {
       items = items_of trees;

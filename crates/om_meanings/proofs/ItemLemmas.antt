@@ -5,6 +5,7 @@ use Rattle.om_format.specs.Tree.{Tree}
 use Rattle.om_outcome.specs.Outcome.{Said, Says, Language, Work, Task}
 use Rattle.om_promises.specs.Commands.{Item, value, Cut, AllSay, SaysFirst}
 use Rattle.om_commands.specs.Tasks.{items_of, commands}
+use Rattle.om_commands.proofs.ItemLemmas.{items_once, items_more}
 
 -- one item more
 pub one_more : (before : List Item) (item : Item) (k : ℕ)
@@ -14,14 +15,20 @@ one_more before item k at =
     length-append before (item ∷ []) in
     omega arith
 
+-- one value more
+items_on : (before : List Item) (earlier : List Tree) → before ≡ items_of earlier → (tree : Tree)
+    → before ++ value tree ∷ [] ≡ items_of (earlier ++ tree ∷ [])
+items_on before earlier at tree =
+    ap (λ items. items ++ value tree ∷ []) at ∙ sym (items_more earlier tree)
+
 module _ {D T E : Type 0} (language : Language D T E) where
-  -- this is said of the values, the first of which has number k
-  abbrev pub AreSaid : Work T E → ℕ → List Tree → List Said → Type 0
-  AreSaid work k [] [] = Unit {0}
-  AreSaid work k [] (said ∷ more) = ⊥
-  AreSaid work k (tree ∷ trees) [] = ⊥
-  AreSaid work k (tree ∷ trees) (said ∷ more) =
-      Says language work k tree said × AreSaid work (suc k) trees more
+  -- this is said of the values that come after these
+  abbrev pub AreSaid : Work T E → List Tree → List Tree → List Said → Type 0
+  AreSaid work earlier [] [] = Unit {0}
+  AreSaid work earlier [] (said ∷ more) = ⊥
+  AreSaid work earlier (tree ∷ trees) [] = ⊥
+  AreSaid work earlier (tree ∷ trees) (said ∷ more) =
+      Says language work earlier tree said × AreSaid work (earlier ++ tree ∷ []) trees more
 
   module _ (a : Task T E) where
     cut_of :
@@ -48,42 +55,43 @@ module _ {D T E : Type 0} (language : Language D T E) where
         )
 
     say_of :
-        (before : List Item) (k : ℕ) → length before ≡ k → (trees : List Tree) (said : List Said)
-        → AreSaid a.work k trees said → AllSay (commands language) a before (items_of trees) said
-    say_of before k at [] [] h = tt
-    say_of before k at [] (s ∷ said) h = absurd h
-    say_of before k at (t ∷ trees) [] h = absurd h
-    say_of before k at (t ∷ trees) (s ∷ said) (says, more) = (
-      record {
-        tree = t;
-        is = refl;
-        says = subst (λ n. Says language a.work n t s) (sym at) says;
-      },
-      say_of (before ++ value t ∷ []) (suc k) (one_more before (value t) k at) trees said more,
+        (before : List Item) (earlier : List Tree) → before ≡ items_of earlier
+        → (trees : List Tree) (said : List Said)
+        → AreSaid a.work earlier trees said → AllSay (commands language) a before (items_of trees) said
+    say_of before earlier at [] [] h = tt
+    say_of before earlier at [] (s ∷ said) h = absurd h
+    say_of before earlier at (t ∷ trees) [] h = absurd h
+    say_of before earlier at (t ∷ trees) (s ∷ said) (says, more) = (
+      record { earlier = earlier; are = at; tree = t; is = refl; says = says },
+      say_of (before ++ value t ∷ []) (earlier ++ t ∷ []) (items_on before earlier at t) trees said
+          more,
     )
 
     told_of :
-        (before : List Item) (k : ℕ) → length before ≡ k → (trees : List Tree) (said : List Said)
-        → AllSay (commands language) a before (items_of trees) said → AreSaid a.work k trees said
-    told_of before k at [] [] h = tt
-    told_of before k at [] (s ∷ said) h = absurd h
-    told_of before k at (t ∷ trees) [] h = absurd h
-    told_of before k at (t ∷ trees) (s ∷ said) (says, more) =
+        (before : List Item) (earlier : List Tree) → before ≡ items_of earlier
+        → (trees : List Tree) (said : List Said)
+        → AllSay (commands language) a before (items_of trees) said → AreSaid a.work earlier trees said
+    told_of before earlier at [] [] h = tt
+    told_of before earlier at [] (s ∷ said) h = absurd h
+    told_of before earlier at (t ∷ trees) [] h = absurd h
+    told_of before earlier at (t ∷ trees) (s ∷ said) (says, more) =
         let is : value t ≡ value says.tree = says.is in
-        let same : says.tree ≡ t = cc is in (
-          subst (λ n. Says language a.work n t s) at
-              (subst (λ tree. Says language a.work (length before) tree s) same says.says),
-          told_of (before ++ value t ∷ []) (suc k) (one_more before (value t) k at) trees said more,
+        let same : says.tree ≡ t = cc is in
+        let front = items_once says.earlier earlier (sym says.are ∙ at) in (
+          subst (λ ts. Says language a.work ts t s) front
+              (subst (λ tree. Says language a.work says.earlier tree s) same says.says),
+          told_of (before ++ value t ∷ []) (earlier ++ t ∷ []) (items_on before earlier at t) trees
+              said more,
         )
 
     -- the first values, as items
     pub says_first :
         (bytes : List ℕ) (trees : List Tree) (said : List Said) (rest : List ℕ)
-        → SpellAll a.limit bytes trees rest → AreSaid a.work 0 trees said
+        → SpellAll a.limit bytes trees rest → AreSaid a.work [] trees said
         → SaysFirst (commands language) a bytes (items_of trees) said rest
     says_first bytes trees said rest spelled say = record {
       cut = cut_of bytes trees rest spelled;
-      all_say = say_of [] 0 refl trees said say;
+      all_say = say_of [] [] refl trees said say;
     }
 
     -- the first items, as values
@@ -91,8 +99,8 @@ module _ {D T E : Type 0} (language : Language D T E) where
         (bytes : List ℕ) (items : List Item) (said : List Said) (rest : List ℕ)
         → SaysFirst (commands language) a bytes items said rest
         → (trees : List Tree) × (items ≡ items_of trees) × SpellAll a.limit bytes trees rest
-        × AreSaid a.work 0 trees said
+        × AreSaid a.work [] trees said
     say_first bytes items said rest h =
         let s = spelled_of bytes items rest h.cut in
         let say = subst (λ items. AllSay (commands language) a [] items said) s.1 h.all_say in
-        (s.0, s.1, s.2, told_of [] 0 refl s.0 said say)
+        (s.0, s.1, s.2, told_of [] [] refl s.0 said say)

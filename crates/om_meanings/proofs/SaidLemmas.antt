@@ -1,5 +1,5 @@
 -- What is said of values, and of their end, by the tables: from it what holds of the values, and back.
-use Rattle.std.proofs.Common.{◌≡◌, ℕ, suc, ◌+◌, ◌<◌, ◌≤◌, Bool, true, false, List, [], ◌∷◌, length, Option, Some, None, inl, inr, refl, sym, ap, ◌∙◌, subst, arith}
+use Rattle.std.proofs.Common.{◌≡◌, ◌+◌, ◌<◌, ◌≤◌, Bool, true, false, List, [], ◌∷◌, ◌++◌, length, Option, Some, None, inl, inr, refl, sym, ap, ◌∙◌, subst, length-append, arith}
 use Rattle.std.specs.Prelude.{◌&&◌, ◌↔◌, IsTrue, if◌then◌else◌}
 use Rattle.std.specs.List.{AllByRecursion}
 use Rattle.om_format.specs.Tree.{Tree}
@@ -50,62 +50,65 @@ module _ {D T E : Type 0} (language : Language D T E) where
 
   quiet :
       (work : Work T E)
-      → ((k : ℕ) (tree : Tree) (said : Said) → Says language work k tree said → said.well ≡ true)
-      → (k : ℕ) (trees : List Tree) (said : List Said) → AreSaid language work k trees said
+      → ((earlier : List Tree) (tree : Tree) (said : Said) → Says language work earlier tree said → said.well ≡ true)
+      → (earlier trees : List Tree) (said : List Said) → AreSaid language work earlier trees said
       → all_well said ≡ true
-  quiet work each k [] [] h = refl
-  quiet work each k [] (s ∷ said) h = absurd h
-  quiet work each k (t ∷ trees) [] h = absurd h
-  quiet work each k (t ∷ trees) (s ∷ said) (is, more) =
-      ap (λ w. w && all_well said) (each k t s is) ∙ quiet work each (suc k) trees said more
+  quiet work each earlier [] [] h = refl
+  quiet work each earlier [] (s ∷ said) h = absurd h
+  quiet work each earlier (t ∷ trees) [] h = absurd h
+  quiet work each earlier (t ∷ trees) (s ∷ said) (is, more) =
+      ap (λ w. w && all_well said) (each earlier t s is) ∙ quiet work each (earlier ++ t ∷ []) trees said more
 
   -- of no more than two values that are compared something is said
   few :
-      (k : ℕ) (trees : List Tree) (said : List Said) → k ≤ 2
-      → AreSaid language compares k trees said → k + length trees ≤ 2
-  few k [] said fits h = omega (arith, fits)
-  few k (t ∷ trees) [] fits h = absurd h
-  few k (t ∷ trees) (s ∷ said) fits (is, more) =
+      (earlier trees : List Tree) (said : List Said) → length earlier ≤ 2
+      → AreSaid language compares earlier trees said → length earlier + length trees ≤ 2
+  few earlier [] said fits h = omega (arith, fits)
+  few earlier (t ∷ trees) [] fits h = absurd h
+  few earlier (t ∷ trees) (s ∷ said) fits (is, more) =
       let less = is.0 in
-      let rest = few (suc k) trees said (omega (arith, less)) more in omega (arith, rest)
+      let size : length (earlier ++ t ∷ []) ≡ length earlier + length (t ∷ []) =
+      length-append earlier (t ∷ []) in
+      let rest = few (earlier ++ t ∷ []) trees said (omega (arith, less, size)) more in
+      omega (arith, rest, size)
 
   pub few_compared :
-      (trees : List Tree) (said : List Said) → AreSaid language compares 0 trees said
+      (trees : List Tree) (said : List Said) → AreSaid language compares [] trees said
       → length trees ≤ 2
-  few_compared trees said h = let all = few 0 trees said (omega arith) h in omega (arith, all)
+  few_compared trees said h = let all = few [] trees said (omega arith) h in omega (arith, all)
 
   some_lines :
-      (saying : Saying) (type : T) (k : ℕ) (trees : List Tree) (said : List Said)
-      → AreSaid language (tells saying type) k trees said
+      (saying : Saying) (type : T) (earlier trees : List Tree) (said : List Said)
+      → AreSaid language (tells saying type) earlier trees said
       → AllByRecursion (HasSomeLine language saying type) trees
-  some_lines saying type k [] [] h = tt
-  some_lines saying type k [] (s ∷ said) h = absurd h
-  some_lines saying type k (t ∷ trees) [] h = absurd h
-  some_lines saying type k (t ∷ trees) (s ∷ said) (is, more) =
-      ((s.well, (is.0, is.1)), some_lines saying type (suc k) trees said more)
+  some_lines saying type earlier [] [] h = tt
+  some_lines saying type earlier [] (s ∷ said) h = absurd h
+  some_lines saying type earlier (t ∷ trees) [] h = absurd h
+  some_lines saying type earlier (t ∷ trees) (s ∷ said) (is, more) =
+      ((s.well, (is.0, is.1)), some_lines saying type (earlier ++ t ∷ []) trees said more)
 
   well_lines :
-      (saying : Saying) (type : T) (k : ℕ) (trees : List Tree) (said : List Said)
-      → AreSaid language (tells saying type) k trees said → all_well said ≡ true
+      (saying : Saying) (type : T) (earlier trees : List Tree) (said : List Said)
+      → AreSaid language (tells saying type) earlier trees said → all_well said ≡ true
       → AllByRecursion (HasLine language saying type true) trees
-  well_lines saying type k [] [] h e = tt
-  well_lines saying type k [] (s ∷ said) h e = absurd h
-  well_lines saying type k (t ∷ trees) [] h e = absurd h
-  well_lines saying type k (t ∷ trees) (s ∷ said) (is, more) e =
+  well_lines saying type earlier [] [] h e = tt
+  well_lines saying type earlier [] (s ∷ said) h e = absurd h
+  well_lines saying type earlier (t ∷ trees) [] h e = absurd h
+  well_lines saying type earlier (t ∷ trees) (s ∷ said) (is, more) e =
       let both = both_true s.well (all_well said) e in (
         (is.0, subst (λ w. language.LineOf saying type t is.0 w) both.0 is.1),
-        well_lines saying type (suc k) trees said more both.1,
+        well_lines saying type (earlier ++ t ∷ []) trees said more both.1,
       )
 
   wrong_line :
-      (saying : Saying) (type : T) (k : ℕ) (trees : List Tree) (said : List Said)
-      → AreSaid language (tells saying type) k trees said → all_well said ≡ false
+      (saying : Saying) (type : T) (earlier trees : List Tree) (said : List Said)
+      → AreSaid language (tells saying type) earlier trees said → all_well said ≡ false
       → HoldsOfSome (HasLine language saying type false) trees
-  wrong_line saying type k [] [] h e = absurd (cc e)
-  wrong_line saying type k [] (s ∷ said) h e = absurd h
-  wrong_line saying type k (t ∷ trees) [] h e = absurd h
-  wrong_line saying type k (t ∷ trees) (s ∷ said) (is, more) e =
-      by (wrong_line saying type (suc k) trees said more) s.well refl where
+  wrong_line saying type earlier [] [] h e = absurd (cc e)
+  wrong_line saying type earlier [] (s ∷ said) h e = absurd h
+  wrong_line saying type earlier (t ∷ trees) [] h e = absurd h
+  wrong_line saying type earlier (t ∷ trees) (s ∷ said) (is, more) e =
+      by (wrong_line saying type (earlier ++ t ∷ []) trees said more) s.well refl where
         by : (all_well said ≡ false → HoldsOfSome (HasLine language saying type false) trees)
             → (w : Bool) → s.well ≡ w
             → HoldsOfSome (HasLine language saying type false) (t ∷ trees)
@@ -113,37 +116,37 @@ module _ {D T E : Type 0} (language : Language D T E) where
         by later true at = inr (later (ap (λ w. w && all_well said) (sym at) ∙ e))
 
   are_edited :
-      (type : T) (script : List E) (compat : Bool) (k : ℕ) (trees : List Tree) (said : List Said)
-      → AreSaid language (edits type script compat) k trees said
-      → AreEdited language type script compat k trees
-  are_edited type script compat k [] [] h = tt
-  are_edited type script compat k [] (s ∷ said) h = absurd h
-  are_edited type script compat k (t ∷ trees) [] h = absurd h
-  are_edited type script compat k (t ∷ trees) (s ∷ said) (is, more) =
-      ((s.text, is.0), are_edited type script compat (suc k) trees said more)
+      (type : T) (script : List E) (compat : Bool) (earlier trees : List Tree) (said : List Said)
+      → AreSaid language (edits type script compat) earlier trees said
+      → AreEdited language type script compat earlier trees
+  are_edited type script compat earlier [] [] h = tt
+  are_edited type script compat earlier [] (s ∷ said) h = absurd h
+  are_edited type script compat earlier (t ∷ trees) [] h = absurd h
+  are_edited type script compat earlier (t ∷ trees) (s ∷ said) (is, more) =
+      ((s.text, is.0), are_edited type script compat (earlier ++ t ∷ []) trees said more)
 
   -- values of which something is said pass, where one more may come
   pub pass_of :
-      (work : Work T E) (trees : List Tree) (said : List Said) → AreSaid language work 0 trees said
+      (work : Work T E) (trees : List Tree) (said : List Said) → AreSaid language work [] trees said
       → MayCome language work (length trees) → Pass language work trees
-  pass_of (tells saying type) trees said h may = some_lines saying type 0 trees said h
+  pass_of (tells saying type) trees said h may = some_lines saying type [] trees said h
   pass_of (edits type script compat) trees said h may =
-      are_edited type script compat 0 trees said h
+      are_edited type script compat [] trees said h
   pass_of dumps trees said h may = tt
   pass_of compares trees said h may = may
 
   lines_finish :
       (saying : Saying) (type : T) (trees : List Tree) (said : List Said) (well : Bool)
-      → AreSaid language (tells saying type) 0 trees said → all_well said ≡ well
+      → AreSaid language (tells saying type) [] trees said → all_well said ≡ well
       → Finish language (tells saying type) trees (if well then Well else No)
-  lines_finish saying type trees said true h e = well_lines saying type 0 trees said h e
+  lines_finish saying type trees said true h e = well_lines saying type [] trees said h e
   lines_finish saying type trees said false h e =
-      (some_lines saying type 0 trees said h, wrong_line saying type 0 trees said h e)
+      (some_lines saying type [] trees said h, wrong_line saying type [] trees said h e)
 
   -- where the input ends after such values, its status is one of the table
   pub finish_of :
       (work : Work T E) (trees : List Tree) (said : List Said) (last : Reply)
-      → AreSaid language work 0 trees said → Finishes language work trees last
+      → AreSaid language work [] trees said → Finishes language work trees last
       → Finish language work trees (ending_of (replies said last)).status
   finish_of (tells saying type) trees said last h is =
       subst (Finish language (tells saying type) trees)
@@ -152,7 +155,7 @@ module _ {D T E : Type 0} (language : Language D T E) where
   finish_of (edits type script compat) trees said last h is =
       by (line_past language script (length trees)) refl where
         quiet_all : all_well said ≡ true
-        quiet_all = quiet (edits type script compat) (λ k t s is. is.1) 0 trees said h
+        quiet_all = quiet (edits type script compat) (λ k t s is. is.1) [] trees said h
 
         by : (past : Option E) → line_past language script (length trees) ≡ past
             → Finish language (edits type script compat) trees (ending_of (replies said last)).status
@@ -160,14 +163,14 @@ module _ {D T E : Type 0} (language : Language D T E) where
             subst (Finish language (edits type script compat) trees)
             (sym (said_status said last nothing_said true (is ∙ ap (ends_script language) at)
             (and_true (all_well said) ∙ quiet_all)))
-            (are_edited type script compat 0 trees said h, at)
+            (are_edited type script compat [] trees said h, at)
         by (Some past) at =
             subst (Finish language (edits type script compat) trees)
             (sym (ap (λ l. (ending_of (replies said l)).status)
             (is ∙ ap (ends_script language) at)))
-            (are_edited type script compat 0 trees said h, past, at)
+            (are_edited type script compat [] trees said h, past, at)
   finish_of dumps trees said last h is =
-      let all = quiet dumps (λ k t s is. is.1) 0 trees said h in
+      let all = quiet dumps (λ k t s is. is.1) [] trees said h in
       subst (Finish language dumps trees)
       (sym (said_status said last nothing_said true is (and_true (all_well said) ∙ all))) tt
   finish_of compares [] said last h is =
@@ -180,7 +183,7 @@ module _ {D T E : Type 0} (language : Language D T E) where
       let most = few_compared (t ∷ u ∷ v ∷ trees) said h in absurd (omega (arith, most))
   finish_of compares (t ∷ u ∷ []) said last h (alike, decides, is) = by alike decides is where
     all : all_well said ≡ true
-    all = quiet compares (λ k t s is. ap (λ s. s.well) is.1) 0 (t ∷ u ∷ []) said h
+    all = quiet compares (λ k t s is. ap (λ s. s.well) is.1) [] (t ∷ u ∷ []) said h
 
     by : (alike : Bool) → (IsTrue alike ↔ AreSame t u) → last ≡ says (comparison alike)
         → Finish language compares (t ∷ u ∷ []) (ending_of (replies said last)).status
@@ -196,73 +199,75 @@ module _ {D T E : Type 0} (language : Language D T E) where
   -- ---- what is said of values of which this holds
 
   say_some :
-      (saying : Saying) (type : T) (k : ℕ) (trees : List Tree)
+      (saying : Saying) (type : T) (earlier trees : List Tree)
       → AllByRecursion (HasSomeLine language saying type) trees
-      → (said : List Said) × AreSaid language (tells saying type) k trees said
-  say_some saying type k [] h = ([], tt)
-  say_some saying type k (t ∷ trees) ((well, (text, is)), more) =
-      let next = say_some saying type (suc k) trees more in
+      → (said : List Said) × AreSaid language (tells saying type) earlier trees said
+  say_some saying type earlier [] h = ([], tt)
+  say_some saying type earlier (t ∷ trees) ((well, (text, is)), more) =
+      let next = say_some saying type (earlier ++ t ∷ []) trees more in
       (record { text = line text; well = well } ∷ next.0, ((text, is, refl), next.1))
 
   say_well :
-      (saying : Saying) (type : T) (k : ℕ) (trees : List Tree)
+      (saying : Saying) (type : T) (earlier trees : List Tree)
       → AllByRecursion (HasLine language saying type true) trees
-      → (said : List Said) × AreSaid language (tells saying type) k trees said
+      → (said : List Said) × AreSaid language (tells saying type) earlier trees said
       × (all_well said ≡ true)
-  say_well saying type k [] h = ([], tt, refl)
-  say_well saying type k (t ∷ trees) ((text, is), more) =
-      let next = say_well saying type (suc k) trees more in
+  say_well saying type earlier [] h = ([], tt, refl)
+  say_well saying type earlier (t ∷ trees) ((text, is), more) =
+      let next = say_well saying type (earlier ++ t ∷ []) trees more in
       (record { text = line text; well = true } ∷ next.0, ((text, is, refl), next.1), next.2)
 
   say_wrong :
-      (saying : Saying) (type : T) (k : ℕ) (trees : List Tree)
+      (saying : Saying) (type : T) (earlier trees : List Tree)
       → AllByRecursion (HasSomeLine language saying type) trees
       → HoldsOfSome (HasLine language saying type false) trees
-      → (said : List Said) × AreSaid language (tells saying type) k trees said
+      → (said : List Said) × AreSaid language (tells saying type) earlier trees said
       × (all_well said ≡ false)
-  say_wrong saying type k [] h wrong = absurd wrong
-  say_wrong saying type k (t ∷ trees) (first, more) (inl (text, is)) =
-      let next = say_some saying type (suc k) trees more in
+  say_wrong saying type earlier [] h wrong = absurd wrong
+  say_wrong saying type earlier (t ∷ trees) (first, more) (inl (text, is)) =
+      let next = say_some saying type (earlier ++ t ∷ []) trees more in
       (record { text = line text; well = false } ∷ next.0, ((text, is, refl), next.1), refl)
-  say_wrong saying type k (t ∷ trees) ((well, (text, is)), more) (inr wrong) =
-      let next = say_wrong saying type (suc k) trees more wrong in (
+  say_wrong saying type earlier (t ∷ trees) ((well, (text, is)), more) (inr wrong) =
+      let next = say_wrong saying type (earlier ++ t ∷ []) trees more wrong in (
         record { text = line text; well = well } ∷ next.0,
         ((text, is, refl), next.1),
         ap (λ w. well && w) next.2 ∙ and_false well,
       )
 
   say_edited :
-      (type : T) (script : List E) (compat : Bool) (k : ℕ) (trees : List Tree)
-      → AreEdited language type script compat k trees
-      → (said : List Said) × AreSaid language (edits type script compat) k trees said
-  say_edited type script compat k [] h = ([], tt)
-  say_edited type script compat k (t ∷ trees) ((bytes, is), more) =
-      let next = say_edited type script compat (suc k) trees more in
+      (type : T) (script : List E) (compat : Bool) (earlier trees : List Tree)
+      → AreEdited language type script compat earlier trees
+      → (said : List Said) × AreSaid language (edits type script compat) earlier trees said
+  say_edited type script compat earlier [] h = ([], tt)
+  say_edited type script compat earlier (t ∷ trees) ((bytes, is), more) =
+      let next = say_edited type script compat (earlier ++ t ∷ []) trees more in
       (record { text = bytes; well = true } ∷ next.0, ((is, refl), next.1))
 
   say_dumped :
-      (k : ℕ) (trees : List Tree) → (said : List Said) × AreSaid language dumps k trees said
-  say_dumped k [] = ([], tt)
-  say_dumped k (t ∷ trees) =
-      let next = say_dumped (suc k) trees in
+      (earlier trees : List Tree) → (said : List Said) × AreSaid language dumps earlier trees said
+  say_dumped earlier [] = ([], tt)
+  say_dumped earlier (t ∷ trees) =
+      let next = say_dumped (earlier ++ t ∷ []) trees in
       (record { text = language.lines_of t; well = true } ∷ next.0, ((refl, refl), next.1))
 
   pub say_compared :
-      (k : ℕ) (trees : List Tree) → k + length trees ≤ 2
-      → (said : List Said) × AreSaid language compares k trees said
-  say_compared k [] fits = ([], tt)
-  say_compared k (t ∷ trees) fits =
-      let next = say_compared (suc k) trees (omega (arith, fits)) in
+      (earlier trees : List Tree) → length earlier + length trees ≤ 2
+      → (said : List Said) × AreSaid language compares earlier trees said
+  say_compared earlier [] fits = ([], tt)
+  say_compared earlier (t ∷ trees) fits =
+      let size : length (earlier ++ t ∷ []) ≡ length earlier + length (t ∷ []) =
+      length-append earlier (t ∷ []) in
+      let next = say_compared (earlier ++ t ∷ []) trees (omega (arith, fits, size)) in
       (nothing_said ∷ next.0, ((omega (arith, fits), refl), next.1))
 
   -- of values that pass something is said
   pub pass_said :
       (work : Work T E) (trees : List Tree) → Pass language work trees
-      → (said : List Said) × AreSaid language work 0 trees said
-  pass_said (tells saying type) trees h = say_some saying type 0 trees h
-  pass_said (edits type script compat) trees h = say_edited type script compat 0 trees h
-  pass_said dumps trees h = say_dumped 0 trees
-  pass_said compares trees h = say_compared 0 trees (omega (arith, h))
+      → (said : List Said) × AreSaid language work [] trees said
+  pass_said (tells saying type) trees h = say_some saying type [] trees h
+  pass_said (edits type script compat) trees h = say_edited type script compat [] trees h
+  pass_said dumps trees h = say_dumped [] trees
+  pass_said compares trees h = say_compared [] trees (omega (arith, h))
 
   -- and one more may come
   pub pass_more :
@@ -276,7 +281,7 @@ module _ {D T E : Type 0} (language : Language D T E) where
   -- replies to values and their end, of this status
   abbrev pub IsReplied : Work T E → List Tree → Status → Type 0
   IsReplied work trees status =
-      (all : Replies) × ((ending_of all).status ≡ status) × AreSaid language work 0 trees all.said
+      (all : Replies) × ((ending_of all).status ≡ status) × AreSaid language work [] trees all.said
       × Finishes language work trees all.last
 
   compared :
@@ -287,8 +292,8 @@ module _ {D T E : Type 0} (language : Language D T E) where
   compared alike (t ∷ []) h = absurd h
   compared alike (t ∷ u ∷ v ∷ trees) h = absurd h
   compared true (t ∷ u ∷ []) h =
-      let two = say_compared 0 (t ∷ u ∷ []) (omega arith) in
-      let all = quiet compares (λ k t s is. ap (λ s. s.well) is.1) 0 (t ∷ u ∷ []) two.0 two.1 in (
+      let two = say_compared [] (t ∷ u ∷ []) (omega arith) in
+      let all = quiet compares (λ k t s is. ap (λ s. s.well) is.1) [] (t ∷ u ∷ []) two.0 two.1 in (
         replies two.0 (says (comparison true)),
         said_status two.0 (says (comparison true)) (comparison true) true refl
             (and_true (all_well two.0) ∙ all),
@@ -296,7 +301,7 @@ module _ {D T E : Type 0} (language : Language D T E) where
         (true, h, refl),
       )
   compared false (t ∷ u ∷ []) h =
-      let two = say_compared 0 (t ∷ u ∷ []) (omega arith) in (
+      let two = say_compared [] (t ∷ u ∷ []) (omega arith) in (
         replies two.0 (says (comparison false)),
         said_status two.0 (says (comparison false)) (comparison false) false refl
             (and_false (all_well two.0)),
@@ -308,7 +313,7 @@ module _ {D T E : Type 0} (language : Language D T E) where
       (trees : List Tree) → length trees < 2 → IsReplied compares trees Usage
   not_two [] less = (replies [] (stops not_two_values), refl, tt, refl)
   not_two (t ∷ []) less =
-      let one = say_compared 0 (t ∷ []) (omega arith) in
+      let one = say_compared [] (t ∷ []) (omega arith) in
       (replies one.0 (stops not_two_values), refl, one.1, refl)
   not_two (t ∷ u ∷ trees) less = absurd (omega (arith, less))
 
@@ -316,7 +321,7 @@ module _ {D T E : Type 0} (language : Language D T E) where
       (work : Work T E) (trees : List Tree) (status : Status) → Finish language work trees status
       → IsReplied work trees status
   finish_said (tells saying type) trees Well h =
-      let s = say_well saying type 0 trees h in (
+      let s = say_well saying type [] trees h in (
         replies s.0 (says nothing_said),
         said_status s.0 (says nothing_said) nothing_said true refl
             (and_true (all_well s.0) ∙ s.2),
@@ -324,7 +329,7 @@ module _ {D T E : Type 0} (language : Language D T E) where
         refl,
       )
   finish_said (tells saying type) trees No (lines, wrong) =
-      let s = say_wrong saying type 0 trees lines wrong in (
+      let s = say_wrong saying type [] trees lines wrong in (
         replies s.0 (says nothing_said),
         said_status s.0 (says nothing_said) nothing_said false refl
             (and_true (all_well s.0) ∙ s.2),
@@ -333,20 +338,20 @@ module _ {D T E : Type 0} (language : Language D T E) where
       )
   finish_said (tells saying type) trees status h = absurd h
   finish_said (edits type script compat) trees Well (edited, none) =
-      let s = say_edited type script compat 0 trees edited in
-      let all = quiet (edits type script compat) (λ k t s is. is.1) 0 trees s.0 s.1 in (
+      let s = say_edited type script compat [] trees edited in
+      let all = quiet (edits type script compat) (λ k t s is. is.1) [] trees s.0 s.1 in (
         replies s.0 (says nothing_said),
         said_status s.0 (says nothing_said) nothing_said true refl (and_true (all_well s.0) ∙ all),
         s.1,
         sym (ap (ends_script language) none),
       )
   finish_said (edits type script compat) trees Script (edited, past, at) =
-      let s = say_edited type script compat 0 trees edited in
+      let s = say_edited type script compat [] trees edited in
       (replies s.0 (ends_script language (Some past)), refl, s.1, sym (ap (ends_script language) at))
   finish_said (edits type script compat) trees status h = absurd h
   finish_said dumps trees Well h =
-      let s = say_dumped 0 trees in
-      let all = quiet dumps (λ k t s is. is.1) 0 trees s.0 s.1 in (
+      let s = say_dumped [] trees in
+      let all = quiet dumps (λ k t s is. is.1) [] trees s.0 s.1 in (
         replies s.0 (says nothing_said),
         said_status s.0 (says nothing_said) nothing_said true refl (and_true (all_well s.0) ∙ all),
         s.1,

@@ -4,7 +4,7 @@ use Rattle.om_format.specs.Stream.{SpellAll}
 use Rattle.om_format.specs.Tree.{Tree}
 use Rattle.om_outcome.specs.declared.status.Status.{Status}
 use Rattle.om_outcome.specs.declared.status.Status.TheVariants.{No, Usage, Script, Compat}
-use Rattle.om_outcome.specs.Outcome.{Stop, not_two_values, value, status_of, Said, Language, Unedited, untyped, refused_line, too_large, unedited_stop, Work, tells, edits, dumps, compares, Task, task, lines_for, StopsAt}
+use Rattle.om_outcome.specs.Outcome.{Stop, not_two_values, value, status_of, Said, Language, Unedited, untyped, refused_line, too_large, unedited_stop, Work, tells, edits, dumps, compares, Task, task, StopsAt}
 use Rattle.om_outcome.specs.RefusalText.{refusal_text}
 use Rattle.om_promises.specs.Commands.{HoldStop}
 use Rattle.om_promises.proofs.StreamLemmas.{spell_append}
@@ -31,7 +31,7 @@ module _ {D T E : Type 0} (language : Language D T E) where
   stop_row :
       (work : Work T E) (limit : ℕ) (bytes : List ℕ) (trees : List Tree) (said : List Said)
       (rest : List ℕ) (stop : Stop) → SpellAll limit bytes trees rest
-      → AreSaid language work 0 trees said → StopsAt language work limit trees rest stop
+      → AreSaid language work [] trees said → StopsAt language work limit trees rest stop
       → StopWith language (task work limit) bytes (status_of stop)
   stop_row (tells saying type) limit bytes trees said rest stop spelled told at = absurd at
   stop_row dumps limit bytes trees said rest stop spelled told at = absurd at
@@ -46,7 +46,7 @@ module _ {D T E : Type 0} (language : Language D T E) where
       })))
   stop_row (edits type script compat) limit bytes trees said rest stop spelled told at =
       inl (by at.why at.refused at.stops) where
-        edited : AreEdited language type script compat 0 trees
+        edited : AreEdited language type script compat [] trees
         edited = pass_of language (edits type script compat) trees said told tt
 
         held : (status : Status)
@@ -61,7 +61,7 @@ module _ {D T E : Type 0} (language : Language D T E) where
         }
 
         by : (why : Unedited)
-            → language.BytesOf type (lines_for language script (length trees)) compat at.tree (Err why)
+            → language.BytesOf type script compat trees at.tree (Err why)
             → stop ≡ unedited_stop (length trees) why
             → HoldBreak language (task (edits type script compat) limit) bytes (status_of stop)
         by (untyped fault) refused is =
@@ -79,7 +79,7 @@ module _ {D T E : Type 0} (language : Language D T E) where
       → StopWith language a bytes (status_of stop)
   stop_with a bytes stop h = by h.at.why where
     values : (trees : List Tree) × (h.items ≡ items_of trees) × SpellAll a.limit bytes trees h.rest
-        × AreSaid language a.work 0 trees h.said
+        × AreSaid language a.work [] trees h.said
     values = say_first language a bytes h.items h.said h.rest h.first
 
     same : values.0 ≡ h.at.trees
@@ -88,8 +88,8 @@ module _ {D T E : Type 0} (language : Language D T E) where
     spelled : SpellAll a.limit bytes h.at.trees h.rest
     spelled = subst (λ trees. SpellAll a.limit bytes trees h.rest) same values.2
 
-    told : AreSaid language a.work 0 h.at.trees h.said
-    told = subst (λ trees. AreSaid language a.work 0 trees h.said) same values.3
+    told : AreSaid language a.work [] h.at.trees h.said
+    told = subst (λ trees. AreSaid language a.work [] trees h.said) same values.3
 
     by : StopsAt language a.work a.limit h.at.trees h.rest stop
         ⊎ IsRefused language a (length h.at.trees) h.rest stop
@@ -117,7 +117,7 @@ module _ {D T E : Type 0} (language : Language D T E) where
 
   here :
       (a : Task T E) (bytes : List ℕ) (trees : List Tree) (said : List Said) (rest : List ℕ)
-      (stop : Stop) → SpellAll a.limit bytes trees rest → AreSaid language a.work 0 trees said
+      (stop : Stop) → SpellAll a.limit bytes trees rest → AreSaid language a.work [] trees said
       → StopsAt language a.work a.limit trees rest stop
       ⊎ IsRefused language a (length trees) rest stop
       → HoldStop (commands language) a bytes stop
@@ -173,7 +173,7 @@ module _ {D T E : Type 0} (language : Language D T E) where
       (status : Status) → SpellAll limit bytes trees rest → Close language work trees status
       → rest ≢ [] → HasStop (task work limit) bytes status
   close_held compares limit bytes trees rest Usage spelled two some =
-      let s = say_compared language 0 trees (omega (arith, two)) in (
+      let s = say_compared language [] trees (omega (arith, two)) in (
         not_two_values,
         refl,
         here (task compares limit) bytes trees s.0 rest not_two_values spelled s.1

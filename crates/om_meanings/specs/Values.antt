@@ -1,13 +1,13 @@
 -- What each status says of the values of the input, by what is done with them: tables, with a row
 -- for each status that a work gives. A command that does something else adds its rows.
-use Rattle.std.specs.Prelude.{ℕ, suc, ◌<◌, ◌≡◌, ◌≢◌, ◌⊎◌, Bool, true, false, List, [], ◌∷◌, ◌++◌, length, Some, None, Ok, Err}
+use Rattle.std.specs.Prelude.{ℕ, ◌<◌, ◌≡◌, ◌≢◌, ◌⊎◌, Bool, true, false, List, [], ◌∷◌, ◌++◌, length, Some, None, Ok, Err}
 use Rattle.std.specs.List.{AllByRecursion}
 use Rattle.om_model.specs.declared.refusal.ReadRefusal.{ReadRefusal}
 use Rattle.om_format.specs.Stream.{SpellAll, refused, cut, IsTail}
 use Rattle.om_format.specs.Tree.{Tree}
 use Rattle.om_outcome.specs.declared.status.Status.{Status}
 use Rattle.om_outcome.specs.declared.status.Status.TheVariants.{Well, No, Usage, Value, Script, Compat}
-use Rattle.om_outcome.specs.Outcome.{Language, Saying, Unedited, untyped, refused_line, too_large, Work, tells, edits, dumps, compares, Task, lines_for, line_past, AreSame}
+use Rattle.om_outcome.specs.Outcome.{Language, Saying, Unedited, untyped, refused_line, too_large, Work, tells, edits, dumps, compares, Task, line_past, AreSame}
 
 -- this holds of some value
 abbrev pub HoldsOfSome : (Tree → Type 0) → List Tree → Type 0
@@ -29,30 +29,30 @@ module _ {D T E : Type 0} (language : Language D T E) where
   abbrev pub HasSomeLine : Saying → T → Tree → Type 0
   HasSomeLine saying type tree = (well : Bool) × HasLine saying type well tree
 
-  -- the value of number k is edited, and has its bytes
-  abbrev pub IsEdited : T → List E → Bool → ℕ → Tree → Type 0
-  IsEdited type script compat k tree =
-      (bytes : List ℕ)
-      × language.BytesOf type (lines_for language script k) compat tree (Ok bytes)
+  -- the value that comes after these is edited, and has its bytes
+  abbrev pub IsEdited : T → List E → Bool → (earlier : List Tree) → Tree → Type 0
+  IsEdited type script compat earlier tree =
+      (bytes : List ℕ) × language.BytesOf type script compat earlier tree (Ok bytes)
 
-  -- each value is, the first of which has number k
-  abbrev pub AreEdited : T → List E → Bool → ℕ → List Tree → Type 0
-  AreEdited type script compat k [] = Unit {0}
-  AreEdited type script compat k (tree ∷ trees) =
-      IsEdited type script compat k tree × AreEdited type script compat (suc k) trees
+  -- each value that comes after these is
+  abbrev pub AreEdited : T → List E → Bool → (earlier trees : List Tree) → Type 0
+  AreEdited type script compat earlier [] = Unit {0}
+  AreEdited type script compat earlier (tree ∷ trees) =
+      IsEdited type script compat earlier tree
+      × AreEdited type script compat (earlier ++ tree ∷ []) trees
 
   -- the values are edited, and the next one is not, for this reason
   abbrev pub IsNotEdited : T → List E → Bool → List Tree → Tree → Unedited → Type 0
   IsNotEdited type script compat trees tree why =
-      AreEdited type script compat 0 trees
-      × language.BytesOf type (lines_for language script (length trees)) compat tree (Err why)
+      AreEdited type script compat [] trees
+      × language.BytesOf type script compat trees tree (Err why)
 
   -- ---- by the values
 
   -- something is said of each of the values, and one more may come
   abbrev pub Pass : Work T E → List Tree → Type 0
   Pass (tells saying type) trees = AllByRecursion (HasSomeLine saying type) trees
-  Pass (edits type script compat) trees = AreEdited type script compat 0 trees
+  Pass (edits type script compat) trees = AreEdited type script compat [] trees
   Pass dumps trees = Unit {0}
   Pass compares trees = length trees < 2
 
@@ -62,10 +62,10 @@ module _ {D T E : Type 0} (language : Language D T E) where
   Finish (tells saying type) trees No =
       AllByRecursion (HasSomeLine saying type) trees × HoldsOfSome (HasLine saying type false) trees
   Finish (edits type script compat) trees Well =
-      AreEdited type script compat 0 trees
+      AreEdited type script compat [] trees
       × (line_past language script (length trees) ≡ None)
   Finish (edits type script compat) trees Script =
-      AreEdited type script compat 0 trees
+      AreEdited type script compat [] trees
       × (line : E) × (line_past language script (length trees) ≡ Some line)
   Finish dumps trees Well = Unit {0}
   Finish compares trees Well = AreTwo AreSame trees

@@ -1,7 +1,7 @@
 -- What a run says: the stages in their order, then a text of each value, and a last reply. A
 -- command adds its plain words, the files that it opens, what it says of a value, what stops it
 -- there, and its last reply; the stages, the stops, their lines and their statuses stand here once.
-use Rattle.std.specs.Prelude.{ℕ, suc, ◌<◌, ◌≡◌, ◌==◌, ◌≢◌, ◌↔◌, ◌⊎◌, Bool, true, false, IsTrue, ◌&&◌, not, nat_lt, if◌then◌else◌, List, [], ◌∷◌, ◌++◌, length, filter, find, Option, Some, None, Result, Ok, Err, MatchResult, codes, decimal}
+use Rattle.std.specs.Prelude.{ℕ, ◌<◌, ◌≡◌, ◌≢◌, ◌↔◌, ◌⊎◌, Bool, true, false, IsTrue, ◌&&◌, not, nat_lt, if◌then◌else◌, List, [], ◌∷◌, ◌++◌, length, find, Option, Some, None, Result, Ok, Err, MatchResult, codes, decimal}
 use Rattle.om_outcome.specs.declared.status.Status.{Status}
 use Rattle.om_outcome.specs.declared.status.Status.TheVariants as statuses
 pub use Rattle.om_outcome.specs.CommandLine.{Saying, the_verdict, the_text, the_part, the_trees, Request, tell, get, edit, dump, compare, own, OwnRequest, build, generate, verify, Asks, IsUsage, typed_by, path_of, script_of, limit_of}
@@ -245,8 +245,8 @@ pub data Unedited : Type 0 where
 -- a TYPE and a SCRIPT are read as, or the texts of their refusals, of a SCRIPT with the number of
 -- its line; the path that a PATH is, if it is one; the number of a line, and of the value that it
 -- edits; the line that is said of a value at a type, which tells whether nothing is wrong with it;
--- what lines of a script make of a value at a type, its bytes, where a reader on 32 bits can hold
--- it if that is asked for, or why there are none; and the lines of a value as it is.
+-- what a script makes of a value at a type that comes after these, its bytes, where a reader on 32
+-- bits can hold it if that is asked for, or why there are none; and the lines of a value as it is.
 pub record Language (D T E : Type 0) : Type 1 where
   pub ReadsDeclarations : List ℕ → Result D (List ℕ) → Type 0
   pub ReadsType : D → List ℕ → Result T (List ℕ) → Type 0
@@ -255,7 +255,8 @@ pub record Language (D T E : Type 0) : Type 1 where
   pub line_number : E → ℕ
   pub line_value : E → ℕ
   pub LineOf : Saying → T → Tree → List ℕ → Bool → Type 0
-  pub BytesOf : T → List E → Bool → Tree → Result (List ℕ) Unedited → Type 0
+  pub BytesOf : T → (script : List E) → (compat : Bool) → (earlier : List Tree) → Tree
+      → Result (List ℕ) Unedited → Type 0
   pub lines_of : Tree → List ℕ
 
 -- FILE is opened and read, then its declarations, then TYPE
@@ -333,33 +334,29 @@ Prepares language words files =
 
 -- ---- the values
 
--- the lines of a script that edit value k, in their order
-abbrev pub lines_for : {D T E : Type 0} → Language D T E → List E → ℕ → List E
-lines_for language script k = filter (λ line. language.line_value line == k) script
-
 -- the first line of a script that edits none of the first n values
 abbrev pub line_past : {D T E : Type 0} → Language D T E → List E → ℕ → Option E
 line_past language script n = find (λ line. not (nat_lt (language.line_value line) n)) script
 
--- what is said of value k; after a stop nothing is: `same` takes two, and says nothing of them
--- before the input's end
-abbrev pub Says : {D T E : Type 0} → Language D T E → Work T E → ℕ → Tree → Said → Type 0
-Says language (tells saying type) k tree said =
-    (text : List ℕ) × language.LineOf saying type tree text said.well × (said.text ≡ line text)
-Says language (edits type script compat) k tree said =
-    language.BytesOf type (lines_for language script k) compat tree (Ok said.text)
-    × (said.well ≡ true)
-Says language dumps k tree said = (said.text ≡ language.lines_of tree) × (said.well ≡ true)
-Says language compares k tree said = (k < 2) × (said ≡ nothing_said)
-
--- what is said of the values, the first of which has number k
-abbrev pub AllSay : {D T E : Type 0} → Language D T E → Work T E → ℕ → List Tree → List Said
+-- what is said of a value that comes after these; after a stop nothing is: `same` takes two, and
+-- says nothing of them before the input's end
+abbrev pub Says : {D T E : Type 0} → Language D T E → Work T E → (earlier : List Tree) → Tree → Said
     → Type 0
-AllSay language work k [] [] = Unit {0}
-AllSay language work k [] (said ∷ more) = ⊥
-AllSay language work k (tree ∷ trees) [] = ⊥
-AllSay language work k (tree ∷ trees) (said ∷ more) =
-    Says language work k tree said × AllSay language work (suc k) trees more
+Says language (tells saying type) earlier tree said =
+    (text : List ℕ) × language.LineOf saying type tree text said.well × (said.text ≡ line text)
+Says language (edits type script compat) earlier tree said =
+    language.BytesOf type script compat earlier tree (Ok said.text) × (said.well ≡ true)
+Says language dumps earlier tree said = (said.text ≡ language.lines_of tree) × (said.well ≡ true)
+Says language compares earlier tree said = (length earlier < 2) × (said ≡ nothing_said)
+
+-- what is said of the values that come after these
+abbrev pub AllSay : {D T E : Type 0} → Language D T E → Work T E → (earlier trees : List Tree)
+    → List Said → Type 0
+AllSay language work earlier [] [] = Unit {0}
+AllSay language work earlier [] (said ∷ more) = ⊥
+AllSay language work earlier (tree ∷ trees) [] = ⊥
+AllSay language work earlier (tree ∷ trees) (said ∷ more) =
+    Says language work earlier tree said × AllSay language work (earlier ++ tree ∷ []) trees more
 
 -- the stop at value k that is not edited
 abbrev pub unedited_stop : ℕ → Unedited → Stop
@@ -367,15 +364,16 @@ unedited_stop k (untyped fault) = untyped_value k fault
 unedited_stop k (refused_line number refusal) = script_line number refusal
 unedited_stop k (too_large refusal) = large_value k refusal
 
--- a value comes that is not edited
+-- after these values one comes that is not edited
 pub record IsUnedited {D T E : Type 0} (language : Language D T E) (type : T) (script : List E)
-    (compat : Bool) (limit k : ℕ) (bytes : List ℕ) (stop : Stop) : Type 0 where
+    (compat : Bool) (limit : ℕ) (earlier : List Tree) (bytes : List ℕ) (stop : Stop)
+    : Type 0 where
   pub tree : Tree
   pub more : List ℕ
   pub spelled : SpellAll limit bytes (tree ∷ []) more
   pub why : Unedited
-  pub refused : language.BytesOf type (lines_for language script k) compat tree (Err why)
-  pub stops : stop ≡ unedited_stop k why
+  pub refused : language.BytesOf type script compat earlier tree (Err why)
+  pub stops : stop ≡ unedited_stop (length earlier) why
 
 -- After these values the command stops at the bytes that come there, whatever comes after them:
 -- `edit` at a value that is not edited, and `same` at any bytes after two values.
@@ -383,7 +381,7 @@ abbrev pub StopsAt : {D T E : Type 0} → Language D T E → Work T E → ℕ �
     → Type 0
 StopsAt language (tells saying type) limit trees rest stop = ⊥
 StopsAt language (edits type script compat) limit trees rest stop =
-    IsUnedited language type script compat limit (length trees) rest stop
+    IsUnedited language type script compat limit trees rest stop
 StopsAt language dumps limit trees rest stop = ⊥
 StopsAt language compares limit trees rest stop =
     (length trees ≡ 2) × (rest ≢ []) × (stop ≡ not_two_values)
@@ -438,7 +436,7 @@ Closes language work trees at_length (cut n) last = last ≡ stops too_long
 pub record SayFirst {D T E : Type 0} (language : Language D T E) (task : Task T E) (bytes : List ℕ)
     (trees : List Tree) (said : List Said) (rest : List ℕ) : Type 0 where
   pub spelled : SpellAll task.limit bytes trees rest
-  pub all_say : AllSay language task.work 0 trees said
+  pub all_say : AllSay language task.work [] trees said
 
 -- the values before the last reply, and what leads to it
 pub record ValuesReply {D T E : Type 0} (language : Language D T E) (task : Task T E)

@@ -1,4 +1,5 @@
 pub mod OrderLemmas
+pub mod UseLemmas
 pub mod PathTable
 pub mod AnswerLemmas
 pub mod ReadLemmas
@@ -6,3 +7,4 @@ pub mod LineTable
 pub mod LineLemmas
 pub mod LineAnswers
 pub mod ScriptLemmas
+pub mod TimeLemmas

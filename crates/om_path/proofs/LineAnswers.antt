@@ -1,7 +1,8 @@
 -- A line has one answer: one outcome of the lexer, and its lexemes are none, one edit, or have one
 -- place at which no line goes on.
-use Rattle.std.proofs.Common.{ℕ, ◌+◌, ◌≡◌, ◌<◌, ◌∙◌, ⊎_elim, List, [], ◌∷◌, ◌++◌, length, drop, Some, None, refl, sym, ap, subst, arith, length-append, append_assoc}
+use Rattle.std.proofs.Common.{ℕ, ◌+◌, ◌≡◌, ◌<◌, ◌≤◌, ◌∙◌, ⊎_elim, List, [], ◌∷◌, ◌++◌, length, drop, Some, None, refl, sym, ap, subst, arith, length-append, append_assoc}
 use Rattle.std.specs.Prelude.{Result, Ok, Err}
+use Rattle.std.proofs.lemmas.Bool.{cases_lt}
 use Rattle.std.proofs.lemmas.List.{drop_at}
 use Rattle.om_lex.specs.declared.lexeme.Lexeme.{Lexeme}
 use Rattle.om_lex.specs.declared.lexeme.LexFault.{LexFault}
@@ -13,10 +14,11 @@ use Rattle.om_grammar.proofs.LawLemmas.{text_or_syntax, no_syntax}
 use Rattle.om_parse.specs.Parsed.{kinds_of, byte_of}
 use Rattle.om_parse.proofs.LexemeLemmas.{kinds_length}
 use Rattle.om_path.specs.PathGrammar.{number, path_kinds}
-use Rattle.om_path.specs.LineGrammar.{LineTree, set_line, link_line, unshare_line, equals, assigned, line_kinds}
+use Rattle.om_path.specs.LineGrammar.{LineTree, set_line, link_line, unshare_line, graft_line, equals, assigned, line_kinds}
 use Rattle.om_path.specs.LineMachine.{role_kinds}
-use Rattle.om_path.specs.ScriptAnswer.{tree_of, EndWith, HasLiteralOf, IsEdit, LineAnswer, IsRead, IsLineLexed, IsLineAnswer}
-use Rattle.om_path.specs.declared.edits.Edit.{Edit}
+use Rattle.om_path.specs.ScriptAnswer.{tree_of, EndWith, HasLiteralOf, IsAction, IsInTime, IsLater, LineAnswer, IsRead, IsLineLexed, IsLineAnswer}
+use Rattle.om_path.specs.declared.edits.Action.{Action}
+use Rattle.om_path.specs.declared.edits.Action.TheVariants as actions
 use Rattle.om_path.specs.declared.edits.Edit.TheVariants as edits
 use Rattle.om_path.specs.declared.edits.ScriptLine.{ScriptLine}
 use Rattle.om_path.specs.declared.edits.ScriptFault.TheVariants as faults
@@ -39,6 +41,7 @@ not_empty : (line : LineTree) → line_kinds line ≡ [] → ⊥
 not_empty (set_line value path all) h = cc
 not_empty (link_line value path source) h = cc
 not_empty (unshare_line value path) h = cc
+not_empty (graft_line value path other source) h = cc
 
 no_line : (lexemes : List Lexeme) (line : LineTree) → lexemes ≡ [] → line_kinds line ≡ kinds_of lexemes → ⊥
 no_line lexemes line none h = not_empty line (h ∙ ap kinds_of none)
@@ -55,65 +58,107 @@ same_end lexemes one other k (before, e) (front, f) =
     let same : length before ≡ length front = omega arith in
     sym (drop_at before one (length before) refl) ∙ ap (drop (length before)) (sym e ∙ f) ∙ drop_at front other (length before) (sym same)
 
-record Same (value other : ℕ) (one two : Edit) : Type 0 where
+record Same (value other : ℕ) (one two : Action) : Type 0 where
   values : value ≡ other
-  edits : one ≡ two
+  actions : one ≡ two
 
-same_set : (p q : List ℕ) (l m : List Lexeme) (n k : ℕ) → p ≡ q → l ≡ m → n ≡ k → edits.Set p l n ≡ edits.Set q m k
+same_set : (p q : List ℕ) (l m : List Lexeme) (n k : ℕ) → p ≡ q → l ≡ m → n ≡ k → actions.Edit (edits.Set p l n) ≡ actions.Edit (edits.Set q m k)
 same_set p q l m n k a b c = cc
 
-same_edit : (lexemes : List Lexeme) (end value other : ℕ) (one two : Edit) → tree_of value one ≡ tree_of other two →
+same_edit : (lexemes : List Lexeme) (end value other : ℕ) (one two : Action) → tree_of value one ≡ tree_of other two →
     HasLiteralOf lexemes end one → HasLiteralOf lexemes end two → Same value other one two
-same_edit lexemes end value other (edits.Set p l n) (edits.Set q m k) h (a, s) (b, t) =
+same_edit lexemes end value other (actions.Edit (edits.Set p l n)) (actions.Edit (edits.Set q m k)) h (a, s) (b, t) =
     let values : value ≡ other = cc in
     let paths : p ≡ q = cc in
     let kinds : kinds_of l ≡ kinds_of m = cc in
-    record { values = values; edits = same_set p q l m n k paths (same_end lexemes l m kinds a b) (s ∙ sym t) }
-same_edit lexemes end value other (edits.Set p l n) (edits.Link q r) h a b = absurd (cc)
-same_edit lexemes end value other (edits.Set p l n) (edits.Unshare q) h a b = absurd (cc)
-same_edit lexemes end value other (edits.Link p s) (edits.Set q m k) h a b = absurd (cc)
-same_edit lexemes end value other (edits.Link p s) (edits.Link q r) h a b =
+    record { values = values; actions = same_set p q l m n k paths (same_end lexemes l m kinds a b) (s ∙ sym t) }
+same_edit lexemes end value other (actions.Edit (edits.Set p l n)) (actions.Edit (edits.Link q r)) h a b = absurd (cc)
+same_edit lexemes end value other (actions.Edit (edits.Set p l n)) (actions.Edit (edits.Unshare q)) h a b = absurd (cc)
+same_edit lexemes end value other (actions.Edit (edits.Link p s)) (actions.Edit (edits.Set q m k)) h a b = absurd (cc)
+same_edit lexemes end value other (actions.Edit (edits.Link p s)) (actions.Edit (edits.Link q r)) h a b =
     let values : value ≡ other = cc in
     let paths : p ≡ q = cc in
     let sources : s ≡ r = cc in
-    record { values = values; edits = cc }
-same_edit lexemes end value other (edits.Link p s) (edits.Unshare q) h a b = absurd (cc)
-same_edit lexemes end value other (edits.Unshare p) (edits.Set q m k) h a b = absurd (cc)
-same_edit lexemes end value other (edits.Unshare p) (edits.Link q r) h a b = absurd (cc)
-same_edit lexemes end value other (edits.Unshare p) (edits.Unshare q) h a b =
+    record { values = values; actions = cc }
+same_edit lexemes end value other (actions.Edit (edits.Link p s)) (actions.Edit (edits.Unshare q)) h a b = absurd (cc)
+same_edit lexemes end value other (actions.Edit (edits.Unshare p)) (actions.Edit (edits.Set q m k)) h a b = absurd (cc)
+same_edit lexemes end value other (actions.Edit (edits.Unshare p)) (actions.Edit (edits.Link q r)) h a b = absurd (cc)
+same_edit lexemes end value other (actions.Edit (edits.Unshare p)) (actions.Edit (edits.Unshare q)) h a b =
     let values : value ≡ other = cc in
     let paths : p ≡ q = cc in
-    record { values = values; edits = cc }
+    record { values = values; actions = cc }
+same_edit lexemes end value other (actions.Graft p n s) (actions.Graft q m r) h a b =
+    let values : value ≡ other = cc in
+    let paths : p ≡ q = cc in
+    let others : n ≡ m = cc in
+    let sources : s ≡ r = cc in
+    record { values = values; actions = cc }
+same_edit lexemes end value other (actions.Graft p n s) (actions.Edit (edits.Set q m k)) h a b = absurd (cc)
+same_edit lexemes end value other (actions.Graft p n s) (actions.Edit (edits.Link q r)) h a b = absurd (cc)
+same_edit lexemes end value other (actions.Graft p n s) (actions.Edit (edits.Unshare q)) h a b = absurd (cc)
+same_edit lexemes end value other (actions.Edit (edits.Set p l n)) (actions.Graft q m r) h a b = absurd (cc)
+same_edit lexemes end value other (actions.Edit (edits.Link p s)) (actions.Graft q m r) h a b = absurd (cc)
+same_edit lexemes end value other (actions.Edit (edits.Unshare p)) (actions.Graft q m r) h a b = absurd (cc)
 
-same_line : (one other : ScriptLine) → one.number ≡ other.number → one.value ≡ other.value → one.edit ≡ other.edit → one ≡ other
+same_line : (one other : ScriptLine) → one.number ≡ other.number → one.value ≡ other.value → one.action ≡ other.action → one ≡ other
 same_line one other n v e =
-    let a : one ≡ record { number = other.number; value = one.value; edit = one.edit } = ap (λ (x : ℕ). let l : ScriptLine = record { number = x; value = one.value; edit = one.edit } in l) n in
-    let b : record { number = other.number; value = one.value; edit = one.edit } ≡ record { number = other.number; value = other.value; edit = one.edit } =
-    ap (λ (x : ℕ). let l : ScriptLine = record { number = other.number; value = x; edit = one.edit } in l) v in
-    let c : record { number = other.number; value = other.value; edit = one.edit } ≡ other =
-    ap (λ (x : Edit). let l : ScriptLine = record { number = other.number; value = other.value; edit = x } in l) e in
+    let a : one ≡ record { number = other.number; value = one.value; action = one.action } = ap (λ (x : ℕ). let l : ScriptLine = record { number = x; value = one.value; action = one.action } in l) n in
+    let b : record { number = other.number; value = one.value; action = one.action } ≡ record { number = other.number; value = other.value; action = one.action } =
+    ap (λ (x : ℕ). let l : ScriptLine = record { number = other.number; value = x; action = one.action } in l) v in
+    let c : record { number = other.number; value = other.value; action = one.action } ≡ other =
+    ap (λ (x : Action). let l : ScriptLine = record { number = other.number; value = other.value; action = x } in l) e in
     a ∙ b ∙ c
 
 module _ (number : ℕ) (lexemes : List Lexeme) (end : ℕ) where
-  same_answer : (one other : ScriptLine) → one.number ≡ number → other.number ≡ number → IsEdit lexemes end one.value one.edit → IsEdit lexemes end other.value other.edit → one ≡ other
+  same_answer : (one other : ScriptLine) → one.number ≡ number → other.number ≡ number → IsAction lexemes end one.value one.action → IsAction lexemes end other.value other.action → one ≡ other
   same_answer one other n m a b =
-      let trees = one_text line_table (tree_of one.value one.edit) (tree_of other.value other.edit) (a.0 ∙ sym b.0) in
-      let same = same_edit lexemes end one.value other.value one.edit other.edit trees a.1 b.1 in
-      same_line one other (n ∙ sym m) same.values same.edits
+      let trees = one_text line_table (tree_of one.value one.action) (tree_of other.value other.action) (a.0 ∙ sym b.0) in
+      let same = same_edit lexemes end one.value other.value one.action other.action trees a.1 b.1 in
+      same_line one other (n ∙ sym m) same.values same.actions
+
+  -- a line that is in time is not later
+  same_tree : (value : ℕ) (action : Action) → IsAction lexemes end value action → (v o : ℕ) (p q : List ℕ) → line_kinds (graft_line v p o q) ≡ kinds_of lexemes
+      → tree_of value action ≡ graft_line v p o q
+  same_tree value action is v o p q e = one_text line_table (tree_of value action) (graft_line v p o q) (is.0 ∙ sym e)
+
+  not_later : (value : ℕ) (action : Action) → IsInTime value action → (v o : ℕ) (p q : List ℕ) → tree_of value action ≡ graft_line v p o q → v ≤ o → ⊥
+  not_later value (actions.Edit (edits.Set path literal len)) time v o p q e later = absurd (cc)
+  not_later value (actions.Edit (edits.Link path source)) time v o p q e later = absurd (cc)
+  not_later value (actions.Edit (edits.Unshare path)) time v o p q e later = absurd (cc)
+  not_later value (actions.Graft path other source) time v o p q e later =
+      let values : value ≡ v = cc in
+      let others : other ≡ o = cc in
+      omega (arith, values, others, time, later)
+
+  in_time_only : (line : ScriptLine) → IsAction lexemes end line.value line.action → IsInTime line.value line.action → IsLater lexemes → ⊥
+  in_time_only line is time (v, o, p, q, e, later) = not_later line.value line.action time v o p q (same_tree line.value line.action is v o p q e) later
+
+  later_line : IsLater lexemes → lexemes ≡ [] → ⊥
+  later_line (v, o, p, q, e, later) none = no_line lexemes (graft_line v p o q) none e
+
+  later_place : IsLater lexemes → (k : ℕ) → IsSyntax line_kinds (kinds_of lexemes) k → ⊥
+  later_place (v, o, p, q, e, later) k s = no_both lexemes (graft_line v p o q) k e s
 
   pub one_read : (one other : LineAnswer) → IsRead number lexemes end one → IsRead number lexemes end other → one ≡ other
   one_read (Ok None) (Ok None) a b = refl
-  one_read (Ok None) (Ok (Some line)) a (n, (e, f)) = absurd (no_line lexemes (tree_of line.value line.edit) a e)
+  one_read (Ok None) (Ok (Some line)) a (n, e, t) = absurd (no_line lexemes (tree_of line.value line.action) a e.0)
+  one_read (Ok None) (Err (faults.Later line)) a (n, is) = absurd (later_line is a)
   one_read (Ok None) (Err (faults.Syntax line place)) a (n, some, k, s, at) = absurd (none_or_some lexemes a some)
-  one_read (Ok (Some line)) (Ok None) (n, (e, f)) b = absurd (no_line lexemes (tree_of line.value line.edit) b e)
-  one_read (Ok (Some line)) (Ok (Some other)) (n, a) (m, b) = ap (λ l. Ok (Some l)) (same_answer line other n m a b)
-  one_read (Ok (Some line)) (Err (faults.Syntax l place)) (n, (e, f)) (m, some, k, s, at) = absurd (no_both lexemes (tree_of line.value line.edit) k e s)
+  one_read (Ok (Some line)) (Ok None) (n, e, t) b = absurd (no_line lexemes (tree_of line.value line.action) b e.0)
+  one_read (Ok (Some line)) (Err (faults.Later number')) (n, e, t) (m, is) = absurd (in_time_only line e t is)
+  one_read (Ok (Some line)) (Ok (Some other)) (n, a, t) (m, b, u) = ap (λ l. Ok (Some l)) (same_answer line other n m a b)
+  one_read (Ok (Some line)) (Err (faults.Syntax l place)) (n, e, t) (m, some, k, s, at) = absurd (no_both lexemes (tree_of line.value line.action) k e.0 s)
   one_read (Err (faults.Syntax line place)) (Ok None) (n, some, k, s, at) b = absurd (none_or_some lexemes b some)
-  one_read (Err (faults.Syntax l place)) (Ok (Some line)) (m, some, k, s, at) (n, (e, f)) = absurd (no_both lexemes (tree_of line.value line.edit) k e s)
+  one_read (Err (faults.Syntax l place)) (Ok (Some line)) (m, some, k, s, at) (n, e, t) = absurd (no_both lexemes (tree_of line.value line.action) k e.0 s)
   one_read (Err (faults.Syntax line place)) (Err (faults.Syntax other byte)) (n, some, j, s, at) (m, more, k, t, there) =
       let lines : line ≡ other = n ∙ sym m in
       let places : place ≡ byte = sym at ∙ ap (byte_of lexemes end) (one_place lexemes j k s t) ∙ there in
       ap (λ x. Err (faults.Syntax x place)) lines ∙ ap (λ x. Err (faults.Syntax other x)) places
+  one_read (Err (faults.Syntax line place)) (Err (faults.Later other)) (n, some, k, s, at) (m, is) = absurd (later_place is k s)
+  one_read (Err (faults.Later line)) (Ok None) (n, is) b = absurd (later_line is b)
+  one_read (Err (faults.Later number')) (Ok (Some line)) (m, is) (n, e, t) = absurd (in_time_only line e t is)
+  one_read (Err (faults.Later line)) (Err (faults.Syntax other place)) (m, is) (n, some, k, s, at) = absurd (later_place is k s)
+  one_read (Err (faults.Later line)) (Err (faults.Later other)) (n, is) (m, is') = ap (λ x. Err (faults.Later x)) (n ∙ sym m)
   one_read one (Err (faults.Lex line fault)) a b = absurd b
   one_read one (Err faults.Memory) a b = absurd b
   one_read (Err (faults.Lex line fault)) other a b = absurd a
@@ -156,9 +201,13 @@ module _ (number : ℕ) (lexemes : List Lexeme) (end : ℕ) where
   some_line (set_line value path last) h =
       let s = split (set_front value path) last lexemes (begins value path last ∙ h) in
       let spelled : line_kinds (set_line value path (kinds_of s.after)) ≡ kinds_of lexemes = ap (λ xs. line_kinds (set_line value path xs)) s.spelled ∙ h in
-      (Ok (Some (record { number = number; value = value; edit = edits.Set path s.after end })), (refl, (spelled, ((s.before, s.whole), refl))))
-  some_line (link_line value path source) h = (Ok (Some (record { number = number; value = value; edit = edits.Link path source })), (refl, (h, tt)))
-  some_line (unshare_line value path) h = (Ok (Some (record { number = number; value = value; edit = edits.Unshare path })), (refl, (h, tt)))
+      (Ok (Some (record { number = number; value = value; action = actions.Edit (edits.Set path s.after end) })), (refl, (spelled, ((s.before, s.whole), refl)), tt))
+  some_line (link_line value path source) h = (Ok (Some (record { number = number; value = value; action = actions.Edit (edits.Link path source) })), (refl, (h, tt), tt))
+  some_line (unshare_line value path) h = (Ok (Some (record { number = number; value = value; action = actions.Edit (edits.Unshare path) })), (refl, (h, tt), tt))
+  some_line (graft_line value path other source) h = ⊎_elim {C = (answer : LineAnswer) × IsRead number lexemes end answer}
+      (λ (less : other < value). (Ok (Some (record { number = number; value = value; action = actions.Graft path other source })), (refl, (h, tt), less)))
+      (λ (later : value ≤ other). (Err (faults.Later number), (refl, (value, other, path, source, h, later))))
+      (cases_lt other value)
 
   some_read : (all : List Lexeme) → all ≡ lexemes → (answer : LineAnswer) × IsRead number lexemes end answer
   some_read [] e = (Ok None, sym e)

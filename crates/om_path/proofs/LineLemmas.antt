@@ -1,6 +1,7 @@
 -- The code follows the table of lines.
-use Rattle.std.proofs.Common.{ℕ, suc, ◌≡◌, ◌∙◌, ◌<◌, List, [], ◌∷◌, ◌++◌, length, take, drop, get_or, Option, Some, None, refl, sym, ap, subst, arith, append-nil}
-use Rattle.std.specs.Prelude.{Ok, Err, IfOk, IfErr, option_map, option_and_then, unwrap_or}
+use Rattle.std.proofs.Common.{ℕ, suc, ◌≡◌, ◌∙◌, ◌<◌, ◌≤◌, ⊎_elim, true, false, List, [], ◌∷◌, ◌++◌, length, take, drop, get_or, Option, Some, None, refl, sym, ap, subst, arith, append-nil}
+use Rattle.std.specs.Prelude.{Result, Ok, Err, IfOk, IfErr, option_map, option_and_then, unwrap_or, if◌then◌else◌, nat_le}
+use Rattle.std.proofs.lemmas.Bool.Decides.{leb_tells}
 use Rattle.std.proofs.lemmas.List.{take-append-drop, drop-map}
 use Rattle.std.proofs.lemmas.Option.{slice_get_past}
 use Rattle.om_lex.specs.declared.lexeme.Lexeme.{Lexeme}
@@ -15,12 +16,15 @@ use Rattle.om_grammar.proofs.TableLemmas.{take_whole, run_more, is_syntax_at, sy
 use Rattle.om_parse.specs.Parsed.{kinds_of, byte_of}
 use Rattle.om_parse.proofs.LexemeLemmas.{kinds_length, kinds_next}
 use Rattle.om_path.specs.Machine.{at, accepted}
-use Rattle.om_path.specs.LineGrammar.{LineTree, set_line, link_line, unshare_line, line_kinds}
+use Rattle.om_path.specs.LineGrammar.{LineTree, set_line, link_line, unshare_line, graft_line, line_kinds}
 use Rattle.om_path.specs.LineMachine.{LineState, reading, literal, line_start, line_step, line_accepted, next_of, state_of, ended}
-use Rattle.om_path.specs.LineCode.{IsTold, whole_line, ended_line}
-use Rattle.om_path.specs.ScriptAnswer.{tree_of, HasLiteralOf, LineAnswer, IsRead, IsLineAnswer, UnlessMemory, line_fault}
+use Rattle.om_path.specs.LineCode.{IsTold, whole_line, ended_line, in_time, in_time_by}
+use Rattle.om_path.specs.ScriptAnswer.{tree_of, IsAction, IsInTime, HasLiteralOf, LineAnswer, IsRead, IsLineAnswer, UnlessMemory, line_fault}
+use Rattle.om_path.specs.declared.edits.Action.{Action}
+use Rattle.om_path.specs.declared.edits.Action.TheVariants as actions
 use Rattle.om_path.specs.declared.edits.Edit.TheVariants as edits
 use Rattle.om_path.specs.declared.edits.ScriptLine.{ScriptLine}
+use Rattle.om_path.specs.declared.edits.ScriptFault.{ScriptFault}
 use Rattle.om_path.specs.declared.edits.ScriptFault.TheVariants as faults
 use Rattle.om_path.specs.declared.front.Role.{Role}
 use Rattle.om_path.specs.declared.front.Role.TheVariants as roles
@@ -61,32 +65,38 @@ no_end_in : (number value : ℕ) (role : Role) (o : Option (List ℕ)) → whole
 no_end_in number value role None h = refl
 no_end_in number value (roles.Source target) (Some path) h = absurd (cc)
 no_end_in number value roles.Unshare (Some path) h = absurd (cc)
+no_end_in number value (roles.Part target other) (Some path) h = absurd (cc)
 no_end_in number value role (Some path) h = refl
 
 no_end : (number : ℕ) (f : Front) → ended_line number f ≡ None → line_accepted (reading f) ≡ None
 no_end number fronts.Start h = refl
 no_end number (fronts.Value value) h = refl
+no_end number (fronts.Other value path) h = refl
 no_end number (fronts.Steps value role path after_dot) h = no_end_in number value role (accepted (at path after_dot)) h
 
 -- an end of this tree gives this line
 record Ends (number : ℕ) (o : Option LineTree) (line : ScriptLine) : Type 0 where
   numbers : line.number ≡ number
-  spelled : o ≡ Some (tree_of line.value line.edit)
-  free : (lexemes : List Lexeme) (end : ℕ) → HasLiteralOf lexemes end line.edit
+  spelled : o ≡ Some (tree_of line.value line.action)
+  free : (lexemes : List Lexeme) (end : ℕ) → HasLiteralOf lexemes end line.action
 
 is_end_in : (number value : ℕ) (role : Role) (o : Option (List ℕ)) (line : ScriptLine) → whole_line number value role o ≡ Some line → Ends number (ended value role o) line
 is_end_in number value role None line h = absurd (cc)
 is_end_in number value (roles.Source target) (Some path) line h =
-    let is : record { number = number; value = value; edit = edits.Link target path } ≡ line = cc in
+    let is : record { number = number; value = value; action = actions.Edit (edits.Link target path) } ≡ line = cc in
     subst (Ends number (Some (link_line value target path))) is (record { numbers = refl; spelled = refl; free = λ lexemes end. tt })
 is_end_in number value roles.Unshare (Some path) line h =
-    let is : record { number = number; value = value; edit = edits.Unshare path } ≡ line = cc in
+    let is : record { number = number; value = value; action = actions.Edit (edits.Unshare path) } ≡ line = cc in
     subst (Ends number (Some (unshare_line value path))) is (record { numbers = refl; spelled = refl; free = λ lexemes end. tt })
+is_end_in number value (roles.Part target other) (Some path) line h =
+    let is : record { number = number; value = value; action = actions.Graft target other path } ≡ line = cc in
+    subst (Ends number (Some (graft_line value target other path))) is (record { numbers = refl; spelled = refl; free = λ lexemes end. tt })
 is_end_in number value role (Some path) line h = absurd (cc)
 
 is_end : (number : ℕ) (f : Front) (line : ScriptLine) → ended_line number f ≡ Some line → Ends number (line_accepted (reading f)) line
 is_end number fronts.Start line h = absurd (cc)
 is_end number (fronts.Value value) line h = absurd (cc)
+is_end number (fronts.Other value path) line h = absurd (cc)
 is_end number (fronts.Steps value role path after_dot) line h = is_end_in number value role (accepted (at path after_dot)) line h
 
 -- reading goes on from where a front led
@@ -125,14 +135,40 @@ module _ (lexemes : List Lexeme) (number end : ℕ) where
     past_end lexemes end,
   )
 
+  -- the line, or the fault where it is too early
+  abbrev pub Judged : ScriptLine → Result ScriptLine ScriptFault → Type 0
+  Judged line (Ok whole) = IsRead number lexemes end (Ok (Some whole))
+  Judged line (Err fault) = UnlessMemory (λ fault. IsRead number lexemes end (Err fault)) fault
+
+  -- what is asked for, in time or not
+  judged : (line : ScriptLine) → line.number ≡ number → (action : Action) → IsAction lexemes end line.value action → action ≡ line.action →
+      (result : Result ScriptLine ScriptFault) → result ≡ in_time_by line action → Judged line result
+  judged line n (actions.Edit edit) is same result e = subst (Judged line) (sym e) (n, subst (IsAction lexemes end line.value) same is, subst (IsInTime line.value) same tt)
+  judged line n (actions.Graft path other source) is same result e = subst (Judged line) (sym e) (⊎_elim {C = Judged line (in_time_by line (actions.Graft path other source))}
+      (λ (yes : (nat_le line.value other ≡ true) × (line.value ≤ other)).
+      subst (λ b. Judged line (if b then Err (faults.Later line.number) else Ok line)) (sym yes.0) (n, (line.value, other, path, source, is.0, yes.1)))
+      (λ (no : (nat_le line.value other ≡ false) × (other < line.value)).
+      subst (λ b. Judged line (if b then Err (faults.Later line.number) else Ok line)) (sym no.0)
+      (n, subst (IsAction lexemes end line.value) same is, subst (IsInTime line.value) same no.1))
+      (leb_tells line.value other))
+
   pub is_ended : (f : Front) → run line_step line_start (kinds_of lexemes) ≡ Some (reading f) → (line : ScriptLine) → ended_line number f ≡ Some line →
-      IsRead number lexemes end (Ok (Some line))
-  is_ended f h line e =
+      (result : Result ScriptLine ScriptFault) → result ≡ in_time line → Judged line result
+  is_ended f h line e result is =
       let i = is_end number f line e in
-      (i.numbers, (text_is_read line_table (tree_of line.value line.edit) (reading f) (kinds_of lexemes) h i.spelled, i.free lexemes end))
+      judged line i.numbers line.action (text_is_read line_table (tree_of line.value line.action) (reading f) (kinds_of lexemes) h i.spelled, i.free lexemes end) refl result is
+
+  pub judged_line : (line : ScriptLine) (result : Result ScriptLine ScriptFault) → Judged line result → IfOk result (λ line. IsRead number lexemes end (Ok (Some line)))
+  judged_line line (Ok whole) is = is
+  judged_line line (Err fault) is = tt
+
+  pub judged_fault : (line : ScriptLine) (result : Result ScriptLine ScriptFault) → Judged line result
+      → IfErr result (UnlessMemory (λ fault. IsRead number lexemes end (Err fault)))
+  judged_fault line (Ok whole) is = tt
+  judged_fault line (Err fault) is = is
 
   pub is_set : (value : ℕ) (path : List ℕ) (place : ℕ) → run line_step line_start (take place (kinds_of lexemes)) ≡ Some (literal value path []) →
-      (line : ScriptLine) → line ≡ record { number = number; value = value; edit = edits.Set path (drop place lexemes) end } →
+      (line : ScriptLine) → line ≡ record { number = number; value = value; action = actions.Edit (edits.Set path (drop place lexemes) end) } →
       IsRead number lexemes end (Ok (Some line))
   is_set value path place h line e =
       let last = kinds_of (drop place lexemes) in
@@ -141,7 +177,7 @@ module _ (lexemes : List Lexeme) (number end : ℕ) where
       let ran : run line_step line_start (kinds_of lexemes) ≡ Some (literal value path last) =
       ap (run line_step line_start) parts ∙ run_on (take place (kinds_of lexemes)) last line_start (literal value path []) h ∙ literal_run value path last in
       subst (λ l. IsRead number lexemes end (Ok (Some l))) (sym e)
-      (refl, (text_is_read line_table (set_line value path last) (literal value path last) (kinds_of lexemes) ran refl, ((take place lexemes, sym (take-append-drop place lexemes)), refl)))
+      (refl, (text_is_read line_table (set_line value path last) (literal value path last) (kinds_of lexemes) ran refl, ((take place lexemes, sym (take-append-drop place lexemes)), refl)), tt)
 
 pub told_all : (lexemes : List Lexeme) (told : Told) (f : Front) → told ≡ tolds.All f → IsTold lexemes told → run line_step line_start (kinds_of lexemes) ≡ Some (reading f)
 told_all lexemes told f e h = subst (IsTold lexemes) e h
@@ -163,6 +199,7 @@ module _ (number : ℕ) (text : List ℕ) where
       IfErr result (UnlessMemory (λ fault. IsLineAnswer number text (Err fault)))
   lexed_line_fault lexemes lexes (Ok line) h = tt
   lexed_line_fault lexemes lexes (Err (faults.Syntax line place)) h = (Ok lexemes, lexes, h)
+  lexed_line_fault lexemes lexes (Err (faults.Later line)) h = (Ok lexemes, lexes, h)
   lexed_line_fault lexemes lexes (Err (faults.Lex line fault)) h = absurd h
   lexed_line_fault lexemes lexes (Err faults.Memory) h = tt
 

@@ -13,8 +13,8 @@ use Rattle.om_grammar.proofs.MachineLemmas.{onward}
 use Rattle.om_grammar.proofs.TableLemmas.{Adds, Completes, Reads}
 use Rattle.om_path.specs.PathGrammar.{number, path_kinds}
 use Rattle.om_path.specs.Machine.{number_of, State, at, step, front, accepted}
-use Rattle.om_path.specs.LineGrammar.{LineTree, set_line, link_line, unshare_line, equals, assigned, line_kinds}
-use Rattle.om_path.specs.LineMachine.{LineState, reading, literal, line_start, valued, named_role, role_of, begun, is_equals, after_equals, along, state_of, line_step, role_kinds, line_front, ended, line_accepted, line_ends}
+use Rattle.om_path.specs.LineGrammar.{LineTree, set_line, link_line, unshare_line, graft_line, equals, assigned, line_kinds}
+use Rattle.om_path.specs.LineMachine.{LineState, reading, literal, line_start, valued, named_role, role_of, begun, is_equals, after_equals, with_other, along, state_of, line_step, role_kinds, line_front, ended, line_accepted, line_ends}
 use Rattle.om_path.specs.declared.front.Role.{Role}
 use Rattle.om_path.specs.declared.front.Role.TheVariants as roles
 use Rattle.om_path.specs.declared.front.Front.TheVariants as fronts
@@ -89,6 +89,7 @@ abbrev pub line_final : LineTree → LineState
 line_final (set_line value path all) = literal value path all
 line_final (link_line value path source) = in_role value (roles.Source path) (final source)
 line_final (unshare_line value path) = in_role value roles.Unshare (final path)
+line_final (graft_line value path other source) = in_role value (roles.Part path other) (final source)
 
 leads : (line : LineTree) → Leads line_step flat line_start (line_kinds line) (line_ends line) (line_final line)
 leads (set_line value path all) =
@@ -99,11 +100,16 @@ leads (link_line value path source) =
     (assigned_leads value roles.Link path (path_kinds source) (reading (fronts.Steps value (roles.Source path) [] false)) (in_role value (roles.Source path) (final source))
     (equals_next value roles.Link path) (embedded value (roles.Source path) (path_leads source))))
 leads (unshare_line value path) = go refl (omega arith) (go refl (omega arith) (embedded value roles.Unshare (path_leads path)))
+leads (graft_line value path other source) =
+    go refl (omega arith) (go refl (omega arith)
+    (assigned_leads value roles.Graft path (number other ∷ path_kinds source) (reading (fronts.Other value path)) (in_role value (roles.Part path other) (final source))
+    (equals_next value roles.Graft path) (go refl (omega arith) (embedded value (roles.Part path other) (path_leads source)))))
 
 accepts : (line : LineTree) → line_accepted (line_final line) ≡ Some line
 accepts (set_line value path all) = refl
 accepts (link_line value path source) = role_accepts value (roles.Source path) source
 accepts (unshare_line value path) = role_accepts value roles.Unshare path
+accepts (graft_line value path other source) = role_accepts value (roles.Part path other) source
 
 -- ---- what a state has read
 
@@ -118,11 +124,17 @@ ended_front value (roles.Source path) s (Some source) e line h =
 ended_front value roles.Unshare s (Some path) e line h =
     let is : unshare_line value path ≡ line = cc in
     ap line_kinds (sym is) ∙ ap (λ rest. number value ∷ kinds.Lower (codes "unshare") ∷ rest) (path_table.accepted_front s path e)
+ended_front value (roles.Part path other) s (Some source) e line h =
+    let is : graft_line value path other source ≡ line = cc in
+    ap line_kinds (sym is)
+    ∙ ap (λ rest. number value ∷ kinds.Lower (codes "graft") ∷ (path_kinds path ++ equals ∷ number other ∷ rest)) (path_table.accepted_front s source e)
+    ∙ ap (λ rest. number value ∷ kinds.Lower (codes "graft") ∷ rest) (sym (append_assoc (path_kinds path) (equals ∷ number other ∷ []) (front s)))
 ended_front value role s (Some path) e line h = absurd (cc)
 
 accepted_front : (s : LineState) (line : LineTree) → line_accepted s ≡ Some line → line_kinds line ≡ line_front s
 accepted_front (reading fronts.Start) line h = absurd (cc)
 accepted_front (reading (fronts.Value value)) line h = absurd (cc)
+accepted_front (reading (fronts.Other value path)) line h = absurd (cc)
 accepted_front (reading (fronts.Steps value role path after_dot)) line h = ended_front value role (at path after_dot) (accepted (at path after_dot)) refl line h
 accepted_front (literal value path read) line h = let is : set_line value path read ≡ line = cc in ap line_kinds (sym is)
 
@@ -153,15 +165,23 @@ is_word name text r role k h = record {
   kinds_is = ap role_kinds (sym h.1) ∙ k ∙ ap (λ n. kinds.Lower n ∷ []) (sym ((bytes_eq-Decides name text).0 h.0));
 }
 
+abbrev last : List ℕ → Option Role
+last name = if bytes_eq name (codes "graft") then Some roles.Graft else None
+
+abbrev last_two : List ℕ → Option Role
+last_two name = if bytes_eq name (codes "unshare") then Some roles.Unshare else last name
+
 named_is : (name : List ℕ) (role : Role) → named_role name ≡ Some role → Names (kinds.Lower name) role
 named_is name role h =
     ⊎_elim {C = Names (kinds.Lower name) role} (is_word name (codes "set") roles.Set role refl)
     (λ h. ⊎_elim {C = Names (kinds.Lower name) role} (is_word name (codes "link") roles.Link role refl)
     (λ h. ⊎_elim {C = Names (kinds.Lower name) role} (is_word name (codes "unshare") roles.Unshare role refl)
+    (λ h. ⊎_elim {C = Names (kinds.Lower name) role} (is_word name (codes "graft") roles.Graft role refl)
     (λ h. absurd (cc))
-    (one_role (bytes_eq name (codes "unshare")) roles.Unshare role None h))
-    (one_role (bytes_eq name (codes "link")) roles.Link role (if bytes_eq name (codes "unshare") then Some roles.Unshare else None) h))
-    (one_role (bytes_eq name (codes "set")) roles.Set role (if bytes_eq name (codes "link") then Some roles.Link else (if bytes_eq name (codes "unshare") then Some roles.Unshare else None)) h)
+    (one_role (bytes_eq name (codes "graft")) roles.Graft role None h))
+    (one_role (bytes_eq name (codes "unshare")) roles.Unshare role (last name) h))
+    (one_role (bytes_eq name (codes "link")) roles.Link role (last_two name) h))
+    (one_role (bytes_eq name (codes "set")) roles.Set role (if bytes_eq name (codes "link") then Some roles.Link else last_two name) h)
 
 role_is : (kind : LexemeKind) (role : Role) → role_of kind ≡ Some role → Names kind role
 role_is (kinds.Lower name) role h = named_is name role h
@@ -193,7 +213,21 @@ module _ (value : ℕ) where
         ∙ ap (λ xs. number value ∷ kinds.Lower (codes "link") ∷ (xs ++ equals ∷ [])) (path_table.accepted_front s path e);
     opens = refl;
   }
+  adds_equals roles.Graft s (Some path) e = record {
+    fronts = ap (λ xs. number value ∷ kinds.Lower (codes "graft") ∷ (xs ++ equals ∷ [])) (path_table.accepted_front s path e);
+    opens = refl;
+  }
   adds_equals role s (Some path) e = tt
+
+  adds_other : (path : List ℕ) (kind : LexemeKind) (o : Option ℕ) → number_of kind ≡ o → AddsTo (reading (fronts.Other value path)) kind (state_of (with_other value path o))
+  adds_other path kind None h = tt
+  adds_other path kind (Some other) h =
+      subst (λ k. Adds line_front brackets (line_front (reading (fronts.Other value path))) 0 k (reading (fronts.Steps value (roles.Part path other) [] false)))
+      (sym (number_is kind other h)) (record {
+        fronts = ap (λ xs. number value ∷ kinds.Lower (codes "graft") ∷ xs)
+            (append-nil (assigned path (number other ∷ [])) ∙ sym (append_assoc (path_kinds path) (equals ∷ []) (number other ∷ [])));
+        opens = refl;
+      })
 
   adds_along : (role : Role) (s : State) (kind : LexemeKind) (o : Option State) → IfSome o (λ next. Adds front none (front s) 0 kind next) →
       AddsIn role s kind (state_of (along value role o))
@@ -217,6 +251,7 @@ open_more n (x ∷ xs) kind = open_more (opened x n) xs kind
 adds : (s : LineState) (kind : LexemeKind) → AddsTo s kind (line_step s kind)
 adds (reading fronts.Start) kind = adds_value kind (number_of kind) refl
 adds (reading (fronts.Value value)) kind = adds_role value kind (role_of kind) refl
+adds (reading (fronts.Other value path)) kind = adds_other value path kind (number_of kind) refl
 adds (reading (fronts.Steps value role path after_dot)) kind = adds_step value role (at path after_dot) kind (is_equals kind) refl
 adds (literal value path read) kind = record {
   fronts = ap (λ xs. number value ∷ kinds.Lower (codes "set") ∷ xs) (sym (append_assoc (path_kinds path) (equals ∷ read) (kind ∷ [])));
@@ -248,6 +283,19 @@ completes_steps value (roles.Source path) s c = (
       ∙ sym (append_assoc (path_kinds path) (equals ∷ []) (front s ++ c.rest))
       ∙ sym (append_assoc (assigned path []) (front s) c.rest)),
 )
+completes_steps value roles.Graft s c = (
+  graft_line value c.text 0 [],
+  c.rest ++ equals ∷ number 0 ∷ path_kinds [],
+  ap (λ xs. number value ∷ kinds.Lower (codes "graft") ∷ xs) (longer (path_kinds c.text) (front s) c.rest (equals ∷ number 0 ∷ path_kinds []) c.begins),
+)
+completes_steps value (roles.Part path other) s c = (
+  graft_line value path other c.text,
+  c.rest,
+  ap (λ xs. number value ∷ kinds.Lower (codes "graft") ∷ xs)
+      (ap (λ xs. path_kinds path ++ equals ∷ number other ∷ xs) c.begins
+      ∙ sym (append_assoc (path_kinds path) (equals ∷ number other ∷ []) (front s ++ c.rest))
+      ∙ sym (append_assoc (assigned path (number other ∷ [])) (front s) c.rest)),
+)
 completes_steps value roles.Unshare s c = (
   unshare_line value c.text,
   c.rest,
@@ -258,6 +306,12 @@ completes : (s : LineState) → Completes line_kinds line_ends line_front flat s
 completes (reading fronts.Start) = record { text = unshare_line 0 []; rest = line_kinds (unshare_line 0 []); begins = refl; deep = omega arith }
 completes (reading (fronts.Value value)) =
     record { text = unshare_line value []; rest = kinds.Lower (codes "unshare") ∷ path_kinds []; begins = refl; deep = omega arith }
+completes (reading (fronts.Other value path)) = record {
+  text = graft_line value path 0 [];
+  rest = number 0 ∷ path_kinds [];
+  begins = ap (λ xs. number value ∷ kinds.Lower (codes "graft") ∷ xs) (sym (append_assoc (path_kinds path) (equals ∷ []) (number 0 ∷ path_kinds [])));
+  deep = omega arith;
+}
 completes (reading (fronts.Steps value role path after_dot)) =
     let c = completes_steps value role (at path after_dot) (path_table.completes (at path after_dot)) in
     record { text = c.0; rest = c.1; begins = c.2; deep = omega arith }

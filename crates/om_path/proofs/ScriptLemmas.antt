@@ -63,6 +63,7 @@ pub tells_script : (text : List ℕ) (result : Result Script ScriptFault) → If
 tells_script text (Ok script) s f answer is = at_most_one text answer (Ok script) is s
 tells_script text (Err (faults.Lex line fault)) s f answer is = at_most_one text answer (Err (faults.Lex line fault)) is f
 tells_script text (Err (faults.Syntax line place)) s f answer is = at_most_one text answer (Err (faults.Syntax line place)) is f
+tells_script text (Err (faults.Later line)) s f answer is = at_most_one text answer (Err (faults.Later line)) is f
 tells_script text (Err faults.Memory) s f answer is = tt
 
 -- ---- the first line of what is left
@@ -135,6 +136,7 @@ module _ (text : List ℕ) (at number : ℕ) (lines : List ScriptLine) (before :
   pub stops_at : (fault : ScriptFault) → UnlessMemory (λ f. IsLineAnswer number (take len rest) (Err f)) fault → UnlessMemory (λ f. AreEdits 1 text (Err f)) fault
   stops_at (faults.Lex line fault) is = going (Err (faults.Lex line fault)) (faulty rest number (faults.Lex line fault) (at_first (Err (faults.Lex line fault)) is))
   stops_at (faults.Syntax line place) is = going (Err (faults.Syntax line place)) (faulty rest number (faults.Syntax line place) (at_first (Err (faults.Syntax line place)) is))
+  stops_at (faults.Later line) is = going (Err (faults.Later line)) (faulty rest number (faults.Later line) (at_first (Err (faults.Later line)) is))
   stops_at faults.Memory is = tt
 
   module _ (line : Option ScriptLine) (is : IsLineAnswer number (take len rest) (Ok line)) (more : List ScriptLine) (e : more ≡ lines ++ option_to_list line) where

@@ -6,3 +6,4 @@ pub mod Machine
 pub mod Order
 pub mod PathGrammar
 pub mod ScriptAnswer
+pub mod Uses

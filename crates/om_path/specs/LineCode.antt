@@ -1,5 +1,5 @@
 -- What the parts of the code tell of a line.
-use Rattle.std.specs.Prelude.{ℕ, ◌≡◌, ◌≤◌, Option, Some, None, List, [], length, take}
+use Rattle.std.specs.Prelude.{ℕ, ◌≡◌, ◌≤◌, nat_le, if◌then◌else◌, Option, Some, None, Result, Ok, Err, List, [], length, take}
 use Rattle.om_lex.specs.declared.lexeme.Lexeme.{Lexeme}
 use Rattle.om_grammar.specs.Machine.{run}
 use Rattle.om_grammar.specs.Refusals.{IsSyntax}
@@ -7,8 +7,11 @@ use Rattle.om_parse.specs.Parsed.{kinds_of}
 use Rattle.om_path.specs.Machine.{at, accepted}
 use Rattle.om_path.specs.LineGrammar.{line_kinds}
 use Rattle.om_path.specs.LineMachine.{reading, literal, line_start, line_step}
-use Rattle.om_path.specs.declared.edits.Edit.{Edit}
+use Rattle.om_path.specs.declared.edits.Action.{Action}
+use Rattle.om_path.specs.declared.edits.Action.TheVariants as actions
 use Rattle.om_path.specs.declared.edits.Edit.TheVariants as edits
+use Rattle.om_path.specs.declared.edits.ScriptFault.{ScriptFault}
+use Rattle.om_path.specs.declared.edits.ScriptFault.TheVariants as faults
 use Rattle.om_path.specs.declared.edits.ScriptLine.{ScriptLine}
 use Rattle.om_path.specs.declared.front.Role.{Role}
 use Rattle.om_path.specs.declared.front.Role.TheVariants as roles
@@ -24,20 +27,31 @@ IsTold lexemes (tolds.Literal value path place) =
     × (run line_step line_start (take place (kinds_of lexemes)) ≡ Some (literal value path []))
 IsTold lexemes (tolds.Stuck place) = IsSyntax line_kinds (kinds_of lexemes) place
 
-abbrev pub edit_of : Role → List ℕ → Option Edit
-edit_of (roles.Source target) path = Some (edits.Link target path)
-edit_of roles.Unshare path = Some (edits.Unshare path)
-edit_of role path = None
+abbrev pub action_of : Role → List ℕ → Option Action
+action_of (roles.Source target) path = Some (actions.Edit (edits.Link target path))
+action_of roles.Unshare path = Some (actions.Edit (edits.Unshare path))
+action_of (roles.Part target other) path = Some (actions.Graft target other path)
+action_of role path = None
 
-abbrev pub numbered : ℕ → ℕ → Option Edit → Option ScriptLine
+abbrev pub numbered : ℕ → ℕ → Option Action → Option ScriptLine
 numbered number value None = None
-numbered number value (Some edit) = Some (record { number = number; value = value; edit = edit })
+numbered number value (Some action) =
+    Some (record { number = number; value = value; action = action })
 
 abbrev pub whole_line : ℕ → ℕ → Role → Option (List ℕ) → Option ScriptLine
 whole_line number value role None = None
-whole_line number value role (Some path) = numbered number value (edit_of role path)
+whole_line number value role (Some path) = numbered number value (action_of role path)
 
 abbrev pub ended_line : ℕ → Front → Option ScriptLine
 ended_line number (fronts.Steps value role path after_dot) =
     whole_line number value role (accepted (at path after_dot))
 ended_line number f = None
+
+-- the line, or the fault where it copies from a value that does not come before its own
+abbrev pub in_time_by : ScriptLine → Action → Result ScriptLine ScriptFault
+in_time_by line (actions.Edit edit) = Ok line
+in_time_by line (actions.Graft path other source) =
+    if nat_le line.value other then Err (faults.Later line.number) else Ok line
+
+abbrev pub in_time : ScriptLine → Result ScriptLine ScriptFault
+in_time line = in_time_by line line.action

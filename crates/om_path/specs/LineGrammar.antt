@@ -1,5 +1,5 @@
--- How a line of a script is written: `K set PATH = LITERAL`, `K link PATH = PATH` or `K unshare
--- PATH`.
+-- How a line of a script is written: `K set PATH = LITERAL`, `K link PATH = PATH`, `K unshare PATH`
+-- or `K graft PATH = K PATH`.
 use Rattle.std.specs.Prelude.{ℕ, List, ◌∷◌, ◌++◌, codes}
 use Rattle.om_lex.specs.declared.lexeme.LexemeKind.{LexemeKind}
 use Rattle.om_lex.specs.declared.lexeme.LexemeKind.TheVariants as kinds
@@ -12,6 +12,7 @@ pub data LineTree : Type 0 where
   set_line : (value : ℕ) (path : List ℕ) (literal : Kinds) → LineTree
   link_line : (value : ℕ) (path source : List ℕ) → LineTree
   unshare_line : (value : ℕ) (path : List ℕ) → LineTree
+  graft_line : (value : ℕ) (path : List ℕ) (other : ℕ) (source : List ℕ) → LineTree
 
 abbrev pub equals : LexemeKind
 equals = kinds.Symbol symbols.Equals
@@ -27,3 +28,5 @@ line_kinds (link_line value path source) =
     number value ∷ kinds.Lower (codes "link") ∷ assigned path (path_kinds source)
 line_kinds (unshare_line value path) =
     number value ∷ kinds.Lower (codes "unshare") ∷ path_kinds path
+line_kinds (graft_line value path other source) =
+    number value ∷ kinds.Lower (codes "graft") ∷ assigned path (number other ∷ path_kinds source)

@@ -7,7 +7,7 @@ use Rattle.om_lex.specs.declared.lexeme.Symbol.TheVariants as symbols
 use Rattle.om_grammar.specs.Grammar.{Kinds}
 use Rattle.om_path.specs.PathGrammar.{number}
 use Rattle.om_path.specs.Machine.{number_of, State, at, step, front, accepted}
-use Rattle.om_path.specs.LineGrammar.{LineTree, set_line, link_line, unshare_line, assigned, line_kinds}
+use Rattle.om_path.specs.LineGrammar.{LineTree, set_line, link_line, unshare_line, graft_line, assigned, line_kinds}
 use Rattle.om_path.specs.declared.front.Role.{Role}
 use Rattle.om_path.specs.declared.front.Role.TheVariants as roles
 use Rattle.om_path.specs.declared.front.Front.{Front}
@@ -33,7 +33,8 @@ abbrev pub named_role : List ℕ → Option Role
 named_role name =
     if bytes_eq name (codes "set") then Some roles.Set
     else (if bytes_eq name (codes "link") then Some roles.Link
-    else (if bytes_eq name (codes "unshare") then Some roles.Unshare else None))
+    else (if bytes_eq name (codes "unshare") then Some roles.Unshare
+    else (if bytes_eq name (codes "graft") then Some roles.Graft else None)))
 
 abbrev pub role_of : LexemeKind → Option Role
 role_of (kinds.Lower name) = named_role name
@@ -53,7 +54,14 @@ after_equals value role None = nexts.Nowhere
 after_equals value roles.Set (Some path) = nexts.Literal value path
 after_equals value roles.Link (Some path) =
     nexts.Onward (fronts.Steps value (roles.Source path) [] false)
+after_equals value roles.Graft (Some path) = nexts.Onward (fronts.Other value path)
 after_equals value role (Some path) = nexts.Nowhere
+
+-- after the number of the value that is copied from
+abbrev pub with_other : ℕ → List ℕ → Option ℕ → Next
+with_other value path None = nexts.Nowhere
+with_other value path (Some other) =
+    nexts.Onward (fronts.Steps value (roles.Part path other) [] false)
 
 abbrev pub along : ℕ → Role → Option State → Next
 along value role None = nexts.Nowhere
@@ -68,6 +76,7 @@ next_of fronts.Start kind = valued (number_of kind)
 next_of (fronts.Value value) kind = begun value (role_of kind)
 next_of (fronts.Steps value role path after_dot) kind =
     steps_next value role (at path after_dot) kind
+next_of (fronts.Other value path) kind = with_other value path (number_of kind)
 
 abbrev pub state_of : Next → Option LineState
 state_of (nexts.Onward f) = Some (reading f)
@@ -85,12 +94,17 @@ role_kinds roles.Set = kinds.Lower (codes "set") ∷ []
 role_kinds roles.Link = kinds.Lower (codes "link") ∷ []
 role_kinds (roles.Source path) = kinds.Lower (codes "link") ∷ assigned path []
 role_kinds roles.Unshare = kinds.Lower (codes "unshare") ∷ []
+role_kinds roles.Graft = kinds.Lower (codes "graft") ∷ []
+role_kinds (roles.Part path other) =
+    kinds.Lower (codes "graft") ∷ assigned path (number other ∷ [])
 
 abbrev pub front_kinds : Front → Kinds
 front_kinds fronts.Start = []
 front_kinds (fronts.Value value) = number value ∷ []
 front_kinds (fronts.Steps value role path after_dot) =
     number value ∷ (role_kinds role ++ front (at path after_dot))
+front_kinds (fronts.Other value path) =
+    number value ∷ kinds.Lower (codes "graft") ∷ assigned path []
 
 abbrev pub line_front : LineState → Kinds
 line_front (reading f) = front_kinds f
@@ -102,6 +116,7 @@ abbrev pub ended : ℕ → Role → Option (List ℕ) → Option LineTree
 ended value role None = None
 ended value (roles.Source path) (Some source) = Some (link_line value path source)
 ended value roles.Unshare (Some path) = Some (unshare_line value path)
+ended value (roles.Part path other) (Some source) = Some (graft_line value path other source)
 ended value role (Some path) = None
 
 abbrev pub line_accepted : LineState → Option LineTree

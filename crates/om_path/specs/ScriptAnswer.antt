@@ -1,5 +1,5 @@
 -- What the text of a script is: its edits, or the fault of its first faulty line.
-use Rattle.std.specs.Prelude.{ℕ, suc, ◌≡◌, ◌<◌, ◌==◌, Option, Some, None, List, [], ◌∷◌, ◌++◌, length, Result, Ok, Err, ⊤}
+use Rattle.std.specs.Prelude.{ℕ, suc, ◌≡◌, ◌<◌, ◌≤◌, ◌==◌, Option, Some, None, List, [], ◌∷◌, ◌++◌, length, Result, Ok, Err, ⊤}
 use Rattle.std.specs.List.{slice_split}
 use Rattle.om_lex.specs.declared.lexeme.Lexeme.{Lexeme}
 use Rattle.om_lex.specs.declared.lexeme.LexFault.{LexFault}
@@ -7,8 +7,9 @@ use Rattle.om_lex.specs.declared.lexeme.LexFault.TheVariants as lexer
 use Rattle.om_lex.specs.LexText.{Outcome}
 use Rattle.om_grammar.specs.Refusals.{IsSyntax}
 use Rattle.om_parse.specs.Parsed.{kinds_of, byte_of}
-use Rattle.om_path.specs.LineGrammar.{LineTree, set_line, link_line, unshare_line, line_kinds}
-use Rattle.om_path.specs.declared.edits.Edit.{Edit}
+use Rattle.om_path.specs.LineGrammar.{LineTree, set_line, link_line, unshare_line, graft_line, line_kinds}
+use Rattle.om_path.specs.declared.edits.Action.{Action}
+use Rattle.om_path.specs.declared.edits.Action.TheVariants as actions
 use Rattle.om_path.specs.declared.edits.Edit.TheVariants as edits
 use Rattle.om_path.specs.declared.edits.ScriptLine.{ScriptLine}
 use Rattle.om_path.specs.declared.edits.Script.{Script}
@@ -21,22 +22,42 @@ use Rattle.om_path.specs.declared.edits.ScriptFault.TheVariants as faults
 abbrev pub EndWith : List Lexeme → List Lexeme → Type 0
 EndWith lexemes last = (before : List Lexeme) × (lexemes ≡ before ++ last)
 
--- the tree of the line that asks for this edit
-abbrev pub tree_of : ℕ → Edit → LineTree
-tree_of value (edits.Set path literal len) = set_line value path (kinds_of literal)
-tree_of value (edits.Link path source) = link_line value path source
-tree_of value (edits.Unshare path) = unshare_line value path
+-- the tree of the line that asks for this
+abbrev pub tree_of : ℕ → Action → LineTree
+tree_of value (actions.Edit (edits.Set path literal len)) =
+    set_line value path (kinds_of literal)
+tree_of value (actions.Edit (edits.Link path source)) = link_line value path source
+tree_of value (actions.Edit (edits.Unshare path)) = unshare_line value path
+tree_of value (actions.Graft path other source) = graft_line value path other source
 
 -- the lexemes of a literal are the line's last ones, and the line has so many bytes
-abbrev pub HasLiteralOf : List Lexeme → ℕ → Edit → Type 0
-HasLiteralOf lexemes end (edits.Set path literal len) = EndWith lexemes literal × (len ≡ end)
-HasLiteralOf lexemes end (edits.Link path source) = ⊤
-HasLiteralOf lexemes end (edits.Unshare path) = ⊤
+abbrev pub HasLiteralOf : List Lexeme → ℕ → Action → Type 0
+HasLiteralOf lexemes end (actions.Edit (edits.Set path literal len)) =
+    EndWith lexemes literal × (len ≡ end)
+HasLiteralOf lexemes end (actions.Edit (edits.Link path source)) = ⊤
+HasLiteralOf lexemes end (actions.Edit (edits.Unshare path)) = ⊤
+HasLiteralOf lexemes end (actions.Graft path other source) = ⊤
 
--- the lexemes of a line of so many bytes are this edit of the value of this number
-abbrev pub IsEdit : List Lexeme → ℕ → ℕ → Edit → Type 0
-IsEdit lexemes end value edit =
-    (line_kinds (tree_of value edit) ≡ kinds_of lexemes) × HasLiteralOf lexemes end edit
+-- the lexemes of a line of so many bytes ask for this at the value of this number
+abbrev pub IsAction : List Lexeme → ℕ → ℕ → Action → Type 0
+IsAction lexemes end value action =
+    (line_kinds (tree_of value action) ≡ kinds_of lexemes) × HasLiteralOf lexemes end action
+
+-- what is copied comes from a value before this one
+abbrev pub IsInTime : ℕ → Action → Type 0
+IsInTime value (actions.Edit edit) = ⊤
+IsInTime value (actions.Graft path other source) = other < value
+
+-- so it is with each line
+abbrev pub AreInTime : List ScriptLine → Type 0
+AreInTime [] = ⊤
+AreInTime (line ∷ lines) = IsInTime line.value line.action × AreInTime lines
+
+-- the lexemes ask for a copy from a value that does not come before this one
+abbrev pub IsLater : List Lexeme → Type 0
+IsLater lexemes =
+    (value other : ℕ) × (path source : List ℕ)
+    × (line_kinds (graft_line value path other source) ≡ kinds_of lexemes) × (value ≤ other)
 
 -- what a line is: nothing, an edit, or a fault
 abbrev pub LineAnswer : Type 0
@@ -46,10 +67,12 @@ LineAnswer = Result (Option ScriptLine) ScriptFault
 abbrev pub IsRead : ℕ → List Lexeme → ℕ → LineAnswer → Type 0
 IsRead number lexemes end (Ok None) = lexemes ≡ []
 IsRead number lexemes end (Ok (Some line)) =
-    (line.number ≡ number) × IsEdit lexemes end line.value line.edit
+    (line.number ≡ number) × IsAction lexemes end line.value line.action
+    × IsInTime line.value line.action
 IsRead number lexemes end (Err (faults.Syntax line place)) =
     (line ≡ number) × (0 < length lexemes) × (k : ℕ) × IsSyntax line_kinds (kinds_of lexemes) k
     × (byte_of lexemes end k ≡ place)
+IsRead number lexemes end (Err (faults.Later line)) = (line ≡ number) × IsLater lexemes
 IsRead number lexemes end (Err (faults.Lex line fault)) = ⊥
 IsRead number lexemes end (Err faults.Memory) = ⊥
 

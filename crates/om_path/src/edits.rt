@@ -2,10 +2,12 @@
 
 ghost use Rattle.std.specs.Prelude.{◌≡◌, ◌∷◌, [], IfOk, MatchOption};
 ghost use Rattle.om_path.specs.Order.{lines_of};
+ghost use Rattle.om_path.specs.Uses.{IsUnused, IsLastUse};
 ghost use Rattle.om_path.specs.ScriptAnswer.{line_fault};
 ghost use Rattle.om_path.specs.declared.edits.ScriptFault.TheVariants as faults;
 
 use crate::order::{order_of, places_of};
+use crate::uses::{last_use, uses_of};
 use om_lex::lexeme::{LexFault, Lexeme};
 use om_model::Memory;
 use om_model::list::List;
@@ -25,6 +27,15 @@ pub enum Edit {
     Unshare(Path),
 }
 
+/// What a line asks for.
+#[derive(Drop)]
+pub enum Action {
+    Edit(Edit),
+    /// A copy of what stands at the second path of an earlier value, that of this number, is put at
+    /// the first path.
+    Graft(Path, u64, Path),
+}
+
 /// A line of a script that is not blank.
 #[derive(Drop)]
 pub struct ScriptLine {
@@ -32,7 +43,7 @@ pub struct ScriptLine {
     pub number: usize,
     /// The number of the value that is edited, from 0.
     pub value: u64,
-    pub edit: Edit,
+    pub action: Action,
 }
 
 /// The edits of a text, in its order.
@@ -41,17 +52,21 @@ pub struct Script {
     lines: List<ScriptLine>,
     /// Of each line its value's number and its place, by these numbers, and at one value in the
     /// lines' order.
-    order: Vec<(u64, usize)>,
+    order: Vec<(u64, u64)>,
+    /// Of each line that copies the number of the value that it copies from, and its own value's,
+    /// by the first.
+    uses: Vec<(u64, u64)>,
 }
 
 impl Model for Script {
     ghost use Rattle.om_path.specs.Order.{ScriptLines, IsOrder};
+    ghost use Rattle.om_path.specs.Uses.{AreUses};
 
     ghost Value = { ScriptLines };
 
     ghost view = { λ s. record { lines = s.lines } };
 
-    ghost invariant = { λ s. IsOrder s.lines s.order.items };
+    ghost invariant = { λ s. IsOrder s.lines s.order.items × AreUses s.lines s.uses.items };
 }
 
 impl Script {
@@ -60,7 +75,8 @@ impl Script {
         ensures { IfOk result (λ script. script.lines ≡ lines) }
     {
         let order = order_of(alloc, lines.as_slice())?;
-        Ok(Script { lines, order })
+        let uses = uses_of(alloc, lines.as_slice())?;
+        Ok(Script { lines, order, uses })
     }
 
     /// The lines, lent.
@@ -79,13 +95,22 @@ impl Script {
             places: places_of(self.order.as_slice(), value),
         }
     }
+
+    /// The last value into which a line copies a part of the value of this number: that of the
+    /// greatest number, found without a look at the lines that copy from others.
+    pub fn last_use(&self, number: u64) -> Option<u64>
+        ensures { MatchOption result (IsUnused self.now.lines number)
+            (IsLastUse self.now.lines number) }
+    {
+        last_use(self.uses.as_slice(), number)
+    }
 }
 
 /// The lines that edit a value, in the script's order: those that are left.
 #[derive(Drop)]
 pub struct ValueLines<'a> {
     lines: &'a [ScriptLine],
-    places: &'a [(u64, usize)],
+    places: &'a [(u64, u64)],
 }
 
 impl<'a> Model for ValueLines<'a> {
@@ -108,7 +133,7 @@ impl<'a> ValueLines<'a> {
         match self.places.split_first() {
             Some((place, more)) => {
                 self.places = more;
-                Some(&self.lines[place.1])
+                Some(&self.lines[place.1 as usize])
             }
             None => None,
         }
@@ -122,6 +147,8 @@ pub enum ScriptFault {
     Lex(usize, LexFault),
     /// Where in the line its first lexeme begins at which no line goes on, or the line's end.
     Syntax(usize, usize),
+    /// The value that is copied from does not come before the one that is edited.
+    Later(usize),
     /// Out of memory.
     Memory,
 }

@@ -10,6 +10,9 @@ pub enum Role {
     /// The second path of `link`, after the first.
     Source(Path),
     Unshare,
+    Graft,
+    /// The second path of `graft`, after the first and the number of the value that it is in.
+    Part(Path, u64),
 }
 
 /// What was read of a line, up to the `=` of `set`.
@@ -20,6 +23,8 @@ pub enum Front {
     Value(u64),
     /// The value's number, the steps of a path, and whether a dot stands after them.
     Steps(u64, Role, Path, bool),
+    /// The value's number and the first path of `graft`, up to the `=`.
+    Other(u64, Path),
 }
 
 /// What comes of one more lexeme.

@@ -9,9 +9,10 @@ mod line;
 mod order;
 mod read;
 mod text;
+mod uses;
 
-pub use edits::{Edit, Script, ScriptFault, ScriptLine, ValueLines};
+pub use edits::{Action, Edit, Script, ScriptFault, ScriptLine, ValueLines};
 pub use fault::PathFault;
-pub use laws::{one_answer, one_script_answer};
+pub use laws::{lines_in_time, one_answer, one_script_answer};
 pub use read::read_path;
 pub use text::read_script;

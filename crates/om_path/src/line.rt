@@ -2,12 +2,13 @@
 
 ghost use Rattle.std.specs.Prelude.{◌≡◌, ◌<◌, ◌≤◌, IfOk, IfErr, Option, Some, None, Ok, Err, length, drop};
 ghost use Rattle.om_path.specs.Machine.{at, number_of};
-ghost use Rattle.om_path.specs.LineMachine.{named_role, role_of, valued, begun, is_equals, after_equals, steps_next, next_of};
+ghost use Rattle.om_path.specs.LineMachine.{named_role, role_of, valued, begun, is_equals, after_equals, with_other, steps_next, next_of};
 ghost use Rattle.om_path.specs.ScriptAnswer.{IsRead, IsLineAnswer, UnlessMemory};
-ghost use Rattle.om_path.specs.LineCode.{IsTold, edit_of, ended_line};
+ghost use Rattle.om_path.specs.LineCode.{IsTold, action_of, ended_line, in_time};
+ghost use Rattle.om_path.specs.declared.edits.Action.TheVariants as actions;
 ghost use Rattle.om_path.specs.declared.edits.Edit.TheVariants as edits;
 
-use crate::edits::{Edit, ScriptFault, ScriptLine, line_fault};
+use crate::edits::{Action, Edit, ScriptFault, ScriptLine, line_fault};
 use crate::front::{Front, Next, Role, Told};
 use crate::read::{is_whole, number_of, step};
 use om_lex::lexeme::{Lexeme, LexemeKind, Symbol};
@@ -28,12 +29,14 @@ fn named_role(name: &[u8]) -> Option<Role>
         Some(Role::Link)
     } else if name == b"unshare".as_slice() {
         Some(Role::Unshare)
+    } else if name == b"graft".as_slice() {
+        Some(Role::Graft)
     } else {
         None
     }
 }
 
-/// What the path after a lexeme is for, where that is one of the three words.
+/// What the path after a lexeme is for, where that is one of the four words.
 fn role_of(kind: &LexemeKind) -> Option<Role>
     ensures { result ≡ role_of kind.now }
 {
@@ -82,7 +85,21 @@ fn after_equals(alloc: Global, value: u64, role: Role, path: Path) -> Next
         Role::Link => {
             Next::Onward(Front::Steps(value, Role::Source(path), Path::new(alloc), false))
         }
+        Role::Graft => Next::Onward(Front::Other(value, path)),
         _ => Next::Nowhere,
+    }
+}
+
+/// After the number of the value that `graft` copies from, where the lexeme is one.
+fn with_other(alloc: Global, value: u64, path: Path, kind: &LexemeKind) -> Next
+    ensures { result ≡ with_other value path (number_of kind.now) }
+{
+    match number_of(kind) {
+        Some(other) => {
+            let role = Role::Part(path, other);
+            Next::Onward(Front::Steps(value, role, Path::new(alloc), false))
+        }
+        None => Next::Nowhere,
     }
 }
 
@@ -120,6 +137,7 @@ fn next_of(alloc: Global, front: Front, kind: &LexemeKind) -> Result<Next, Memor
         Front::Steps(value, role, path, after_dot) => {
             steps_next(alloc, value, role, path, after_dot, kind)
         }
+        Front::Other(value, path) => Ok(with_other(alloc, value, path, kind)),
     }
 }
 
@@ -138,13 +156,14 @@ fn told(alloc: Global, lexemes: &[Lexeme]) -> Result<Told, Memory>
     Ok(Told::All(front))
 }
 
-/// The edit of a line that ends after a whole path.
-fn edit_of(role: Role, path: Path) -> Option<Edit>
-    ensures { result ≡ edit_of role path }
+/// What a line asks for that ends after a whole path.
+fn action_of(role: Role, path: Path) -> Option<Action>
+    ensures { result ≡ action_of role path }
 {
     match role {
-        Role::Source(target) => Some(Edit::Link(target, path)),
-        Role::Unshare => Some(Edit::Unshare(path)),
+        Role::Source(target) => Some(Action::Edit(Edit::Link(target, path))),
+        Role::Unshare => Some(Action::Edit(Edit::Unshare(path))),
+        Role::Part(target, other) => Some(Action::Graft(target, other, path)),
         _ => None,
     }
 }
@@ -159,11 +178,11 @@ fn ended(front: Front, number: usize) -> Option<ScriptLine>
     if !is_whole(&path, after_dot) {
         return None;
     }
-    match edit_of(role, path) {
-        Some(edit) => Some(ScriptLine {
+    match action_of(role, path) {
+        Some(action) => Some(ScriptLine {
             number,
             value,
-            edit,
+            action,
         }),
         None => None,
     }
@@ -184,15 +203,25 @@ fn set_line(
         ≡ record {
           number = number;
           value = value;
-          edit = edits.Set path (drop place lexemes.items) end;
+          action = actions.Edit (edits.Set path (drop place lexemes.items) end);
         }) }
 {
     let literal = List::of(lexemes.split_off(place)?);
     Ok(ScriptLine {
         number,
         value,
-        edit: Edit::Set(path, literal, end),
+        action: Action::Edit(Edit::Set(path, literal, end)),
     })
+}
+
+/// The line, where the value that it copies from, if it copies from one, comes before its own.
+fn in_time(line: ScriptLine) -> Result<ScriptLine, ScriptFault>
+    ensures { result ≡ in_time line }
+{
+    match &line.action {
+        Action::Graft(_, other, _) if line.value <= *other => Err(ScriptFault::Later(line.number)),
+        _ => Ok(line),
+    }
 }
 
 /// The line that was told of its lexemes, of which there are some.
@@ -210,7 +239,7 @@ fn line_of(
 {
     match told {
         Told::All(front) => match ended(front, number) {
-            Some(line) => Ok(line),
+            Some(line) => in_time(line),
             None => Err(ScriptFault::Syntax(number, end)),
         },
         Told::Literal(value, path, place) => {

@@ -8,11 +8,11 @@ use om_model::Memory;
 use std::alloc::Global;
 
 /// Of each line its value's number and its place.
-fn places(alloc: Global, lines: &[ScriptLine]) -> Result<Vec<(u64, usize)>, Memory>
+fn places(alloc: Global, lines: &[ScriptLine]) -> Result<Vec<(u64, u64)>, Memory>
     ensures { IfOk result (λ places. places.items ≡ places_from 0 lines.now) }
 {
     let mut places = Vec::new(alloc);
-    let mut place: usize = 0;
+    let mut place: u64 = 0;
     let mut rest = lines;
     while let Some((line, more)) = rest.split_first() {
         places.push((line.value, place))?;
@@ -23,7 +23,7 @@ fn places(alloc: Global, lines: &[ScriptLine]) -> Result<Vec<(u64, usize)>, Memo
 }
 
 /// The places of the lines by the numbers of their values, and at one value in the lines' order.
-pub fn order_of(alloc: Global, lines: &[ScriptLine]) -> Result<Vec<(u64, usize)>, Memory>
+pub fn order_of(alloc: Global, lines: &[ScriptLine]) -> Result<Vec<(u64, u64)>, Memory>
     ensures { IfOk result (λ order. IsOrder lines.now order.items) }
 {
     let mut order = places(alloc, lines)?;
@@ -32,7 +32,7 @@ pub fn order_of(alloc: Global, lines: &[ScriptLine]) -> Result<Vec<(u64, usize)>
 }
 
 /// Those of no lower value.
-fn from_value(order: &[(u64, usize)], value: u64) -> &[(u64, usize)]
+fn from_value(order: &[(u64, u64)], value: u64) -> &[(u64, u64)]
     requires { IsByValue order.now }
     ensures { result.now ≡ filter (λ place. not (nat_lt place.0 value)) order.now }
 {
@@ -40,7 +40,7 @@ fn from_value(order: &[(u64, usize)], value: u64) -> &[(u64, usize)]
 }
 
 /// Those of no higher value.
-fn up_to_value(order: &[(u64, usize)], value: u64) -> &[(u64, usize)]
+fn up_to_value(order: &[(u64, u64)], value: u64) -> &[(u64, u64)]
     requires { IsByValue order.now }
     ensures { result.now ≡ filter (λ place. nat_le place.0 value) order.now }
 {
@@ -48,7 +48,7 @@ fn up_to_value(order: &[(u64, usize)], value: u64) -> &[(u64, usize)]
 }
 
 /// Those of a value, found without a look at the others.
-pub fn places_of(order: &[(u64, usize)], value: u64) -> &[(u64, usize)]
+pub fn places_of(order: &[(u64, u64)], value: u64) -> &[(u64, u64)]
     requires { IsByValue order.now }
     ensures { result.now ≡ places_of value order.now }
 {

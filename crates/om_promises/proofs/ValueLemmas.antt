@@ -1,5 +1,5 @@
 -- One value more, and bytes that come after.
-use Rattle.std.proofs.Common.{◌≡◌, ℕ, suc, ◌+◌, ◌<◌, ◌≤◌, Bool, true, false, List, [], ◌∷◌, ◌++◌, length, take, inl, inr, refl, sym, ap, ◌∙◌, subst, append_assoc, append-nil, length-append, take_all, arith}
+use Rattle.std.proofs.Common.{◌≡◌, ℕ, ◌+◌, ◌<◌, ◌≤◌, Bool, true, false, List, [], ◌∷◌, ◌++◌, length, take, inl, inr, refl, sym, ap, ◌∙◌, subst, append_assoc, append-nil, length-append, take_all, arith}
 use Rattle.std.proofs.lemmas.List.{length-take-le}
 use Rattle.std.specs.Prelude.{◌&&◌}
 use Rattle.om_model.specs.Bytes.{AreBytes}
@@ -77,19 +77,20 @@ all_well-snoc (first ∷ said) next =
 -- ---- of values that are compared
 
 -- of no more than two values something is said
-pub few_said : {D T E : Type 0} (language : Language D T E) (k : ℕ) (trees : List Tree) (said : List Said) → k ≤ 2 → AllSay language compares k trees said → k + length trees ≤ 2
-few_said language k [] said fits h = omega (arith, fits)
-few_said language k (t ∷ trees) [] fits h = absurd h
-few_said language k (t ∷ trees) (next ∷ said) fits h =
+pub few_said : {D T E : Type 0} (language : Language D T E) (earlier trees : List Tree) (said : List Said) → length earlier ≤ 2 → AllSay language compares earlier trees said → length earlier + length trees ≤ 2
+few_said language earlier [] said fits h = omega (arith, fits)
+few_said language earlier (t ∷ trees) [] fits h = absurd h
+few_said language earlier (t ∷ trees) (next ∷ said) fits h =
     let less = h.0.0 in
-    let more = few_said language (suc k) trees said (omega (arith, less)) h.1 in omega (arith, more)
+    let size = length-append earlier (t ∷ []) in
+    let more = few_said language (earlier ++ t ∷ []) trees said (omega (arith, less, size)) h.1 in omega (arith, more, size)
 
 -- nothing is wrong before the line
-pub silent : {D T E : Type 0} (language : Language D T E) (k : ℕ) (trees : List Tree) (said : List Said) → AllSay language compares k trees said → all_well said ≡ true
-silent language k [] [] h = refl
-silent language k [] (next ∷ said) h = absurd h
-silent language k (t ∷ trees) [] h = absurd h
-silent language k (t ∷ trees) (next ∷ said) h = ap (λ s. s.well && all_well said) h.0.1 ∙ silent language (suc k) trees said h.1
+pub silent : {D T E : Type 0} (language : Language D T E) (earlier trees : List Tree) (said : List Said) → AllSay language compares earlier trees said → all_well said ≡ true
+silent language earlier [] [] h = refl
+silent language earlier [] (next ∷ said) h = absurd h
+silent language earlier (t ∷ trees) [] h = absurd h
+silent language earlier (t ∷ trees) (next ∷ said) h = ap (λ s. s.well && all_well said) h.0.1 ∙ silent language (earlier ++ t ∷ []) trees said h.1
 
 -- nothing is wrong with the line exactly where the values are the same
 pub comparison-well : (alike : Bool) → (comparison alike).well ≡ alike
@@ -99,14 +100,14 @@ comparison-well false = refl
 -- ---- one value more
 
 module _ {D T E : Type 0} (language : Language D T E) (task : Task T E) where
-  say_snoc : (k n : ℕ) (trees : List Tree) (said : List Said) (tree : Tree) (next : Said) → n ≡ k + length trees
-      → AllSay language task.work k trees said → Says language task.work n tree next → AllSay language task.work k (trees ++ tree ∷ []) (said ++ next ∷ [])
-  say_snoc k n [] [] tree next at before says =
-      let same : n ≡ k = omega arith in (subst (λ m. Says language task.work m tree next) same says, tt)
-  say_snoc k n [] (first ∷ said) tree next at before says = absurd before
-  say_snoc k n (t ∷ trees) [] tree next at before says = absurd before
-  say_snoc k n (t ∷ trees) (first ∷ said) tree next at before says =
-      (before.0, say_snoc (suc k) n trees said tree next (omega arith) before.1 says)
+  say_snoc : (earlier done trees : List Tree) (said : List Said) (tree : Tree) (next : Said) → done ≡ earlier ++ trees
+      → AllSay language task.work earlier trees said → Says language task.work done tree next → AllSay language task.work earlier (trees ++ tree ∷ []) (said ++ next ∷ [])
+  say_snoc earlier done [] [] tree next at before says =
+      (subst (λ m. Says language task.work m tree next) (at ∙ append-nil earlier) says, tt)
+  say_snoc earlier done [] (first ∷ said) tree next at before says = absurd before
+  say_snoc earlier done (t ∷ trees) [] tree next at before says = absurd before
+  say_snoc earlier done (t ∷ trees) (first ∷ said) tree next at before says =
+      (before.0, say_snoc (earlier ++ t ∷ []) done trees said tree next (at ∙ sym (append_assoc earlier (t ∷ []) trees)) before.1 says)
 
   -- nothing is said yet
   pub first_none : (bytes : List ℕ) → SayFirst language task bytes [] [] bytes
@@ -114,11 +115,11 @@ module _ {D T E : Type 0} (language : Language D T E) (task : Task T E) where
 
   -- one value more
   pub first_more : (bytes : List ℕ) (trees : List Tree) (said : List Said) (first rest : List ℕ) (tree : Tree) (next : Said)
-      → SayFirst language task bytes trees said (first ++ rest) → SpelledUnder task.limit first tree → Says language task.work (length trees) tree next
+      → SayFirst language task bytes trees said (first ++ rest) → SpelledUnder task.limit first tree → Says language task.work trees tree next
       → SayFirst language task bytes (trees ++ tree ∷ []) (said ++ next ∷ []) rest
   first_more bytes trees said first rest tree next before spelled says = record {
     spelled = spell_snoc task.limit bytes trees tree first rest spelled before.spelled;
-    all_say = say_snoc 0 (length trees) trees said tree next (omega arith) before.all_say says;
+    all_say = say_snoc [] trees trees said tree next refl before.all_say says;
   }
 
   -- more bytes come after

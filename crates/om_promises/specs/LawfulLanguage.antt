@@ -33,9 +33,10 @@ pub record IsLawful {D T E : Type 0} (language : Language D T E) : Type 0 where
       → language.ReadsScript text (Err refusal) → language.ReadsScript text (Err other)
       → refusal ≡ other
   pub bytes_once : (t : T) → IsGiven language t
-      → (lines : List E) (compat : Bool) (tree : Tree) (answer other : Result (List ℕ) Unedited)
-      → language.BytesOf t lines compat tree answer → language.BytesOf t lines compat tree other
-      → answer ≡ other
+      → (script : List E) (compat : Bool) (earlier : List Tree) (tree : Tree)
+      (answer other : Result (List ℕ) Unedited)
+      → language.BytesOf t script compat earlier tree answer
+      → language.BytesOf t script compat earlier tree other → answer ≡ other
   pub path_once : (text path : List ℕ)
       → language.ReadsPath text (Some path) → language.ReadsPath text None → ⊥
   pub same_path : (text path other : List ℕ)

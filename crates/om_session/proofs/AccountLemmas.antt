@@ -1,16 +1,18 @@
 -- The account of a call, from what each stage gave.
-use Rattle.std.proofs.Common.{◌≡◌, ◌⊎◌, ℕ, zero, suc, Bool, List, [], Ok, Err, inl, inr, refl, sym, ap, ◌∙◌, subst, arith}
+use Rattle.std.proofs.Common.{◌≡◌, ◌⊎◌, ℕ, zero, suc, Bool, List, Ok, Err, inl, inr, refl, sym, ap, subst, arith}
 use Rattle.om_outcome.specs.declared.status.Status.{Status}
 use Rattle.std.specs.Borrow.{Bor}
-use Rattle.om_outcome.specs.Outcome.{IsUsage, Found, unfetched, nothing, Stop, usage, bad_path, out_of_memory, stops as stops_reply, stopped, ending_of, Request, get, edit, dump, compare, Asks, ReadsTypeOf, dumps, compares}
+use Rattle.om_outcome.specs.Outcome.{Found, unfetched, nothing, Stop, bad_path, out_of_memory, Request, get, edit, dump, compare, Asks, ReadsTypeOf, dumps, compares}
 use Rattle.om_edge.specs.State.{ByteState, FilesState, Change, change}
 use Rattle.om_stops.specs.declared.stop.Stop as codes
 use Rattle.om_path.specs.Answer.{IsAnswer, UnlessMemory}
+use Rattle.om_path.specs.ScriptAnswer.{AreEdits, AreInTime}
 use Rattle.om_path.specs.declared.edits.Script.{Script}
+use Rattle.om_path.specs.declared.edits.ScriptLine.{ScriptLine}
 use Rattle.om_path.specs.declared.fault.PathFault.{PathFault}
-use Rattle.om_promises.specs.Call.{Call, call}
-use Rattle.om_promises.specs.Account.{FetchesFor, MayBe, Account}
-use Rattle.om_promises.specs.Commands.{Fetches, Given, Prepares, RunReplies}
+use Rattle.om_promises.specs.Call.{call}
+use Rattle.om_promises.specs.Account.{FetchesFor, Account}
+use Rattle.om_promises.specs.Commands.{Fetches, Prepares}
 use Rattle.om_declared.specs.declared.types.Requested.{Requested}
 use Rattle.om_session.specs.declared.values.Job.{Job}
 use Rattle.om_session.specs.declared.values.Job.TheVariants as jobs
@@ -18,14 +20,11 @@ use Rattle.om_session.specs.declared.verdict.Saying.{Saying}
 use Rattle.om_session.specs.declared.verdict.Speech.TheVariants as speeches
 use Rattle.om_promises.specs.Given.{Fetched}
 use Rattle.om_declared.specs.Language.{declared_types}
-use Rattle.om_promises.specs.Outside.{PutsLine}
 use Rattle.om_stops.specs.Stops.{stop_of, Reports}
 use Rattle.om_session.specs.Telling.{AsksToTell, AsksToEdit}
 use Rattle.om_declared.specs.Types.{type_over, IsPathStop, GivesType, GivesScript}
 use Rattle.om_session.specs.Values.{task_of}
 use Rattle.om_session.specs.Verdict.{saying_of}
-use Rattle.om_promises.proofs.PutLemmas.{puts_nothing}
-use Rattle.om_promises.proofs.TakeLemmas.{took_nothing}
 use Rattle.om_declared.proofs.TypeLemmas.{path_refused}
 use Rattle.om_commands.specs.Tasks.{by_turns, WantsFile, WantsScript, commands}
 use Rattle.om_work.specs.Reported.{HasAccount}
@@ -180,3 +179,10 @@ module _ (words : List (List ℕ)) (limit : ℕ) (files : FilesState) (input out
   -- two values are compared
   pub compare_account : Asks words (compare limit) → DoesJob (jobs.Compare limit) input out err status → Account (commands declared_types) words (call input (change files files) out err status)
   compare_account asks does = does words nothing_found (change files files) (none_fetched words files) (Ok (compare limit), asks, (Ok compares, refl, refl))
+
+-- ---- the lines
+
+-- the lines that a file gives copy from values before their own
+pub given_in_time : ((text : List ℕ) (lines : List ScriptLine) → AreEdits 1 text (Ok lines) → AreInTime lines) → (name : List ℕ) (found : Found) (script : Script) → GivesScript name found (Ok script) → AreInTime script.lines
+given_in_time law name found script (Ok text, read, is) = law text script.lines is
+given_in_time law name found script (Err stop, read, is) = absurd (cc is)

@@ -1,5 +1,5 @@
 -- Canonical values that are edited by no line are put as they came.
-use Rattle.std.proofs.Common.{◌≡◌, ◌<◌, ◌+◌, ℕ, suc, Bool, true, false, List, [], ◌∷◌, ◌++◌, length, map, Option, Some, None, Ok, inl, inr, refl, sym, ap, ◌∙◌, subst, length-append, arith}
+use Rattle.std.proofs.Common.{◌≡◌, ◌<◌, ◌+◌, ℕ, Bool, true, false, List, [], ◌∷◌, ◌++◌, length, map, Option, Some, None, Ok, inl, inr, refl, sym, ap, ◌∙◌, subst, length-append, arith}
 use Rattle.std.specs.Prelude.{if◌then◌else◌}
 use Rattle.std.specs.List.{concat, AllByRecursion}
 use Rattle.om_outcome.specs.declared.status.Status.TheVariants as statuses
@@ -12,6 +12,7 @@ use Rattle.om_format.specs.Tree.{Tree, root, objects_of}
 use Rattle.om_outcome.specs.Outcome.{edit, Stop, Said, nothing_said, says, Replies, replies, all_well, ending_of, edits, Task, task, AllSay, StopsAt, fetches_of, whole}
 use Rattle.om_edge.specs.Files.{File, contents_of}
 use Rattle.om_edge.specs.Sink.{Puts}
+use Rattle.om_edit.specs.Grafts.{Other}
 use Rattle.om_path.specs.declared.edits.ScriptLine.{ScriptLine}
 use Rattle.om_promises.specs.Call.{Call}
 use Rattle.om_session.specs.All.{on_values, all_commands, IsOfValues, IsPart}
@@ -19,6 +20,7 @@ use Rattle.om_session.proofs.PartLemmas.{only_this}
 use Rattle.om_session.specs.Copied.{IsCanonical, IsLeftAlone, LeavesCanonical}
 use Rattle.om_promises.specs.Given.{TellsBytes}
 use Rattle.om_declared.specs.Language.{TypeOver, declared_types, bytes_for, IsBytesLine}
+use Rattle.om_declared.proofs.DoneLemmas.{as_it_came, plain_done}
 use Rattle.om_declared.proofs.GivenLemmas.{given_each}
 use Rattle.om_promises.specs.LawfulLanguage.{IsGiven}
 use Rattle.om_promises.specs.CommandLaws.{HaveOneOutcome}
@@ -69,8 +71,8 @@ module _ (t : TypeOver) (compat : Bool) (limit : ℕ) where
       omega (arith, some, size)
 
   module _ (given : IsGiven declared_types t) where
-    left_alone : (tree : Tree) → IsCanonical t compat limit tree → IsBytesLine t [] compat (objects_of tree 0) (root tree 0) (Ok (canon tree))
-    left_alone tree h =
+    left_alone : (others : List Other) (tree : Tree) → IsCanonical t compat limit tree → IsBytesLine t others [] compat (objects_of tree 0) (root tree 0) (Ok (canon tree))
+    left_alone others tree h =
         inl (record {
           has = h.has;
           each = given_each t given (objects_of tree 0) (root tree 0) h.has;
@@ -79,9 +81,11 @@ module _ (t : TypeOver) (compat : Bool) (limit : ℕ) where
           bytes = (tree, own_tree tree h.spelled.spells.is_tree h.spelled.spells.refers_back, bytes_are compat tree (too_large_for_32 tree) h.fits);
         })
 
-    all_say : (k : ℕ) (trees : List Tree) → AllByRecursion (IsCanonical t compat limit) trees → AllSay declared_types (edits t [] compat) k trees (map said_of trees)
-    all_say k [] h = tt
-    all_say k (tree ∷ trees) h = ((left_alone tree h.0, refl), all_say (suc k) trees h.1)
+    all_say : (earlier trees : List Tree) → AllByRecursion (IsCanonical t compat limit) trees → AllSay declared_types (edits t [] compat) earlier trees (map said_of trees)
+    all_say earlier [] h = tt
+    all_say earlier (tree ∷ trees) h =
+        let others = map as_it_came earlier in
+        (((others, plain_done t [] earlier, left_alone others tree h.0), refl), all_say (earlier ++ tree ∷ []) trees h.1)
 
     reply : (trees : List Tree) → AllByRecursion (IsCanonical t compat limit) trees
         → AreBytes (concat (map canon trees))
@@ -95,7 +99,7 @@ module _ (t : TypeOver) (compat : Bool) (limit : ℕ) where
             items = items_of trees;
             rest = [];
             first = says_first declared_types its_task (concat (map canon trees)) trees (map said_of trees) []
-                (record { spelled = spelled; all_say = all_say 0 trees h });
+                (record { spelled = spelled; all_say = all_say [] trees h });
             last = inr (
               goes_on declared_types its_task trees [] none clean refl (λ refusal e. cc e) (none_at_end trees),
               record { trees = trees; are = refl; end = clean; tail = refl; ends = refl },

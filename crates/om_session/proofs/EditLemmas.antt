@@ -1,6 +1,6 @@
 -- Values that are edited: the type, the lines, and the bytes.
 use Rattle.std.proofs.Common.{◌≡◌, ◌∙◌, ◌==◌, ◌≢◌, ◌<◌, ℕ, Bool, true, false, cond, List, [], ◌∷◌, length, Option, None, Some, Result, Ok, Err, inl, inr, refl, sym, ap, subst, lt-ltb, eq-eqb}
-use Rattle.std.specs.Prelude.{filter, IsErrAnd, option_map, nat_lt, if◌then◌else◌}
+use Rattle.std.specs.Prelude.{filter, IsErrAnd, OnOk, option_map, nat_lt, if◌then◌else◌}
 use Rattle.om_model.specs.declared.value.Val.{Val}
 use Rattle.om_model.specs.declared.value.Obj.{Obj}
 use Rattle.om_model.specs.Graph.{IsValue}
@@ -10,13 +10,14 @@ use Rattle.om_fault.specs.Text.{text_at}
 use Rattle.om_format.specs.Tree.{Tree}
 use Rattle.om_edge.specs.State.{ByteState, Change, change}
 use Rattle.om_edit.specs.EditedValues.{Answer, Edited}
-use Rattle.om_edit.specs.Laws.{IsDeclaredAnswer, SayTheSame, TablesEditAlike}
+use Rattle.om_edit.specs.Grafts.{Other}
+use Rattle.om_edit.specs.Laws.{SayTheSame}
+use Rattle.om_edit.specs.LineLaws.{IsDeclaredLine, IsLineAnswerIn, IsLineApplied, IsLineRefusedFor, TablesAnswerLinesAlike}
 use Rattle.om_edit.specs.Reasons.{Reason, no_field, no_literal, misread, ill_typed, reason_text, reason_or_none, literal_reason, reason_of}
 use Rattle.om_edit.specs.declared.refusal.EditRefusal.{EditRefusal}
 use Rattle.om_edit.specs.declared.refusal.EditRefusal.TheVariants as refusals
 use Rattle.om_edit.specs.declared.refusal.Side.{Side}
 use Rattle.om_types.specs.declared.fault.Fault.{Fault}
-use Rattle.om_edit.specs.Tables.{IsAnswerIn, IsRefusedFor, IsApplied}
 use Rattle.om_literal.specs.Reading.{misfit_at, int_range_at, label_at}
 use Rattle.om_literal.specs.declared.fault.LiteralFault.{LiteralFault}
 use Rattle.om_literal.specs.declared.fault.LiteralFault.TheVariants as literals
@@ -30,8 +31,8 @@ use Rattle.om_stops.specs.declared.stop.Halt.TheVariants as halts
 use Rattle.om_stops.specs.declared.stop.Stop.{Stop}
 use Rattle.om_stops.specs.declared.stop.Stop.TheVariants as stops
 use Rattle.om_declared.specs.declared.types.Requested.{Requested}
-use Rattle.om_session.specs.Edits.{lines_at, Edit, EditsOn, IsReasonStop, IsRefusedLine, EditsLine, EditsAll, EditsLines, PutsEdited, AnswersOf, IsPast}
-use Rattle.om_declared.specs.Language.{declared_types, AreBytesOf}
+use Rattle.om_session.specs.Edits.{Edit, EditsOn, IsReasonStop, IsRefusedLine, EditsLine, EditsAll, EditsLines, PutsEdited, AnswersOf, IsPast}
+use Rattle.om_declared.specs.Language.{declared_types, AreBytesOf, lines_of_value}
 use Rattle.om_stops.specs.Stops.{stop_of}
 use Rattle.om_declared.specs.Types.{IsReady}
 use Rattle.om_session.specs.Values.{EndsScript}
@@ -41,32 +42,32 @@ use Rattle.om_declared.specs.Bytes.{PutsBytes}
 
 -- ---- lines
 
-module _ (r : Requested) (k : ℕ) (line : ScriptLine) where
+module _ (r : Requested) (others : List Other) (k : ℕ) (line : ScriptLine) where
   -- a line of another value changes nothing
-  pub other_line : (value : Value) → IsValue (length value.heap) value.root → (line.value == k) ≡ false → EditsOn r k line value value
+  pub other_line : (value : Value) → IsValue (length value.heap) value.root → (line.value == k) ≡ false → EditsOn r others k line value value
   other_line value valid other = record {
     valid = valid;
-    goes_on = λ rest all edits. subst (λ b. Edit r (if b then line ∷ lines_at k rest else lines_at k rest) value.heap value.root all) (sym other) edits;
+    goes_on = λ rest all edits. subst (λ b. Edit r others (if b then line ∷ lines_of_value k rest else lines_of_value k rest) value.heap value.root all) (sym other) edits;
   }
 
-  module _ (ready : IsReady r) (alike : TablesEditAlike) (own : line.value ≡ k) (old : Value) where
-    own_line : (rest : List ScriptLine) (all : Edited Ty) → Edit r (line ∷ lines_at k rest) old.heap old.root all → Edit r (lines_at k (line ∷ rest)) old.heap old.root all
-    own_line rest all edits = subst (λ b. Edit r (if b then line ∷ lines_at k rest else lines_at k rest) old.heap old.root all) (sym (eq-eqb line.value k own)) edits
+  module _ (ready : IsReady r) (alike : TablesAnswerLinesAlike) (own : line.value ≡ k) (old : Value) where
+    own_line : (rest : List ScriptLine) (all : Edited Ty) → Edit r others (line ∷ lines_of_value k rest) old.heap old.root all → Edit r others (lines_of_value k (line ∷ rest)) old.heap old.root all
+    own_line rest all edits = subst (λ b. Edit r others (if b then line ∷ lines_of_value k rest else lines_of_value k rest) old.heap old.root all) (sym (eq-eqb line.value k own)) edits
 
     -- what the table says of an edit is said of the type
-    pub line_applied : (new : Value) → IsValue (length new.heap) new.root → IsApplied r.table line.edit old.heap old.root new.heap new.root (Ok tt) → EditsOn r k line old new
-    line_applied new valid applied = at (alike r.decls r.ty r.table ready.made line.edit old.heap old.root (Ok (new.heap, new.root)) applied) where
-      at : (other : Answer Ty) × IsDeclaredAnswer r.decls r.ty line.edit old.heap old.root other × SayTheSame r.table (Ok (new.heap, new.root)) other → EditsOn r k line old new
+    pub line_applied : (new : Value) → IsValue (length new.heap) new.root → IsLineApplied r.table others line.action old.heap old.root new.heap new.root (Ok tt) → EditsOn r others k line old new
+    line_applied new valid applied = at (alike r.decls r.ty r.table ready.made others line.action old.heap old.root (Ok (new.heap, new.root)) applied) where
+      at : (other : Answer Ty) × IsDeclaredLine r.decls r.ty others line.action old.heap old.root other × SayTheSame r.table (Ok (new.heap, new.root)) other → EditsOn r others k line old new
       at (Err reason, is, never) = absurd never
       at (Ok edited, is, same) = record {
         valid = valid;
-        goes_on = λ rest all edits. own_line rest all (Ok edited, is, subst (λ (e : List Obj × Val). Edit r (lines_at k rest) e.0 e.1 all) same edits);
+        goes_on = λ rest all edits. own_line rest all (Ok edited, is, subst (λ (e : List Obj × Val). Edit r others (lines_of_value k rest) e.0 e.1 all) same edits);
       }
 
-    pub line_refused : (reason : Reason ℕ) (stop : Stop) → stop_of stop ≡ outcome.script_line line.number (reason_text (text_at r.table) reason) → IsAnswerIn r.table line.edit old.heap old.root (Err reason)
-        → IsRefusedLine r k line old stop
-    line_refused reason stop told is = at (alike r.decls r.ty r.table ready.made line.edit old.heap old.root (Err reason) is) where
-      at : (other : Answer Ty) × IsDeclaredAnswer r.decls r.ty line.edit old.heap old.root other × SayTheSame r.table (Err reason) other → IsRefusedLine r k line old stop
+    pub line_refused : (reason : Reason ℕ) (stop : Stop) → stop_of stop ≡ outcome.script_line line.number (reason_text (text_at r.table) reason) → IsLineAnswerIn r.table others line.action old.heap old.root (Err reason)
+        → IsRefusedLine r others k line old stop
+    line_refused reason stop told is = at (alike r.decls r.ty r.table ready.made others line.action old.heap old.root (Err reason) is) where
+      at : (other : Answer Ty) × IsDeclaredLine r.decls r.ty others line.action old.heap old.root other × SayTheSame r.table (Err reason) other → IsRefusedLine r others k line old stop
       at (Ok edited, is, never) = absurd never
       at (Err other, is, same) = (
         other,
@@ -75,10 +76,10 @@ module _ (r : Requested) (k : ℕ) (line : ScriptLine) where
       )
 
     -- a line is refused for the reason that is told
-    pub refused_by : (new : Value) (refusal : EditRefusal) (stop : Stop) → IsReasonStop r line.number (reason_of refusal) stop → IsApplied r.table line.edit old.heap old.root new.heap new.root (Err refusal)
-        → IsRefusedLine r k line old stop
+    pub refused_by : (new : Value) (refusal : EditRefusal) (stop : Stop) → IsReasonStop r line.number (reason_of refusal) stop → IsLineApplied r.table others line.action old.heap old.root new.heap new.root (Err refusal)
+        → IsRefusedLine r others k line old stop
     refused_by new refusal stop told (same, same_root, is) = at (reason_of refusal) told is where
-      at : (reason : Option (Reason ℕ)) → IsReasonStop r line.number reason stop → IsRefusedFor r.table line.edit old.heap old.root reason → IsRefusedLine r k line old stop
+      at : (reason : Option (Reason ℕ)) → IsReasonStop r line.number reason stop → IsLineRefusedFor r.table others line.action old.heap old.root reason → IsRefusedLine r others k line old stop
       at None told is = absurd told
       at (Some reason) told is = line_refused reason stop told is
 
@@ -106,9 +107,9 @@ reason_stop r number refusal text (reason, is) spelled = at (reason_of refusal) 
   at (Some other) is spelled = ap (λ t. outcome.script_line number t) spelled
 
 -- what the lines so far made goes on to what all make
-pub record EditedSoFar (r : Requested) (k : ℕ) (lines rest : List ScriptLine) (old value : Value) : Type 0 where
+pub record EditedSoFar (r : Requested) (others : List Other) (k : ℕ) (lines rest : List ScriptLine) (old value : Value) : Type 0 where
   pub valid : IsValue (length value.heap) value.root
-  pub goes_on : (all : Edited Ty) → Edit r (lines_at k rest) value.heap value.root all → Edit r (lines_at k lines) old.heap old.root all
+  pub goes_on : (all : Edited Ty) → Edit r others (lines_of_value k rest) value.heap value.root all → Edit r others (lines_of_value k lines) old.heap old.root all
 
 -- what a test keeps it keeps again
 same_kept : {X : Type 0} (test : X → Bool) (xs : List X) → filter test (filter test xs) ≡ filter test xs
@@ -118,73 +119,78 @@ same_kept test (x ∷ xs) = at (same_kept test xs) (test x) refl where
   at rest true is = rw is (ap (λ l. x ∷ l) rest)
   at rest false is = rest
 
-module _ (r : Requested) (k : ℕ) (lines : List ScriptLine) (old : Value) where
+module _ (r : Requested) (others : List Other) (k : ℕ) (lines : List ScriptLine) (old : Value) where
   -- the lines of a value are all that edit it
-  pub edits_begin : IsValue (length old.heap) old.root → (own : List ScriptLine) → own ≡ lines_at k lines → EditedSoFar r k lines own old old
+  pub edits_begin : IsValue (length old.heap) old.root → (own : List ScriptLine) → own ≡ lines_of_value k lines → EditedSoFar r others k lines own old old
   edits_begin valid own are = record {
     valid = valid;
-    goes_on = λ all edits. subst (λ l. Edit r l old.heap old.root all) (ap (lines_at k) are ∙ same_kept (λ line. line.value == k) lines) edits;
+    goes_on = λ all edits. subst (λ l. Edit r others l old.heap old.root all) (ap (lines_of_value k) are ∙ same_kept (λ line. line.value == k) lines) edits;
   }
 
-  module _ (rest : List ScriptLine) (value : Value) (s : EditedSoFar r k lines rest old value) (line : ScriptLine) (more : List ScriptLine) (is : rest ≡ line ∷ more) where
-    pub edits_more : (new : Value) → EditsOn r k line value new → EditedSoFar r k lines more old new
+  module _ (rest : List ScriptLine) (value : Value) (s : EditedSoFar r others k lines rest old value) (line : ScriptLine) (more : List ScriptLine) (is : rest ≡ line ∷ more) where
+    pub edits_more : (new : Value) → EditsOn r others k line value new → EditedSoFar r others k lines more old new
     edits_more new e = record {
       valid = e.valid;
-      goes_on = λ all edits. s.goes_on all (subst (λ l. Edit r (lines_at k l) value.heap value.root all) (sym is) (e.goes_on more all edits));
+      goes_on = λ all edits. s.goes_on all (subst (λ l. Edit r others (lines_of_value k l) value.heap value.root all) (sym is) (e.goes_on more all edits));
     }
 
-    pub edits_halt : (new : Value) (halt : Halt) (result : Result (Unit {0}) Halt) → IsErrAnd result (λ h. h ≡ halt) → EditsLine {U = Unit {0}} r k line value new (Err halt) → EditsLines r k lines old new result
+    pub edits_halt : (new : Value) (halt : Halt) (result : Result (Unit {0}) Halt) → IsErrAnd result (λ h. h ≡ halt) → EditsLine {U = Unit {0}} r others k line value new (Err halt) → EditsLines r others k lines old new result
     edits_halt new halt (Ok unit) same e = absurd same
-    edits_halt new halt (Err h) same e = subst (λ h. EditsLines {U = Unit {0}} r k lines old new (Err h)) (sym same) (at halt e) where
-      at : (halt : Halt) → EditsLine {U = Unit {0}} r k line value new (Err halt) → EditsLines {U = Unit {0}} r k lines old new (Err halt)
+    edits_halt new halt (Err h) same e = subst (λ h. EditsLines {U = Unit {0}} r others k lines old new (Err h)) (sym same) (at halt e) where
+      at : (halt : Halt) → EditsLine {U = Unit {0}} r others k line value new (Err halt) → EditsLines {U = Unit {0}} r others k lines old new (Err halt)
       at halts.WriteFault never = never
       at (halts.Stop stop) (inl memory) = inl memory
       at (halts.Stop stop) (inr (reason, refused, told)) =
-          inr (line.number, reason, s.goes_on (Err (line.number, reason)) (subst (λ l. Edit r (lines_at k l) value.heap value.root (Err (line.number, reason))) (sym is) (refused more)), told)
+          inr (line.number, reason, s.goes_on (Err (line.number, reason)) (subst (λ l. Edit r others (lines_of_value k l) value.heap value.root (Err (line.number, reason))) (sym is) (refused more)), told)
 
-  pub edits_end : (rest : List ScriptLine) (value : Value) → EditedSoFar r k lines rest old value → rest ≡ [] → EditsAll r k lines old value
+  pub edits_end : (rest : List ScriptLine) (value : Value) → EditedSoFar r others k lines rest old value → rest ≡ [] → EditsAll r others k lines old value
   edits_end rest value s none = record {
     valid = s.valid;
-    made = s.goes_on (Ok (value.heap, value.root)) (subst (λ l. Edit r (lines_at k l) value.heap value.root (Ok (value.heap, value.root))) (sym none) refl);
+    made = s.goes_on (Ok (value.heap, value.root)) (subst (λ l. Edit r others (lines_of_value k l) value.heap value.root (Ok (value.heap, value.root))) (sym none) refl);
   }
 
 -- ---- the value
 
-module _ (e : Edits) (k : ℕ) (old : Value) where
+module _ (e : Edits) (others : List Other) (k : ℕ) (old : Value) where
   -- the value has not the type, or memory ran out
   pub checked_halt : (out : ByteState) (halt : Halt) (result : Result (Unit {0}) Halt) → IsErrAnd result (λ h. h ≡ halt) → ChecksType {U = Unit {0}} e.requested.now k old.heap old.root (Err halt)
-      → PutsEdited e k old.heap old.root (change out out) result
+      → PutsEdited e others k old.heap old.root (change out out) result
   checked_halt out halt (Ok unit) is c = absurd is
-  checked_halt out halt (Err h) is c = subst (λ h. PutsEdited {U = Unit {0}} e k old.heap old.root (change out out) (Err h)) (sym is) (at halt c) where
-    at : (halt : Halt) → ChecksType {U = Unit {0}} e.requested.now k old.heap old.root (Err halt) → PutsEdited {U = Unit {0}} e k old.heap old.root (change out out) (Err halt)
+  checked_halt out halt (Err h) is c = subst (λ h. PutsEdited {U = Unit {0}} e others k old.heap old.root (change out out) (Err h)) (sym is) (at halt c) where
+    at : (halt : Halt) → ChecksType {U = Unit {0}} e.requested.now k old.heap old.root (Err halt) → PutsEdited {U = Unit {0}} e others k old.heap old.root (change out out) (Err halt)
     at halts.WriteFault never = absurd never
     at (halts.Stop stop) (inl memory) = (inl memory, puts_nothing out)
     at (halts.Stop stop) (inr (text, why, some_not, told)) = (inr (untyped text, inr (record { text = text; why = why; some_not = some_not; is = refl }), told), puts_nothing out)
 
   module _ (has : ChecksType {U = Unit {0}} e.requested.now k old.heap old.root (Ok tt)) where
     -- a line is refused, or memory ran out
-    pub lines_halt : (new : Value) (out : ByteState) (halt : Halt) (result : Result (Unit {0}) Halt) → IsErrAnd result (λ h. h ≡ halt) → EditsLines {U = Unit {0}} e.requested.now k e.script.now.lines old new (Err halt)
-        → PutsEdited e k old.heap old.root (change out out) result
+    pub lines_halt : (new : Value) (out : ByteState) (halt : Halt) (result : Result (Unit {0}) Halt) → IsErrAnd result (λ h. h ≡ halt) → EditsLines {U = Unit {0}} e.requested.now others k e.script.now.lines old new (Err halt)
+        → PutsEdited e others k old.heap old.root (change out out) result
     lines_halt new out halt (Ok unit) is l = absurd is
-    lines_halt new out halt (Err h) is l = subst (λ h. PutsEdited {U = Unit {0}} e k old.heap old.root (change out out) (Err h)) (sym is) (at halt l) where
-      at : (halt : Halt) → EditsLines {U = Unit {0}} e.requested.now k e.script.now.lines old new (Err halt) → PutsEdited {U = Unit {0}} e k old.heap old.root (change out out) (Err halt)
+    lines_halt new out halt (Err h) is l = subst (λ h. PutsEdited {U = Unit {0}} e others k old.heap old.root (change out out) (Err h)) (sym is) (at halt l) where
+      at : (halt : Halt) → EditsLines {U = Unit {0}} e.requested.now others k e.script.now.lines old new (Err halt) → PutsEdited {U = Unit {0}} e others k old.heap old.root (change out out) (Err halt)
       at halts.WriteFault never = absurd never
       at (halts.Stop stop) (inl memory) = (inl memory, puts_nothing out)
       at (halts.Stop stop) (inr (number, reason, refused, told)) =
           (inr (refused_line number (reason_text type_text reason), inl (record { has = has.0; each = has.1; edited = Err (number, reason); made = refused; bytes = refl }), told), puts_nothing out)
 
     -- what the lines made is put
-    pub edited_puts : (new : Value) → EditsAll e.requested.now k e.script.now.lines old new → (out : Change ByteState) (result : Result (Unit {0}) Halt) → PutsBytes e.compat k new.heap new.root out result
-        → PutsEdited e k old.heap old.root out result
+    pub edited_puts : (new : Value) → EditsAll e.requested.now others k e.script.now.lines old new → (out : Change ByteState) (result : Result (Unit {0}) Halt) → PutsBytes e.compat k new.heap new.root out result
+        → PutsEdited e others k old.heap old.root out result
     edited_puts new all out result p = at result p where
-      lifted : (answer : Result (List ℕ) Unedited) → AreBytesOf e.compat new.heap new.root answer → AnswersOf e k old.heap old.root answer
+      lifted : (answer : Result (List ℕ) Unedited) → AreBytesOf e.compat new.heap new.root answer → AnswersOf e others k old.heap old.root answer
       lifted answer bytes = inl (record { has = has.0; each = has.1; edited = Ok (new.heap, new.root); made = all.made; bytes = bytes })
 
-      at : (result : Result (Unit {0}) Halt) → PutsBytes e.compat k new.heap new.root out result → PutsEdited e k old.heap old.root out result
+      at : (result : Result (Unit {0}) Halt) → PutsBytes e.compat k new.heap new.root out result → PutsEdited e others k old.heap old.root out result
       at (Ok unit) (bytes, are, put) = (bytes, lifted (Ok bytes) are, put)
       at (Err (halts.Stop stop)) (inl memory, none) = (inl memory, none)
       at (Err (halts.Stop stop)) (inr (why, is, told), none) = (inr (why, lifted (Err why) is, told), none)
       at (Err halts.WriteFault) (bytes, are, part) = (bytes, lifted (Ok bytes) are, part)
+
+-- what was made is told where its bytes are put
+pub made_where_put : {P : Type 0} (result : Result (Unit {0}) Halt) → P → OnOk result P
+made_where_put (Ok unit) made = made
+made_where_put (Err halt) made = tt
 
 -- ---- the end
 

@@ -2,6 +2,7 @@ pub mod VerdictLemmas
 pub mod ReadLemmas
 pub mod GlimpseLemmas
 pub mod TypedLemmas
+pub mod EarlierLemmas
 pub mod EditLemmas
 pub mod AccountLemmas
 pub mod CopyLemmas

@@ -3,7 +3,7 @@ use Rattle.std.proofs.Common.{◌≡◌, ◌⊎◌, ℕ, zero, suc, ◌+◌, ◌
 use Rattle.std.proofs.lemmas.List.{length-take-le, take-append-drop}
 use Rattle.std.specs.Prelude.{◌&&◌, ◌↔◌, ◌≢◌, IsTrue, IsErrAnd, Vec}
 use Rattle.std.specs.List.{AllZip, AllByRecursion}
-use Rattle.std.proofs.lemmas.List.Elements.{All-from_recursion}
+use Rattle.std.proofs.lemmas.List.Elements.{All-from_recursion, All-nil}
 use Rattle.std.specs.declared.alloc.Global.{Global}
 use Rattle.om_edge.specs.Sink.{Puts, PutsPart}
 use Rattle.om_edge.specs.State.{ByteState, Change, change}
@@ -23,8 +23,11 @@ use Rattle.om_read.specs.Reader.{Leads, Feeds, Finishes, EndsInput}
 use Rattle.om_format.specs.Stream.{SpellAll, clean, cut}
 use Rattle.om_format.proofs.JudgementLaws.{one_judgement_lem}
 use Rattle.om_model.specs.Bytes.{AreBytes}
+use Rattle.om_edit.specs.Grafts.{Other}
+use Rattle.om_session.specs.declared.earlier.Earlier.{Earlier}
 use Rattle.om_session.specs.declared.edit.Edits.{Edits}
-use Rattle.om_session.specs.Edits.{AnswersOf, PutsEdited}
+use Rattle.om_session.specs.Earlier.{IsMade, AreMade, AreEarlier}
+use Rattle.om_session.specs.Edits.{Edit, EditsAll, AnswersOf, PutsEdited}
 use Rattle.om_commands.specs.Tasks.{items_of, MayCome, StopsHere, EndsHere, commands}
 use Rattle.om_commands.proofs.FirstLemmas.{says_first, front_end, goes_on}
 use Rattle.om_commands.proofs.ItemLemmas.{item_stays}
@@ -40,7 +43,9 @@ use Rattle.om_session.specs.declared.verdict.Speech.TheVariants as speeches
 use Rattle.om_session.specs.declared.values.Values.{Values}
 use Rattle.om_stops.specs.declared.stop.Halt.TheVariants as halts
 use Rattle.om_stops.specs.declared.stop.Stop.TheVariants as stops
-use Rattle.om_declared.specs.Language.{declared_types}
+use Rattle.om_declared.specs.Language.{declared_types, lines_of_value, AreDone, AreBytesIn}
+use Rattle.om_declared.specs.Types.{type_over}
+use Rattle.om_declared.proofs.DoneLemmas.{done_length, done_more}
 use Rattle.om_session.specs.Verdict.{work_by, IsSaidOf}
 use Rattle.om_promises.specs.Account.{HoldNoStop}
 use Rattle.om_stops.specs.Stops.{stop_of}
@@ -51,6 +56,7 @@ use Rattle.om_read.proofs.ReadingLemmas.{unless_memory}
 use Rattle.om_session.specs.declared.values.Job.{Job}
 use Rattle.om_session.specs.declared.values.Job.TheVariants as jobs
 use Rattle.om_session.specs.Values.{IsStopOf, IsReadyJob, IsFull, MayTake, AreValues, IsKept, HasRead, IsValueRead, PutsNext, PutsComparison, Compares, EndsScript, work_of, task_of, word_limit}
+use Rattle.om_session.proofs.EarlierLemmas.{none_needed}
 use Rattle.om_promises.proofs.PutLemmas.{puts_nothing}
 use Rattle.om_promises.proofs.ValueLemmas.{not_whole, nothing_front, first_none, first_more, first_after, silent, and_true, all_well-snoc}
 
@@ -95,13 +101,18 @@ pub values_stay : (w : Job) → ItemsStay (commands declared_types) (task_of w)
 values_stay w = item_stays declared_types (task_of w)
 
 -- no value was read
-begins_kept : (w : Job) (kept : List Value) → kept ≡ [] → IsKept w [] kept
-begins_kept (jobs.Say speech most) kept none = tt
-begins_kept (jobs.Edit e most) kept none = tt
-begins_kept (jobs.Compare most) kept none = (subst (λ k. AllZip IsValueOf k []) (sym none) tt, omega arith)
+begins_kept : (w : Job) (kept : List Value) (earlier : List Earlier) → kept ≡ [] → earlier ≡ [] → IsKept w [] kept earlier
+begins_kept (jobs.Say speech most) kept earlier none no_earlier = tt
+begins_kept (jobs.Edit e most) kept earlier none no_earlier = record {
+  others = [];
+  done = refl;
+  kept = subst (λ made. AreMade [] made) (sym no_earlier) (All-nil (λ (made : Earlier). IsMade [] made.number made.value));
+  needed = subst (λ made. AreEarlier e.script.now.lines 0 made) (sym no_earlier) (none_needed e.script.now.lines);
+}
+begins_kept (jobs.Compare most) kept earlier none no_earlier = (subst (λ k. AllZip IsValueOf k []) (sym none) tt, omega arith)
 
-pub begins : (w : Job) (values : Values) → IsReadyJob w → Leads (word_limit w) [] values.reader → values.count ≡ 0 → values.well ≡ true → values.kept.items ≡ [] → HasRead w values [] []
-begins w values ready leads counted well none = record {
+pub begins : (w : Job) (values : Values) → IsReadyJob w → Leads (word_limit w) [] values.reader → values.count ≡ 0 → values.well ≡ true → values.kept.items ≡ [] → values.earlier.items ≡ [] → HasRead w values [] []
+begins w values ready leads counted well none no_earlier = record {
   ready = ready;
   trees = [];
   front = [];
@@ -111,7 +122,7 @@ begins w values ready leads counted well none = record {
   leads = leads;
   counted = counted;
   well = well;
-  kept = begins_kept w values.kept.items none;
+  kept = begins_kept w values.kept.items values.earlier.items none no_earlier;
 }
 
 -- ---- the input's end
@@ -212,7 +223,7 @@ ends_compared : (most : ℕ) (taken : List ℕ) (said : List Said) (values : Val
 ends_compared most taken said values h end out (Ok well) (final, finishes, is, put) = (
   final,
   ends_clean (jobs.Compare most) taken said values h end (says final) finishes,
-  is ∙ sym (all_well-snoc said final ∙ ap (λ b. b && final.well) (silent declared_types 0 h.trees said h.first.all_say)),
+  is ∙ sym (all_well-snoc said final ∙ ap (λ b. b && final.well) (silent declared_types [] h.trees said h.first.all_say)),
   put,
 )
 ends_compared most taken said values h end out (Err (halts.Stop stop)) (inl finishes, none) =
@@ -254,18 +265,18 @@ module _ (w : Job) (taken : List ℕ) (said : List Said) (values : Values) (h : 
       subst P (sym is) (λ h. kept_values values.kept.items h.trees h.kept.0) h
 
 -- what is said of a value that was read whole
-pub says_read : (speech : Speech) (k : ℕ) (value : Value) (tree : Tree) (text : List ℕ) (well : Bool) → IsValueOf value tree → IsSaidOf speech value.heap value.root text well
-    → Says declared_types (work_by speech) k tree (record { text = text; well = well })
-says_read speech k value tree text well is_value it_says =
+pub says_read : (speech : Speech) (earlier : List Tree) (value : Value) (tree : Tree) (text : List ℕ) (well : Bool) → IsValueOf value tree → IsSaidOf speech value.heap value.root text well
+    → Says declared_types (work_by speech) earlier tree (record { text = text; well = well })
+says_read speech earlier value tree text well is_value it_says =
     of_tree speech (subst (λ v. IsSaidOf speech (objects_of tree 0) v text well) is_value.root (subst (λ h. IsSaidOf speech h value.root text well) is_value.heap it_says)) where
-      of_tree : (speech : Speech) → IsSaidOf speech (objects_of tree 0) (root tree 0) text well → Says declared_types (work_by speech) k tree (record { text = text; well = well })
+      of_tree : (speech : Speech) → IsSaidOf speech (objects_of tree 0) (root tree 0) text well → Says declared_types (work_by speech) earlier tree (record { text = text; well = well })
       of_tree (speeches.Tell r saying) h = h
       of_tree speeches.Dump h = h
 
 -- the bytes of a value that was read whole, and edited
-pub edited_read : (e : Edits) (k : ℕ) (value : Value) (tree : Tree) (answer : Result (List ℕ) outcome.Unedited) → IsValueOf value tree → AnswersOf e k value.heap value.root answer
-    → AnswersOf e k (objects_of tree 0) (root tree 0) answer
-edited_read e k value tree answer is it = subst (λ v. AnswersOf e k (objects_of tree 0) v answer) is.root (subst (λ h. AnswersOf e k h value.root answer) is.heap it)
+pub edited_read : (e : Edits) (others : List Other) (k : ℕ) (value : Value) (tree : Tree) (answer : Result (List ℕ) outcome.Unedited) → IsValueOf value tree → AnswersOf e others k value.heap value.root answer
+    → AnswersOf e others k (objects_of tree 0) (root tree 0) answer
+edited_read e others k value tree answer is it = subst (λ v. AnswersOf e others k (objects_of tree 0) v answer) is.root (subst (λ h. AnswersOf e others k h value.root answer) is.heap it)
 
 -- ---- bytes in hand
 
@@ -326,16 +337,16 @@ module _ (w : Job) (taken : List ℕ) (said : List Said) (values : Values) (h : 
 
 -- a value that was read whole, and what is said of it
 pub value_said : (w : Job) (taken : List ℕ) (said : List Said) (values : Values) (v : IsValueRead w values taken said) (tree : Tree) → SpelledUnder (word_limit w) v.whole tree
-    → (next : Said) → Says declared_types (work_of w) (length v.trees) tree next → SayFirst declared_types (task_of w) taken (v.trees ++ tree ∷ []) (said ++ next ∷ []) []
+    → (next : Said) → Says declared_types (work_of w) v.trees tree next → SayFirst declared_types (task_of w) taken (v.trees ++ tree ∷ []) (said ++ next ∷ []) []
 value_said w taken said values v tree spelled next it_says =
     first_more declared_types (task_of w) taken v.trees said v.whole [] tree next (subst (λ b. SayFirst declared_types (task_of w) taken v.trees said b) (sym (append-nil v.whole)) v.first) spelled it_says
 
 -- the reader waits for the next one
 pub value_put : (w : Job) (taken : List ℕ) (said : List Said) (values : Values) (v : IsValueRead w values taken said) (tree : Tree) → SpelledUnder (word_limit w) v.whole tree
-    → (next : Said) → Says declared_types (work_of w) (length v.trees) tree next → (reader : Reader) → Leads (word_limit w) [] reader → (well : Bool) → well ≡ (values.well && next.well)
-    → (kept : Vec Value Global) → IsKept w (v.trees ++ tree ∷ []) kept.items
-    → HasRead w (record { reader = reader; well = well; count = values.count + 1; kept = kept }) taken (said ++ next ∷ [])
-value_put w taken said values v tree spelled next it_says reader leads well is_well kept are = record {
+    → (next : Said) → Says declared_types (work_of w) v.trees tree next → (reader : Reader) → Leads (word_limit w) [] reader → (well : Bool) → well ≡ (values.well && next.well)
+    → (kept : Vec Value Global) (earlier : Vec Earlier Global) → IsKept w (v.trees ++ tree ∷ []) kept.items earlier.items
+    → HasRead w (record { reader = reader; well = well; count = values.count + 1; kept = kept; earlier = earlier }) taken (said ++ next ∷ [])
+value_put w taken said values v tree spelled next it_says reader leads well is_well kept earlier are = record {
   ready = v.ready;
   trees = v.trees ++ tree ∷ [];
   front = [];
@@ -357,9 +368,9 @@ zip_push (v ∷ kept) (t ∷ trees) value tree are is = (are.0, zip_push kept tr
 -- it is kept
 pub value_kept : (most : ℕ) (taken : List ℕ) (said : List Said) (values : Values) (v : IsValueRead (jobs.Compare most) values taken said) (value : Value) (f : Finishes most v.whole value)
     → (kept : Vec Value Global) → kept.items ≡ values.kept.items ++ value ∷ [] → (reader : Reader) → Leads most [] reader
-    → HasRead (jobs.Compare most) (record { reader = reader; well = values.well; count = values.count + 1; kept = kept }) taken (said ++ nothing_said ∷ [])
+    → HasRead (jobs.Compare most) (record { reader = reader; well = values.well; count = values.count + 1; kept = kept; earlier = values.earlier }) taken (said ++ nothing_said ∷ [])
 value_kept most taken said values v value f kept same reader leads =
-    value_put (jobs.Compare most) taken said values v f.tree f.spelled nothing_said (v.may, refl) reader leads values.well (sym (and_true values.well)) kept
+    value_put (jobs.Compare most) taken said values v f.tree f.spelled nothing_said (v.may, refl) reader leads values.well (sym (and_true values.well)) kept values.earlier
     (let few = v.may in
     let size = length-append v.trees (f.tree ∷ []) in
     (subst (λ k. AllZip IsValueOf k (v.trees ++ f.tree ∷ [])) (sym same) (zip_push values.kept.items v.trees value f.tree v.kept.0 f.is_value), omega (arith, few, size)))
@@ -451,29 +462,72 @@ module _ (w : Job) (taken : List ℕ) (said : List Said) (values : Values) (h : 
         part,
       )
 
+-- memory ran out, by `?`
+pub memory_halts : (w : Job) (taken : List ℕ) (said : List Said) (trees : List Tree) (whole : List ℕ) (o : ByteState) (new : Values) (result : Result (Unit {0}) Halt)
+    → IsErrAnd result (λ h. h ≡ halts.Stop stops.Memory) → PutsNext {U = Unit {0}} w taken said trees whole (change o o) new result
+memory_halts w taken said trees whole o new (Ok unit) is = absurd is
+memory_halts w taken said trees whole o new (Err h) is = subst (λ h. PutsNext {U = Unit {0}} w taken said trees whole (change o o) new (Err h)) (sym is) (inl refl, puts_nothing o)
+
 -- ---- a value that is edited
 
 module _ (e : Edits) (most : ℕ) (taken : List ℕ) (said : List Said) (values : Values) (v : IsValueRead (jobs.Edit e most) values taken said) (value : Value) (f : Finishes most v.whole value) where
   -- what is answered to it is answered to the tree after the values
-  answered : (answer : Result (List ℕ) outcome.Unedited) → AnswersOf e values.count value.heap value.root answer → AnswersOf e (length v.trees) (objects_of f.tree 0) (root f.tree 0) answer
-  answered answer it = edited_read e (length v.trees) value f.tree answer f.is_value (subst (λ k. AnswersOf e k value.heap value.root answer) v.counted it)
+  answered : (answer : Result (List ℕ) outcome.Unedited) → AnswersOf e v.kept.others values.count value.heap value.root answer
+      → AreBytesIn (type_over e.requested.now) e.script.now.lines e.compat v.trees f.tree answer
+  answered answer it = (
+    v.kept.others,
+    v.kept.done,
+    edited_read e v.kept.others (length v.trees) value f.tree answer f.is_value (subst (λ k. AnswersOf e v.kept.others k value.heap value.root answer) v.counted it),
+  )
+
+  -- it comes after those that the lines made
+  pub comes_last : values.count ≡ length v.kept.others
+  comes_last =
+      let size = done_length (type_over e.requested.now) e.script.now.lines [] v.trees v.kept.others v.kept.done in
+      let counted = v.counted in omega (arith, size, counted)
+
+  -- and they made it
+  abbrev pub all_made : Value → List Other
+  all_made new = v.kept.others ++ (new.heap, new.root) ∷ []
+
+  made_last : (new : Value) → EditsAll e.requested.now v.kept.others values.count e.script.now.lines value new
+      → AreDone (type_over e.requested.now) e.script.now.lines [] (v.trees ++ f.tree ∷ []) (all_made new)
+  made_last new all =
+      let others = v.kept.others in
+      let r = e.requested.now in
+      let lines = e.script.now.lines in
+      let last : Edit r others (lines_of_value (length others) lines) value.heap value.root (Ok (new.heap, new.root)) =
+      subst (λ k. Edit r others (lines_of_value k lines) value.heap value.root (Ok (new.heap, new.root))) comes_last all.made in
+      let heap : Edit r others (lines_of_value (length others) lines) (objects_of f.tree 0) value.root (Ok (new.heap, new.root)) =
+      subst (λ h. Edit r others (lines_of_value (length others) lines) h value.root (Ok (new.heap, new.root))) f.is_value.heap last in
+      let whole : Edit r others (lines_of_value (length others) lines) (objects_of f.tree 0) (root f.tree 0) (Ok (new.heap, new.root)) =
+      subst (λ v. Edit r others (lines_of_value (length others) lines) (objects_of f.tree 0) v (Ok (new.heap, new.root))) f.is_value.root heap in
+      done_more (type_over r) lines [] v.trees others f.tree (new.heap, new.root) v.kept.done whole
 
   abbrev edited_said : List ℕ → Said
   edited_said bytes = record { text = bytes; well = true }
 
   -- its bytes were put, and the reader waits for the next one
-  pub edited_put : (out : Change ByteState) (result : Result (Unit {0}) Halt) → result ≡ Ok tt → PutsEdited e values.count value.heap value.root out result
-      → (reader : Reader) → Leads most [] reader
-      → (next : Said) × HasRead (jobs.Edit e most) (record { reader = reader; well = values.well; count = values.count + 1; kept = values.kept }) taken (said ++ next ∷ []) × Puts out next.text
-  edited_put out (Err halt) is p reader leads = absurd (cc is)
-  edited_put out (Ok unit) is (bytes, it, put) reader leads = (
+  pub edited_put : (new : Value) (out : Change ByteState) → PutsEdited {U = Unit {0}} e v.kept.others values.count value.heap value.root out (Ok tt)
+      → EditsAll e.requested.now v.kept.others values.count e.script.now.lines value new
+      → (reader : Reader) → Leads most [] reader → (earlier : Vec Earlier Global) → AreMade (all_made new) earlier.items → AreEarlier e.script.now.lines (values.count + 1) earlier.items
+      → (next : Said)
+      × HasRead (jobs.Edit e most) (record { reader = reader; well = values.well; count = values.count + 1; kept = values.kept; earlier = earlier }) taken (said ++ next ∷ [])
+      × Puts out next.text
+  edited_put new out (bytes, it, put) all reader leads earlier are needed = (
     edited_said bytes,
-    value_put (jobs.Edit e most) taken said values v f.tree f.spelled (edited_said bytes) (answered (Ok bytes) it, refl) reader leads values.well (sym (and_true values.well)) values.kept tt,
+    value_put (jobs.Edit e most) taken said values v f.tree f.spelled (edited_said bytes) (answered (Ok bytes) it, refl) reader leads values.well (sym (and_true values.well)) values.kept earlier
+        (record {
+          others = all_made new;
+          done = made_last new all;
+          kept = are;
+          needed = subst (λ n. AreEarlier e.script.now.lines n earlier.items) (ap (λ n. n + 1) v.counted ∙ sym (length-append v.trees (f.tree ∷ []))) needed;
+        }),
     put,
   )
 
   -- or it stops the run, or out failed
-  edited_halt : (out : Change ByteState) (halt : Halt) (new : Values) → PutsEdited {U = Unit {0}} e values.count value.heap value.root out (Err halt)
+  edited_halt : (out : Change ByteState) (halt : Halt) (new : Values) → PutsEdited {U = Unit {0}} e v.kept.others values.count value.heap value.root out (Err halt)
       → PutsNext {U = Unit {0}} (jobs.Edit e most) taken said v.trees v.whole out new (Err halt)
   edited_halt out (halts.Stop stop) new (inl memory, none) = (inl memory, none)
   edited_halt out (halts.Stop stop) new (inr (why, it, is), none) = (
@@ -493,7 +547,7 @@ module _ (e : Edits) (most : ℕ) (taken : List ℕ) (said : List Said) (values 
     part,
   )
 
-  pub edited_halts : (out : Change ByteState) (halt : Halt) (new : Values) (result : Result (Unit {0}) Halt) → IsErrAnd result (λ h. h ≡ halt) → PutsEdited {U = Unit {0}} e values.count value.heap value.root out (Err halt)
+  pub edited_halts : (out : Change ByteState) (halt : Halt) (new : Values) (result : Result (Unit {0}) Halt) → IsErrAnd result (λ h. h ≡ halt) → PutsEdited {U = Unit {0}} e v.kept.others values.count value.heap value.root out (Err halt)
       → PutsNext {U = Unit {0}} (jobs.Edit e most) taken said v.trees v.whole out new result
   edited_halts out halt new (Ok unit) is p = absurd is
   edited_halts out halt new (Err h) is p = subst (λ h. PutsNext {U = Unit {0}} (jobs.Edit e most) taken said v.trees v.whole out new (Err h)) (sym is) (edited_halt out halt new p)

@@ -8,41 +8,40 @@ use Rattle.om_types.specs.Names.{names_of}
 use Rattle.om_types.specs.Shape.{shape}
 use Rattle.om_types.specs.Ty.{Ty}
 use Rattle.om_types.specs.TypeText.{type_text}
-use Rattle.om_edit.specs.EditedValues.{Edited, AreEdited}
+use Rattle.om_edit.specs.EditedLines.{AreEdited}
+use Rattle.om_edit.specs.EditedValues.{Edited}
+use Rattle.om_edit.specs.Grafts.{Other}
 use Rattle.om_edit.specs.Reasons.{Reason, reason_text}
 use Rattle.om_fault.specs.Text.{text_at}
 use Rattle.om_edge.specs.State.{ByteState, Change}
 use Rattle.om_path.specs.declared.edits.ScriptLine.{ScriptLine}
 use Rattle.om_read.specs.declared.value.Value.{Value}
-use Rattle.om_outcome.specs.Outcome.{Unedited, script_line, lines_for, line_past}
+use Rattle.om_outcome.specs.Outcome.{Unedited, script_line, line_past}
 use Rattle.om_session.specs.declared.edit.Edits.{Edits}
 use Rattle.om_stops.specs.declared.stop.Halt.{Halt}
 use Rattle.om_stops.specs.declared.stop.Halt.TheVariants as halts
 use Rattle.om_stops.specs.declared.stop.Stop.{Stop}
 use Rattle.om_declared.specs.declared.types.Requested.{Requested}
-use Rattle.om_declared.specs.Language.{declared_types, IsBytesLine}
+use Rattle.om_declared.specs.Language.{declared_types, IsBytesLine, lines_of_value}
 use Rattle.om_stops.specs.Stops.{stop_of}
 use Rattle.om_declared.specs.Types.{type_over}
 use Rattle.om_declared.specs.Bytes.{PutsAnswer}
 use Rattle.om_declared.specs.Checked.{OrMemory}
 
--- the lines that edit value k
-abbrev pub lines_at : ℕ → List ScriptLine → List ScriptLine
-lines_at k lines = lines_for declared_types lines k
-
 -- ---- lines
 
--- what lines make of a value at the type
-abbrev pub Edit : Requested → List ScriptLine → List Obj → Val → Edited Ty → Type 0
-Edit r lines graph v all =
-    AreEdited (shape r.decls) (names_of r.decls) (Equal r.decls) r.ty lines graph v all
+-- what lines make of a value at the type, after these values
+abbrev pub Edit : Requested → List Other → List ScriptLine → List Obj → Val → Edited Ty → Type 0
+Edit r others lines graph v all =
+    AreEdited (shape r.decls) (names_of r.decls) (Equal r.decls) r.ty others lines graph v all
 
 -- a line, of value k or of another one, is followed by others
-pub record EditsOn (r : Requested) (k : ℕ) (line : ScriptLine) (old new : Value) : Type 0 where
+pub record EditsOn (r : Requested) (others : List Other) (k : ℕ) (line : ScriptLine)
+    (old new : Value) : Type 0 where
   pub valid : IsValue (length new.heap) new.root
   pub goes_on : (rest : List ScriptLine) (all : Edited Ty)
-      → Edit r (lines_at k rest) new.heap new.root all
-      → Edit r (lines_at k (line ∷ rest)) old.heap old.root all
+      → Edit r others (lines_of_value k rest) new.heap new.root all
+      → Edit r others (lines_of_value k (line ∷ rest)) old.heap old.root all
 
 -- the stop at a line of this number that is refused for this reason; without one there is no such
 -- stop
@@ -51,49 +50,52 @@ IsReasonStop r number None stop = ⊥
 IsReasonStop r number (Some reason) stop =
     stop_of stop ≡ script_line number (reason_text (text_at r.table) reason)
 
--- it is refused, whatever others come
-abbrev pub IsRefusedLine : Requested → ℕ → ScriptLine → Value → Stop → Type 0
-IsRefusedLine r k line old stop =
+-- it is refused, whatever lines come after it
+abbrev pub IsRefusedLine : Requested → List Other → ℕ → ScriptLine → Value → Stop → Type 0
+IsRefusedLine r others k line old stop =
     (reason : Reason Ty)
     × ((rest : List ScriptLine)
-    → Edit r (lines_at k (line ∷ rest)) old.heap old.root (Err (line.number, reason)))
+    → Edit r others (lines_of_value k (line ∷ rest)) old.heap old.root (Err (line.number, reason)))
     × (stop_of stop ≡ script_line line.number (reason_text type_text reason))
 
-abbrev pub EditsLine : {U : Type 0} → Requested → ℕ → ScriptLine → Value → Value → Result U Halt
-    → Type 0
-EditsLine r k line old new (Ok unit) = EditsOn r k line old new
-EditsLine r k line old new (Err (halts.Stop stop)) = OrMemory (IsRefusedLine r k line old) stop
-EditsLine r k line old new (Err halts.WriteFault) = ⊥
+abbrev pub EditsLine : {U : Type 0} → Requested → List Other → ℕ → ScriptLine → Value → Value
+    → Result U Halt → Type 0
+EditsLine r others k line old new (Ok unit) = EditsOn r others k line old new
+EditsLine r others k line old new (Err (halts.Stop stop)) =
+    OrMemory (IsRefusedLine r others k line old) stop
+EditsLine r others k line old new (Err halts.WriteFault) = ⊥
 
 -- some line of value k is refused
-abbrev pub AreRefusedLines : Requested → ℕ → List ScriptLine → Value → Stop → Type 0
-AreRefusedLines r k lines old stop =
+abbrev pub AreRefusedLines : Requested → List Other → ℕ → List ScriptLine → Value → Stop → Type 0
+AreRefusedLines r others k lines old stop =
     (number : ℕ) × (reason : Reason Ty)
-    × Edit r (lines_at k lines) old.heap old.root (Err (number, reason))
+    × Edit r others (lines_of_value k lines) old.heap old.root (Err (number, reason))
     × (stop_of stop ≡ script_line number (reason_text type_text reason))
 
 -- the lines of value k made this of it
-pub record EditsAll (r : Requested) (k : ℕ) (lines : List ScriptLine) (old new : Value)
-    : Type 0 where
+pub record EditsAll (r : Requested) (others : List Other) (k : ℕ) (lines : List ScriptLine)
+    (old new : Value) : Type 0 where
   pub valid : IsValue (length new.heap) new.root
-  pub made : Edit r (lines_at k lines) old.heap old.root (Ok (new.heap, new.root))
+  pub made : Edit r others (lines_of_value k lines) old.heap old.root (Ok (new.heap, new.root))
 
-abbrev pub EditsLines : {U : Type 0} → Requested → ℕ → List ScriptLine → Value → Value
+abbrev pub EditsLines : {U : Type 0} → Requested → List Other → ℕ → List ScriptLine → Value → Value
     → Result U Halt → Type 0
-EditsLines r k lines old new (Ok unit) = EditsAll r k lines old new
-EditsLines r k lines old new (Err (halts.Stop stop)) = OrMemory (AreRefusedLines r k lines old) stop
-EditsLines r k lines old new (Err halts.WriteFault) = ⊥
+EditsLines r others k lines old new (Ok unit) = EditsAll r others k lines old new
+EditsLines r others k lines old new (Err (halts.Stop stop)) =
+    OrMemory (AreRefusedLines r others k lines old) stop
+EditsLines r others k lines old new (Err halts.WriteFault) = ⊥
 
 -- ---- bytes
 
--- what is answered to value k
-abbrev pub AnswersOf : Edits → ℕ → List Obj → Val → Result (List ℕ) Unedited → Type 0
-AnswersOf e k graph v answer =
-    IsBytesLine (type_over e.requested.now) (lines_at k e.script.now.lines) e.compat graph v answer
+-- what is answered to value k, after these values
+abbrev pub AnswersOf : Edits → List Other → ℕ → List Obj → Val → Result (List ℕ) Unedited → Type 0
+AnswersOf e others k graph v answer =
+    IsBytesLine (type_over e.requested.now) others (lines_of_value k e.script.now.lines) e.compat
+    graph v answer
 
-abbrev pub PutsEdited : {U : Type 0} → Edits → ℕ → List Obj → Val → Change ByteState → Result U Halt
-    → Type 0
-PutsEdited e k graph v out result = PutsAnswer k (AnswersOf e k graph v) out result
+abbrev pub PutsEdited : {U : Type 0} → Edits → List Other → ℕ → List Obj → Val → Change ByteState
+    → Result U Halt → Type 0
+PutsEdited e others k graph v out result = PutsAnswer k (AnswersOf e others k graph v) out result
 
 -- ---- the end
 

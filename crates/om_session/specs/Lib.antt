@@ -1,5 +1,6 @@
 pub mod Verdict
 pub mod Copied
+pub mod Earlier
 pub mod Edits
 pub mod Glimpse
 pub mod Telling

@@ -15,6 +15,8 @@ use Rattle.om_outcome.specs.Outcome.{value, out_of_memory, Said, nothing_said, s
 use Rattle.om_outcome.specs.Outcome as outcome
 use Rattle.om_edge.specs.Sink.{Puts, PutsPart}
 use Rattle.om_edge.specs.State.{ByteState, Change}
+use Rattle.om_edit.specs.Grafts.{Other}
+use Rattle.om_path.specs.ScriptAnswer.{AreInTime}
 use Rattle.om_path.specs.declared.edits.ScriptLine.{ScriptLine}
 use Rattle.om_stops.specs.declared.stop.Stop.{Stop}
 use Rattle.om_stops.specs.declared.stop.Halt.{Halt}
@@ -22,7 +24,9 @@ use Rattle.om_stops.specs.declared.stop.Halt.TheVariants as halts
 use Rattle.om_session.specs.declared.values.Values.{Values}
 use Rattle.om_session.specs.declared.values.Job.{Job}
 use Rattle.om_session.specs.declared.values.Job.TheVariants as jobs
-use Rattle.om_declared.specs.Language.{TypeOver, declared_types}
+use Rattle.om_declared.specs.Language.{TypeOver, declared_types, AreDone}
+use Rattle.om_session.specs.Earlier.{AreMade, AreEarlier}
+use Rattle.om_session.specs.declared.earlier.Earlier.{Earlier}
 use Rattle.om_session.specs.declared.edit.Edits.{Edits}
 use Rattle.om_stops.specs.Stops.{stop_of}
 use Rattle.om_declared.specs.Types.{type_over, IsReady}
@@ -44,10 +48,11 @@ work_of (jobs.Say speech limit) = work_by speech
 work_of (jobs.Edit e limit) = edits_by e
 work_of (jobs.Compare limit) = compares
 
--- the table that values are checked by, if they are, is the type's
+-- the table that values are checked by, if they are, is the type's; lines copy from values before
+-- their own
 abbrev pub IsReadyJob : Job → Type 0
 IsReadyJob (jobs.Say speech limit) = IsReadySpeech speech
-IsReadyJob (jobs.Edit e limit) = IsReady e.requested.now
+IsReadyJob (jobs.Edit e limit) = IsReady e.requested.now × AreInTime e.script.now.lines
 IsReadyJob (jobs.Compare limit) = Unit {0}
 
 -- the work with the values
@@ -71,11 +76,20 @@ MayTake (jobs.Compare limit) n = n < 2
 abbrev pub AreValues : List Value → Type 0
 AreValues kept = All (λ v. IsValue (length v.heap) v.root) kept
 
--- the values of the trees are kept, where they are compared
-abbrev pub IsKept : Job → List Tree → List Value → Type 0
-IsKept (jobs.Say speech limit) trees kept = Unit {0}
-IsKept (jobs.Edit e limit) trees kept = Unit {0}
-IsKept (jobs.Compare limit) trees kept = AllZip IsValueOf kept trees × (length trees ≤ 2)
+-- the lines made these values of the trees, and of them those are kept that later ones copy from
+pub record HaveMade (e : Edits) (trees : List Tree) (earlier : List Earlier) : Type 0 where
+  pub others : List Other
+  pub done : AreDone (type_over e.requested.now) e.script.now.lines [] trees others
+  pub kept : AreMade others earlier
+  pub needed : AreEarlier e.script.now.lines (length trees) earlier
+
+-- the values of the trees are kept, where they are compared; where they are edited, what the lines
+-- made of those that later ones copy from
+abbrev pub IsKept : Job → List Tree → List Value → List Earlier → Type 0
+IsKept (jobs.Say speech limit) trees kept earlier = Unit {0}
+IsKept (jobs.Edit e limit) trees kept earlier = HaveMade e trees earlier
+IsKept (jobs.Compare limit) trees kept earlier =
+    AllZip IsValueOf kept trees × (length trees ≤ 2)
 
 -- Of these bytes the reader has taken what comes after the values, a front of the next one, and
 -- nothing stops the run; this is said of the values.
@@ -90,7 +104,7 @@ pub record HasRead (job : Job) (values : Values) (taken : List ℕ) (said : List
   pub leads : Leads (word_limit job) front values.reader
   pub counted : values.count ≡ length trees
   pub well : values.well ≡ all_well said
-  pub kept : IsKept job trees values.kept.items
+  pub kept : IsKept job trees values.kept.items values.earlier.items
 
 -- The same where the reader has taken all of the next one.
 pub record IsValueRead (job : Job) (values : Values) (taken : List ℕ) (said : List Said)
@@ -105,7 +119,7 @@ pub record IsValueRead (job : Job) (values : Values) (taken : List ℕ) (said : 
   pub done : IsDone values.reader
   pub counted : values.count ≡ length trees
   pub well : values.well ≡ all_well said
-  pub kept : IsKept job trees values.kept.items
+  pub kept : IsKept job trees values.kept.items values.earlier.items
 
 -- this is said of the first values of the bytes
 abbrev pub AreSaid : Job → List ℕ → List Said → Type 0

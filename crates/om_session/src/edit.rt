@@ -1,18 +1,23 @@
 //! Values that are edited by the lines of a script.
 
-ghost use Rattle.std.specs.Prelude.{◌≡◌, ℕ, true, false, length, Some, IfOk};
+ghost use Rattle.std.specs.Prelude.{◌≡◌, ℕ, List, true, false, length, Some, IfOk, OnOk};
 ghost use Rattle.om_model.specs.Graph.{IsValue};
 ghost use Rattle.om_edge.specs.State.{change};
-ghost use Rattle.om_session.specs.Edits.{EditsLine, EditsLines, PutsEdited, IsReasonStop, IsPast};
+ghost use Rattle.om_session.specs.Earlier.{AreMade, AreServed, IsServed};
+ghost use Rattle.om_session.specs.Edits.{EditsAll, EditsLine, EditsLines, PutsEdited, IsReasonStop, IsPast};
+ghost use Rattle.om_edit.specs.Grafts.{Other};
+ghost use Rattle.om_edit.specs.LineLaws.{IsLineApplied};
 ghost use Rattle.om_edit.specs.Reasons.{Reason, literal_reason, reason_of};
+ghost use Rattle.om_declared.specs.Language.{lines_of_value};
 ghost use Rattle.om_declared.specs.Types.{IsReady};
 
+use crate::earlier::{Earlier, earlier_value};
 use om_declared::{Requested, check_type, put_bytes};
 use om_edge::Sink;
-use om_edit::{EditRefusal, apply, refusal_text, tables_edit_alike};
+use om_edit::{EditRefusal, apply, graft, refusal_text, tables_answer_lines_alike};
 use om_literal::LiteralFault;
 use om_model::Memory;
-use om_path::{Script, ScriptLine};
+use om_path::{Action, Script, ScriptLine};
 use om_read::Value;
 use om_stops::stop::{Halt, Stop};
 use om_type_table::laws::tables_are_lawful;
@@ -27,21 +32,30 @@ pub struct Edits<'a> {
     pub compat: bool,
 }
 
-/// Edits the value of this number by its lines, and puts its bytes.
+/// Edits the value of this number by its lines, which may copy parts of earlier values that are
+/// kept, and puts its bytes.
 pub fn edit_value<K: Sink>(
     alloc: Global,
     value: &mut Value,
     number: u64,
     edits: Edits<'_>,
+    kept: &[Earlier],
     out: &mut K,
 ) -> Result<(), Halt>
     requires value { IsValue (length value.old.heap) value.old.root }
     requires ready { IsReady edits.requested.now }
-    ensures { PutsEdited edits.entry number value.old.heap value.old.root
+    requires kept { (others : List Other) × AreMade others kept.now }
+    requires served { AreServed kept.now (lines_of_value number edits.script.now.lines) }
+    ensures puts { (others : List Other) → AreMade others kept.now
+        → PutsEdited edits.entry others number value.old.heap value.old.root
         (change (K.state out.old) (K.state out.new)) result }
+    ensures made { (others : List Other) → AreMade others kept.now
+        → OnOk result
+        (EditsAll edits.entry.requested.now others number edits.entry.script.now.lines value.old
+        value.new) }
 {
     check_type(alloc, &value.heap, value.root, number, edits.requested)?;
-    edit_by_lines(alloc, value, number, edits.requested, edits.script)?;
+    edit_by_lines(alloc, value, number, edits.requested, edits.script, kept)?;
     put_bytes(alloc, &value.heap, value.root, number, edits.compat, out)
 }
 
@@ -52,14 +66,18 @@ fn edit_by_lines(
     number: u64,
     requested: &Requested,
     script: &Script,
+    kept: &[Earlier],
 ) -> Result<(), Halt>
     requires value { IsValue (length value.old.heap) value.old.root }
     requires ready { IsReady requested.now }
-    ensures { EditsLines requested.now number script.now.lines value.old value.new result }
+    requires kept { (others : List Other) × AreMade others kept.now }
+    requires served { AreServed kept.now (lines_of_value number script.now.lines) }
+    ensures { (others : List Other) → AreMade others kept.now
+        → EditsLines requested.now others number script.now.lines value.old value.new result }
 {
     let mut rest = script.lines_of(number);
     while let Some(line) = rest.next() {
-        edit_by_line(alloc, value, number, requested, line)?;
+        edit_by_line(alloc, value, number, requested, line, kept)?;
     }
     Ok(())
 }
@@ -71,25 +89,64 @@ fn edit_by_line(
     number: u64,
     requested: &Requested,
     line: &ScriptLine,
+    kept: &[Earlier],
 ) -> Result<(), Halt>
     requires value { IsValue (length value.old.heap) value.old.root }
     requires ready { IsReady requested.now }
-    ensures { EditsLine requested.now number line.now value.old value.new result }
+    requires kept { (others : List Other) × AreMade others kept.now }
+    requires served { IsServed kept.now line.now.action }
+    ensures { (others : List Other) → AreMade others kept.now
+        → EditsLine requested.now others number line.now value.old value.new result }
 {
     if line.value != number {
         return Ok(());
     }
-    tables_are_lawful();
-    tables_edit_alike();
-    match apply(
-        alloc,
-        &mut value.heap,
-        &mut value.root,
-        &requested.table,
-        &line.edit,
-    ) {
+    tables_answer_lines_alike();
+    match act(alloc, value, requested, &line.action, kept) {
         Ok(()) => Ok(()),
         Err(refusal) => Err(Halt::Stop(line_stop(alloc, requested, line.number, &refusal)?)),
+    }
+}
+
+/// Does what a line asks for: an edit, or a copy of a part of an earlier value.
+fn act(
+    alloc: Global,
+    value: &mut Value,
+    requested: &Requested,
+    action: &Action,
+    kept: &[Earlier],
+) -> Result<(), EditRefusal>
+    requires value { IsValue (length value.old.heap) value.old.root }
+    requires ready { IsReady requested.now }
+    requires kept { (others : List Other) × AreMade others kept.now }
+    requires served { IsServed kept.now action.now }
+    ensures applied { (others : List Other) → AreMade others kept.now
+        → IsLineApplied requested.now.table others action.now value.old.heap value.old.root
+        value.new.heap value.new.root result }
+    ensures value { IsValue (length value.new.heap) value.new.root }
+{
+    tables_are_lawful();
+    match action {
+        Action::Edit(edit) => apply(
+            alloc,
+            &mut value.heap,
+            &mut value.root,
+            &requested.table,
+            edit,
+        ),
+        Action::Graft(path, number, source) => {
+            let from = earlier_value(kept, *number);
+            graft(
+                alloc,
+                &mut value.heap,
+                &mut value.root,
+                &requested.table,
+                path,
+                &from.heap,
+                from.root,
+                source,
+            )
+        }
     }
 }
 

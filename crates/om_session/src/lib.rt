@@ -3,6 +3,7 @@
 
 mod build;
 mod commands;
+mod earlier;
 mod edit;
 mod glimpse;
 mod top;

@@ -24,6 +24,7 @@ ghost use Rattle.om_session.specs.All.{on_texts, on_certificates, on_certified, 
 ghost use Rattle.om_work.specs.Reported.{HasAccount};
 ghost use Rattle.om_session.specs.Telling.{AsksToTell, AsksToEdit};
 ghost use Rattle.om_declared.specs.Types.{IsReady};
+ghost use Rattle.om_path.specs.ScriptAnswer.{AreInTime};
 ghost use Rattle.om_session.specs.Values.{IsReadyJob, task_of};
 ghost use Rattle.om_session.specs.Verdict.{saying_of};
 ghost use Rattle.om_command_line.specs.Requests.{texts, request_of};
@@ -44,7 +45,7 @@ use om_declared::{Requested, find_script, find_type, path_stop};
 use om_edge::{Opener, Sink, Source};
 use om_generator::run_generation;
 use om_outcome::status::Status;
-use om_path::{Script, read_path};
+use om_path::{Script, lines_in_time, read_path};
 use om_stops::stop::{Stop, report_stop};
 use om_verifier::verify;
 use om_work::run_reported;
@@ -164,7 +165,8 @@ fn edit_with<S: Source, K: Sink, E: Sink>(
     out: &mut K,
     err: &mut E,
 ) -> Status
-    requires { IsReady requested.now }
+    requires ready { IsReady requested.now }
+    requires in_time { AreInTime script.lines }
     ensures { (words : List (List ℕ)) (before after : FilesState)
         → AsksForLines words requested.now script compat limit (change before after)
         → Account (commands declared_types) words
@@ -201,6 +203,7 @@ fn edit_by<S: Source, O: Opener, K: Sink, E: Sink>(
         (change before (O.state files.new)) (change (K.state out.old) (K.state out.new))
         (change (E.state err.old) (E.state err.new)) result) }
 {
+    lines_in_time();
     match find_script(alloc, files, script) {
         Ok(script) => edit_with(alloc, requested, script, compat, limit, input, out, err),
         Err(stop) => report(alloc, err, stop),

@@ -15,6 +15,7 @@ ghost use Rattle.om_session.specs.SaidOfValue.{PutsSaid};
 ghost use Rattle.om_session.specs.Glimpse.{IsSeen, IsBetween};
 ghost use Rattle.om_session.specs.Values.{IsReadyJob, IsStopOf, AreValues, IsFull, MayTake, HasRead, IsValueRead, KeepsNext, PutsNext, Compares, EndsScript, task_of, word_limit};
 
+use crate::earlier::{Earlier, drop_used, make_room, next_reader};
 use crate::edit::{Edits, edit_value, line_past};
 use crate::glimpse::{Looks, glimpse};
 use crate::verdict::{Saying, Speech, line_of};
@@ -122,14 +123,15 @@ fn compare<K: Sink>(alloc: Global, kept: &[Value], out: &mut K) -> Result<bool, 
     Ok(alike)
 }
 
-/// The values so far: how many there are, whether nothing is wrong with any, those that are kept,
-/// and the reader of the next one.
+/// The values so far: how many there are, whether nothing is wrong with any, those that are kept to
+/// be compared, those that later lines copy parts of, and the reader of the next one.
 #[derive(Drop)]
 struct Values {
     reader: Reader,
     well: bool,
     count: u64,
     kept: Vec<Value>,
+    earlier: Vec<Earlier>,
 }
 
 impl Values {
@@ -143,6 +145,7 @@ impl Values {
             well: true,
             count: 0,
             kept: Vec::new(alloc),
+            earlier: Vec::new(alloc),
         }
     }
 
@@ -184,7 +187,7 @@ impl Values {
     }
 
     /// Edits the value that the reader has whole, and puts its bytes. A new reader waits for the
-    /// next one, in the memory of this one.
+    /// next one, in the memory of this one unless a later line copies a part of it.
     fn put_edited<K: Sink>(
         &mut self,
         alloc: Global,
@@ -201,8 +204,18 @@ impl Values {
     {
         let reader = mem::replace(&mut self.reader, Reader::new(alloc, limit));
         let mut value = reader.finish();
-        edit_value(alloc, &mut value, self.count, edits, out)?;
-        self.reader = Reader::over(alloc, limit, value.heap);
+        let last = edits.script.last_use(self.count).unwrap_or(0);
+        make_room(&mut self.earlier)?;
+        edit_value(
+            alloc,
+            &mut value,
+            self.count,
+            edits,
+            self.earlier.as_slice(),
+            out,
+        )?;
+        self.reader = next_reader(alloc, limit, &mut self.earlier, self.count, value, last);
+        drop_used(&mut self.earlier, self.count);
         self.count += 1;
         Ok(())
     }

@@ -50,6 +50,7 @@ stop_of (stops.Certificate number) = outcome.certificate_line number
 stop_of (stops.Uncertified number reason) = outcome.uncertified_value number reason
 stop_of stops.SectionsLeft = outcome.sections_left
 stop_of (stops.Script number fault) = outcome.script_line number (declared_text fault)
+stop_of (stops.Later number) = outcome.script_line number (codes "Later")
 stop_of (stops.Edit number text) = outcome.script_line number text
 stop_of (stops.NoValue number) = outcome.script_line number (codes "NoValue")
 stop_of (stops.Text number text) = outcome.text_line number text

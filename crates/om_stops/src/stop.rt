@@ -39,6 +39,7 @@ pub enum Stop<'a> {
     Uncertified(u64, List<u8>),
     SectionsLeft,
     Script(usize, DeclFault),
+    Later(usize),
     Edit(usize, List<u8>),
     NoValue(usize),
     Text(u64, List<u8>),
@@ -86,7 +87,9 @@ fn status(stop: &Stop) -> Status
         Stop::Untyped(..) => Status::No,
         Stop::Large(..) => Status::Compat,
         Stop::Certificate(_) | Stop::Uncertified(..) | Stop::SectionsLeft => Status::Certificate,
-        Stop::Script(..) | Stop::Edit(..) | Stop::NoValue(_) | Stop::Text(..) => Status::Script,
+        Stop::Script(..) | Stop::Later(_) | Stop::Edit(..) | Stop::NoValue(_) | Stop::Text(..) => {
+            Status::Script
+        }
         Stop::ReadFault => Status::ReadFault,
         Stop::TooLong => Status::TooLong,
         Stop::Memory => Status::Memory,
@@ -318,6 +321,7 @@ fn put_text(line: &mut Vec<u8>, alloc: Global, stop: &Stop) -> Result<(), Memory
         Stop::Uncertified(number, reason) => put_value(line, alloc, *number, reason.as_slice()),
         Stop::SectionsLeft => put(line, b"sections left"),
         Stop::Script(number, fault) => put_script_fault(line, alloc, *number, fault),
+        Stop::Later(number) => put_script(line, alloc, *number, b"Later"),
         Stop::Edit(number, text) => put_script(line, alloc, *number, text.as_slice()),
         Stop::NoValue(number) => put_script(line, alloc, *number, b"NoValue"),
         Stop::Text(number, text) => put_text_line(line, alloc, *number, text.as_slice()),

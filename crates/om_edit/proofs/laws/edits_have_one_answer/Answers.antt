@@ -16,7 +16,8 @@ use Rattle.om_equal.proofs.LawfulLemmas.{reached_lawful}
 use Rattle.om_equal.proofs.ReachedLemmas.{root_listed}
 use Rattle.om_equal.proofs.SoundLemmas.{known_by_hash}
 use Rattle.om_edit.proofs.ApplyLemmas.{once}
-use Rattle.om_edit.proofs.MadeLemmas.{answer_once, edited_once}
+use Rattle.om_edit.proofs.LineLemmas.{edited_once}
+use Rattle.om_edit.proofs.MadeLemmas.{answer_once}
 use Rattle.om_edit.proofs.laws.edits_have_one_answer.Goals as goal
 
 never_both : (decls : List Decl) (t : Ty) (types : List Ty) → AreWellFormed decls → IsSoundType decls t → IsReached decls t types
@@ -31,6 +32,6 @@ returns c = record {
   by_numbers = λ table lawful edit graph root. once table lawful edit graph root;
   by_types = λ decls t types well sound reached edit graph root.
       answer_once (shape decls) (names_of decls) (Equal decls) t (never_both decls t types well sound reached) edit graph root;
-  in_order = λ decls t types well sound reached lines graph root.
-      edited_once (shape decls) (names_of decls) (Equal decls) t (never_both decls t types well sound reached) lines graph root;
+  in_order = λ decls t types well sound reached others lines graph root.
+      edited_once (shape decls) (names_of decls) (Equal decls) t others (never_both decls t types well sound reached) lines graph root;
 }

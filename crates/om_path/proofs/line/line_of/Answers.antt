@@ -1,10 +1,18 @@
 use Rattle.std.proofs.Common.{sym, ◌∙◌}
-use Rattle.om_path.proofs.LineLemmas.{told_all, told_literal, is_ended, ends_early, is_set}
+use Rattle.om_path.proofs.LineLemmas.{told_all, told_literal, is_ended, judged_line, judged_fault, ends_early, is_set}
 use Rattle.om_path.proofs.line.line_of.Goals as goal
 
 pub returns-in-Some-clause-line : goal.returns-in-Some-clause-line
 returns-in-Some-clause-line c =
-    is_ended c.args.lexemes.items c.args.number c.args.end c.in-All.front (told_all c.args.lexemes.items c.args.told c.in-All.front c.in-All.is c.requires.told) c.in-Some.line (sym c.ended.ensures ∙ c.in-Some.is)
+    judged_line c.args.lexemes.items c.args.number c.args.end c.in-Some.line c.in_time.result
+    (is_ended c.args.lexemes.items c.args.number c.args.end c.in-All.front (told_all c.args.lexemes.items c.args.told c.in-All.front c.in-All.is c.requires.told) c.in-Some.line (sym c.ended.ensures ∙ c.in-Some.is)
+    c.in_time.result c.in_time.ensures)
+
+pub returns-in-Some-clause-fault : goal.returns-in-Some-clause-fault
+returns-in-Some-clause-fault c =
+    judged_fault c.args.lexemes.items c.args.number c.args.end c.in-Some.line c.in_time.result
+    (is_ended c.args.lexemes.items c.args.number c.args.end c.in-All.front (told_all c.args.lexemes.items c.args.told c.in-All.front c.in-All.is c.requires.told) c.in-Some.line (sym c.ended.ensures ∙ c.in-Some.is)
+    c.in_time.result c.in_time.ensures)
 
 pub returns-in-All-clause-fault : goal.returns-in-All-clause-fault
 returns-in-All-clause-fault c =

@@ -1,9 +1,14 @@
-use Rattle.std.proofs.Common.{length}
+use Rattle.std.proofs.Common.{List, length}
+use Rattle.om_edit.specs.Grafts.{Other}
+use Rattle.om_session.specs.Earlier.{AreMade, AreServed}
 use Rattle.om_session.proofs.EditLemmas.{EditedSoFar}
 use Rattle.om_session.proofs.edit.edit_by_lines.Given as goal
 
 abbrev pub invariant-loop-line : goal.invariant-loop-line
-invariant-loop-line l = EditedSoFar l.requested l.number l.script.lines l.rest l.initial.value l.value
+invariant-loop-line l =
+    ((others : List Other) → AreMade others l.kept
+    → EditedSoFar l.requested others l.number l.script.lines l.rest l.initial.value l.value)
+    × AreServed l.kept l.rest
 
 abbrev pub decreases-loop-line : goal.decreases-loop-line
 decreases-loop-line l = length l.rest

@@ -4,6 +4,9 @@ use Rattle.om_path.specs.declared.edits.Script.{Script}
 use Rattle.om_session.proofs.AccountLemmas.{edits_account}
 use Rattle.om_session.proofs.top.edit_with.Goals as goal
 
+pub take_values-requires : goal.take_values-requires
+take_values-requires g c = (c.requires.ready, c.requires.in_time)
+
 pub returns : goal.returns
 returns g c = λ words before after asks.
     let lent : Bor Script = record { ref_ptr = (0, 0); now = c.args.script } in

@@ -6,12 +6,12 @@ use Rattle.om_path.proofs.edits.Script.lines_of.Goals as goal
 pub invariant_of-result : goal.invariant_of-result
 invariant_of-result c =
     subst (λ lines. AreWithin lines c.places_of.result.now) (sym c.as_slice.ensures)
-    (found_within c.self.inside.lines c.self.inside.order.items c.self.invariant c.args.value c.places_of.result.now
+    (found_within c.self.inside.lines c.self.inside.order.items c.self.invariant.0 c.args.value c.places_of.result.now
     (c.places_of.ensures ∙ ap (places_of c.args.value) c.as_slice-2.ensures.value))
 
 pub returns : goal.returns
 returns c =
     ap (λ lines. lines_at lines c.places_of.result.now) c.as_slice.ensures
-    ∙ (found_lines c.self.inside.lines c.self.inside.order.items c.self.invariant c.args.value c.places_of.result.now
+    ∙ (found_lines c.self.inside.lines c.self.inside.order.items c.self.invariant.0 c.args.value c.places_of.result.now
     (c.places_of.ensures ∙ ap (places_of c.args.value) c.as_slice-2.ensures.value)
     ∙ ap (λ (s : ScriptLines). lines_of c.args.value s.lines) c.self.view_is)

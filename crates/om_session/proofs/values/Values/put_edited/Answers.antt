@@ -1,8 +1,13 @@
-use Rattle.std.proofs.Common.{Ok, refl, sym, subst, arith}
+use Rattle.std.proofs.Common.{◌≡◌, ◌∙◌, ◌+◌, List, length, refl, sym, ap, subst, arith}
+use Rattle.std.specs.Prelude.{filter, nat_lt}
 use Rattle.om_edge.specs.State.{change}
 use Rattle.om_read.specs.Reader.{Leads}
+use Rattle.om_declared.specs.Language.{lines_of_value}
+use Rattle.om_session.specs.Earlier.{AreMade, AreServed, AreEarlier, IsUsedUpTo}
+use Rattle.om_session.specs.declared.earlier.Earlier.{Earlier}
 use Rattle.om_session.specs.declared.values.Job.TheVariants.{Edit}
-use Rattle.om_session.proofs.ReadLemmas.{edited_put, edited_halts, room_for_one}
+use Rattle.om_session.proofs.EarlierLemmas.{all_stay, last_made, still_used, still_is, still_made, used_up_to, more_needed, all_served, all_below}
+use Rattle.om_session.proofs.ReadLemmas.{edited_put, edited_halts, comes_last, all_made, memory_halts, room_for_one}
 use Rattle.om_session.proofs.values.Values.put_edited.Goals as goal
 
 pub overflow_add-self : goal.overflow_add-self
@@ -14,14 +19,59 @@ edit_value-requires-clause-value g c =
     let leads : Leads c.args.limit v.whole c.replace-reader.result = subst (λ r. Leads c.args.limit v.whole r) (sym c.replace-reader.ensures.value) v.leads in
     (c.finish-value.ensures c.args.limit v.whole leads).is_value.valid
 
+pub edit_value-requires-clause-kept : goal.edit_value-requires-clause-kept
+edit_value-requires-clause-kept g c =
+    let v = c.requires.2 in
+    (v.kept.others, subst (λ (kept : List Earlier). AreMade v.kept.others kept) (sym (c.as_slice.ensures.value ∙ c.make_room.ensures.items)) v.kept.kept)
+
+pub edit_value-requires-clause-served : goal.edit_value-requires-clause-served
+edit_value-requires-clause-served g c =
+    let v = c.requires.2 in
+    let lines = c.args.edits.script.now.lines in
+    let served : AreServed c.args.self.now.earlier.items (lines_of_value c.args.self.now.count lines) =
+    subst (λ n. AreServed c.args.self.now.earlier.items (lines_of_value n lines)) (sym v.counted) (all_served lines (length v.trees) c.args.self.now.earlier.items v.kept.needed v.ready.1) in
+    subst (λ (kept : List Earlier). AreServed kept (lines_of_value c.args.self.now.count lines)) (sym (c.as_slice.ensures.value ∙ c.make_room.ensures.items)) served
+
+pub edit_value-requires-clause-ready : goal.edit_value-requires-clause-ready
+edit_value-requires-clause-ready g c = c.requires.2.ready.0
+
+pub returns-in_err-make_room : goal.returns-in_err-make_room
+returns-in_err-make_room g c = λ taken said v.
+    memory_halts (Edit c.args.edits c.args.limit) taken said v.trees v.whole (g.K.Sink.state c.args.out.now) _ c.from_residual.result c.from_residual.ensures.1
+
 pub returns-in_err-edit_value : goal.returns-in_err-edit_value
 returns-in_err-edit_value g c = λ taken said v.
     let leads : Leads c.args.limit v.whole c.replace-reader.result = subst (λ r. Leads c.args.limit v.whole r) (sym c.replace-reader.ensures.value) v.leads in
+    let kept = subst (λ (kept : List Earlier). AreMade v.kept.others kept) (sym (c.as_slice.ensures.value ∙ c.make_room.ensures.items)) v.kept.kept in
     edited_halts c.args.edits c.args.limit taken said c.args.self.now v c.finish-value.result (c.finish-value.ensures c.args.limit v.whole leads)
-    (change (g.K.Sink.state c.args.out.now) (g.K.Sink.state c.edit_value.new.out)) c.in_err-edit_value.field-0.0 _ c.from_residual.result c.from_residual.ensures.1 c.in_err-edit_value.ensures
+    (change (g.K.Sink.state c.args.out.now) (g.K.Sink.state c.edit_value.new.out)) c.in_err-edit_value.field-0.0 _ c.from_residual-in_err-edit_value.result c.from_residual-in_err-edit_value.ensures.1
+    (c.in_err-edit_value.ensures.puts v.kept.others kept)
 
 pub returns : goal.returns
 returns g c = λ taken said v.
     let leads : Leads c.args.limit v.whole c.replace-reader.result = subst (λ r. Leads c.args.limit v.whole r) (sym c.replace-reader.ensures.value) v.leads in
-    edited_put c.args.edits c.args.limit taken said c.args.self.now v c.finish-value.result (c.finish-value.ensures c.args.limit v.whole leads)
-    (change (g.K.Sink.state c.args.out.now) (g.K.Sink.state c.edit_value.new.out)) (Ok tt) refl c.in_ok-edit_value.ensures c.over.result c.over.ensures.leads
+    let f = c.finish-value.ensures c.args.limit v.whole leads in
+    let new = c.edit_value.new.value in
+    let others = all_made c.args.edits c.args.limit taken said c.args.self.now v c.finish-value.result f new in
+    let kept = subst (λ (kept : List Earlier). AreMade v.kept.others kept) (sym (c.as_slice.ensures.value ∙ c.make_room.ensures.items)) v.kept.kept in
+    let all = c.in_ok-edit_value.ensures.made v.kept.others kept in
+    let lines = c.args.edits.script.now.lines in
+    let made : Earlier = record { number = c.args.self.now.count; last = c.unwrap_or-last.result; value = new } in
+    let stay = all_stay v.kept.others (new.heap, new.root) c.args.self.now.earlier.items v.kept.kept in
+    let last = last_made v.kept.others c.args.self.now.count new all.valid (comes_last c.args.edits c.args.limit taken said c.args.self.now v c.finish-value.result f) in
+    let after : c.drop_used.new.kept.items ≡ still_used c.args.self.now.earlier.items made =
+    c.drop_used.ensures
+    ∙ (ap (λ (kept : List Earlier). filter (λ e. nat_lt made.number e.last) kept) c.next_reader.ensures.kept
+    ∙ (still_is c.make_room.new.kept.items made ∙ ap (λ (kept : List Earlier). still_used kept made) c.make_room.ensures.items)) in
+    let used : AreMade others c.drop_used.new.kept.items =
+    subst (λ (kept : List Earlier). AreMade others kept) (sym after) (still_made others c.args.self.now.earlier.items made stay last) in
+    let up_to : IsUsedUpTo lines c.args.self.now.count c.unwrap_or-last.result =
+    subst (λ n. IsUsedUpTo lines c.args.self.now.count n) (sym c.unwrap_or-last.ensures) (used_up_to lines c.args.self.now.count c.last_use.result c.last_use.ensures) in
+    let needed = subst (λ n. AreEarlier lines n c.args.self.now.earlier.items) (sym v.counted) v.kept.needed in
+    let below = all_below v.kept.others c.args.self.now.earlier.items c.args.self.now.count (comes_last c.args.edits c.args.limit taken said c.args.self.now v c.finish-value.result f) v.kept.kept in
+    let more : AreEarlier lines (c.args.self.now.count + 1) c.drop_used.new.kept.items =
+    subst (λ (kept : List Earlier). AreEarlier lines (c.args.self.now.count + 1) kept) (sym after)
+    (more_needed lines c.args.self.now.count c.args.self.now.earlier.items needed made refl up_to below) in
+    edited_put c.args.edits c.args.limit taken said c.args.self.now v c.finish-value.result f new
+    (change (g.K.Sink.state c.args.out.now) (g.K.Sink.state c.edit_value.new.out)) (c.in_ok-edit_value.ensures.puts v.kept.others kept) all c.next_reader.result c.next_reader.ensures.leads
+    c.drop_used.new.kept used more

@@ -1,0 +1,47 @@
+-- The earlier values, as their lines made them: one value more, and those that no line edits.
+use Rattle.std.proofs.Common.{◌≡◌, ◌∙◌, ℕ, ◌+◌, List, [], ◌∷◌, ◌++◌, length, map, Ok, refl, ap, subst, append_assoc, append-nil, length-append, arith}
+use Rattle.om_model.specs.declared.value.Val.{Val}
+use Rattle.om_model.specs.declared.value.Obj.{Obj}
+use Rattle.om_types.specs.Equal.{Equal}
+use Rattle.om_types.specs.Names.{names_of}
+use Rattle.om_types.specs.Shape.{shape}
+use Rattle.om_format.specs.Tree.{Tree, root, objects_of}
+use Rattle.om_path.specs.declared.edits.ScriptLine.{ScriptLine}
+use Rattle.om_edit.specs.EditedLines.{AreEdited}
+use Rattle.om_edit.specs.Grafts.{Other}
+use Rattle.om_declared.specs.Language.{TypeOver, lines_of_value, AreDone}
+
+module _ (t : TypeOver) (script : List ScriptLine) where
+  -- what the lines of the value that comes after these make of a tree
+  abbrev pub MakeOf : List Other → Tree → Other → Type 0
+  MakeOf others tree made =
+      AreEdited (shape t.decls) (names_of t.decls) (Equal t.decls) t.type others (lines_of_value (length others) script) (objects_of tree 0) (root tree 0) (Ok made)
+
+  -- as many are made as there are
+  pub done_length : (done : List Other) (trees : List Tree) (others : List Other) → AreDone t script done trees others
+      → length others ≡ length done + length trees
+  done_length done [] others is = let same = ap (λ (os : List Other). length os) is in omega (arith, same)
+  done_length done (tree ∷ trees) others (made, is, more) =
+      let size = length-append done (made ∷ []) in
+      let rest = done_length (done ++ made ∷ []) trees others more in omega (arith, size, rest)
+
+  -- one value more
+  pub done_more : (done : List Other) (trees : List Tree) (others : List Other) (tree : Tree) (made : Other)
+      → AreDone t script done trees others → MakeOf others tree made → AreDone t script done (trees ++ tree ∷ []) (others ++ made ∷ [])
+  done_more done [] others tree made is edited =
+      (made, subst (λ (os : List Other). MakeOf os tree made) is edited, ap (λ (os : List Other). os ++ made ∷ []) is)
+  done_more done (first ∷ trees) others tree made (v, is, more) edited =
+      (v, is, done_more (done ++ v ∷ []) trees others tree made more edited)
+
+-- without a line each value is as it came
+abbrev pub as_it_came : Tree → Other
+as_it_came tree = (objects_of tree 0, root tree 0)
+
+pub plain_done : (t : TypeOver) (done : List Other) (trees : List Tree) → AreDone t [] done trees (done ++ map as_it_came trees)
+plain_done t done [] = append-nil done
+plain_done t done (tree ∷ trees) = (
+  as_it_came tree,
+  refl,
+  subst (λ (os : List Other). AreDone t [] (done ++ as_it_came tree ∷ []) trees os) (append_assoc done (as_it_came tree ∷ []) (map as_it_came trees))
+      (plain_done t (done ++ as_it_came tree ∷ []) trees),
+)

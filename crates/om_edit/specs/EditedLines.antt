@@ -1,0 +1,33 @@
+-- What the lines of a script make of a value at its type, one after the other, over any shapes and
+-- names. The earlier values, as their own lines made them, are what parts are copied from.
+use Rattle.std.specs.Prelude.{ℕ, ◌≡◌, Some, Ok, Err, List, [], ◌∷◌, slice_get}
+use Rattle.om_model.specs.declared.value.Val.{Val}
+use Rattle.om_model.specs.declared.value.Obj.{Obj}
+use Rattle.om_types.specs.declared.names.Names.{Names}
+use Rattle.om_types.specs.declared.shape.ShapeOf.{ShapeOf}
+use Rattle.om_path.specs.declared.edits.Action.{Action}
+use Rattle.om_path.specs.declared.edits.Action.TheVariants as actions
+use Rattle.om_path.specs.declared.edits.ScriptLine.{ScriptLine}
+use Rattle.om_edit.specs.EditedValues.{Answer, Edited, IsAnswer}
+use Rattle.om_edit.specs.Grafts.{Other, IsGraftAnswer}
+
+module _ {T : Type 0} (shape : T → ShapeOf T) (names : T → Names) (Equal : T → T → Type 0) (t : T)
+    (others : List Other) where
+  -- what is answered to what a line asks for; a part is copied from the earlier value of its number
+  abbrev pub IsLineAnswer : Action → List Obj → Val → Answer T → Type 0
+  IsLineAnswer (actions.Edit edit) graph root answer =
+      IsAnswer shape names Equal t edit graph root answer
+  IsLineAnswer (actions.Graft path number source) graph root answer =
+      (other : Other) × (slice_get others number ≡ Some other)
+      × IsGraftAnswer shape Equal t path other source graph root answer
+
+  -- each line of what those before it made
+  abbrev pub IsContinued : ℕ → (List Obj → Val → Edited T → Type 0) → Answer T → Edited T → Type 0
+  IsContinued number Rest (Ok edited) all = Rest edited.0 edited.1 all
+  IsContinued number Rest (Err reason) all = all ≡ Err (number, reason)
+
+  abbrev pub AreEdited : List ScriptLine → List Obj → Val → Edited T → Type 0
+  AreEdited [] graph root all = all ≡ Ok (graph, root)
+  AreEdited (line ∷ lines) graph root all =
+      (first : Answer T) × IsLineAnswer line.action graph root first
+      × IsContinued line.number (AreEdited lines) first all

@@ -1,0 +1,65 @@
+//! The values that the lines of a script copy from, and those that they copy into.
+
+ghost use Rattle.std.specs.Prelude.{◌≡◌, ◌++◌, ◌≤◌, [], IfOk, OnOk, MatchOption, All, Any, option_to_list};
+ghost use Rattle.om_path.specs.Order.{IsByValue, places_of};
+ghost use Rattle.om_path.specs.Uses.{use_of, uses_in, AreUses};
+
+use crate::edits::{Action, ScriptLine};
+use crate::order::places_of;
+use om_model::Memory;
+use std::alloc::Global;
+
+/// The numbers of the value that a line copies from, and of its own value, where it copies.
+fn use_of(line: &ScriptLine) -> Option<(u64, u64)>
+    ensures { result ≡ use_of line.now }
+{
+    match &line.action {
+        Action::Graft(_, other, _) => Some((*other, line.value)),
+        _ => None,
+    }
+}
+
+/// Adds them, if there are some.
+fn add(uses: &mut Vec<(u64, u64)>, used: Option<(u64, u64)>) -> Result<(), Memory>
+    ensures { OnOk result (uses.new.items ≡ uses.old.items ++ option_to_list used) }
+{
+    match used {
+        Some(used) => Ok(uses.push(used)?),
+        None => Ok(()),
+    }
+}
+
+/// Those of all lines.
+fn uses(alloc: Global, lines: &[ScriptLine]) -> Result<Vec<(u64, u64)>, Memory>
+    ensures { IfOk result (λ uses. uses.items ≡ uses_in lines.now) }
+{
+    let mut uses = Vec::new(alloc);
+    let mut rest = lines;
+    while let Some((line, more)) = rest.split_first() {
+        add(&mut uses, use_of(line))?;
+        rest = more;
+    }
+    Ok(uses)
+}
+
+/// Those of all lines by the numbers of the values that are copied from.
+pub fn uses_of(alloc: Global, lines: &[ScriptLine]) -> Result<Vec<(u64, u64)>, Memory>
+    ensures { IfOk result (λ uses. AreUses lines.now uses.items) }
+{
+    let mut uses = uses(alloc, lines)?;
+    uses.sort_by_key(|used| used.0)?;
+    Ok(uses)
+}
+
+/// The greatest second number where the first is this.
+pub fn last_use(uses: &[(u64, u64)], number: u64) -> Option<u64>
+    requires { IsByValue uses.now }
+    ensures { MatchOption result (places_of number uses.now ≡ [])
+        (λ last. Any (λ used. used.1 ≡ last) (places_of number uses.now)
+        × All (λ used. used.1 ≤ last) (places_of number uses.now)) }
+{
+    match places_of(uses, number).iter().max_by_key(|used| used.1) {
+        Some(used) => Some(used.1),
+        None => None,
+    }
+}
