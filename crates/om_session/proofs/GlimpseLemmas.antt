@@ -47,7 +47,7 @@ record SaysYes (w : Job) (in_hand : List ℕ) (n : ℕ) : Type 0 where
   pub within : n ≤ length in_hand
   pub tree : Tree
   pub spelled : SpelledUnder (word_limit w) (take n in_hand) tree
-  pub says : (earlier : ℕ) → Says declared_types (work_of w) earlier tree yes
+  pub says : (earlier : List Tree) → Says declared_types (work_of w) earlier tree yes
 
 seen_says : (w : Job) (in_hand : List ℕ) (n : ℕ) → IsSeen w in_hand n → SaysYes w in_hand n
 seen_says (jobs.Say (speeches.Tell r sayings.Verdict) limit) in_hand n seen = record {
@@ -88,7 +88,7 @@ module _ (w : Job) (taken : List ℕ) (said : List Said) (values : Values) (h : 
       let whole : SayFirst declared_types (task_of w) (taken ++ take n in_hand) h.trees said (take n in_hand) =
       subst (λ front. SayFirst declared_types (task_of w) (taken ++ take n in_hand) h.trees said (front ++ take n in_hand)) none after in
       first_more declared_types (task_of w) (taken ++ take n in_hand) h.trees said (take n in_hand) [] it.tree yes
-      (subst (λ b. SayFirst declared_types (task_of w) (taken ++ take n in_hand) h.trees said b) (sym (append-nil (take n in_hand))) whole) it.spelled (it.says (length h.trees))
+      (subst (λ b. SayFirst declared_types (task_of w) (taken ++ take n in_hand) h.trees said b) (sym (append-nil (take n in_hand))) whole) it.spelled (it.says h.trees)
 
   -- out failed
   pub seen_fault : (a b : ByteState) → PutsPart (change a b) yes.text → Halts w taken said values h in_hand (change a b) halts.WriteFault
