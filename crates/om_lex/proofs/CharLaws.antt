@@ -1,14 +1,15 @@
 -- The character at the front is the one that is found, and no other.
-use Rattle.std.proofs.Common.{◌≡◌, ◌⊎◌, ℕ, zero, suc, ◌+◌, ◌-◌, ◌<◌, ◌≤◌, Bool, true, false, ◌&&◌, ◌||◌, cond, eqb, leb, List, [], ◌∷◌, ◌++◌, length, map, drop, get_or, Option, Some, None, is_some, Ok, Err, refl, sym, ap, subst, ◌∙◌, arith, inl, inr, append_assoc, length-append}
-use Rattle.std.specs.List.{list_all, flat_map, AllByRecursion}
+use Rattle.std.proofs.Common.{◌≡◌, ◌⊎◌, ℕ, zero, suc, ◌+◌, ◌-◌, ◌<◌, ◌≤◌, Bool, true, false, ◌&&◌, ◌||◌, cond, eqb, leb, List, [], ◌∷◌, ◌++◌, length, map, take, drop, get_or, Option, Some, None, is_some, Ok, Err, refl, sym, ap, subst, ◌∙◌, arith, inl, inr, append_assoc, length-append}
+use Rattle.std.specs.List.{list_all, flat_map, prefix_len, AllByRecursion}
 use Rattle.std.specs.Char.{is_ascii_digit, is_ascii_hexdigit}
 use Rattle.std.proofs.lemmas.Bool.{eqb-true, eqb-false, ne_eqb, and_parts, and_from, or_parts, leb-true, le-leb, agree_below_at}
-use Rattle.std.proofs.lemmas.List.{drop_at, drop_all, drop_more, drop-drop, length-drop, flat_map_more, map_push}
+use Rattle.std.proofs.lemmas.List.{drop_at, drop_all, drop_more, drop-drop, length-drop, flat_map_more, map_push, append-nil, take-append-drop}
+use Rattle.std.proofs.lemmas.List.Folds.{length-prefix_len}
 use Rattle.om_lex.specs.declared.lexeme.LexemeKind.TheVariants as kinds
 use Rattle.om_lex.specs.declared.lexeme.LexFault.TheVariants as faults
 use Rattle.om_lex.specs.declared.found.Found.{Found}
-use Rattle.om_lex.specs.Lexeme.{Quoted, form_bytes, number_in, CharForm, Plain, Named, Decimal, Hexadecimal, char_bytes, char_value, named_char, IsCharForm}
-use Rattle.om_lex.specs.Scan.{hexadecimal_at, decimal_at, escape_at, char_at, char_found, chars_of, ended_string, string_at}
+use Rattle.om_lex.specs.Lexeme.{is_plain, Quoted, form_bytes, number_in, CharForm, Plain, Named, Decimal, Hexadecimal, char_bytes, char_value, named_char, IsCharForm}
+use Rattle.om_lex.specs.Scan.{hexadecimal_at, decimal_at, escape_at, char_at, char_found, chars_of, ended_string, string_at, TakesPlain}
 
 -- which way a test went
 pub chosen : {A : Type 0} (b : Bool) (x y z : A) → cond b x y ≡ z → ((b ≡ true) × (x ≡ z)) ⊎ ((b ≡ false) × (y ≡ z))
@@ -165,6 +166,62 @@ reads_more text at value byte len r e =
       inside = omega (arith, f.3, ap length here, length-append (char_bytes c) (drop (at + len) text), length-drop at text, length-drop (at + len) text, r.inside, char_bytes-positive c);
       values = (λ i. r.values i ++ f.2 i ∷ []) ∙ sym (map_push char_value r.chars c);
     }
+
+-- bytes that stand for themselves are characters of their own
+plain_form : (b : ℕ) → is_plain b ≡ true → IsCharForm 34 (Plain b)
+plain_form b e =
+    elim (chosen (eqb b 34 || eqb b 92 || eqb b 10) false true true e) [
+      | inl h ↦ absurd cc
+      | inr h ↦
+          let outer = or_parts (eqb b 34 || eqb b 92) (eqb b 10) h.0 in
+          let inner = or_parts (eqb b 34) (eqb b 92) outer.0 in
+          (eqb-false b 34 inner.0, eqb-false b 92 inner.1, eqb-false b 10 outer.1)
+    ]
+
+reads_run :
+    (run : List ℕ) (text : List ℕ) (at : ℕ) (value rest : List ℕ) → ReadsChars text at value → list_all is_plain run ≡ true → drop at text ≡ run ++ rest
+    → ReadsChars text (at + length run) (value ++ run)
+reads_run [] text at value rest r all is =
+    let same : value ≡ value ++ [] = sym (append-nil value) in
+    let here : at ≡ at + 0 = omega arith in
+    subst (λ v. ReadsChars text (at + 0) v) same (subst (λ n. ReadsChars text n value) here r)
+reads_run (b ∷ run) text at value rest r all is =
+    let parts = and_parts (is_plain b) (list_all is_plain run) all in
+    let found : char_at 34 (drop at text) ≡ Some (Plain b) = ap (char_at 34) is ∙ char_at-form 34 (Plain b) (run ++ rest) (plain_form b parts.0) in
+    let one = reads_more text at value b 1 r (sym (ap char_found found)) in
+    let behind : drop (at + 1) text ≡ run ++ rest = sym (drop-drop 1 at text) ∙ ap (λ (bs : List ℕ). drop 1 bs) is in
+    let more = reads_run run text (at + 1) (value ++ b ∷ []) rest one parts.1 behind in
+    let long : at + 1 + length run ≡ at + suc (length run) = omega arith in
+    subst (λ n. ReadsChars text n (value ++ (b ∷ run))) long
+    (subst (λ v. ReadsChars text (at + 1 + length run) v) (append_assoc value (b ∷ []) run) more)
+
+all_of_prefix : (p : ℕ → Bool) (bs : List ℕ) → list_all p (take (prefix_len p bs) bs) ≡ true
+all_of_prefix p [] = refl
+all_of_prefix p (b ∷ bs) = by_first (p b) refl (all_of_prefix p bs) where
+  by_first :
+      (first : Bool) → p b ≡ first → list_all p (take (prefix_len p bs) bs) ≡ true
+      → list_all p (take (prefix_len p (b ∷ bs)) (b ∷ bs)) ≡ true
+  by_first true e rest =
+      let one_more : 1 + prefix_len p bs ≡ suc (prefix_len p bs) = omega arith in
+      rw (e, one_more) (and_from (p b) (list_all p (take (prefix_len p bs) bs)) e rest)
+  by_first false e rest = rw e refl
+
+-- nothing is read at first
+pub reads_none : (text : List ℕ) → ReadsChars text 0 []
+reads_none text =
+    record { chars = []; each = tt; is = refl; long = refl; inside = omega arith; values = refl }
+
+pub reads_plain : (text : List ℕ) (at : ℕ) (value : List ℕ) (end : ℕ) (new : List ℕ) → ReadsChars text at value → TakesPlain text at value end new → ReadsChars text end new
+reads_plain text at value end new r t =
+    let count = prefix_len is_plain (drop at text) in
+    let run = take count (drop at text) in
+    let long : at + length run ≡ end = omega (arith, t.end_is, length-prefix_len is_plain (drop at text)) in
+    subst (λ v. ReadsChars text end v) (sym t.new_is)
+    (subst (λ n. ReadsChars text n (value ++ run)) long
+    (reads_run run text at value (drop count (drop at text)) r (all_of_prefix is_plain (drop at text)) (sym (take-append-drop count (drop at text)))))
+
+pub plain_onward : (text : List ℕ) (at : ℕ) (value : List ℕ) (end : ℕ) (new : List ℕ) → TakesPlain text at value end new → at ≤ end
+plain_onward text at value end new t = omega (arith, t.end_is)
 
 -- the loop goes on by at least one byte
 pub reads_further : (text : List ℕ) (at : ℕ) (value : List ℕ) (byte len : ℕ) → ReadsChars text at value → Some (byte, len) ≡ char_found (char_at 34 (drop at text)) → length text - (at + len) < length text - at

@@ -12,3 +12,4 @@ pub mod StepLaws
 pub mod FaultLaws
 pub mod PartLaws
 pub mod LowerLaws
+pub mod BriefLaws

@@ -1,5 +1,5 @@
 -- The name in lower case at the front of a text, or that there is none.
-use Rattle.std.proofs.Common.{◌≡◌, ℕ, suc, ◌+◌, ◌<◌, Bool, true, false, List, [], ◌∷◌, ◌++◌, length, take, get_or, Option, Some, None, Result, Ok, Err, refl, sym, ap, subst, ◌∙◌, arith, inl, inr}
+use Rattle.std.proofs.Common.{◌≡◌, ℕ, suc, ◌+◌, ◌<◌, true, false, List, [], ◌∷◌, ◌++◌, length, take, get_or, Option, Some, None, Result, Ok, Err, refl, sym, ap, ◌∙◌, arith, inl, inr}
 use Rattle.std.specs.List.{prefix_len, take_while}
 use Rattle.std.proofs.lemmas.Bool.{true≢false, cases_Bool}
 use Rattle.om_lex.specs.declared.lexeme.Keyword.{Keyword}
@@ -12,10 +12,10 @@ use Rattle.om_lex.specs.LexText.{Part, Separator, Comment, Word, part_bytes, IsP
 use Rattle.om_lex.specs.Lexemes.{lexeme_in, lower_name}
 use Rattle.om_lex.specs.Scan.{keyword_of, cased_form, reserved_or, word_form, in_range, found, found_at, word_of, step_at}
 use Rattle.om_lex.proofs.NameLaws.{name_byte-from_start}
-use Rattle.om_lex.proofs.WordLaws.{reserved_word, keyword_found}
+use Rattle.om_lex.proofs.WordLaws.{reserved_word}
 use Rattle.om_lex.proofs.FrontLaws.{form_at-word}
 use Rattle.om_lex.proofs.StepLaws.{part_step, no_comment_test, lexeme-some, step-lexeme, no_separator-form}
-use Rattle.om_lex.proofs.FaultLaws.{IsPartAt, IsStepAt, step_at-is}
+use Rattle.om_lex.proofs.FaultLaws.{IsStepAt, step_at-is}
 
 abbrev name_of : Result Step LexFault → List ℕ
 name_of r = lower_name (Some (lexeme_in 0 r).kind)

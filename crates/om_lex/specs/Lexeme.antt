@@ -84,6 +84,10 @@ char_value (Named b) = unwrap_or (named_char b) 0
 char_value (Decimal d e f) = number_in 10 (d ∷ e ∷ f ∷ [])
 char_value (Hexadecimal h l) = number_in 16 (h ∷ l ∷ [])
 
+-- whether a byte of a string stands for itself
+abbrev pub is_plain : ℕ → Bool
+is_plain b = if b == 34 || b == 92 || b == 10 then false else true
+
 -- a form inside these quotes
 abbrev pub IsCharForm : ℕ → CharForm → Type 0
 IsCharForm quote (Plain b) = (b ≢ quote) × (b ≢ 92) × (b ≢ 10)

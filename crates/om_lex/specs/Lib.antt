@@ -3,3 +3,4 @@ pub mod Lexeme
 pub mod Lexemes
 pub mod Scan
 pub mod Sources
+pub mod Brief

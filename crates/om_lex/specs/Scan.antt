@@ -1,6 +1,6 @@
 -- The form at the front of a text, and the part, found from left to right: what the functions of
 -- the crate compute.
-use Rattle.std.specs.Prelude.{ℕ, zero, suc, pred, ◌+◌, Bool, true, false, ◌&&◌, ◌||◌, ◌==◌, nat_lt, nat_le, if◌then◌else◌, List, [], ◌∷◌, length, take, drop, Option, Some, None, is_some, Result, Ok, Err}
+use Rattle.std.specs.Prelude.{◌≡◌, ℕ, zero, suc, pred, ◌+◌, Bool, true, false, ◌&&◌, ◌||◌, ◌==◌, nat_lt, nat_le, if◌then◌else◌, List, [], ◌∷◌, ◌++◌, length, take, drop, Option, Some, None, is_some, Result, Ok, Err}
 use Rattle.std.specs.List.{list_all, flat_map, prefix_len, take_while}
 use Rattle.std.specs.Char.{is_ascii_digit, is_ascii_hexdigit}
 use Rattle.std.specs.Str.{bytes_eq}
@@ -12,7 +12,7 @@ use Rattle.om_lex.specs.declared.lexeme.Symbol.{Symbol}
 use Rattle.om_lex.specs.declared.lexeme.Symbol.TheVariants as symbols
 use Rattle.om_lex.specs.declared.lexeme.LexFault.{LexFault}
 use Rattle.om_lex.specs.declared.lexeme.LexFault.TheVariants as faults
-use Rattle.om_lex.specs.Lexeme.{is_separator, starts_lower, starts_name, is_name_byte, number_in, greatest, CharForm, Plain, Named, Decimal, Hexadecimal, char_bytes, char_value, named_char, keyword_text, Form, Reserved, Lower, Upper, Tag, Variable, Character, Number, Quoted, Double, Mark, form_bytes, form_kind}
+use Rattle.om_lex.specs.Lexeme.{is_separator, is_plain, starts_lower, starts_name, is_name_byte, number_in, greatest, CharForm, Plain, Named, Decimal, Hexadecimal, char_bytes, char_value, named_char, keyword_text, Form, Reserved, Lower, Upper, Tag, Variable, Character, Number, Quoted, Double, Mark, form_bytes, form_kind}
 use Rattle.om_lex.specs.declared.comments.Bracket.{Bracket}
 use Rattle.om_lex.specs.declared.comments.Bracket.TheVariants.{Opening, Closing, Neither}
 use Rattle.om_lex.specs.declared.found.Found.{Found}
@@ -118,6 +118,12 @@ chars_of (suc n) text = one_more (chars_of n) text (char_at 34 text)
 
 abbrev pub closed_string : List CharForm × List ℕ → Option Form
 closed_string read = if begins_with 34 read.1 then Some (Quoted read.0) else None
+
+-- the bytes from this place on that stand for themselves are put behind a value
+pub record TakesPlain (text : List ℕ) (at : ℕ) (old : List ℕ) (end : ℕ) (new : List ℕ)
+    : Type 0 where
+  pub end_is : end ≡ at + prefix_len is_plain (drop at text)
+  pub new_is : new ≡ old ++ take (prefix_len is_plain (drop at text)) (drop at text)
 
 -- after a double quote
 unfoldable pub string_form : List ℕ → Option Form

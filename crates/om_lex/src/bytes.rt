@@ -3,7 +3,7 @@
 ghost use Rattle.std.specs.Prelude.{◌≡◌, ◌<◌, IsTrue};
 ghost use Rattle.std.specs.Char.{is_ascii_hexdigit};
 ghost use Rattle.std.specs.List.{prefix_len};
-ghost use Rattle.om_lex.specs.Lexeme.{is_separator, starts_lower, starts_name, is_name_byte, value_of_digit};
+ghost use Rattle.om_lex.specs.Lexeme.{is_separator, starts_lower, starts_name, is_name_byte, value_of_digit, is_plain};
 
 /// Space, tab, line feed, form feed or carriage return.
 pub fn is_separator(b: u8) -> bool
@@ -38,6 +38,24 @@ pub fn name_len(text: &[u8]) -> usize
     ensures { result ≡ prefix_len is_name_byte text.now }
 {
     text.iter().take_while(|b| is_name_byte(**b)).count()
+}
+
+/// Whether a byte of a string stands for itself.
+fn is_plain(b: u8) -> bool
+    ensures { result ≡ is_plain b }
+{
+    if b == b'"' || b == b'\\' || b == b'\n' {
+        false
+    } else {
+        true
+    }
+}
+
+/// How many bytes at the front stand for themselves in a string.
+pub fn plain_len(text: &[u8]) -> usize
+    ensures { result ≡ prefix_len is_plain text.now }
+{
+    text.iter().take_while(|b| is_plain(**b)).count()
 }
 
 /// What a digit of either case stands for.

@@ -1,16 +1,17 @@
 //! Characters and strings.
 
-ghost use Rattle.std.specs.Prelude.{◌≡◌};
-ghost use Rattle.om_lex.specs.Lexeme.{named_char};
+ghost use Rattle.std.specs.Prelude.{◌≡◌, ◌≤◌, ◌+◌, drop, length, IfOk};
+ghost use Rattle.std.specs.List.{prefix_len};
+ghost use Rattle.om_lex.specs.Lexeme.{named_char, is_plain};
 ghost use Rattle.om_lex.specs.LexText.{Answers};
-ghost use Rattle.om_lex.specs.Scan.{hexadecimal_at, decimal_at, escape_at, char_at, char_found, quote_form, string_at, found_at};
+ghost use Rattle.om_lex.specs.Scan.{hexadecimal_at, decimal_at, escape_at, char_at, char_found, quote_form, string_at, found_at, TakesPlain};
 
-use crate::bytes::digit_value;
+use crate::bytes::{digit_value, plain_len};
 use crate::found::Found;
 use crate::lexeme::{LexFault, LexemeKind};
 use crate::words::variable;
 use om_model::list::List;
-use std::alloc::Global;
+use std::alloc::{AllocError, Global};
 
 /// What a backslash and this byte stand for.
 fn named_char(b: u8) -> Option<u8>
@@ -84,7 +85,7 @@ fn escape_at(text: &[u8]) -> Option<(u8, usize)>
 /// The character at the front, inside these quotes: what it stands for, and how many bytes it
 /// takes.
 #[tactic(auto, unfolding(crate::specs::Scan::char_at))]
-fn char_at(quote: u8, text: &[u8]) -> Option<(u8, usize)>
+pub(crate) fn char_at(quote: u8, text: &[u8]) -> Option<(u8, usize)>
     ensures { result ≡ char_found (char_at quote text.now) }
 {
     let [first, rest @ ..] = text else {
@@ -115,15 +116,34 @@ pub fn quoted(alloc: Global, text: &[u8]) -> Result<Found, LexFault>
     variable(alloc, text)
 }
 
+/// The place behind the bytes from this place on that stand for themselves.
+pub(crate) fn plain_end(text: &[u8], at: usize) -> usize
+    requires { at ≤ length text.now }
+    ensures { result ≡ at + prefix_len is_plain (drop at text.now) }
+{
+    at + plain_len(&text[at..])
+}
+
+/// Appends the bytes from this place on that stand for themselves: the place behind them.
+fn take_plain(value: &mut Vec<u8>, text: &[u8], at: usize) -> Result<usize, AllocError>
+    requires { at ≤ length text.now }
+    ensures { IfOk result (λ end. TakesPlain text.now at value.old.items end value.new.items) }
+{
+    let rest = &text[at..];
+    let count = plain_len(rest);
+    value.extend_from_slice(&rest[..count])?;
+    Ok(at + count)
+}
+
 /// The string whose quote stands before the text.
 pub fn string(alloc: Global, text: &[u8]) -> Result<Found, LexFault>
     ensures { Answers (λ w. w) result (string_at text.now) }
 {
     let mut value = Vec::new(alloc);
-    let mut at: usize = 0;
+    let mut at = take_plain(&mut value, text, 0)?;
     while let Some((byte, len)) = char_at(b'"', &text[at..]) {
         value.push(byte)?;
-        at += len;
+        at = take_plain(&mut value, text, at + len)?;
     }
     if at >= text.len() {
         return Err(LexFault::OpenString(0));

@@ -1,6 +1,7 @@
 //! The lexemes of declarations, types and literals.
 #![tactic(auto)]
 
+mod brief;
 mod bytes;
 mod characters;
 mod comments;
@@ -13,6 +14,7 @@ mod scan;
 mod symbols;
 mod words;
 
+pub use brief::next_brief;
 pub use lexemes::Lexemes;
 pub use next::{next_lexeme, see_lexemes};
 pub use scan::{one_outcome, tokens};

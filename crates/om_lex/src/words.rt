@@ -30,7 +30,7 @@ pub fn keyword_of(name: &[u8]) -> Option<Keyword>
 }
 
 /// The text as a list of its own.
-fn copied(alloc: Global, text: &[u8]) -> Result<List<u8>, LexFault>
+pub(crate) fn copied(alloc: Global, text: &[u8]) -> Result<List<u8>, LexFault>
     ensures { Answers (λ l. l) result (Ok text.now) }
 {
     Ok(List::of(Vec::from_slice(alloc, text)?))

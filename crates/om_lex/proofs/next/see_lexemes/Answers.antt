@@ -1,7 +1,5 @@
-use Rattle.std.proofs.Common.{◌+◌, ◌-◌, ◌++◌, List, [], sym, subst, arith, append_assoc}
+use Rattle.std.proofs.Common.{◌++◌, [], sym, subst, arith, append_assoc}
 use Rattle.std.proofs.lemmas.List.{append-nil}
-use Rattle.om_lex.specs.declared.lexeme.Lexeme.{Lexeme}
-use Rattle.om_lex.specs.LexText.{Lexes}
 use Rattle.om_lex.specs.Lexemes.{Reached}
 use Rattle.om_lex.proofs.PartLaws.{reached_end}
 use Rattle.om_lex.proofs.next.see_lexemes.Goals as goal

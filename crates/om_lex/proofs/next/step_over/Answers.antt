@@ -1,8 +1,7 @@
-use Rattle.std.proofs.Common.{◌+◌, Ok, drop, ap, subst, arith, ◌∙◌}
-use Rattle.std.proofs.lemmas.List.{take_rest, append-nil}
+use Rattle.std.proofs.Common.{Ok, drop, ap, arith, ◌∙◌}
+use Rattle.std.proofs.lemmas.List.{take_rest}
 use Rattle.om_lex.specs.declared.found.Step.{Step}
 use Rattle.om_lex.specs.declared.found.Step.TheVariants as steps
-use Rattle.om_lex.specs.Lexemes.{Reached}
 use Rattle.om_lex.proofs.FaultLaws.{IsPartAt}
 use Rattle.om_lex.proofs.PartLaws.{step_lexemes, reached_more, reached_further, part_here, told_inside, told_fault}
 use Rattle.om_lex.proofs.next.step_over.Goals as goal

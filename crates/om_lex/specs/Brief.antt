@@ -1,0 +1,58 @@
+-- Lexemes without what their names and strings are: a literal's form needs no more of them.
+use Rattle.std.specs.Prelude.{◌≡◌, ◌⊎◌, ℕ, ◌+◌, ◌<◌, ◌≤◌, Bool, ◌||◌, if◌then◌else◌, List, [], length, codes, Option, Some, None, Result, Ok, Err}
+use Rattle.std.specs.Str.{bytes_eq}
+use Rattle.om_lex.specs.declared.lexeme.Lexeme.{Lexeme}
+use Rattle.om_lex.specs.declared.lexeme.LexemeKind.{LexemeKind}
+use Rattle.om_lex.specs.declared.lexeme.LexemeKind.TheVariants as kinds
+use Rattle.om_lex.specs.declared.lexeme.LexFault.{LexFault}
+use Rattle.om_lex.specs.declared.found.Found.{Found}
+use Rattle.om_lex.specs.declared.found.Step.{Step}
+use Rattle.om_lex.specs.declared.found.Step.TheVariants.{Gap, Word}
+use Rattle.om_lex.specs.Lexemes.{lexeme_from}
+use Rattle.om_lex.specs.LexText.{UnlessMemory}
+
+-- the names in lower case that begin literals
+abbrev pub begins_literal : List ℕ → Bool
+begins_literal x =
+    bytes_eq x (codes "true") || bytes_eq x (codes "false") || bytes_eq x (codes "ref")
+
+abbrev pub brief_name : List ℕ → List ℕ
+brief_name x = if begins_literal x then x else []
+
+abbrev pub brief_kind : LexemeKind → LexemeKind
+brief_kind (kinds.Lower x) = kinds.Lower (brief_name x)
+brief_kind (kinds.Upper x) = kinds.Upper []
+brief_kind (kinds.Text x) = kinds.Text []
+brief_kind kind = kind
+
+-- a kind, whole or in brief
+abbrev pub IsBrief : LexemeKind → LexemeKind → Type 0
+IsBrief kind brief = (brief ≡ kind) ⊎ (brief ≡ brief_kind kind)
+
+-- ---- what functions give
+
+-- the expected lexeme, whole or in brief, or the expected fault
+abbrev pub FindsBrief : Result Found LexFault → Result Found LexFault → Type 0
+FindsBrief (Ok w) (Ok full) = (w.len ≡ full.len) × IsBrief full.kind w.kind
+FindsBrief (Ok w) (Err fault) = ⊥
+FindsBrief (Err fault) expected = UnlessMemory (λ f. expected ≡ Err f) fault
+
+abbrev pub StepsBrief : Result Step LexFault → Result Step LexFault → Type 0
+StepsBrief (Ok (Gap n)) expected = expected ≡ Ok (Gap n)
+StepsBrief (Ok (Word w)) (Ok (Word full)) = (w.len ≡ full.len) × IsBrief full.kind w.kind
+StepsBrief (Ok (Word w)) expected = ⊥
+StepsBrief (Err fault) expected = UnlessMemory (λ f. expected ≡ Err f) fault
+
+-- what was found, with the lexeme as it is at its place
+abbrev pub in_full : List ℕ → Result (Option Lexeme) LexFault → Result (Option Lexeme) LexFault
+in_full text (Ok (Some lexeme)) = Ok (Some (lexeme_from text lexeme.span.first))
+in_full text (Ok None) = Ok None
+in_full text (Err fault) = Err fault
+
+-- a lexeme behind a place, which is the one at its own place, whole or in brief
+pub record IsBriefNext (text : List ℕ) (from : ℕ) (lexeme : Lexeme) : Type 0 where
+  pub onward : from < lexeme.span.first + lexeme.span.len
+  pub within : lexeme.span.first + lexeme.span.len ≤ length text
+  pub behind : from ≤ lexeme.span.first
+  pub span : (lexeme_from text lexeme.span.first).span ≡ lexeme.span
+  pub kind : IsBrief (lexeme_from text lexeme.span.first).kind lexeme.kind
