@@ -6,3 +6,4 @@ pub mod ReadLemmas
 pub mod RangeLemmas
 pub mod PlacedLemmas
 pub mod SmallLemmas
+pub mod BriefLemmas

@@ -39,6 +39,7 @@ impl Model for Nodes {
 }
 
 /// The node in eight bytes, where they hold it.
+#[inline(always)]
 fn small_of(node: &Node) -> Option<SmallNode>
     ensures { IfSome result (IsSmall node.now) }
 {
@@ -53,6 +54,7 @@ fn small_of(node: &Node) -> Option<SmallNode>
 }
 
 /// The node in eight bytes, or as one more of the others.
+#[inline(always)]
 fn hold(others: &mut Vec<Node>, node: Node) -> Result<SmallNode, Memory>
     ensures kept { Keeps others.old.items others.new.items }
     ensures held { IfOk result (Holds others.new.items node) }
@@ -91,6 +93,7 @@ impl Nodes {
     }
 
     /// Node number k.
+    #[inline(always)]
     pub fn get(&self, k: usize) -> Node
         requires { k < length self.now }
         ensures { slice_get self.now k ≡ Some result }
@@ -107,6 +110,7 @@ impl Nodes {
         }
     }
 
+    #[inline(always)]
     pub(crate) fn push(&mut self, node: Node) -> Result<(), Memory>
         ensures { IfOk result (λ _. self.new ≡ self.old ++ node ∷ []) }
     {
@@ -116,6 +120,7 @@ impl Nodes {
     }
 
     /// Puts a node in place of another.
+    #[inline(always)]
     pub(crate) fn set(&mut self, k: usize, node: Node) -> Result<(), Memory>
         ensures { IfOk result (λ _. self.new ≡ slice_set self.old k node) }
     {

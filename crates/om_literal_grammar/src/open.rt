@@ -73,6 +73,7 @@ impl Model for Opens {
 }
 
 /// The bracket in sixteen bytes, where they hold it.
+#[inline(always)]
 fn small_of(outer: &Open) -> Option<SmallOpen>
     ensures { IfSome result (IsSmallOpen outer.now) }
 {
@@ -93,6 +94,7 @@ fn small_of(outer: &Open) -> Option<SmallOpen>
 }
 
 /// What stands for one of the others.
+#[inline(always)]
 fn other() -> SmallOpen
     ensures { result.form ≡ None }
 {
@@ -106,6 +108,7 @@ fn other() -> SmallOpen
 }
 
 /// No bracket that was ever open.
+#[inline(always)]
 fn blank() -> Open
     ensures { result ≡ blank_open }
 {
@@ -131,6 +134,7 @@ impl Opens {
         }
     }
 
+    #[inline(always)]
     pub fn push(&mut self, outer: Open) -> Result<(), Memory>
         ensures { IfOk result (λ _. self.new ≡ outer ∷ self.old) }
     {
@@ -144,6 +148,7 @@ impl Opens {
         Ok(())
     }
 
+    #[inline(always)]
     pub fn pop(&mut self) -> Option<Open>
         ensures { Popped self.old self.new result }
     {

@@ -11,7 +11,7 @@ use crate::nodes::Nodes;
 use crate::open::{Opens, Stage};
 use crate::step::{end, step};
 use om_lex::lexeme::{LexFault, Lexeme, Span};
-use om_lex::{next_lexeme, see_lexemes};
+use om_lex::{next_brief, see_lexemes};
 use om_model::Memory;
 use std::alloc::Global;
 
@@ -58,6 +58,7 @@ fn stopped(alloc: Global, text: &[u8], span: Span) -> PlacedFault
 }
 
 /// Takes a lexeme.
+#[inline(always)]
 fn take(
     nodes: &mut Nodes,
     opens: &mut Opens,
@@ -95,7 +96,7 @@ fn read_at(alloc: Global, text: &[u8], places: &mut Vec<u32>) -> Result<Option<N
     let mut stage = Stage::Due;
     let mut at: usize = 0;
     while at < text.len() {
-        match next_lexeme(alloc, text, at) {
+        match next_brief(alloc, text, at) {
             Ok(Some(lexeme)) => {
                 let span = lexeme.span;
                 match take(&mut nodes, &mut opens, stage, places.len(), lexeme) {

@@ -53,6 +53,7 @@ fn word_form(word: &[u8]) -> Option<Form>
 }
 
 /// The form that a lexeme begins.
+#[inline(always)]
 fn form_of(kind: &LexemeKind) -> Option<Form>
     ensures { result ≡ form_of kind.now }
 {
@@ -74,6 +75,7 @@ fn form_of(kind: &LexemeKind) -> Option<Form>
 }
 
 /// Adds a node, and answers its number.
+#[inline(always)]
 fn add(nodes: &mut Nodes, node: Node) -> Result<usize, Memory>
     ensures number { IfOk result (λ n. n ≡ length nodes.old) }
     ensures added { IfOk result (λ _. nodes.new ≡ nodes.old ++ node ∷ []) }
@@ -84,6 +86,7 @@ fn add(nodes: &mut Nodes, node: Node) -> Result<usize, Memory>
 }
 
 /// One more, up to the greatest number.
+#[inline(always)]
 fn next_number(n: usize) -> usize
     ensures { result ≡ next_number n }
 {
@@ -91,6 +94,7 @@ fn next_number(n: usize) -> usize
 }
 
 /// The node with one part more.
+#[inline(always)]
 fn with_part(node: Node) -> Node
     ensures { result ≡ with_part node }
 {
@@ -103,6 +107,7 @@ fn with_part(node: Node) -> Node
 }
 
 /// The node in another form.
+#[inline(always)]
 fn with_form(form: Form, node: Node) -> Node
     ensures { result ≡ with_form form node }
 {
@@ -115,6 +120,7 @@ fn with_form(form: Form, node: Node) -> Node
 }
 
 /// What comes after a name's first lexeme.
+#[inline(always)]
 fn head_stage(kind: &LexemeKind, index: usize, node: Node) -> Stage
     ensures { result ≡ head_stage kind.now index node }
 {
@@ -125,6 +131,7 @@ fn head_stage(kind: &LexemeKind, index: usize, node: Node) -> Stage
 }
 
 /// Opens what the last node begins.
+#[inline(always)]
 fn enter(
     opens: &mut Opens,
     kind: &LexemeKind,
@@ -160,6 +167,7 @@ fn enter(
 }
 
 /// Begins a literal behind its label, if it has one.
+#[inline(always)]
 fn begin_plain(
     nodes: &mut Nodes,
     opens: &mut Opens,
@@ -184,6 +192,7 @@ fn begin_plain(
     Ok(Some(stage))
 }
 
+#[inline(always)]
 fn is_unit(bracket: Bracket, parts: usize) -> bool
     ensures { result ≡ is_unit bracket parts }
 {
@@ -193,6 +202,7 @@ fn is_unit(bracket: Bracket, parts: usize) -> bool
     }
 }
 
+#[inline(always)]
 fn is_empty_array(bracket: Bracket, parts: usize) -> bool
     ensures { result ≡ is_empty_array bracket parts }
 {
@@ -235,6 +245,7 @@ fn close_empty(nodes: &mut Nodes, opens: &mut Opens) -> Result<Option<Stage>, Me
 }
 
 /// Begins a literal at lexeme `place`.
+#[inline(always)]
 fn begin(
     nodes: &mut Nodes,
     opens: &mut Opens,
@@ -253,6 +264,7 @@ fn begin(
 }
 
 /// A part more is due.
+#[inline(always)]
 fn next(nodes: &mut Nodes, opens: &mut Opens, outer: Open) -> Result<Option<Stage>, Memory>
     ensures { Steps result nodes.new opens.new (next_code nodes.old opens.old outer) }
 {
@@ -265,6 +277,7 @@ fn next(nodes: &mut Nodes, opens: &mut Opens, outer: Open) -> Result<Option<Stag
 }
 
 /// The last part was read.
+#[inline(always)]
 fn shut(nodes: &mut Nodes, opens: &mut Opens, outer: Open) -> Result<Option<Stage>, Memory>
     ensures { Steps result nodes.new opens.new (shut_code nodes.old opens.old outer) }
 {
@@ -273,6 +286,7 @@ fn shut(nodes: &mut Nodes, opens: &mut Opens, outer: Open) -> Result<Option<Stag
 }
 
 /// The last part of a tuple was read.
+#[inline(always)]
 fn shut_tuple(nodes: &mut Nodes, opens: &mut Opens, outer: Open) -> Result<Option<Stage>, Memory>
     ensures { Steps result nodes.new opens.new
         (shut_tuple_code nodes.old opens.old outer) }
@@ -284,6 +298,7 @@ fn shut_tuple(nodes: &mut Nodes, opens: &mut Opens, outer: Open) -> Result<Optio
     Ok(Some(Stage::Whole))
 }
 
+#[inline(always)]
 fn close_arguments(
     nodes: &mut Nodes,
     opens: &mut Opens,
@@ -300,6 +315,7 @@ fn close_arguments(
     }
 }
 
+#[inline(always)]
 fn close_parens(
     nodes: &mut Nodes,
     opens: &mut Opens,
@@ -316,6 +332,7 @@ fn close_parens(
     }
 }
 
+#[inline(always)]
 fn close_array(
     nodes: &mut Nodes,
     opens: &mut Opens,
@@ -332,6 +349,7 @@ fn close_array(
     }
 }
 
+#[inline(always)]
 fn close_fields(
     nodes: &mut Nodes,
     opens: &mut Opens,
@@ -352,6 +370,7 @@ fn close_fields(
 }
 
 /// What comes after a whole literal.
+#[inline(always)]
 fn close(nodes: &mut Nodes, opens: &mut Opens, kind: &LexemeKind) -> Result<Option<Stage>, Memory>
     ensures { Steps result nodes.new opens.new
         (close_code nodes.old opens.old kind.now) }
@@ -400,6 +419,7 @@ fn again(first: usize, number: u64) -> Node
 }
 
 /// What comes after a name.
+#[inline(always)]
 fn after_head(
     nodes: &mut Nodes,
     opens: &mut Opens,
@@ -428,6 +448,7 @@ fn after_head(
 }
 
 /// What comes after a field's name.
+#[inline(always)]
 fn take_equals(
     nodes: &mut Nodes,
     opens: &mut Opens,
@@ -468,6 +489,7 @@ fn take_number(
 }
 
 /// What comes after `[`.
+#[inline(always)]
 fn after_bracket(
     nodes: &mut Nodes,
     opens: &mut Opens,
@@ -485,6 +507,7 @@ fn after_bracket(
 }
 
 /// What comes before a field's name.
+#[inline(always)]
 fn take_name(
     nodes: &mut Nodes,
     opens: &mut Opens,

@@ -2,18 +2,25 @@ use Rattle.std.proofs.Common.{◌+◌, ◌≡◌, ◌∙◌, ◌++◌, ◌∷◌
 use Rattle.std.specs.Prelude.{IfSome}
 use Rattle.om_lex.specs.declared.lexeme.Lexeme.{Lexeme}
 use Rattle.om_lex.specs.Lexemes as lex
-use Rattle.om_lex.specs.Lexemes.{GoesOn, IsNext}
+use Rattle.om_lex.specs.Lexemes.{GoesOn, lexeme_from}
+use Rattle.om_lex.specs.Brief.{in_full, IsBriefNext}
 use Rattle.om_literal_grammar.specs.Code.{step_code, Steps}
 use Rattle.om_literal_grammar.specs.Placed.{lexemes_at}
-use Rattle.om_literal_grammar.proofs.PlacedLemmas.{front_begins, front_goes, front_stops, front_tree, front_faulty, placed_lexed}
+use Rattle.om_literal_grammar.proofs.PlacedLemmas.{front_begins, front_tree, front_faulty, placed_lexed}
+use Rattle.om_literal_grammar.proofs.BriefLemmas.{brief_reached, brief_goes, brief_stops}
 use Rattle.om_literal_grammar.proofs.placed.read_at.Goals as goal
 use Rattle.om_literal_grammar.proofs.placed.read_at.Goals.{In-Ok-Some}
 
-next : (c : In-Ok-Some) → IsNext c.args.text.now c.loop-at.at c.in-Ok-Some.lexeme
-next c = subst (λ (o : Option Lexeme). IfSome o (IsNext c.args.text.now c.loop-at.at)) c.in-Ok-Some.field-0-is c.in-Ok-Some.ensures.place
+next : (c : In-Ok-Some) → IsBriefNext c.args.text.now c.loop-at.at c.in-Ok-Some.lexeme
+next c = subst (λ (o : Option Lexeme). IfSome o (IsBriefNext c.args.text.now c.loop-at.at)) c.in-Ok-Some.field-0-is c.in-Ok-Some.ensures.place
 
-on : (c : In-Ok-Some) → lex.Reached c.args.text.now (c.in-Ok-Some.lexeme.span.first + c.in-Ok-Some.lexeme.span.len) (lexemes_at c.args.text.now c.loop-at.places.items ++ c.in-Ok-Some.lexeme ∷ [])
-on c = subst (λ (o : Option Lexeme). GoesOn c.args.text.now (lexemes_at c.args.text.now c.loop-at.places.items) (Ok o)) c.in-Ok-Some.field-0-is (c.in-Ok-Some.ensures.next _ c.loop-at.invariant.reached)
+abbrev full : (c : In-Ok-Some) → Lexeme
+full c = lexeme_from c.args.text.now c.in-Ok-Some.lexeme.span.first
+
+on : (c : In-Ok-Some) → lex.Reached c.args.text.now ((full c).span.first + (full c).span.len) (lexemes_at c.args.text.now c.loop-at.places.items ++ full c ∷ [])
+on c =
+    subst (λ (o : Option Lexeme). GoesOn c.args.text.now (lexemes_at c.args.text.now c.loop-at.places.items) (in_full c.args.text.now (Ok o))) c.in-Ok-Some.field-0-is
+    (c.in-Ok-Some.ensures.next _ c.loop-at.invariant.reached)
 
 pub loop-at-init : goal.loop-at-init
 loop-at-init c = front_begins c.args.text.now c.args.places.now.items c.new-nodes.result c.new-opens.result c.requires.empty c.new-nodes.ensures c.new-opens.ensures
@@ -22,16 +29,16 @@ pub returns-in-Ok-None-take : goal.returns-in-Ok-None-take
 returns-in-Ok-None-take c =
     let many : c.len.result ≡ length c.loop-at.places.items = search rules in
     let here = (goal.at.returns-in-Ok-None-take c).In-Ok-Some in
-    front_stops c.args.text.now c.loop-at.at c.loop-at.places.items c.loop-at.nodes c.loop-at.opens c.loop-at.stage c.loop-at.invariant c.requires.short
+    brief_stops c.args.text.now c.loop-at.at c.loop-at.places.items c.loop-at.nodes c.loop-at.opens c.loop-at.stage c.loop-at.invariant c.requires.short
     c.in-Ok-Some.lexeme (next here) (on here) c.take.new.nodes c.take.new.opens c.in-Ok-None-take.field-0 c.stopped.result
     (subst (λ n. Steps (Ok c.in-Ok-None-take.field-0) c.take.new.nodes c.take.new.opens (step_code c.loop-at.nodes c.loop-at.opens c.loop-at.stage n c.in-Ok-Some.lexeme.kind)) many c.in-Ok-None-take.ensures)
-    c.in-Ok-None-take.field-0-is (c.stopped.ensures _ (on here))
+    c.in-Ok-None-take.field-0-is (c.stopped.ensures _ (brief_reached c.args.text.now c.loop-at.at c.loop-at.places.items c.loop-at.nodes c.loop-at.opens c.loop-at.stage c.loop-at.invariant c.requires.short c.in-Ok-Some.lexeme (next here) (on here)))
 
 pub loop-at-preserved-in-Ok-Some : goal.loop-at-preserved-in-Ok-Some
 loop-at-preserved-in-Ok-Some c =
     let many : c.len.result ≡ length c.loop-at.places.items = search rules in
     let here = (goal.at.loop-at-preserved-in-Ok-Some c).In-Ok-Some in
-    front_goes c.args.text.now c.loop-at.at c.loop-at.places.items c.loop-at.nodes c.loop-at.opens c.loop-at.stage c.loop-at.invariant c.requires.short
+    brief_goes c.args.text.now c.loop-at.at c.loop-at.places.items c.loop-at.nodes c.loop-at.opens c.loop-at.stage c.loop-at.invariant c.requires.short
     c.in-Ok-Some.lexeme (next here) (on here) c.take.new.nodes c.take.new.opens c.in-Ok-Some-take.field-0 c.in-Ok-Some-take.next c.push.new.self.items
     (subst (λ n. Steps (Ok c.in-Ok-Some-take.field-0) c.take.new.nodes c.take.new.opens (step_code c.loop-at.nodes c.loop-at.opens c.loop-at.stage n c.in-Ok-Some.lexeme.kind)) many c.in-Ok-Some-take.ensures)
     c.in-Ok-Some-take.field-0-is c.in-Ok.ensures.items
