@@ -84,6 +84,18 @@ impl Nodes {
         }
     }
 
+    /// No nodes, and memory for so many, where there is so much.
+    pub(crate) fn with_room(alloc: Global, many: usize) -> Nodes
+        ensures { result ≡ [] }
+    {
+        let mut small = Vec::new(alloc);
+        let _room = small.reserve(many);
+        Nodes {
+            small,
+            others: Vec::new(alloc),
+        }
+    }
+
     /// How many there are.
     pub fn len(&self) -> usize
         ensures count { result ≡ length self.now }

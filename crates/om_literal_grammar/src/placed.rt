@@ -15,6 +15,12 @@ use om_lex::{next_brief, see_lexemes};
 use om_model::Memory;
 use std::alloc::Global;
 
+/// Few texts have more lexemes and nodes for their bytes. Memory that is taken at once is not copied
+/// as it grows, and what is not used of it is no burden.
+const BYTES_A_LEXEME: usize = 2;
+
+const BYTES_A_NODE: usize = 6;
+
 /// A literal's nodes, and the places of the lexemes in its text.
 #[derive(Drop)]
 pub struct Placed {
@@ -91,7 +97,7 @@ fn read_at(alloc: Global, text: &[u8], places: &mut Vec<u32>) -> Result<Option<N
     requires short { length text.now < 2 ^ 32 }
     ensures { ReadsAt text.now places.new.items result }
 {
-    let mut nodes = Nodes::new(alloc);
+    let mut nodes = Nodes::with_room(alloc, text.len() / BYTES_A_NODE);
     let mut opens = Opens::new(alloc);
     let mut stage = Stage::Due;
     let mut at: usize = 0;
@@ -133,6 +139,7 @@ pub fn read_placed_tree(alloc: Global, text: &[u8]) -> Result<Option<Placed>, Pl
         return Err(PlacedFault::TooLong);
     }
     let mut places = Vec::new(alloc);
+    let _room = places.reserve(text.len() / BYTES_A_LEXEME);
     match read_at(alloc, text, &mut places) {
         Ok(Some(tree)) => Ok(Some(Placed { places, tree })),
         Ok(None) => Ok(None),

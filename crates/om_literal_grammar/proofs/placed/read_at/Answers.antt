@@ -23,7 +23,7 @@ on c =
     (c.in-Ok-Some.ensures.next _ c.loop-at.invariant.reached)
 
 pub loop-at-init : goal.loop-at-init
-loop-at-init c = front_begins c.args.text.now c.args.places.now.items c.new-nodes.result c.new-opens.result c.requires.empty c.new-nodes.ensures c.new-opens.ensures
+loop-at-init c = front_begins c.args.text.now c.args.places.now.items c.with_room-nodes.result c.new-opens.result c.requires.empty c.with_room-nodes.ensures c.new-opens.ensures
 
 pub returns-in-Ok-None-take : goal.returns-in-Ok-None-take
 returns-in-Ok-None-take c =
