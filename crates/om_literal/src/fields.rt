@@ -26,7 +26,7 @@ fn name_before<'a>(lexemes: &'a Lexemes, first: usize) -> &'a [u8]
 fn names_from<'a>(
     alloc: Global,
     nodes: &Nodes,
-    ends: &[usize],
+    ends: &[u32],
     from: usize,
     many: usize,
     lexemes: &'a Lexemes,
@@ -35,7 +35,7 @@ fn names_from<'a>(
         (λ names. map (λ name. name.now) names.items
         ≡ specs.names_from nodes.now ends.now (kinds_of lexemes.now) from many) }
 {
-    let mut names = Vec::new(alloc);
+    let mut names = Vec::with_capacity(alloc, many)?;
     let mut place = from;
     let mut left = many;
     while left > 0 {
@@ -53,7 +53,7 @@ fn names_from<'a>(
 pub(crate) fn field_names<'a>(
     alloc: Global,
     nodes: &Nodes,
-    ends: &[usize],
+    ends: &[u32],
     at: usize,
     lexemes: &'a Lexemes,
 ) -> Result<Vec<&'a [u8]>, Memory>

@@ -45,7 +45,7 @@ fn read_part<'a>(
             stack.push(inner)?;
             Ok(j + 1)
         }
-        None => Ok(text.ends[j]),
+        None => Ok(text.ends[j] as usize),
     }
 }
 

@@ -8,7 +8,7 @@ use om_model::Memory;
 use std::alloc::Global;
 
 /// The node so many siblings on.
-pub(crate) fn sibling(ends: &[usize], from: usize, many: usize) -> usize
+pub(crate) fn sibling(ends: &[u32], from: usize, many: usize) -> usize
     ensures { result ≡ specs.sibling ends.now from many }
 {
     let mut place = from;
@@ -17,21 +17,24 @@ pub(crate) fn sibling(ends: &[usize], from: usize, many: usize) -> usize
         if place >= ends.len() {
             return place;
         }
-        place = ends[place];
+        place = ends[place] as usize;
         left -= 1;
     }
     place
 }
 
-/// For each node the number of the node behind its last part.
-pub(crate) fn subtree_ends(alloc: Global, nodes: &Nodes) -> Result<Vec<usize>, Memory>
+/// For each node the number of the node behind its last part; `Memory` where 32 bits do not have it.
+pub(crate) fn subtree_ends(alloc: Global, nodes: &Nodes) -> Result<Vec<u32>, Memory>
     ensures len { IfOk result (λ ends. length ends.items ≡ length nodes.now) }
     ensures ends { IfOk result (λ ends. specs.AreEnds nodes.now ends.items) }
 {
-    let mut ends = vec![in alloc; 0usize; nodes.len()]?;
+    let mut ends = vec![in alloc; 0u32; nodes.len()]?;
     for i in (0..nodes.len()).rev() {
         let end = sibling(ends.as_slice(), i + 1, nodes.get(i).parts);
-        ends[i] = end;
+        if end >= 1 << 32 {
+            return Err(Memory);
+        }
+        ends[i] = end as u32;
     }
     Ok(ends)
 }

@@ -15,7 +15,7 @@ pub struct Text<'a> {
     pub lexemes: &'a Lexemes<'a>,
     pub nodes: &'a Nodes,
     /// For each node the number of the one behind its last part.
-    pub ends: &'a [usize],
+    pub ends: &'a [u32],
     /// The byte at which the lexemes end.
     pub end: usize,
 }
