@@ -209,9 +209,9 @@ module _ (told : Follow on_certified (AreAsTold on_certified)) (lawful : AreLawf
             all_taken declared_sections its_work declared_types reads_sections input are_bytes
             p.trees (under_more asked.limit v.limit v.covers input p.trees [] values) good many o.all s
 
-        lines : AreLines shown its_work its_type 0 p.trees p.sections o.all.said
+        lines : AreLines shown its_work its_type [] p.trees p.sections o.all.said
         lines =
-            all_lines shown its_work its_type 0 p.trees p.sections o.all.said from_first p.are
+            all_lines shown its_work its_type 0 [] p.trees p.sections o.all.said from_first p.are
             taken.0
 
         status : later.status ≡ call.status

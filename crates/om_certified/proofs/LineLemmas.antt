@@ -1,5 +1,5 @@
 -- What the sections of values show is the lines of `check`, and none of them is rejected.
-use Rattle.std.proofs.Common.{◌≡◌, ℕ, suc, ◌+◌, List, [], ◌∷◌, length, Some, None, inl, inr, refl, sym, ap, ◌∙◌, subst, arith}
+use Rattle.std.proofs.Common.{◌≡◌, ℕ, suc, ◌+◌, List, [], ◌∷◌, ◌++◌, length, Some, None, inl, inr, refl, sym, ap, ◌∙◌, subst, arith}
 use Rattle.std.specs.Prelude.{◌&&◌, slice_get}
 use Rattle.om_format.specs.Tree.{Tree, root, objects_of}
 use Rattle.om_section.specs.declared.section.Section.{Section}
@@ -97,23 +97,24 @@ module _ (shown : CertifiedAreShown) (a : Verification TypeOver Section)
         well = well ∙ ap is_yes (sym same);
       }
 
-  -- all of them, and whether all is well
-  abbrev pub AreLines : ℕ → List Tree → List Section → List Said → Type 0
-  AreLines k trees all said =
-      AllSay declared_types (tells the_verdict a.type) k trees said
+  -- all of them, after these values, and whether all is well
+  abbrev pub AreLines : (earlier trees : List Tree) → List Section → List Said → Type 0
+  AreLines earlier trees all said =
+      AllSay declared_types (tells the_verdict a.type) earlier trees said
       × (all_well said ≡ all_yes all)
 
-  pub all_lines : (k : ℕ) (trees : List Tree) (all : List Section) (said : List Said)
+  pub all_lines : (k : ℕ) (earlier trees : List Tree) (all : List Section) (said : List Said)
       → AreFrom k all → AreSections a.type trees all
-      → AreSaid declared_sections a k trees said → AreLines k trees all said
-  all_lines k [] [] [] from h said = (tt, refl)
-  all_lines k [] [] (s ∷ more) from h said = absurd said
-  all_lines k [] (s ∷ all) told from h said = absurd h
-  all_lines k (tree ∷ trees) [] told from h said = absurd h
-  all_lines k (tree ∷ trees) (s ∷ all) [] from h said = absurd said
-  all_lines k (tree ∷ trees) (s ∷ all) (one ∷ more) from h (is, said) =
+      → AreSaid declared_sections a k trees said → AreLines earlier trees all said
+  all_lines k earlier [] [] [] from h said = (tt, refl)
+  all_lines k earlier [] [] (s ∷ more) from h said = absurd said
+  all_lines k earlier [] (s ∷ all) told from h said = absurd h
+  all_lines k earlier (tree ∷ trees) [] told from h said = absurd h
+  all_lines k earlier (tree ∷ trees) (s ∷ all) [] from h said = absurd said
+  all_lines k earlier (tree ∷ trees) (s ∷ all) (one ∷ more) from h (is, said) =
       let first = one_line k tree s one (first_from k s all from) h.0 is in
-      let next = all_lines (suc k) trees all more (rest_from k s all from) h.1 said in (
+      let next = all_lines (suc k) (earlier ++ tree ∷ []) trees all more (rest_from k s all from)
+      h.1 said in (
         ((first.text, first.says, first.is), next.0),
         ap (λ w. w && all_well more) first.well ∙ ap (λ rest. is_yes s && rest) next.1,
       )

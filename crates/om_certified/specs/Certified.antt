@@ -65,7 +65,7 @@ pub record ConfirmsAll (asked : Asked) (contents input : List ℕ) (call later :
   pub trees : List Tree
   pub values : SpellAll asked.limit input trees []
   pub said : List Said
-  pub lines : AllSay declared_types (tells the_verdict type) 0 trees said
+  pub lines : AllSay declared_types (tells the_verdict type) [] trees said
   pub out : Puts later.out (texts_of said)
   pub err : Puts later.err []
   pub status : later.status ≡ call.status
