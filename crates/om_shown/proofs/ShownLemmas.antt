@@ -1,6 +1,6 @@
 -- A call of `show` that ended well: FILE and TYPE were read, all of the input is values that have
 -- the type, and their texts are put as lines.
-use Rattle.std.proofs.Common.{◌≡◌, ℕ, suc, Bool, true, false, List, [], ◌∷◌, ◌++◌, length, Result, Ok, Err, inl, inr, refl, sym, ap, ◌∙◌, subst}
+use Rattle.std.proofs.Common.{◌≡◌, ℕ, Bool, true, false, List, [], ◌∷◌, ◌++◌, length, Result, Ok, Err, inl, inr, refl, sym, ap, ◌∙◌, subst}
 use Rattle.std.specs.Prelude.{◌&&◌, if◌then◌else◌}
 use Rattle.std.specs.List.{AllByRecursion}
 use Rattle.om_format.specs.Stream.{SpellAll, End, clean, refused, cut, IsTail}
@@ -68,18 +68,18 @@ module _ (t : TypeOver) where
   said_well tree said text (inr h) is well =
       let no : false ≡ true = sym h.is_well ∙ well in absurd (cc no)
 
-  all_said_well : (k : ℕ) (trees : List Tree) (said : List Said)
-      → AreSaid declared_types (tells the_text t) k trees said
+  all_said_well : (earlier trees : List Tree) (said : List Said)
+      → AreSaid declared_types (tells the_text t) earlier trees said
       → all_well (said ++ nothing_said ∷ []) ≡ true
       → AllByRecursion (HasIt t) trees
       × (texts_of (said ++ nothing_said ∷ []) ≡ lines_of t trees)
-  all_said_well k [] [] h well = (tt, refl)
-  all_said_well k [] (s ∷ said) h well = absurd h
-  all_said_well k (tree ∷ trees) [] h well = absurd h
-  all_said_well k (tree ∷ trees) (s ∷ said) ((text, of, is), h) well =
+  all_said_well earlier [] [] h well = (tt, refl)
+  all_said_well earlier [] (s ∷ said) h well = absurd h
+  all_said_well earlier (tree ∷ trees) [] h well = absurd h
+  all_said_well earlier (tree ∷ trees) (s ∷ said) ((text, of, is), h) well =
       let w = both_true s.well (all_well (said ++ nothing_said ∷ [])) well in
       let one = said_well tree s text of is w.0 in
-      let next = all_said_well (suc k) trees said h w.1 in (
+      let next = all_said_well (earlier ++ tree ∷ []) trees said h w.1 in (
         (one.0, next.0),
         ap (λ first. first ++ texts_of (said ++ nothing_said ∷ [])) one.1
             ∙ ap (λ rest. line (text_of t tree) ++ rest) next.1,
@@ -134,7 +134,7 @@ module _ (words : List (List ℕ)) (file type : List ℕ) (limit : ℕ)
           let is_well : (ending_of (replies all.said (says nothing_said))).status ≡ Well =
           sym (ap (λ last. (ending_of (replies all.said last)).status) clean_end.1) ∙ well in
           let all_are_well = well_true (all_well (all.said ++ nothing_said ∷ [])) is_well in
-          let texts = all_said_well t 0 first.0 all.said first.3 all_are_well in
+          let texts = all_said_well t [] first.0 all.said first.3 all_are_well in
           record {
             t = t;
             read = read;
