@@ -4,6 +4,8 @@ use Rattle.std.specs.List.{take_while, prefix_len}
 use Rattle.std.proofs.lemmas.Bool.{eqb-true, cases_Bool}
 use Rattle.om_lex.specs.declared.lexeme.Keyword.{Keyword}
 use Rattle.om_lex.specs.declared.lexeme.LexemeKind.TheVariants as kinds
+use Rattle.om_lex.specs.declared.lexeme.Symbol.{Symbol}
+use Rattle.om_lex.specs.declared.lexeme.Symbol.TheVariants as symbols
 use Rattle.om_lex.specs.declared.lexeme.LexFault.{LexFault}
 use Rattle.om_lex.specs.declared.lexeme.LexFault.TheVariants as faults
 use Rattle.om_lex.specs.declared.found.Found.{Found}
@@ -13,9 +15,9 @@ use Rattle.om_lex.specs.Lexeme.{is_separator, starts_name, starts_lower, is_name
 use Rattle.om_lex.specs.declared.lexeme.Lexeme.{Lexeme}
 use Rattle.om_lex.specs.Lexemes.{lexeme_in, lexeme_from, Reached}
 use Rattle.om_lex.specs.LexText.{Answers}
-use Rattle.om_lex.specs.Brief.{IsBrief, FindsBrief, StepsBrief}
-use Rattle.om_lex.specs.Scan.{begins_with, cased_form, reserved_or, keyword_of, word_form, in_range, found, found_at, form_at, string_at, lexeme_at, step_at, word_of}
-use Rattle.om_lex.proofs.CharLaws.{ReadsChars, reads_plain}
+use Rattle.om_lex.specs.Brief.{lone_symbol, IsBrief, FindsBrief, StepsBrief}
+use Rattle.om_lex.specs.Scan.{begins_with, cased_form, reserved_or, keyword_of, word_form, in_range, found, found_at, form_at, symbol_form, pair_at, pair_symbol, single_symbol, string_at, lexeme_at, step_at, word_of}
+use Rattle.om_lex.proofs.CharLaws.{chosen, some_is, no_value, ReadsChars, reads_plain}
 
 -- ---- strings
 
@@ -111,6 +113,60 @@ front_string (b ∷ bs) some is = ap (λ (c : ℕ). step_at (c ∷ bs)) is ∙ s
 pub front_name : (text : List ℕ) → 0 < length text → starts_name (get_or text 0 0) ≡ true → step_at text ≡ word_of (Ok (found (word_form (take_while is_name_byte text))))
 front_name [] some is = absurd (omega (arith, some))
 front_name (b ∷ bs) some is = name_step b bs is
+
+pub front_gap : (text : List ℕ) → 0 < length text → is_separator (get_or text 0 0) ≡ true → step_at text ≡ Ok (Gap 1)
+unfolding step_at
+front_gap [] some is = absurd (omega (arith, some))
+front_gap (b ∷ bs) some is = take_first (is_separator b) _ _ _ is refl
+
+-- ---- symbols
+
+abbrev symbol_step : Symbol → Result Step LexFault
+symbol_step s = Ok (Word (record { kind = kinds.Symbol s; len = 1 }))
+
+comma_step : (bs : List ℕ) → step_at (44 ∷ bs) ≡ symbol_step symbols.Comma
+unfolding step_at lexeme_at form_at symbol_form pair_at pair_symbol single_symbol
+comma_step [] = refl
+comma_step (b ∷ bs) = refl
+
+paren_step : (bs : List ℕ) → step_at (41 ∷ bs) ≡ symbol_step symbols.CloseParen
+unfolding step_at lexeme_at form_at symbol_form pair_at pair_symbol single_symbol
+paren_step [] = refl
+paren_step (b ∷ bs) = refl
+
+equals_step : (bs : List ℕ) → step_at (61 ∷ bs) ≡ symbol_step symbols.Equals
+unfolding step_at lexeme_at form_at symbol_form pair_at pair_symbol single_symbol
+equals_step [] = refl
+equals_step (b ∷ bs) = refl
+
+open_step : (bs : List ℕ) → step_at (123 ∷ bs) ≡ symbol_step symbols.OpenBrace
+unfolding step_at lexeme_at form_at symbol_form pair_at pair_symbol single_symbol
+open_step [] = refl
+open_step (b ∷ bs) = refl
+
+close_step : (bs : List ℕ) → step_at (125 ∷ bs) ≡ symbol_step symbols.CloseBrace
+unfolding step_at lexeme_at form_at symbol_form pair_at pair_symbol single_symbol
+close_step [] = refl
+close_step (b ∷ bs) = refl
+
+-- a byte that is one of them, or none
+one_symbol : (b k : ℕ) (bs : List ℕ) (s j : Symbol) (others : Option Symbol) → step_at (k ∷ bs) ≡ symbol_step j → cond (eqb b k) (Some j) others ≡ Some s
+    → (others ≡ Some s → step_at (b ∷ bs) ≡ symbol_step s) → step_at (b ∷ bs) ≡ symbol_step s
+one_symbol b k bs s j others known e next =
+    elim (chosen (eqb b k) (Some j) others (Some s) e) [
+      | inl h ↦ ap (λ (n : ℕ). step_at (n ∷ bs)) (eqb-true b k h.0) ∙ known ∙ ap symbol_step (some_is h.1)
+      | inr h ↦ next h.1
+    ]
+
+lone_step : (b : ℕ) (bs : List ℕ) (s : Symbol) → lone_symbol b ≡ Some s → step_at (b ∷ bs) ≡ symbol_step s
+lone_step b bs s e =
+    one_symbol b 44 bs s symbols.Comma _ (comma_step bs) e (λ e2. one_symbol b 41 bs s symbols.CloseParen _ (paren_step bs) e2
+    (λ e3. one_symbol b 61 bs s symbols.Equals _ (equals_step bs) e3 (λ e4. one_symbol b 123 bs s symbols.OpenBrace _ (open_step bs) e4
+    (λ e5. one_symbol b 125 bs s symbols.CloseBrace None (close_step bs) e5 (λ e6. absurd (no_value e6))))))
+
+pub front_symbol : (text : List ℕ) (s : Symbol) → 0 < length text → lone_symbol (get_or text 0 0) ≡ Some s → StepsBrief (symbol_step s) (step_at text)
+front_symbol [] s some is = absurd (omega (arith, some))
+front_symbol (b ∷ bs) s some is = subst (StepsBrief (symbol_step s)) (sym (lone_step b bs s is)) (refl, inl refl)
 
 pub steps_word : (w : Found) (e : Result Found LexFault) → FindsBrief (Ok w) e → StepsBrief (Ok (Word w)) (word_of e)
 steps_word w (Ok full) is = is

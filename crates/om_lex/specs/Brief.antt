@@ -1,15 +1,26 @@
 -- Lexemes without what their names and strings are: a literal's form needs no more of them.
-use Rattle.std.specs.Prelude.{◌≡◌, ◌⊎◌, ℕ, ◌+◌, ◌<◌, ◌≤◌, Bool, ◌||◌, if◌then◌else◌, List, [], length, codes, Option, Some, None, Result, Ok, Err}
+use Rattle.std.specs.Prelude.{◌≡◌, ◌⊎◌, ℕ, ◌+◌, ◌<◌, ◌≤◌, Bool, ◌||◌, ◌==◌, if◌then◌else◌, List, [], length, codes, Option, Some, None, Result, Ok, Err}
 use Rattle.std.specs.Str.{bytes_eq}
 use Rattle.om_lex.specs.declared.lexeme.Lexeme.{Lexeme}
 use Rattle.om_lex.specs.declared.lexeme.LexemeKind.{LexemeKind}
 use Rattle.om_lex.specs.declared.lexeme.LexemeKind.TheVariants as kinds
+use Rattle.om_lex.specs.declared.lexeme.Symbol.{Symbol}
+use Rattle.om_lex.specs.declared.lexeme.Symbol.TheVariants as symbols
 use Rattle.om_lex.specs.declared.lexeme.LexFault.{LexFault}
 use Rattle.om_lex.specs.declared.found.Found.{Found}
 use Rattle.om_lex.specs.declared.found.Step.{Step}
 use Rattle.om_lex.specs.declared.found.Step.TheVariants.{Gap, Word}
 use Rattle.om_lex.specs.Lexemes.{lexeme_from}
 use Rattle.om_lex.specs.LexText.{UnlessMemory}
+
+-- the symbols of one byte that begin no longer one and no comment, but for a few
+abbrev pub lone_symbol : ℕ → Option Symbol
+lone_symbol b =
+    if b == 44 then Some symbols.Comma
+    else (if b == 41 then Some symbols.CloseParen
+    else (if b == 61 then Some symbols.Equals
+    else (if b == 123 then Some symbols.OpenBrace
+    else (if b == 125 then Some symbols.CloseBrace else None))))
 
 -- the names in lower case that begin literals
 abbrev pub begins_literal : List ℕ → Bool

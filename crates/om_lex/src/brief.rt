@@ -5,16 +5,16 @@ ghost use Rattle.std.specs.List.{take_while};
 ghost use Rattle.om_lex.specs.declared.found.Found.{Found};
 ghost use Rattle.om_lex.specs.declared.lexeme.LexFault.{LexFault};
 ghost use Rattle.om_lex.specs.declared.lexeme.Lexeme.{Lexeme};
-ghost use Rattle.om_lex.specs.Brief.{begins_literal, brief_name, FindsBrief, StepsBrief, in_full, IsBriefNext};
+ghost use Rattle.om_lex.specs.Brief.{lone_symbol, begins_literal, brief_name, FindsBrief, StepsBrief, in_full, IsBriefNext};
 ghost use Rattle.om_lex.specs.Lexeme.{starts_name, is_name_byte};
 ghost use Rattle.om_lex.specs.Lexemes.{Reached, GoesOn};
 ghost use Rattle.om_lex.specs.LexText.{Answers};
 ghost use Rattle.om_lex.specs.Scan.{cased_form, word_form, found, string_at, word_of, step_at};
 
-use crate::bytes::{name_len, starts_lower, starts_name};
+use crate::bytes::{is_separator, name_len, starts_lower, starts_name};
 use crate::characters::{char_at, plain_end};
 use crate::found::{Found, Step};
-use crate::lexeme::{LexFault, Lexeme, LexemeKind, Span};
+use crate::lexeme::{LexFault, Lexeme, LexemeKind, Span, Symbol};
 use crate::scan::{moved, step_at};
 use crate::words::{copied, keyword_of};
 use om_model::list::List;
@@ -109,12 +109,35 @@ fn word_step(found: Result<Found, LexFault>) -> Result<Step, LexFault>
     }
 }
 
-/// The separator, comment or lexeme at the front.
+/// The symbol of a byte that begins no longer one.
+fn lone_symbol(byte: u8) -> Option<Symbol>
+    ensures { result ≡ lone_symbol byte }
+{
+    match byte {
+        b',' => Some(Symbol::Comma),
+        b')' => Some(Symbol::CloseParen),
+        b'=' => Some(Symbol::Equals),
+        b'{' => Some(Symbol::OpenBrace),
+        b'}' => Some(Symbol::CloseBrace),
+        _ => None,
+    }
+}
+
+/// The separator, comment or lexeme at the front. What stands most often in literals comes first.
 fn brief_step(alloc: Global, text: &[u8]) -> Result<Step, LexFault>
     ensures { StepsBrief result (step_at text.now) }
 {
     if text.is_empty() {
         return Err(LexFault::BadByte(0));
+    }
+    if is_separator(text[0]) {
+        return Ok(Step::Gap(1));
+    }
+    if let Some(symbol) = lone_symbol(text[0]) {
+        return Ok(Step::Word(Found {
+            kind: LexemeKind::Symbol(symbol),
+            len: 1,
+        }));
     }
     if text[0] == b'"' {
         return word_step(brief_string(alloc, &text[1..]));

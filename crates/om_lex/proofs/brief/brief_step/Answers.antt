@@ -4,7 +4,7 @@ use Rattle.om_lex.specs.declared.found.Step.{Step}
 use Rattle.om_lex.specs.declared.lexeme.LexFault.{LexFault}
 use Rattle.om_lex.specs.Brief.{StepsBrief}
 use Rattle.om_lex.specs.Scan.{step_at}
-use Rattle.om_lex.proofs.BriefLaws.{no_step, front_string, front_name, steps_whole}
+use Rattle.om_lex.proofs.BriefLaws.{front_gap, front_symbol, no_step, front_string, front_name, steps_whole}
 use Rattle.om_lex.proofs.brief.brief_step.Goals as goal
 
 pub returns-then-is_empty : goal.returns-then-is_empty
@@ -24,3 +24,11 @@ returns-then-starts_name c =
 
 pub returns : goal.returns
 returns c = steps_whole c.step_at.result (step_at c.args.text.now) c.step_at.ensures
+
+pub returns-then-is_separator : goal.returns-then-is_separator
+returns-then-is_separator c =
+    front_gap c.args.text.now (grind (arith, c.if-is_empty.false, c.is_empty.ensures)) (sym c.is_separator.ensures ∙ c.if-is_separator.true)
+
+pub returns-in-Some : goal.returns-in-Some
+returns-in-Some c =
+    front_symbol c.args.text.now c.in-Some.symbol (grind (arith, c.if-is_empty.false, c.is_empty.ensures)) (sym c.lone_symbol.ensures ∙ c.in-Some.is)
