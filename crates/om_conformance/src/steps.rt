@@ -21,7 +21,7 @@ use om_edge::StdSink;
 use om_edit::{EditRefusal, apply, refusal_text};
 use om_fault::is_fault;
 use om_model::path::Path;
-use om_path::read_script;
+use om_path::{Action, read_script};
 use om_print::show;
 use om_read::{Reader, Value};
 use om_type_table::TypeTable;
@@ -197,7 +197,10 @@ fn put_edit(rt: &HostRuntime, value: &mut Value, table: &TypeTable, line: &str) 
     let [line] = script.as_slice() else {
         return Err(ErrorKind::InvalidInput.into());
     };
-    match apply(alloc, &mut value.heap, &mut value.root, table, &line.edit) {
+    let Action::Edit(edit) = &line.action else {
+        return Err(ErrorKind::InvalidInput.into());
+    };
+    match apply(alloc, &mut value.heap, &mut value.root, table, edit) {
         Ok(()) => print!(rt; "made"),
         Err(refusal) => put_refusal(rt, table, &refusal),
     }
