@@ -88,7 +88,8 @@ fn check_object(
 }
 
 /// The same of the first object, where a scan met objects at second classes: mostly they are
-/// settled, and else a search of the heap, which has so many objects, tells it.
+/// settled, in as many steps as the scan took or one pair's more, and else a search of the heap,
+/// which has so many objects, tells it.
 fn settle_noted(
     alloc: Global,
     heap: &Heap,
@@ -120,7 +121,7 @@ fn settle_noted(
         all,
     } = noted;
     let mut more = Steps::new();
-    match settle(heap, table, rows, &taken.types, seconds, &mut more)? {
+    match settle(heap, table, rows, &taken.types, seconds, all, &mut more)? {
         Some(seconds) => {
             let typing = Typing::settled(taken.types, seconds)?;
             steps.raise_by(all);

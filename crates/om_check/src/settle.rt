@@ -24,13 +24,14 @@ use om_type_table::TypeTable;
 
 /// Tests what each object that was noted needs at its type, and notes what it meets there at a class
 /// that is new. The answer is all that is noted; none where a field or an object does not fit, or an
-/// object may be changed at one of its types.
+/// object may be changed at one of its types, or more than so many steps are taken.
 pub fn settle(
     heap: &Heap,
     table: &TypeTable,
     rows: &[Row],
     types: &Cells,
     mut seconds: Seconds,
+    most: u64,
     steps: &mut Steps,
 ) -> Result<Option<Seconds>, Memory>
     requires graph { IsGraph heap.now }
@@ -45,6 +46,9 @@ pub fn settle(
 {
     let mut n = 0;
     while n < seconds.len() {
+        if steps.taken() > most {
+            return Ok(None);
+        }
         if !settle_pair(heap, table, rows, types, &mut seconds, n, steps)? {
             return Ok(None);
         }
