@@ -23,7 +23,8 @@ pub enum Pairs {
     Settled(Settled),
 }
 
-/// Objects at types that justify one another, in the order in which they were met.
+/// Objects at types that justify one another: as a search met them, or by the objects' numbers, and
+/// then those at further types.
 #[derive(Drop)]
 pub struct Typing {
     pairs: Pairs,

@@ -1,5 +1,6 @@
--- How many steps a check takes at most. A step is the test of the root, an object taken at a class,
--- or one need of such a pair tested.
+-- How many steps a check counts at most. A step is the test of the root, an object taken at a
+-- class, or one need of such a pair tested. What was tested and thrown away before a search is not
+-- counted.
 use Rattle.std.specs.Prelude.{ℕ, suc, ◌+◌, ◌*◌, ◌==◌, if◌then◌else◌, List, [], ◌∷◌, length}
 use Rattle.std.specs.Prelude.{sum_by}
 use Rattle.std.specs.List.{list_any}
