@@ -43,6 +43,8 @@ value 2 misfit .0
 end
 END
 printf '0 set .1 = ::(7, [])\n2 link .1.1 = .\n2 unshare .\n' >script
+# A part of the first list in the second, and the second one in the third.
+printf '1 graft .1 = 0 .\n2 graft .1.1 = 1 .1\n' >grafts
 
 wrong=0
 input=input
@@ -73,6 +75,8 @@ refuse 'check (no)' check types 'string list'
 refuse show show types t
 refuse get get types t .1
 refuse edit edit types t script
+refuse 'edit (graft)' edit types t grafts
+refuse 'check --cert' check --cert types t
 refuse dump dump
 refuse same same
 refuse verify verify types t certificate
