@@ -1,0 +1,77 @@
+-- What is counted up to a bracket's closing, byte after byte.
+use Rattle.std.proofs.Common.{◌≡◌, ℕ, suc, ◌+◌, ◌<◌, ◌≤◌, leb, List, [], ◌∷◌, length, get_or, drop, Option, Some, None, refl, ap, sym, ◌∙◌, arith}
+use Rattle.std.specs.Prelude.{option_map}
+use Rattle.std.proofs.lemmas.Bool.{cond-false, lt-leb, cond_both}
+use Rattle.std.proofs.lemmas.List.{at_drop_more, at_drop_all}
+use Rattle.om_pretty.specs.declared.site.Site.{Site}
+use Rattle.om_pretty.specs.Sites.{mark_of, next_site}
+use Rattle.om_pretty.specs.Fit.{closing_length, depth_after, counted, to_close, at_most, within}
+
+-- so many more
+abbrev pub more : ℕ → Option ℕ → Option ℕ
+more i found = option_map (λ n. n + i) found
+
+more_suc : (found : Option ℕ) (i : ℕ) → more i (option_map suc found) ≡ more (i + 1) found
+more_suc None i = refl
+more_suc (Some n) i = let same : suc n + i ≡ n + (i + 1) = omega arith in ap Some same
+
+more_none : (found : Option ℕ) → found ≡ more 0 found
+more_none None = refl
+more_none (Some n) = let same : n ≡ n + 0 = omega arith in ap Some same
+
+-- ---- something is counted
+
+abbrev pub IsPositive : Option ℕ → Type 0
+IsPositive None = Unit {0}
+IsPositive (Some n) = 0 < n
+
+suc_positive : (found : Option ℕ) → IsPositive (option_map suc found)
+suc_positive None = tt
+suc_positive (Some n) = omega arith
+
+counted_positive : (n : ℕ) (depth : Option ℕ) (rest : ℕ → Option ℕ) → 0 < n → IsPositive (counted n depth rest)
+counted_positive n None rest positive = positive
+counted_positive n (Some depth) rest positive = suc_positive (rest depth)
+
+pub closing_positive : (b : ℕ) → 0 < closing_length b
+closing_positive b = cond_both _ 2 1 (λ n. 0 < n) (λ _. omega arith) (λ _. omega arith)
+
+pub close_positive : (site : Site) (depth : ℕ) (bytes : List ℕ) → IsPositive (to_close site depth bytes)
+close_positive site depth [] = tt
+close_positive site depth (b ∷ bytes) =
+    counted_positive (closing_length b) (depth_after (mark_of site b) depth)
+    (λ deeper. to_close (next_site site b) deeper bytes) (closing_positive b)
+
+too_many : (left : ℕ) (found : Option ℕ) → IsPositive found → within left (more left found) ≡ 0
+too_many left None positive = refl
+too_many left (Some n) positive = cond-false (leb (n + left) left) (n + left) 0 (lt-leb (n + left) left (omega arith))
+
+-- ---- steps of the count, where so many bytes are counted
+
+module _ (all : Option ℕ) (left : ℕ) (site : Site) (depth : ℕ) (bytes : List ℕ) (i : ℕ) (so_far : all ≡ more i (to_close site depth (drop i bytes))) where
+  pub at_end : length bytes ≤ i → 0 ≡ within left all
+  at_end past = sym (ap (λ o. within left o) (so_far ∙ ap (λ o. more i o) (at_drop_all (to_close site depth) bytes i past)))
+
+  pub at_width : i ≡ left → 0 ≡ within left all
+  at_width full =
+      sym (ap (λ o. within left o) (so_far ∙ ap (λ n. more n (to_close site depth (drop i bytes))) full)
+      ∙ too_many left (to_close site depth (drop i bytes)) (close_positive site depth (drop i bytes)))
+
+  abbrev found_at : Option ℕ → Option ℕ
+  found_at after = counted (closing_length (get_or bytes i 0)) after (λ deeper. to_close (next_site site (get_or bytes i 0)) deeper (drop (i + 1) bytes))
+
+  one_byte : i < length bytes → (after : Option ℕ) → after ≡ depth_after (mark_of site (get_or bytes i 0)) depth → all ≡ more i (found_at after)
+  one_byte less after is =
+      so_far ∙ ap (λ o. more i o) (at_drop_more (to_close site depth) bytes i 0 less) ∙ ap (λ o. more i (found_at o)) (sym is)
+
+  pub one_more : i < length bytes → (deeper : ℕ) → Some deeper ≡ depth_after (mark_of site (get_or bytes i 0)) depth → all ≡ more (i + 1) (to_close (next_site site (get_or bytes i 0)) deeper (drop (i + 1) bytes))
+  one_more less deeper is =
+      one_byte less (Some deeper) is ∙ more_suc (to_close (next_site site (get_or bytes i 0)) deeper (drop (i + 1) bytes)) i
+
+  pub closes_here : i < length bytes → None ≡ depth_after (mark_of site (get_or bytes i 0)) depth → at_most left (i + closing_length (get_or bytes i 0)) ≡ within left all
+  closes_here less is =
+      let same : i + closing_length (get_or bytes i 0) ≡ closing_length (get_or bytes i 0) + i = omega arith in
+      ap (at_most left) same ∙ sym (ap (λ o. within left o) (one_byte less None is))
+
+pub begins : (site : Site) (bytes : List ℕ) → to_close site 0 bytes ≡ more 0 (to_close site 0 bytes)
+begins site bytes = more_none (to_close site 0 bytes)

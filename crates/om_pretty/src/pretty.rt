@@ -1,0 +1,45 @@
+//! A text over lines.
+
+ghost use Rattle.std.specs.Prelude.{◌≡◌, ◌++◌, OnOk, replicate};
+ghost use Rattle.om_pretty.specs.Lines.{line_text, pretty};
+
+use crate::layout::Layout;
+use om_model::Memory;
+use std::alloc::Global;
+
+/// Puts a text over lines, which begins a line itself.
+pub fn put_pretty(text: &mut Vec<u8>, alloc: Global, plain: &[u8]) -> Result<(), Memory>
+    ensures { OnOk result (text.new.items ≡ text.old.items ++ pretty plain.now) }
+{
+    let mut layout = Layout::new(alloc);
+    for i in 0..plain.len() {
+        let line = layout.line_before(plain[i]);
+        put_line(text, line)?;
+        text.push(plain[i])?;
+        layout.go_over(line, plain[i], &plain[i + 1..])?;
+    }
+    Ok(())
+}
+
+/// Begins a line, if one begins here.
+fn put_line(text: &mut Vec<u8>, line: Option<u8>) -> Result<(), Memory>
+    ensures { OnOk result (text.new.items ≡ text.old.items ++ line_text line) }
+{
+    match line {
+        None => Ok(()),
+        Some(indent) => {
+            text.push(b'\n')?;
+            put_blanks(text, indent)
+        }
+    }
+}
+
+/// Puts so many blanks.
+fn put_blanks(text: &mut Vec<u8>, many: u8) -> Result<(), Memory>
+    ensures { OnOk result (text.new.items ≡ text.old.items ++ replicate many 32) }
+{
+    for _blank in 0..many {
+        text.push(b' ')?;
+    }
+    Ok(())
+}
